@@ -1,0 +1,14 @@
+-- Replies: RFC 959, section 4.2.
+use Rattle.std.specs.Prelude.{ℕ, List, [], ◌++◌, Option, Some, None, codes, if◌then◌else◌, unwrap_or}
+use Rattle.std.specs.Str.{is_utf8, trim_end}
+use Rattle.std.specs.Fmt.{decimal}
+use Rattle.ftp_base.specs.declared.types.reply.Response.{Response}
+use Rattle.ftp_base.specs.Status.{code_of}
+
+-- bytes as text, white space cut at the end, where they are UTF-8
+abbrev pub strict_text : List ℕ → Option (List ℕ)
+strict_text bytes = if is_utf8 bytes then Some (trim_end bytes) else None
+
+-- how a reply is printed: [code] and the text, empty where it has none
+abbrev pub printed_reply : Response → List ℕ
+printed_reply reply = codes "[" ++ decimal (code_of reply.status) ++ codes "] " ++ unwrap_or (strict_text reply.body) []

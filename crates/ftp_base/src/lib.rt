@@ -1,0 +1,5 @@
+//! The base of an FTP client: status codes, faults, commands, text encodings.
+#![tactic(auto)]
+
+pub mod status;
+pub mod types;

@@ -1,0 +1,291 @@
+//! The status codes of replies (RFC 959, section 4.2; RFC 2228, RFC 2428, RFC 3659).
+
+ghost use Rattle.std.specs.Prelude.{◌≡◌, ◌≢◌, ℕ, Some};
+ghost use Rattle.ftp_base.specs.Status.{code_of, description_of, status_of};
+
+use std::error::Error;
+use std::fmt;
+
+/// The status of a reply: the meaning of its three-digit code, ordered by code.
+///
+/// A code that isn't listed here is [`Status::Unknown`], whose code is 0.
+#[derive(Clone, Copy, Debug, PartialEq, Eq, PartialOrd, Ord, Hash)]
+pub enum Status {
+    /// Any code that no other variant has; its own code is 0.
+    Unknown,
+    /// 110: restart marker reply.
+    RestartMarker,
+    /// 120: service ready in (n) minutes.
+    ReadyMinute,
+    /// 125: data connection already open, transfer starting.
+    AlreadyOpen,
+    /// 150: file status okay, about to open data connection.
+    AboutToSend,
+    /// 200: command okay.
+    CommandOk,
+    /// 202: command not implemented.
+    CommandNotImplemented,
+    /// 211: system status, or system help reply.
+    System,
+    /// 212: directory status.
+    Directory,
+    /// 213: file status.
+    File,
+    /// 214: help message.
+    Help,
+    /// 215: NAME system type.
+    Name,
+    /// 220: service ready for new user.
+    Ready,
+    /// 221: service closing control connection.
+    Closing,
+    /// 225: data connection open; no transfer in progress.
+    DataConnectionOpen,
+    /// 226: closing data connection.
+    ClosingDataConnection,
+    /// 227: entering passive mode.
+    PassiveMode,
+    /// 228: entering long passive mode.
+    LongPassiveMode,
+    /// 229: entering extended passive mode.
+    ExtendedPassiveMode,
+    /// 230: user logged in, proceed. Logged out if appropriate.
+    LoggedIn,
+    /// 231: user logged out; service terminated.
+    LoggedOut,
+    /// 232: logout command noted, will complete when transfer done.
+    LogoutAck,
+    /// 234: specifies that the server accepts the authentication mechanism specified by the client.
+    AuthOk,
+    /// 250: requested file action okay.
+    RequestedFileActionOk,
+    /// 257: pathname created.
+    PathCreated,
+    /// 331: user name okay, need password.
+    NeedPassword,
+    /// 332: need account for login.
+    LoginNeedAccount,
+    /// 350: requested file action pending further information.
+    RequestFilePending,
+    /// 421: service not available, closing control connection.
+    NotAvailable,
+    /// 425: can't open data connection.
+    CannotOpenDataConnection,
+    /// 426: connection closed; transfer aborted.
+    TransferAborted,
+    /// 430: invalid username or password.
+    InvalidCredentials,
+    /// 434: requested host unavailable.
+    HostUnavailable,
+    /// 450: requested file action not taken.
+    RequestFileActionIgnored,
+    /// 451: requested action aborted.
+    ActionAborted,
+    /// 452: requested action not taken.
+    RequestedActionNotTaken,
+    /// 500: syntax error, command unrecognized.
+    BadCommand,
+    /// 501: syntax error in parameters or arguments.
+    BadArguments,
+    /// 502: comamnd not implemented.
+    NotImplemented,
+    /// 503: bad sequence of commands.
+    BadSequence,
+    /// 504: command not implemented for that parameter.
+    NotImplementedParameter,
+    /// 530: user not logged in.
+    NotLoggedIn,
+    /// 532: need account for storing files.
+    StoringNeedAccount,
+    /// 550: requested action not taken; file unavailable.
+    FileUnavailable,
+    /// 551: requested action aborted; page type unknown.
+    PageTypeUnknown,
+    /// 552: requested file action aborted; execeeded storage allocation.
+    ExceededStorage,
+    /// 553: requested action not taken; file name not allowed.
+    BadFilename,
+}
+
+impl Status {
+    /// The three-digit code, or 0 for [`Status::Unknown`].
+    pub fn code(&self) -> u32
+        ensures { result ≡ code_of self.now }
+    {
+        match self {
+            Status::Unknown => 0,
+            Status::RestartMarker => 110,
+            Status::ReadyMinute => 120,
+            Status::AlreadyOpen => 125,
+            Status::AboutToSend => 150,
+            Status::CommandOk => 200,
+            Status::CommandNotImplemented => 202,
+            Status::System => 211,
+            Status::Directory => 212,
+            Status::File => 213,
+            Status::Help => 214,
+            Status::Name => 215,
+            Status::Ready => 220,
+            Status::Closing => 221,
+            Status::DataConnectionOpen => 225,
+            Status::ClosingDataConnection => 226,
+            Status::PassiveMode => 227,
+            Status::LongPassiveMode => 228,
+            Status::ExtendedPassiveMode => 229,
+            Status::LoggedIn => 230,
+            Status::LoggedOut => 231,
+            Status::LogoutAck => 232,
+            Status::AuthOk => 234,
+            Status::RequestedFileActionOk => 250,
+            Status::PathCreated => 257,
+            Status::NeedPassword => 331,
+            Status::LoginNeedAccount => 332,
+            Status::RequestFilePending => 350,
+            Status::NotAvailable => 421,
+            Status::CannotOpenDataConnection => 425,
+            Status::TransferAborted => 426,
+            Status::InvalidCredentials => 430,
+            Status::HostUnavailable => 434,
+            Status::RequestFileActionIgnored => 450,
+            Status::ActionAborted => 451,
+            Status::RequestedActionNotTaken => 452,
+            Status::BadCommand => 500,
+            Status::BadArguments => 501,
+            Status::NotImplemented => 502,
+            Status::BadSequence => 503,
+            Status::NotImplementedParameter => 504,
+            Status::NotLoggedIn => 530,
+            Status::StoringNeedAccount => 532,
+            Status::FileUnavailable => 550,
+            Status::PageTypeUnknown => 551,
+            Status::ExceededStorage => 552,
+            Status::BadFilename => 553,
+        }
+    }
+
+    /// What the code means, in a few English words.
+    pub fn desc(&self) -> &'static str
+        ensures { result.now ≡ description_of self.now }
+    {
+        match self {
+            Status::Unknown => "unknown error code",
+            Status::RestartMarker => "restart marker reply",
+            Status::ReadyMinute => "service ready in (n) minutes",
+            Status::AlreadyOpen => "data connection already open, transfer starting",
+            Status::AboutToSend => "file status okay, about to open data connection",
+            Status::CommandOk => "command okay",
+            Status::CommandNotImplemented => "command not implemented",
+            Status::System => "system status, or system help reply",
+            Status::Directory => "directory status",
+            Status::File => "file status",
+            Status::Help => "help message",
+            Status::Name => "NAME system type",
+            Status::Ready => "service ready for new user",
+            Status::Closing => "service closing control connection",
+            Status::DataConnectionOpen => "data connection open; no transfer in progress",
+            Status::ClosingDataConnection => "closing data connection",
+            Status::PassiveMode => "entering passive mode",
+            Status::LongPassiveMode => "entering long passive mode",
+            Status::ExtendedPassiveMode => "entering extended passive mode",
+            Status::LoggedIn => "user logged in, proceed. Logged out if appropriate.",
+            Status::LoggedOut => "user logged out; service terminated",
+            Status::LogoutAck => "logout command noted, will complete when transfer done",
+            Status::AuthOk => {
+                "specifies that the server accepts the authentication mechanism specified by the client"
+            }
+            Status::RequestedFileActionOk => "requested file action okay",
+            Status::PathCreated => "pathname created",
+            Status::NeedPassword => "user name okay, need password",
+            Status::LoginNeedAccount => "need account for login",
+            Status::RequestFilePending => "requested file action pending further information",
+            Status::NotAvailable => "service not available, closing control connection",
+            Status::CannotOpenDataConnection => "can't open data connection",
+            Status::TransferAborted => "connection closed; transfer aborted",
+            Status::InvalidCredentials => "invalid username or password",
+            Status::HostUnavailable => "requested host unavailable",
+            Status::RequestFileActionIgnored => "requested file action not taken",
+            Status::ActionAborted => "requested action aborted",
+            Status::RequestedActionNotTaken => "requested action not taken",
+            Status::BadCommand => "syntax error, command unrecognized",
+            Status::BadArguments => "syntax error in parameters or arguments",
+            Status::NotImplemented => "comamnd not implemented",
+            Status::BadSequence => "bad sequence of commands",
+            Status::NotImplementedParameter => "command not implemented for that parameter",
+            Status::NotLoggedIn => "user not logged in",
+            Status::StoringNeedAccount => "need account for storing files",
+            Status::FileUnavailable => "requested action not taken; file unavailable",
+            Status::PageTypeUnknown => "requested action aborted; page type unknown",
+            Status::ExceededStorage => "requested file action aborted; execeeded storage allocation",
+            Status::BadFilename => "requested action not taken; file name not allowed",
+        }
+    }
+}
+
+impl From<u32> for Status {
+    ghost from_gives = { λ code status. status ≡ status_of code };
+
+    /// The status with this code, or [`Status::Unknown`] where no status has it.
+    fn from(code: u32) -> Status
+        ensures { result ≡ status_of code }
+    {
+        match code {
+            110 => Status::RestartMarker,
+            120 => Status::ReadyMinute,
+            125 => Status::AlreadyOpen,
+            150 => Status::AboutToSend,
+            200 => Status::CommandOk,
+            202 => Status::CommandNotImplemented,
+            211 => Status::System,
+            212 => Status::Directory,
+            213 => Status::File,
+            214 => Status::Help,
+            215 => Status::Name,
+            220 => Status::Ready,
+            221 => Status::Closing,
+            225 => Status::DataConnectionOpen,
+            226 => Status::ClosingDataConnection,
+            227 => Status::PassiveMode,
+            228 => Status::LongPassiveMode,
+            229 => Status::ExtendedPassiveMode,
+            230 => Status::LoggedIn,
+            231 => Status::LoggedOut,
+            232 => Status::LogoutAck,
+            234 => Status::AuthOk,
+            250 => Status::RequestedFileActionOk,
+            257 => Status::PathCreated,
+            331 => Status::NeedPassword,
+            332 => Status::LoginNeedAccount,
+            350 => Status::RequestFilePending,
+            421 => Status::NotAvailable,
+            425 => Status::CannotOpenDataConnection,
+            426 => Status::TransferAborted,
+            430 => Status::InvalidCredentials,
+            434 => Status::HostUnavailable,
+            450 => Status::RequestFileActionIgnored,
+            451 => Status::ActionAborted,
+            452 => Status::RequestedActionNotTaken,
+            500 => Status::BadCommand,
+            501 => Status::BadArguments,
+            502 => Status::NotImplemented,
+            503 => Status::BadSequence,
+            504 => Status::NotImplementedParameter,
+            530 => Status::NotLoggedIn,
+            532 => Status::StoringNeedAccount,
+            550 => Status::FileUnavailable,
+            551 => Status::PageTypeUnknown,
+            552 => Status::ExceededStorage,
+            553 => Status::BadFilename,
+            _ => Status::Unknown,
+        }
+    }
+}
+
+impl fmt::Display for Status {
+    ghost output = { λ status. Some (description_of status) };
+
+    fn fmt<W: fmt::Write>(&self, f: &mut fmt::Formatter<W>) -> fmt::Result {
+        f.write_str(self.desc())
+    }
+}
+
+impl Error for Status {}

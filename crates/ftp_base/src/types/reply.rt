@@ -1,0 +1,94 @@
+//! A reply of the server (RFC 959, section 4.2).
+
+ghost use Rattle.std.specs.Prelude.{◌≡◌, Some, None, IsSome, MatchOption, IsErrOf, IfOk, string_bytes};
+ghost use Rattle.ftp_base.specs.Reply.{strict_text, printed_reply};
+
+
+use super::Bytes;
+use crate::status::Status;
+use std::alloc::{AllocError, Global};
+use std::error::Error;
+use std::fmt;
+
+/// A whole reply: the status of the line that ended it, and all its bytes, line ends too.
+#[derive(Clone, Debug, Drop)]
+pub struct Response {
+    /// The status of the line that ended the reply.
+    pub status: Status,
+    /// The bytes of the reply, from its first to the LF of its last line.
+    pub body: Bytes,
+}
+
+/// Why a reply's body has no text.
+#[derive(Clone, Copy, Debug, PartialEq, Eq)]
+pub enum BodyError {
+    /// The body isn't UTF-8.
+    NotUtf8,
+    /// Memory was refused.
+    OutOfMemory,
+}
+
+impl Response {
+    /// A reply of this status and this body.
+    pub fn new(status: Status, body: Vec<u8>) -> Response
+        ensures status { result.status ≡ status }
+        ensures body { result.body ≡ body.items }
+    {
+        Response {
+            status,
+            body: Bytes::from_vec(body),
+        }
+    }
+
+    /// The body as text, white space cut at its end.
+    ///
+    /// # Errors
+    /// [`BodyError::NotUtf8`] where the body isn't UTF-8, [`BodyError::OutOfMemory`] where memory is
+    /// refused.
+    pub fn as_string(&self, alloc: Global) -> Result<String, BodyError>
+        ensures text { IfOk result (λ text. strict_text self.now.body ≡ Some (string_bytes text)) }
+        ensures not_utf8 { IsErrOf result BodyError.NotUtf8 → strict_text self.now.body ≡ None }
+        ensures memory { IsErrOf result BodyError.OutOfMemory → IsSome (strict_text self.now.body) }
+    {
+        match self.text() {
+            Some(text) => match String::from_str(alloc, text) {
+                Ok(copy) => Ok(copy),
+                Err(AllocError) => Err(BodyError::OutOfMemory),
+            },
+            None => Err(BodyError::NotUtf8),
+        }
+    }
+
+    /// The body as text, white space cut at its end, or `None` where it isn't UTF-8. Takes no memory.
+    fn text(&self) -> Option<&str>
+        ensures { MatchOption result (strict_text self.now.body ≡ None) (λ text. strict_text self.now.body ≡ Some text.now) }
+    {
+        match str::from_utf8(self.body.as_slice()) {
+            Ok(text) => Some(text.trim_end()),
+            Err(_) => None,
+        }
+    }
+}
+
+impl fmt::Display for Response {
+    ghost output = { λ reply. Some (printed_reply reply) };
+
+    fn fmt<W: fmt::Write>(&self, f: &mut fmt::Formatter<W>) -> fmt::Result {
+        let code = self.status.code();
+        let text = self.text().unwrap_or("");
+        write!(f, "[{code}] {text}")
+    }
+}
+
+impl Error for Response {}
+
+impl fmt::Display for BodyError {
+    fn fmt<W: fmt::Write>(&self, f: &mut fmt::Formatter<W>) -> fmt::Result {
+        f.write_str(match self {
+            BodyError::NotUtf8 => "the reply is not UTF-8",
+            BodyError::OutOfMemory => "out of memory",
+        })
+    }
+}
+
+impl Error for BodyError {}
