@@ -2,3 +2,5 @@ pub mod Lines
 pub mod Outcomes
 pub mod Reading
 pub mod Replies
+pub mod Sending
+pub mod WireLines

@@ -2,12 +2,15 @@
 
 mod broken;
 mod grammar;
+mod outbox;
 mod outcome;
 mod reader;
 mod reply_buffer;
 mod rule;
+mod wire_line;
 
 pub use broken::Broken;
 pub use outcome::Outcome;
 pub use reply_buffer::REPLY_LIMIT;
 pub use rule::ReplyRule;
+pub use wire_line::WireLine;
