@@ -1,4 +1,7 @@
+pub mod Answer
+pub mod Channel
 pub mod Grammar
+pub mod Held
 pub mod Reading
 pub mod Refusal
 pub mod Sending
