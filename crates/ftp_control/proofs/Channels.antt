@@ -1,22 +1,19 @@
 -- The sound channel goes on.
-use Rattle.std.proofs.Common.{◌≡◌, ℕ, ◌+◌, ◌≤◌, ◌<◌, Bool, true, false, List, [], ◌∷◌, ◌++◌, length, take, drop, Result, Ok, Err, refl, ap, sym, ◌∙◌, subst, append_assoc, append-nil, arith, length-append}
+use Rattle.std.proofs.Common.{◌≡◌, ℕ, ◌+◌, Bool, true, false, List, [], ◌++◌, take, drop, Result, Ok, Err, refl, ap, sym, ◌∙◌, subst, append_assoc, append-nil, arith}
 use Rattle.std.proofs.lemmas.List.{take-append-drop}
-use Rattle.std.specs.declared.io.ErrorKind.{ErrorKind}
-use Rattle.futures.specs.declared.task.Poll.{Poll}
-use Rattle.futures.specs.declared.task.Poll.TheVariants.{Ready, Pending}
 use Rattle.ftp_control.specs.declared.control.rule.ReplyRule.{ReplyRule}
 use Rattle.ftp_control.specs.declared.control.broken.Broken.{Broken}
 use Rattle.ftp_control.specs.declared.control.broken.Broken.TheVariants.{Connection, OutOfMemory}
 use Rattle.ftp_control.specs.declared.control.outcome.Outcome.{Outcome}
 use Rattle.ftp_control.specs.declared.control.outcome.Outcome.TheVariants.{Whole, Bad, TooLarge, Ended, Waits}
-use Rattle.ftp_control.specs.Grammar.{reply_limit, left_by, whole_lines, rest}
-use Rattle.ftp_control.specs.Told.{Told, HasFailed, IsFresh}
+use Rattle.ftp_control.specs.Grammar.{reply_limit}
+use Rattle.ftp_control.specs.Told.{Told, IsFresh}
 use Rattle.ftp_control.proofs.Outcomes.{nothing_under_way}
 use Rattle.ftp_control.proofs.WireLines.{line_behind}
 use Rattle.ftp_control.specs.UnderWay.{IsUnderWay}
 use Rattle.ftp_control.specs.Reading.{Hears, HearTells, kept_after}
-use Rattle.ftp_control.specs.Sending.{IsLines, Flushes, FlushTells, is_wire_line, AreWireLines, last_length}
-use Rattle.ftp_control.specs.Channel.{IsEndOf, IsSound}
+use Rattle.ftp_control.specs.Sending.{IsLines, is_wire_line}
+use Rattle.ftp_control.specs.Channel.{IsEndOf}
 use Rattle.ftp_control.specs.Held.{Holds}
 
 -- a read gives bytes and sends none

@@ -1,5 +1,6 @@
 pub mod Channels
 pub mod Lines
+pub mod Memory
 pub mod Outcomes
 pub mod Reading
 pub mod Replies

@@ -1,5 +1,5 @@
 -- What holds of a control channel's parts.
-use Rattle.std.specs.Prelude.{◌≡◌, ℕ, ◌≤◌, Bool, List, ◌++◌, length, drop}
+use Rattle.std.specs.Prelude.{ℕ, ◌≤◌, Bool, List, length, drop}
 use Rattle.ftp_control.specs.declared.control.rule.ReplyRule.{ReplyRule}
 use Rattle.ftp_control.specs.Told.{Told}
 use Rattle.ftp_control.specs.UnderWay.{IsUnderWay}

@@ -9,6 +9,7 @@ mod reader;
 mod reads;
 mod reply_buffer;
 mod rule;
+mod sends;
 mod wire_line;
 
 pub use broken::Broken;

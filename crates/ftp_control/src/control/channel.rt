@@ -107,6 +107,13 @@ impl<C: Tells + Drop> ControlChannel<C> {
         self.failed
     }
 
+    /// From now on the channel has failed, as after a fault in the middle of a dialogue.
+    pub fn fail(&mut self)
+        ensures { self.new ≡ record self.old { failed = true } }
+    {
+        self.failed = true;
+    }
+
     /// How many received bytes are part of no reply yet.
     pub fn untaken(&self) -> usize
         ensures value { result ≡ length self.now.kept }
@@ -153,7 +160,7 @@ impl<C: Tells + Drop> ControlChannel<C> {
     }
 
     /// Takes a line whole, to go out.
-    fn push(&mut self, line: WireLine)
+    pub(crate) fn push(&mut self, line: WireLine)
         requires { self.old.unsent ≡ [] }
         ensures { self.new ≡ record self.old { unsent = line } }
     {

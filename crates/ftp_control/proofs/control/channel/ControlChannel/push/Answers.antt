@@ -1,5 +1,3 @@
-use Rattle.std.proofs.Common.{◌≡◌, true, subst, sym}
-use Rattle.ftp_control.specs.Sending.{is_wire_line}
 use Rattle.ftp_control.proofs.Channels.{push_holds}
 use Rattle.ftp_control.proofs.control.channel.ControlChannel.push.Goals as goal
 
