@@ -10,7 +10,9 @@ use Rattle.ftp_control.specs.declared.control.rule.ReplyRule.TheVariants.{Lenien
 use Rattle.ftp_control.specs.declared.control.outcome.Outcome.TheVariants.{Whole, Bad, TooLarge, Ended, Waits}
 use Rattle.ftp_control.specs.declared.control.grammar.Verdict.{Verdict}
 use Rattle.ftp_control.specs.declared.control.grammar.Verdict.TheVariants.{Refused, Ends, GoesOn}
-use Rattle.ftp_control.specs.Grammar.{is_line_feed, whole_lines, rest, last_line, lines, joined, begins_with_digits, opens, ends, code_at_start, Found, Reply, NoReply, Unfinished, to_end, reply_in, reply_limit, within, outcome, left_by}
+use Rattle.ftp_control.specs.Grammar.{is_line_feed, whole_lines, rest, last_line, lines, joined, begins_with_digits, opens, ends, code_at_start, to_end, reply_in, reply_limit, within, outcome, left_by}
+use Rattle.ftp_control.specs.declared.plain.Found.{Found}
+use Rattle.ftp_control.specs.declared.plain.Found.TheVariants.{Reply, NoReply, Unfinished}
 use Rattle.ftp_control.specs.Verdict.{verdict, outcome_by}
 use Rattle.ftp_control.proofs.Lines.{joined-whole_lines, whole_lines-line_feed, rest-closed, whole_lines-other, rest-other, first_nonempty}
 use Rattle.ftp_control.proofs.Replies.{after_lines, after_lines-Reply, after_lines-Unfinished, found_after, reply_in-append}

@@ -2,7 +2,7 @@
 
 mod broken;
 mod channel;
-mod grammar;
+pub(crate) mod grammar;
 mod outbox;
 mod outcome;
 mod reader;
