@@ -2,6 +2,10 @@
 #![tactic(auto)]
 
 #[cfg(test)]
+mod grammar;
+#[cfg(test)]
 mod rows_r1;
+#[cfg(test)]
+mod rows_r2;
 #[cfg(test)]
 mod scene;

@@ -2,7 +2,9 @@
 
 mod broken;
 mod channel;
+mod feeding;
 pub(crate) mod grammar;
+mod line_reader;
 mod outbox;
 mod outcome;
 mod reader;

@@ -21,7 +21,7 @@ use std::marker::Model;
 /// a line that was begun goes out before any other byte.
 #[derive(Drop)]
 pub struct ControlChannel<C: Tells + Drop> {
-    conn: C,
+    pub(super) conn: C,
     reply: ReplyBuffer,
     outbox: Outbox,
     ended: bool,
