@@ -1,9 +1,8 @@
 -- What is settled stays, however the input goes on.
-use Rattle.std.proofs.Common.{◌≡◌, ℕ, ◌+◌, ◌≤◌, ◌<◌, Bool, true, false, cond, List, [], ◌∷◌, ◌++◌, length, refl, ap, sym, ◌∙◌, subst, arith, length-append, ltb, leb}
-use Rattle.std.proofs.lemmas.Bool.{le-leb, lt-leb, lt-ltb, le-ltb, ltb-true}
+use Rattle.std.proofs.Common.{◌≡◌, ℕ, ◌+◌, ◌≤◌, ◌<◌, Bool, true, false, cond, List, [], ◌∷◌, ◌++◌, length, refl, ap, sym, ◌∙◌, subst, arith, length-append, ltb}
+use Rattle.std.proofs.lemmas.Bool.{lt-leb, lt-ltb, ltb-true}
 use Rattle.ftp_control.specs.declared.control.rule.ReplyRule.{ReplyRule}
-use Rattle.ftp_control.specs.declared.control.outcome.Outcome.{Outcome}
-use Rattle.ftp_control.specs.declared.control.outcome.Outcome.TheVariants.{Whole, Bad, TooLarge, Ended, Waits}
+use Rattle.ftp_control.specs.declared.control.outcome.Outcome.TheVariants.{TooLarge, Waits}
 use Rattle.ftp_control.specs.declared.plain.Found.{Found}
 use Rattle.ftp_control.specs.declared.plain.Found.TheVariants.{Reply, NoReply, Unfinished}
 use Rattle.ftp_control.specs.Grammar.{whole_lines, rest, lines, joined, opens, ends, code_at_start, after_line, to_end, reply_in, reply_limit, within, outcome}

@@ -360,3 +360,14 @@ no_line_yet bytes b none other = whole_lines-other bytes b other ∙ none
 pub nothing_waits : line_outcome [] false ≡ Waits
 unfolding line_outcome
 nothing_waits = refl
+
+-- no whole line is kept exactly where the line under way begins at 0
+pub no_line_starts : (bytes : List ℕ) (start : ℕ) → start + length (rest bytes) ≡ length bytes → whole_lines bytes ≡ [] → start ≡ 0
+no_line_starts bytes start split none = let all : length (rest bytes) ≡ length bytes = ap length (rest_all bytes none) in omega (arith, split, all)
+
+pub starts_no_line : (bytes : List ℕ) (start : ℕ) → start + length (rest bytes) ≡ length bytes → start ≡ 0 → whole_lines bytes ≡ []
+starts_no_line bytes start split zero = go (whole_lines bytes) refl (first_starts bytes start split ∙ ap (λ s. nat_eq s 0) zero)
+  where
+    go : (ls : List (List ℕ)) → whole_lines bytes ≡ ls → is_first_of ls ≡ true → whole_lines bytes ≡ []
+    go [] is first = is
+    go (l ∷ ls) is first = let clash : false ≡ true = first in cc

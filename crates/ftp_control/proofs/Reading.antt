@@ -1,11 +1,10 @@
 -- Lemmas on a read of a reply: byte by byte, with whatever else was read before.
 use Rattle.std.proofs.Common.{◌≡◌, ℕ, Bool, true, false, List, [], ◌∷◌, ◌++◌, Ok, Err, refl, ap, sym, ◌∙◌, append_assoc, append-nil, subst}
 use Rattle.std.specs.declared.io.ErrorKind.{ErrorKind}
-use Rattle.ftp_control.specs.declared.control.rule.ReplyRule.{ReplyRule}
 use Rattle.ftp_control.specs.declared.control.broken.Broken.TheVariants.{Connection, OutOfMemory}
 use Rattle.ftp_control.specs.declared.control.outcome.Outcome.{Outcome}
 use Rattle.ftp_control.specs.declared.control.outcome.Outcome.TheVariants.{Whole, Bad, TooLarge, Ended, Waits}
-use Rattle.ftp_control.specs.Grammar.{outcome, left_by}
+use Rattle.ftp_control.specs.Grammar.{left_by}
 use Rattle.ftp_control.specs.Told.{Told, IsDry, HasFailed, after_read, after_end}
 use Rattle.ftp_control.specs.Reading.{after_input, HearTells, Hears}
 

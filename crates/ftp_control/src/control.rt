@@ -5,6 +5,7 @@ mod channel;
 mod feeding;
 pub(crate) mod grammar;
 mod line_reader;
+mod lines;
 mod outbox;
 mod outcome;
 mod reader;

@@ -1,5 +1,4 @@
 use Rattle.std.proofs.Common.{◌≡◌, [], length, sym, ◌∙◌, arith, List, ℕ, ◌∷◌, refl}
-use Rattle.ftp_control.specs.Grammar.{line_outcome}
 use Rattle.ftp_control.proofs.Outcomes.{too_little, line_ends, line_nothing, nothing_under_way}
 use Rattle.ftp_control.proofs.control.line_reader.take_line_end.Goals as goal
 
