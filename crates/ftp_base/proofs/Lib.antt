@@ -1,1 +1,3 @@
+pub mod AsciiLemmas
+pub mod CopyLemmas
 pub mod ReplyLemmas

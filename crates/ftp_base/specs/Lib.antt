@@ -1,3 +1,4 @@
+pub mod Ascii
 pub mod Fault
 pub mod Reply
 pub mod Status

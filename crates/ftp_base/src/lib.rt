@@ -1,5 +1,6 @@
 //! The base of an FTP client: status codes, faults, commands, text encodings.
 #![tactic(auto)]
 
+pub mod ascii;
 pub mod status;
 pub mod types;
