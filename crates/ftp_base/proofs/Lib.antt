@@ -1,3 +1,4 @@
 pub mod AsciiLemmas
 pub mod CopyLemmas
 pub mod ReplyLemmas
+pub mod TelnetLemmas

@@ -1,4 +1,10 @@
 pub mod Ascii
+pub mod Command
+pub mod Encoding
 pub mod Fault
+pub mod Line
 pub mod Reply
 pub mod Status
+pub mod Telnet
+pub mod Welcome
+pub mod Wire

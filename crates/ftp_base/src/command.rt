@@ -6,11 +6,10 @@ ghost use Rattle.ftp_base.specs.Command.{text_of};
 mod line;
 mod telnet;
 
-pub use line::{validate_command_line, validate_encoded_command_line};
-pub use telnet::{escape_telnet_iac, unescape_telnet_iac};
-
 use crate::types::Text;
+pub use line::{validate_command_line, validate_encoded_command_line};
 use std::fmt;
+pub use telnet::{escape_telnet_iac, unescape_telnet_iac};
 
 /// A command. Displayed, it is the line that is sent, with CR LF at its end.
 #[derive(Clone, Debug, PartialEq, Eq, Drop)]

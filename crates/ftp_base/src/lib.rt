@@ -2,5 +2,7 @@
 #![tactic(auto)]
 
 pub mod ascii;
+pub mod command;
+pub mod encoding;
 pub mod status;
 pub mod types;

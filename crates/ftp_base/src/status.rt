@@ -215,7 +215,8 @@ impl Status {
             Status::StoringNeedAccount => "need account for storing files",
             Status::FileUnavailable => "requested action not taken; file unavailable",
             Status::PageTypeUnknown => "requested action aborted; page type unknown",
-            Status::ExceededStorage => "requested file action aborted; execeeded storage allocation",
+            Status::ExceededStorage =>
+                "requested file action aborted; execeeded storage allocation",
             Status::BadFilename => "requested action not taken; file name not allowed",
         }
     }

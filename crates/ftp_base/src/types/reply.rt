@@ -3,7 +3,6 @@
 ghost use Rattle.std.specs.Prelude.{◌≡◌, Some, None, IsSome, MatchOption, IsErrOf, IfOk, string_bytes};
 ghost use Rattle.ftp_base.specs.Reply.{strict_text, printed_reply};
 
-
 use super::Bytes;
 use crate::status::Status;
 use std::alloc::{AllocError, Global};

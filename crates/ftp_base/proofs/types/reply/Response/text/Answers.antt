@@ -1,4 +1,3 @@
-use Rattle.std.proofs.Common.{◌≡◌}
 use Rattle.ftp_base.proofs.ReplyLemmas.{strict_text_utf8, strict_text_not_utf8}
 use Rattle.ftp_base.proofs.types.reply.Response.text.Goals as goal
 

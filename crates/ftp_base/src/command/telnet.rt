@@ -1,0 +1,50 @@
+//! Byte 255 on the control connection, which is a Telnet connection (RFC 854).
+
+ghost use Rattle.std.specs.Prelude.{◌≡◌, Ok, Err, IfOk, IfErr, OnErr};
+ghost use Rattle.ftp_base.specs.Telnet.{escaped, unescaped};
+
+use crate::types::{FtpError, FtpResult};
+use std::alloc::Global;
+
+/// The byte that begins a Telnet command: 'interpret as command'.
+const IAC: u8 = 255;
+
+/// Doubles each byte 255, as data that stands for itself is sent.
+///
+/// # Errors
+/// `OutOfMemory` where memory is refused.
+pub fn escape_telnet_iac(alloc: Global, bytes: &[u8]) -> FtpResult<Vec<u8>>
+    ensures doubled { IfOk result (λ line. line.items ≡ escaped bytes.now) }
+    ensures undone { IfOk result (λ line. unescaped line.items ≡ bytes.now) }
+    ensures err { IfErr result (λ fault. fault ≡ FtpError.OutOfMemory) }
+{
+    let mut line = Vec::with_capacity(alloc, bytes.len())?;
+    for byte in bytes {
+        line.push(*byte)?;
+        if *byte == IAC {
+            line.push(*byte)?;
+        }
+    }
+    Ok(line)
+}
+
+/// Makes each pair of bytes 255, found from the left, one.
+///
+/// # Errors
+/// `OutOfMemory` where memory is refused.
+pub fn unescape_telnet_iac(alloc: Global, bytes: &[u8]) -> FtpResult<Vec<u8>>
+    ensures single { IfOk result (λ plain. plain.items ≡ unescaped bytes.now) }
+    ensures err { IfErr result (λ fault. fault ≡ FtpError.OutOfMemory) }
+{
+    let mut plain = Vec::with_capacity(alloc, bytes.len())?;
+    let mut opens_pair = false;
+    for byte in bytes {
+        if opens_pair && *byte == IAC {
+            opens_pair = false;
+        } else {
+            plain.push(*byte)?;
+            opens_pair = *byte == IAC;
+        }
+    }
+    Ok(plain)
+}

@@ -1,0 +1,67 @@
+//! How text becomes bytes on the control connection, and bytes text.
+
+ghost use Rattle.std.specs.Prelude.{◌≡◌, ℕ, List, Result, Ok, Err, IfOk, IfErr, string_bytes, vec_items};
+ghost use Rattle.std.specs.Str.Lossy.{utf8_lossy};
+ghost use Rattle.std.specs.declared.io.ErrorKind.{ErrorKind};
+ghost use Rattle.ftp_base.specs.Encoding.{IsRefusal};
+
+mod welcome;
+
+use std::alloc::{AllocError, Global};
+use std::io::ErrorKind;
+use thiserror::Error;
+pub use welcome::WelcomeMessage;
+
+/// Why an encoding gave no bytes for a text.
+#[derive(Clone, Copy, Debug, PartialEq, Eq, Drop, Error)]
+pub enum EncodeError {
+    /// The encoding has no bytes for the text.
+    #[error("the text can't be encoded: {0}")]
+    Refused(ErrorKind),
+    /// Memory was refused.
+    #[error("out of memory")]
+    OutOfMemory,
+}
+
+/// An encoding of text on the control connection: two functions of their argument.
+pub trait Encoding: Send + Sync + Drop {
+    /// The text that bytes stand for.
+    ghost decoded: { Self → List ℕ → List ℕ };
+
+    /// The bytes that stand for a text, or the kind of fault where there are none.
+    ghost encoded: { Self → List ℕ → Result (List ℕ) ErrorKind };
+
+    /// The text that bytes stand for. Only memory can be refused.
+    fn decode(&self, alloc: Global, bytes: &[u8]) -> Result<String, AllocError>
+        ensures { IfOk result (λ text. string_bytes text ≡ decoded self.now bytes.now) };
+
+    /// The bytes that stand for a text.
+    ///
+    /// # Errors
+    /// `Refused` where the text has no bytes, `OutOfMemory` where memory is refused.
+    fn encode(&self, alloc: Global, text: &str) -> Result<Vec<u8>, EncodeError>
+        ensures ok { IfOk result (λ bytes. encoded self.now text.now ≡ Ok (vec_items bytes)) }
+        ensures refused { IfErr result (IsRefusal (encoded self.now text.now)) };
+}
+
+/// UTF-8, the encoding where no other was set (RFC 2640). Bytes that aren't UTF-8 are read lossily, each
+/// maximal piece as U+FFFD.
+#[derive(Clone, Copy, Debug, Default, PartialEq, Eq)]
+pub struct Utf8Encoding;
+
+impl Encoding for Utf8Encoding {
+    ghost decoded = { λ _ bytes. utf8_lossy bytes };
+
+    ghost encoded = { λ _ text. Ok text };
+
+    fn decode(&self, alloc: Global, bytes: &[u8]) -> Result<String, AllocError> {
+        String::from_utf8_lossy(alloc, bytes)
+    }
+
+    fn encode(&self, alloc: Global, text: &str) -> Result<Vec<u8>, EncodeError> {
+        match Vec::from_slice(alloc, text.as_bytes()) {
+            Ok(bytes) => Ok(bytes),
+            Err(AllocError) => Err(EncodeError::OutOfMemory),
+        }
+    }
+}

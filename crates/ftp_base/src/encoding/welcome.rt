@@ -1,0 +1,74 @@
+//! The text that a server greets with.
+
+ghost use Rattle.std.specs.Prelude.{◌≡◌, IfOk, OnOk, OnErr};
+ghost use Rattle.ftp_base.specs.Welcome.{welcome_text};
+
+use super::Encoding;
+use crate::command::unescape_telnet_iac;
+use crate::types::{Bytes, FtpResult, Text};
+use std::alloc::Global;
+use std::marker::Model;
+
+/// The greeting of a server and its text, which follows the session's encoding.
+#[derive(Clone, Debug, Drop)]
+pub struct WelcomeMessage {
+    greeting: Bytes,
+    text: Text,
+}
+
+impl Model for WelcomeMessage {
+    ghost use Rattle.ftp_base.specs.Welcome.{Welcome};
+
+    ghost Value = { Welcome };
+
+    ghost view = { λ message. record { greeting = message.greeting; text = message.text } };
+}
+
+impl WelcomeMessage {
+    /// The message of a greeting: its bytes with pairs of byte 255 made one, decoded, white space cut at the
+    /// end.
+    ///
+    /// # Errors
+    /// `OutOfMemory` where memory is refused.
+    pub fn new<E: Encoding>(
+        alloc: Global,
+        greeting: Bytes,
+        encoding: &E,
+    ) -> FtpResult<WelcomeMessage>
+        ensures greeting { IfOk result (λ message. message.greeting ≡ greeting) }
+        ensures text { IfOk result (λ message. message.text ≡ welcome_text (E.decoded encoding.now) greeting) }
+    {
+        let text = read_welcome(alloc, greeting.as_slice(), encoding)?;
+        Ok(WelcomeMessage { greeting, text })
+    }
+
+    /// Reads the greeting again, under another encoding. Where memory is refused nothing changes.
+    ///
+    /// # Errors
+    /// `OutOfMemory` where memory is refused.
+    pub fn decode_again<E: Encoding>(&mut self, alloc: Global, encoding: &E) -> FtpResult<()>
+        ensures greeting { self.new.greeting ≡ self.old.greeting }
+        ensures text { OnOk result (self.new.text ≡ welcome_text (E.decoded encoding.now) self.old.greeting) }
+        ensures err { OnErr result (self.new.text ≡ self.old.text) }
+    {
+        let text = read_welcome(alloc, self.greeting.as_slice(), encoding)?;
+        self.text = text;
+        Ok(())
+    }
+
+    /// The text of the greeting.
+    pub fn text(&self) -> &str
+        ensures { result.now ≡ self.now.text }
+    {
+        self.text.as_str()
+    }
+}
+
+/// The text of a greeting's bytes.
+fn read_welcome<E: Encoding>(alloc: Global, greeting: &[u8], encoding: &E) -> FtpResult<Text>
+    ensures { IfOk result (λ text. text ≡ welcome_text (E.decoded encoding.now) greeting.now) }
+{
+    let plain = unescape_telnet_iac(alloc, greeting)?;
+    let decoded = encoding.decode(alloc, plain.as_slice())?;
+    Ok(Text::from_str(alloc, decoded.as_str().trim_end())?)
+}
