@@ -26,7 +26,7 @@ places-converted all before [] n whole at = refl
 places-converted all before (b ∷ bs) n whole at =
     let here : follows_return all n ≡ ends_in_return before = rw (whole, at) (follows_return-append before (b ∷ bs)) in
     let rest : flat_map (λ place. on_wire (follows_return all place.0) place.1) (enumerate_from (n + 1) bs) ≡ converted (ends_in_return (before ++ b ∷ [])) bs
-        = places-converted all (before ++ b ∷ []) bs (n + 1) (whole ∙ sym (append_assoc before (b ∷ []) bs)) (grind (arith, common_steps)) in
+    = places-converted all (before ++ b ∷ []) bs (n + 1) (whole ∙ sym (append_assoc before (b ∷ []) bs)) (grind (arith, common_steps)) in
     rw (here, rest, ends_in_return-last before b)
 
 -- bytes go on the wire one after another
@@ -59,9 +59,10 @@ pub converted-twice : (after : Bool) (bytes : List ℕ) → converted after (con
 converted-twice after [] = refl
 converted-twice true (b ∷ bs) = converted-kept true b bs (grind arith) (converted-twice (b == 13) bs)
 converted-twice false (b ∷ bs) =
-    elim (b == 10) as (λ is. b == 10 ≡ is → converted false (converted false (b ∷ bs)) ≡ converted false (b ∷ bs))
-    [ true ↦ λ is. subst (λ (n : ℕ). converted false (converted false (n ∷ bs)) ≡ converted false (n ∷ bs)) (sym (eqb-true b 10 is)) (ap (λ rest. 13 ∷ 10 ∷ rest) (converted-twice false bs))
-    | false ↦ λ is. converted-kept false b bs (rw is) (converted-twice (b == 13) bs) ]
+    elim (b == 10) as (λ is. b == 10 ≡ is → converted false (converted false (b ∷ bs)) ≡ converted false (b ∷ bs)) [
+      | true ↦ λ is. subst (λ (n : ℕ). converted false (converted false (n ∷ bs)) ≡ converted false (n ∷ bs)) (sym (eqb-true b 10 is)) (ap (λ rest. 13 ∷ 10 ∷ rest) (converted-twice false bs))
+      | false ↦ λ is. converted-kept false b bs (rw is) (converted-twice (b == 13) bs)
+    ]
     refl
 
 -- the wire bytes of wire bytes are the same

@@ -51,15 +51,16 @@ Copies-more r s t w v u after after' count piece old new copied taken adds empty
       taken = Consumes-trans r s t copied.given piece copied.taken taken;
       written = subst (Appends w u) (sym whole) (Appends-trans w v u (crlf copied.given) new copied.written written);
       last = last;
-      counted = rw (whole, length-append (crlf copied.given) new) (ap (λ n. n + length new) copied.counted)
+      counted = rw (whole, length-append (crlf copied.given) new) (ap (λ n. n + length new) copied.counted);
     }
 
 -- a copy up to the reader's end is of all that the reader gave
 pub Copies-end : (r s w v : Option (List ℕ)) (after : Bool) (count : ℕ) → Copies r s w v after count → IsAtEnd s →
     IfSome r (λ source. Appends w v (crlf source)) × IfSome r (λ source. count ≡ length (crlf source))
-Copies-end r s w v after count copied end =
-    (Consumes-whole r s copied.given (λ source. Appends w v (crlf source)) copied.taken end copied.written,
-     Consumes-whole r s copied.given (λ source. count ≡ length (crlf source)) copied.taken end copied.counted)
+Copies-end r s w v after count copied end = (
+  Consumes-whole r s copied.given (λ source. Appends w v (crlf source)) copied.taken end copied.written,
+  Consumes-whole r s copied.given (λ source. count ≡ length (crlf source)) copied.taken end copied.counted,
+)
 
 -- what comes after bytes makes their wire bytes no shorter
 pub length-crlf-append : (before bs : List ℕ) → length (crlf before) ≤ length (crlf (before ++ bs))

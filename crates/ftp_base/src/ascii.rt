@@ -97,8 +97,7 @@ fn push_converted(
 /// Wire bytes are their own wire bytes, so a text that is encoded twice is as if encoded once.
 pub fn crlf_is_idempotent()
     ensures { (bytes : List ℕ) → crlf (crlf bytes) ≡ crlf bytes }
-{
-}
+{}
 
 /// Copies a text to a writer, each line ended by CR LF, up to the end of the reader, and answers how
 /// many bytes were written. It reads at most 8,192 bytes at once.
@@ -107,11 +106,7 @@ pub fn crlf_is_idempotent()
 /// What the reader or the writer answers, an interruption only after 64 tries in a row were
 /// interrupted again; `SourceTooLarge` where more than 2^63 - 1 bytes would be written;
 /// `OutOfMemory`. What was read before a fault of the reader has been written.
-pub fn copy_crlf<R: Read, W: Write>(
-    alloc: Global,
-    reader: &mut R,
-    writer: &mut W,
-) -> FtpResult<u64>
+pub fn copy_crlf<R: Read, W: Write>(alloc: Global, reader: &mut R, writer: &mut W) -> FtpResult<u64>
     ensures written { OnOk result (IfSome (R.remaining reader.old)
         (λ source. Appends (W.contents writer.old) (W.contents writer.new) (crlf source))) }
     ensures end { OnOk result (IsAtEnd (R.remaining reader.new)) }

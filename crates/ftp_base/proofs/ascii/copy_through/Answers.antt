@@ -6,7 +6,7 @@ pub loop-init : goal.loop-init
 loop-init g c = record {
   copied = rw c.new-encoder.ensures (Copies-start _ _);
   turns = omega arith;
-  limit = omega arith
+  limit = omega arith;
 }
 
 pub returns-then-taken-eq0-clause-end : goal.returns-then-taken-eq0-clause-end
@@ -15,8 +15,8 @@ returns-then-taken-eq0-clause-end g c = c.in_ok-taken.ensures.bytes.1 c.if-taken
 pub returns-then-count-added-clause-too_large : goal.returns-then-count-added-clause-too_large
 returns-then-count-added-clause-too_large g c e =
     Copies-too_large _ _ _ _ _ _ _ _ _ _ _ c.loop.invariant.copied c.in_ok-taken.ensures.bytes.0
-        (c.in_ok-encode.ensures.written c.loop.invariant.copied.given c.loop.invariant.copied.last) c.clear.ensures.items
-        (omega (arith, c.if-count-added.true, c.len-added.ensures, c.encode.new.out.ok.0))
+    (c.in_ok-encode.ensures.written c.loop.invariant.copied.given c.loop.invariant.copied.last) c.clear.ensures.items
+    (omega (arith, c.if-count-added.true, c.len-added.ensures, c.encode.new.out.ok.0))
 
 pub loop-preserved : goal.loop-preserved
 loop-preserved g c =
@@ -30,5 +30,5 @@ loop-preserved g c =
     record {
       copied = rw added (Copies-more _ _ _ _ _ _ _ _ _ piece _ _ copied c.in_ok-taken.ensures.bytes.0 adds empty (rw (← c.deref.ensures.value) c.in_ok-write_all_retrying.ensures) (c.in_ok-encode.ensures.last copied.given copied.last));
       turns = omega (arith, c.loop.invariant.turns, added, long, taken, c.if-taken-eq0.false);
-      limit = omega (arith, c.if-count-added.false, c.loop.invariant.limit)
+      limit = omega (arith, c.if-count-added.false, c.loop.invariant.limit);
     }

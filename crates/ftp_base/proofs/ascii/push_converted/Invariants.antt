@@ -6,5 +6,5 @@ abbrev pub invariant-loop-byte : goal.invariant-loop-byte
 invariant-loop-byte l = record {
   written : l.out.items ++ converted l.after_return (drop l.byte-index l.input) ≡ l.fn.out.items ++ converted l.fn.after_return l.input;
   last : last_return l.after_return (drop l.byte-index l.input) ≡ last_return l.fn.after_return l.input;
-  front : take (length l.fn.out.items) l.out.items ≡ l.fn.out.items
+  front : take (length l.fn.out.items) l.out.items ≡ l.fn.out.items;
 }

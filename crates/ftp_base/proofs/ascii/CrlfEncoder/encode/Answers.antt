@@ -7,7 +7,7 @@ pub returns-in-Ok-clause-written : goal.returns-in-Ok-clause-written
 returns-in-Ok-clause-written c before so_far = record {
   added = converted (ends_in_return before) c.args.input.now;
   whole = crlf-append before c.args.input.now;
-  grown = c.in-Ok.ensures.written ∙ ap (λ (after : Bool). c.args.out.now.items ++ converted after c.args.input.now) (c.self.view_is ∙ so_far)
+  grown = c.in-Ok.ensures.written ∙ ap (λ (after : Bool). c.args.out.now.items ++ converted after c.args.input.now) (c.self.view_is ∙ so_far);
 }
 
 pub returns-in-Ok-clause-last : goal.returns-in-Ok-clause-last
