@@ -1,4 +1,5 @@
 pub mod AsciiLemmas
 pub mod CopyLemmas
 pub mod ReplyLemmas
+pub mod ScanLemmas
 pub mod TelnetLemmas

@@ -4,6 +4,7 @@ pub mod Encoding
 pub mod Fault
 pub mod Line
 pub mod Reply
+pub mod Scan
 pub mod Status
 pub mod Telnet
 pub mod Welcome

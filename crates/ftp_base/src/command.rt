@@ -4,6 +4,7 @@ ghost use Rattle.std.specs.Prelude.{Some};
 ghost use Rattle.ftp_base.specs.Command.{text_of};
 
 mod line;
+pub mod scan;
 mod telnet;
 
 use crate::types::Text;
