@@ -2,4 +2,5 @@ pub mod AsciiLemmas
 pub mod CopyLemmas
 pub mod ReplyLemmas
 pub mod ScanLemmas
+pub mod SizeLemmas
 pub mod TelnetLemmas

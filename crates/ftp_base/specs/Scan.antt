@@ -1,8 +1,9 @@
 -- What is found in the text of a reply: RFC 959, section 4.1.2 (PASV), RFC 2428, section 3 (EPSV),
 -- RFC 3659, sections 3 (MDTM) and 4 (SIZE).
-use Rattle.std.specs.Prelude.{◌≡◌, ℕ, ◌+◌, ◌<◌, ◌≤◌, Bool, false, IsTrue, ◌||◌, ◌==◌, nat_eq, nat_le, List, [], ◌∷◌, codes, drop, slice_index}
+use Rattle.std.specs.Prelude.{◌≡◌, ℕ, ◌+◌, ◌<◌, ◌≤◌, Bool, true, false, IsTrue, ◌||◌, ◌==◌, nat_eq, nat_le, List, [], ◌∷◌, ◌++◌, codes, length, take, drop, slice_index, encode_utf8}
 use Rattle.std.specs.List.{starts_with}
-use Rattle.std.specs.Char.{IsAsciiDigit, is_ascii_alphanumeric}
+use Rattle.std.specs.Char.{IsAsciiDigit, is_ascii_alphanumeric, is_whitespace}
+use Rattle.std.specs.Str.{trim_end}
 use Rattle.ftp_base.specs.declared.command.scan.Span.{Span}
 
 -- bytes stand in a text at a place
@@ -76,3 +77,17 @@ LacksFields text from closes = (spans : List Span) → AreFields text from close
 -- a byte that may close a number: no digit, no "("
 abbrev pub IsMark : ℕ → Type 0
 IsMark close = (40 < close) × (close < 48)
+
+-- bytes end in a white space character
+pub record EndsInSpace (bytes : List ℕ) : Type 0 where
+  pub front : List ℕ
+  pub space : ℕ
+  pub whole : bytes ≡ front ++ encode_utf8 space
+  pub is_white : is_whitespace space ≡ true
+
+-- a text, white space cut at its end, ends in a run of digits that stands right behind white space: the span
+pub record IsTrailingSize (text : List ℕ) (span : Span) : Type 0 where
+  pub ends : span.end ≡ length (trim_end text)
+  pub some : span.start < span.end
+  pub digits : AreDigits (trim_end text) span.start span.end
+  pub space : EndsInSpace (take span.start (trim_end text))

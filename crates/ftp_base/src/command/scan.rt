@@ -7,7 +7,7 @@
 ghost use Rattle.std.specs.Prelude.{◌≡◌, ◌<◌, ◌≤◌, ◌+◌, ℕ, List, ◌∷◌, length, slice_index, IsTrue, ◌↔◌, MatchOption, IfSome, IfNone};
 ghost use Rattle.ftp_base.specs.declared.command.scan.Span.{Span};
 ghost use Rattle.std.specs.Char.{IsAsciiDigit};
-ghost use Rattle.ftp_base.specs.Scan.{StandsAt, AreDigits, IsNumber, AreFields, IsPassive, IsExtended, IsTimestamp, is_word_byte, StandsNowhere, StandsFirst, LacksFields, IsMark};
+ghost use Rattle.ftp_base.specs.Scan.{StandsAt, AreDigits, IsNumber, AreFields, IsPassive, IsExtended, IsTimestamp, IsTrailingSize, EndsInSpace, is_word_byte, StandsNowhere, StandsFirst, LacksFields, IsMark};
 
 /// A part of a text: the place of its first byte, and the place behind its last.
 #[derive(Clone, Copy, Debug, PartialEq, Eq)]
@@ -56,6 +56,23 @@ pub fn mdtm(text: &str) -> Option<[Span; 6]>
         }
     }
     None
+}
+
+/// Finds the digits behind the last white space of a text whose end is trimmed, and answers their span;
+/// `None` where there is no white space before it, or anything but digits behind it.
+pub fn size(text: &str) -> Option<Span>
+    ensures { MatchOption result ((span : Span) → IsTrailingSize text.now span → ⊥) (IsTrailingSize text.now) }
+{
+    let trimmed = text.trim_end();
+    let start = digits_start(trimmed.as_bytes());
+    if start < trimmed.len() && ends_in_space(&trimmed[..start]) {
+        Some(Span {
+            start,
+            end: trimmed.len(),
+        })
+    } else {
+        None
+    }
 }
 
 /// The shape of PASV at a place.
@@ -147,6 +164,26 @@ fn number_at(bytes: &[u8], from: usize) -> Span
         start: from,
         end: bytes.len(),
     }
+}
+
+/// Whether the last character of a text is white space.
+fn ends_in_space(text: &str) -> bool
+    ensures { IsTrue result ↔ EndsInSpace text.now }
+{
+    text.ends_with(|c: char| c.is_whitespace())
+}
+
+/// Where the longest run of digits at the end of a text begins.
+fn digits_start(bytes: &[u8]) -> usize
+    ensures bound { result ≤ length bytes.now }
+    ensures digits { AreDigits bytes.now result (length bytes.now) }
+    ensures stops { (last : ℕ) → last + 1 ≡ result → IsAsciiDigit (slice_index bytes.now last) → ⊥ }
+{
+    let mut start = bytes.len();
+    while start > 0 && bytes[start - 1].is_ascii_digit() {
+        start -= 1;
+    }
+    start
 }
 
 /// Whether these bytes stand at a place.
