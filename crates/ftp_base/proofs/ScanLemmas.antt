@@ -22,7 +22,7 @@ pub number_end : (text : List ℕ) (from run close : ℕ) (span : Span) → from
     IsNumber text from span → slice_index text span.end ≡ close → (IsAsciiDigit close → ⊥) → span.end ≡ run
 number_end text from run close span low digits stops number closed mark =
     same_end text from span.end run (omega (arith, number.begins, number.some)) low
-        (λ place. rw (← number.begins) (number.digits place)) digits (λ digit. mark (rw closed at digit)) stops
+    (λ place. rw (← number.begins) (number.digits place)) digits (λ digit. mark (rw closed at digit)) stops
 
 -- where a field stands, fields behind it are all that may be missing
 pub LacksFields-behind : (text : List ℕ) (from close : ℕ) (span : Span) (closes : List ℕ) → IsMark close → IsNumber text from span → slice_index text span.end ≡ close →
@@ -30,7 +30,7 @@ pub LacksFields-behind : (text : List ℕ) (from close : ℕ) (span : Span) (clo
 LacksFields-behind text from close span closes mark number closed lacks [] fields = fields
 LacksFields-behind text from close span closes mark number closed lacks (other ∷ others) fields =
     let end : other.end ≡ span.end = number_end text from span.end close other (omega (arith, number.begins, number.some))
-        (λ place. rw (← number.begins) (number.digits place)) (λ digit. mark_no_digit close mark (rw closed at digit)) fields.0 fields.1 (mark_no_digit close mark) in
+    (λ place. rw (← number.begins) (number.digits place)) (λ digit. mark_no_digit close mark (rw closed at digit)) fields.0 fields.1 (mark_no_digit close mark) in
     lacks others (subst (λ (e : ℕ). AreFields text (e + 1) closes others) end fields.2)
 
 -- what stands before a place, and at it, stands before the next
@@ -57,9 +57,10 @@ IsPassive-within text place spans passive = (StandsAt-first 40 [] text place pas
 -- so does that of MDTM
 pub IsTimestamp-within : (text : List ℕ) (place : ℕ) (spans : List Span) → IsTimestamp text place spans → place < length text
 IsTimestamp-within text place spans stamp =
-    elim (cases_order (length text) place)
-    [ inl same ↦ absurd (past place (omega (arith, same)) (stamp.digits place (omega arith) (omega arith)))
-    | inr apart ↦ elim apart [ inl less ↦ absurd (past place (omega (arith, less)) (stamp.digits place (omega arith) (omega arith))) | inr more ↦ more ] ]
+    elim (cases_order (length text) place) [
+      | inl same ↦ absurd (past place (omega (arith, same)) (stamp.digits place (omega arith) (omega arith)))
+      | inr apart ↦ elim apart [ inl less ↦ absurd (past place (omega (arith, less)) (stamp.digits place (omega arith) (omega arith))) | inr more ↦ more ]
+    ]
   where
     -- behind a text stands no digit
     past : (n : ℕ) → length text ≤ n → IsAsciiDigit (slice_index text n) → ⊥

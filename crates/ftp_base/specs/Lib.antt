@@ -2,7 +2,9 @@ pub mod Ascii
 pub mod Command
 pub mod Encoding
 pub mod Fault
+pub mod FileType
 pub mod Line
+pub mod Peer
 pub mod Reply
 pub mod Scan
 pub mod Status

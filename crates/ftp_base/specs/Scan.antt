@@ -54,7 +54,7 @@ pub record IsTimestamp (text : List ℕ) (place : ℕ) (spans : List Span) : Typ
   pub before : (last : ℕ) → last + 1 ≡ place → is_word_byte (slice_index text last) ≡ false
   pub after : is_word_byte (slice_index text (place + 14)) ≡ false
   pub parts : spans ≡ between place (place + 4) ∷ between (place + 4) (place + 6) ∷ between (place + 6) (place + 8)
-    ∷ between (place + 8) (place + 10) ∷ between (place + 10) (place + 12) ∷ between (place + 12) (place + 14) ∷ []
+      ∷ between (place + 8) (place + 10) ∷ between (place + 10) (place + 12) ∷ between (place + 12) (place + 14) ∷ []
 
 -- the shape stands nowhere
 abbrev pub StandsNowhere : {S : Type 0} → (ℕ → S → Type 0) → Type 0

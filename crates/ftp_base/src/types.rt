@@ -2,8 +2,14 @@
 
 mod content;
 mod fault;
+mod file_type;
+mod items;
+mod mode;
 mod reply;
 
 pub use content::{Bytes, Text};
 pub use fault::{ConnectionError, FtpError, FtpResult, ReplyTooLarge};
+pub use file_type::{FileType, FormatControl};
+pub use items::Items;
+pub use mode::{ActivePeerCheck, Mode};
 pub use reply::{BodyError, Response};

@@ -121,12 +121,30 @@ fn timestamp_at(bytes: &[u8], place: usize) -> Option<[Span; 6]>
         return None;
     }
     Some([
-        Span { start: place, end: place + 4 },
-        Span { start: place + 4, end: place + 6 },
-        Span { start: place + 6, end: place + 8 },
-        Span { start: place + 8, end: place + 10 },
-        Span { start: place + 10, end: place + 12 },
-        Span { start: place + 12, end: place + 14 },
+        Span {
+            start: place,
+            end: place + 4,
+        },
+        Span {
+            start: place + 4,
+            end: place + 6,
+        },
+        Span {
+            start: place + 6,
+            end: place + 8,
+        },
+        Span {
+            start: place + 8,
+            end: place + 10,
+        },
+        Span {
+            start: place + 10,
+            end: place + 12,
+        },
+        Span {
+            start: place + 12,
+            end: place + 14,
+        },
     ])
 }
 
