@@ -1,0 +1,4 @@
+pub mod Lines
+pub mod Outcomes
+pub mod Reading
+pub mod Replies

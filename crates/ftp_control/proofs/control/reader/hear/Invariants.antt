@@ -1,0 +1,18 @@
+use Rattle.std.proofs.Common.{◌≡◌, ◌-◌, length, cond}
+use Rattle.ftp_control.specs.UnderWay.{IsUnderWay}
+use Rattle.ftp_control.proofs.Reading.{SoFar}
+use Rattle.ftp_control.proofs.control.reader.hear.Given as goal
+
+-- what was read so far says nothing yet
+abbrev pub invariant-loop-ended : goal.invariant-loop-ended
+invariant-loop-ended g l =
+    let told = g.C.Tells.told in
+    record {
+      under_way : IsUnderWay l.rule l.reply.bytes.items l.reply.line_start;
+      known : g.C.Tells.tells → (told l.conn).ended ≡ l.ended;
+      so_far : SoFar g.C.Tells.tells l.rule l.system l.fn.reply.bytes.items l.reply.bytes.items l.ended (told l.fn.conn) (told l.conn);
+    }
+
+-- a byte more is kept, or the input has ended
+abbrev pub decreases-loop-ended : goal.decreases-loop-ended
+decreases-loop-ended g l = cond l.ended 0 (262146 - length l.reply.bytes.items)

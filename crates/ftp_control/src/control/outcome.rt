@@ -1,0 +1,18 @@
+//! What a read of a reply comes to.
+
+use ftp_base::types::Bytes;
+
+/// What a read says of the bytes that came since the reply began, one of five.
+#[derive(Debug, Drop)]
+pub enum Outcome {
+    /// A whole reply: its bytes, and the code of the line that ended it.
+    Whole(Bytes, u32),
+    /// A first line that opens no reply.
+    Bad(Bytes),
+    /// More bytes than a reply may have.
+    TooLarge,
+    /// The input ended before the reply did.
+    Ended,
+    /// Nothing yet.
+    Waits,
+}

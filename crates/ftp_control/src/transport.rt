@@ -1,0 +1,5 @@
+//! Connections, as the control channel uses them.
+
+mod connection;
+
+pub use connection::{Conn, NeverWaits, PollConn, Tells};

@@ -1,0 +1,82 @@
+//! What a connection does and tells.
+
+ghost use Rattle.std.specs.Prelude.{◌≡◌, ◌<◌, ◌≤◌, Ok, length};
+ghost use Rattle.futures.specs.declared.task.Poll.TheVariants as poll;
+ghost use Rattle.ftp_control.specs.Told.{Told, IsFresh, ReadTells, WriteTells, ReadsAtMost, WritesSome, as_poll};
+
+use futures::task::Poll;
+use std::io::ErrorKind;
+
+/// What a connection tells of itself, however it is called.
+pub trait Tells {
+    /// Whether it tells: a fact for a connection over memory, and nothing that is claimed for a socket.
+    ghost tells: { Type 0 };
+
+    /// What went over it since its channel began.
+    ghost told: { Self → Told };
+
+    /// A channel begins on the connection: from now on it tells of this channel alone.
+    fn begin(&mut self)
+        ensures { tells → IsFresh (told self.new) };
+}
+
+/// A connection that may have to wait, and tells so through a `W`: an event loop's context, or nothing.
+pub trait PollConn<W>: Tells {
+    /// Whether a call may have to wait.
+    ghost may_wait: { Type 0 };
+
+    /// Reads bytes into the front of the buffer. 0 bytes are the end of the input.
+    fn poll_read(&mut self, w: &mut W, buffer: &mut [u8]) -> Result<Poll<usize>, ErrorKind>
+        requires { 0 < length buffer.old }
+        ensures bound { ReadsAtMost result (length buffer.old) }
+        ensures waits { result ≡ Ok poll.Pending → may_wait }
+        ensures told { Self.tells → ReadTells result buffer.new (Self.told self.old) (Self.told self.new) };
+
+    /// Writes bytes from the front, at least one.
+    fn poll_write(&mut self, w: &mut W, bytes: &[u8]) -> Result<Poll<usize>, ErrorKind>
+        requires { 0 < length bytes.now }
+        ensures bound { WritesSome result (length bytes.now) }
+        ensures waits { result ≡ Ok poll.Pending → may_wait }
+        ensures told { Self.tells → WriteTells result bytes.now (Self.told self.old) (Self.told self.new) };
+}
+
+/// A connection whose calls return only when they are done.
+pub trait Conn: Tells {
+    /// Reads bytes into the front of the buffer. 0 bytes are the end of the input.
+    fn read(&mut self, buffer: &mut [u8]) -> Result<usize, ErrorKind>
+        requires { 0 < length buffer.old }
+        ensures bound { ReadsAtMost (as_poll result) (length buffer.old) }
+        ensures told { Self.tells → ReadTells (as_poll result) buffer.new (Self.told self.old) (Self.told self.new) };
+
+    /// Writes bytes from the front, at least one.
+    fn write(&mut self, bytes: &[u8]) -> Result<usize, ErrorKind>
+        requires { 0 < length bytes.now }
+        ensures bound { WritesSome (as_poll result) (length bytes.now) }
+        ensures told { Self.tells → WriteTells (as_poll result) bytes.now (Self.told self.old) (Self.told self.new) };
+}
+
+/// Through which nothing is told to wait: a poll under it is a call that blocks.
+#[derive(Clone, Copy, Debug)]
+pub struct NeverWaits;
+
+impl<C: Conn> PollConn<NeverWaits> for C {
+    ghost may_wait = { ⊥ };
+
+    fn poll_read(
+        &mut self,
+        _w: &mut NeverWaits,
+        buffer: &mut [u8],
+    ) -> Result<Poll<usize>, ErrorKind> {
+        match self.read(buffer) {
+            Ok(count) => Ok(Poll::Ready(count)),
+            Err(kind) => Err(kind),
+        }
+    }
+
+    fn poll_write(&mut self, _w: &mut NeverWaits, bytes: &[u8]) -> Result<Poll<usize>, ErrorKind> {
+        match self.write(bytes) {
+            Ok(count) => Ok(Poll::Ready(count)),
+            Err(kind) => Err(kind),
+        }
+    }
+}
