@@ -1,5 +1,6 @@
 pub mod AsciiLemmas
 pub mod CopyLemmas
+pub mod FeatureLemmas
 pub mod ReplyLemmas
 pub mod ScanLemmas
 pub mod SizeLemmas

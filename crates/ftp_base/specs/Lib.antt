@@ -2,6 +2,7 @@ pub mod Ascii
 pub mod Command
 pub mod Encoding
 pub mod Fault
+pub mod Features
 pub mod FileType
 pub mod Line
 pub mod Peer

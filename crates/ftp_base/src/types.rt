@@ -2,6 +2,7 @@
 
 mod content;
 mod fault;
+mod features;
 mod file_type;
 mod items;
 mod mode;
@@ -9,6 +10,7 @@ mod reply;
 
 pub use content::{Bytes, Text};
 pub use fault::{ConnectionError, FtpError, FtpResult, ReplyTooLarge};
+pub use features::Features;
 pub use file_type::{FileType, FormatControl};
 pub use items::Items;
 pub use mode::{ActivePeerCheck, Mode};
