@@ -1,5 +1,6 @@
 -- Lemmas on the features of a server.
-use Rattle.std.proofs.Common.{◌≡◌, ℕ, Bool, true, false, cond, List, [], ◌∷◌, Option, Some, None, MatchOption, refl, sym, ap, subst, ◌∙◌, map, bytes_eq, string_bytes, Bor}
+use Rattle.std.proofs.Common.{◌≡◌, ℕ, Bool, true, false, cond, List, [], ◌∷◌, Option, Some, None, MatchOption, refl, sym, ap, subst, ◌∙◌, map, bytes_eq, string_bytes, Bor, codes, nat_eq, fold, suc, length, take, arith, ◌+◌, ◌<◌, ◌&&◌, ◌||◌, not, if◌then◌else◌}
+use Rattle.std.specs.List.{starts_with, list_all, list_any, position_or_len, prefix_len}
 use Rattle.std.specs.Option.{option_map, option_copied}
 use Rattle.std.specs.Map.{lookup}
 use Rattle.std.specs.Ordering.{nat_cmp, match_ordering}
@@ -11,7 +12,7 @@ use Rattle.std.specs.String.{string_cmp}
 use Rattle.std.specs.declared.string.String.{String}
 use Rattle.std.specs.declared.alloc.Global.{Global}
 use Rattle.std.proofs.lemmas.Map.Text.{is_eq-slice_cmp}
-use Rattle.ftp_base.specs.Features.{Entries, Feature, shown, with_feature, value_at}
+use Rattle.ftp_base.specs.Features.{Entries, Feature, shown, with_feature, value_at, feature_of, is_last, is_space, listed, listed_features}
 
 -- what a map shows after an insertion
 pub shown-insert_entry : (entries : List (String Global × Option (String Global))) (name : String Global) (value : Option (String Global)) →
@@ -41,3 +42,50 @@ pub lent_value : (found : Option (Bor (Option (String Global)))) (value : Option
     value ≡ option_map (λ v. option_map string_bytes v) there → MatchOption found (value ≡ None) (λ v. value ≡ Some (option_map string_bytes v.now))
 lent_value None value there copied is = is ∙ ap (option_map (λ v. option_map string_bytes v)) (sym copied)
 lent_value (Some x) value there copied is = is ∙ ap (option_map (λ v. option_map string_bytes v)) (sym copied)
+
+-- the features of the lines of a list after those of the lines before
+abbrev pub listed_from : Entries → List (List ℕ) → Option Entries
+listed_from known [] = Some known
+listed_from known (line ∷ lines) =
+    if is_last line then Some known
+    else (if starts_with nat_eq line (codes " ") then listed_from (with_feature known (feature_of line)) lines else None)
+
+-- a line that doesn't end the list is in it
+pub listed-cons : (line : List ℕ) (lines : List (List ℕ)) → is_last line ≡ false → listed (line ∷ lines) ≡ line ∷ listed lines
+listed-cons line lines more =
+    let n = prefix_len (λ l. not (is_last l)) lines in
+    let next : 1 + n ≡ suc n = omega arith in
+    rw more (ap (λ k. take k (line ∷ lines)) next)
+
+-- the same over the lines that the list has
+pub listed_from-is : (known : Entries) (lines : List (List ℕ)) → listed_from known lines
+    ≡ (if list_all (λ line. starts_with nat_eq line (codes " ")) (listed lines) then Some (fold with_feature known (map feature_of (listed lines))) else None)
+listed_from-is known [] = refl
+listed_from-is known (line ∷ lines) =
+    elim (is_last line) as (λ b. is_last line ≡ b → listed_from known (line ∷ lines)
+        ≡ (if list_all (λ l. starts_with nat_eq l (codes " ")) (listed (line ∷ lines)) then Some (fold with_feature known (map feature_of (listed (line ∷ lines)))) else None))
+    [ true ↦ λ last. rw last refl
+    | false ↦ λ more. rw (listed-cons line lines more, more)
+        (elim (starts_with nat_eq line (codes " ")) as (λ b. (if b then listed_from (with_feature known (feature_of line)) lines else None)
+            ≡ (if b && list_all (λ l. starts_with nat_eq l (codes " ")) (listed lines) then Some (fold with_feature (with_feature known (feature_of line)) (map feature_of (listed lines))) else None))
+        [ true ↦ listed_from-is (with_feature known (feature_of line)) lines
+        | false ↦ refl ]) ]
+    refl
+
+-- a text whose first space stands before its end has one
+pub has_space : (bytes : List ℕ) → position_or_len is_space bytes < length bytes → list_any is_space bytes ≡ true
+has_space [] before = absurd (omega (arith, before))
+has_space (b ∷ bs) before =
+    elim (is_space b) as (λ t. cond (not t) (1 + position_or_len is_space bs) 0 < suc (length bs) → t || list_any is_space bs ≡ true)
+    [ true ↦ λ _. refl
+    | false ↦ λ h. has_space bs (omega (arith, h)) ]
+    before
+
+-- one whose first space stands at its end has none
+pub no_space : (bytes : List ℕ) → position_or_len is_space bytes ≡ length bytes → list_any is_space bytes ≡ false
+no_space [] end = refl
+no_space (b ∷ bs) end =
+    elim (is_space b) as (λ t. cond (not t) (1 + position_or_len is_space bs) 0 ≡ suc (length bs) → t || list_any is_space bs ≡ false)
+    [ true ↦ λ h. absurd (omega (arith, h))
+    | false ↦ λ h. no_space bs (omega (arith, h)) ]
+    end

@@ -34,13 +34,14 @@ value_at entries name = lookup (bytes_eq name) entries
 abbrev pub map_of : List Feature → Entries
 map_of features = fold with_feature [] features
 
+abbrev pub is_space : ℕ → Bool
+is_space byte = byte == 32
+
 -- the feature on a line: white space is cut at both ends, the name runs to the first space, and what stands
 -- behind that space is the value
 abbrev pub feature_of : List ℕ → Feature
 feature_of line =
-    if list_any (λ b. b == 32) (trim line)
-    then (before_first (λ b. b == 32) (trim line), Some (after_first (λ b. b == 32) (trim line)))
-    else (trim line, None)
+    (before_first is_space (trim line), if list_any is_space (trim line) then Some (after_first is_space (trim line)) else None)
 
 -- a line that ends the list
 abbrev pub is_last : List ℕ → Bool
@@ -50,12 +51,17 @@ is_last line = starts_with nat_eq line (codes "211 ")
 abbrev pub listed : List (List ℕ) → List (List ℕ)
 listed lines = take_while (λ line. not (is_last line)) lines
 
+-- the features of the lines of a list, each of which begins with a space
+abbrev pub listed_features : List (List ℕ) → Option Entries
+listed_features lines =
+    if list_all (λ line. starts_with nat_eq line (codes " ")) (listed lines)
+    then Some (map_of (map feature_of (listed lines)))
+    else None
+
 -- the features that a reply's lines tell, unless they break the grammar: a first line "211 " tells none, a first
--- line "211-" opens the list, each line of which begins with a space
+-- line "211-" opens the list
 abbrev pub features_of : List (List ℕ) → Option Entries
 features_of [] = None
 features_of (first ∷ lines) =
     if is_last first then Some []
-    else (if starts_with nat_eq first (codes "211-") && list_all (λ line. starts_with nat_eq line (codes " ")) (listed lines)
-    then Some (map_of (map feature_of (listed lines)))
-    else None)
+    else (if starts_with nat_eq first (codes "211-") then listed_features lines else None)

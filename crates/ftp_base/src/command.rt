@@ -3,6 +3,7 @@
 ghost use Rattle.std.specs.Prelude.{Some};
 ghost use Rattle.ftp_base.specs.Command.{address_text, after_space, level_text, text_of};
 
+pub mod feat;
 mod line;
 pub mod scan;
 mod telnet;
