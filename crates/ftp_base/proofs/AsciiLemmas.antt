@@ -1,5 +1,5 @@
 -- Lemmas on CR LF: place by place, and byte after byte with a flag.
-use Rattle.std.proofs.Common.{◌≡◌, ℕ, zero, suc, Bool, true, false, not, cond, List, [], ◌∷◌, ◌++◌, ◌+◌, ◌-◌, ◌<◌, ◌&&◌, ◌==◌, refl, sym, ap, subst, ◌∙◌, length, arith, nat_lt, append_assoc, slice_index}
+use Rattle.std.proofs.Common.{◌≡◌, ℕ, suc, Bool, true, false, not, List, [], ◌∷◌, ◌++◌, ◌+◌, ◌&&◌, ◌==◌, refl, sym, ap, subst, ◌∙◌, length, arith, append_assoc}
 use Rattle.std.specs.List.{flat_map, enumerate_from}
 use Rattle.std.proofs.Math.Seq.{get_or-append_seam}
 use Rattle.std.proofs.lemmas.Grind.{common_steps}

@@ -1,6 +1,6 @@
 -- Lemmas on a copy from a reader to a writer, CR LF at each line's end.
-use Rattle.std.proofs.Common.{◌≡◌, ℕ, Bool, true, false, cond, not, ◌&&◌, ◌==◌, List, [], ◌∷◌, ◌++◌, ◌+◌, ◌-◌, ◌≤◌, ◌<◌, Option, Some, None, IfSome, refl, sym, ap, subst, ◌∙◌, length, take, drop, arith, append_assoc, append-nil, take-append-drop}
-use Rattle.std.specs.Io.KnownBytes.{Appends, Consumes, IsAtEnd, Keeps}
+use Rattle.std.proofs.Common.{◌≡◌, ℕ, Bool, true, false, cond, not, ◌&&◌, ◌==◌, List, [], ◌∷◌, ◌++◌, ◌+◌, ◌-◌, ◌≤◌, ◌<◌, Option, Some, None, IfSome, refl, sym, ap, subst, ◌∙◌, length, arith}
+use Rattle.std.specs.Io.KnownBytes.{Appends, Consumes, IsAtEnd}
 use Rattle.std.proofs.KnownBytes.{Appends-trans, Appends-nil, Consumes-nil, Consumes-trans, Consumes-whole}
 use Rattle.std.proofs.lemmas.List.{append_cancel_left, length-append}
 use Rattle.ftp_base.specs.Ascii.{on_wire, crlf, converted, ends_in_return, AddsPiece}

@@ -1,10 +1,9 @@
 -- Lemmas on the features of a server.
-use Rattle.std.proofs.Common.{◌≡◌, ℕ, Bool, true, false, cond, List, [], ◌∷◌, Option, Some, None, MatchOption, refl, sym, ap, subst, ◌∙◌, map, bytes_eq, string_bytes, Bor, codes, nat_eq, fold, suc, length, take, arith, ◌+◌, ◌<◌, ◌&&◌, ◌||◌, not, if◌then◌else◌}
+use Rattle.std.proofs.Common.{◌≡◌, ℕ, true, false, cond, List, [], ◌∷◌, Option, Some, None, MatchOption, refl, sym, ap, ◌∙◌, map, bytes_eq, string_bytes, Bor, codes, nat_eq, fold, suc, length, take, arith, ◌+◌, ◌<◌, ◌&&◌, ◌||◌, not, if◌then◌else◌}
 use Rattle.std.specs.List.{starts_with, list_all, list_any, position_or_len, prefix_len}
 use Rattle.std.specs.Option.{option_map, option_copied}
 use Rattle.std.specs.Map.{lookup}
 use Rattle.std.specs.Ordering.{nat_cmp, match_ordering}
-use Rattle.std.specs.declared.cmp.Ordering.{Ordering}
 use Rattle.std.specs.declared.cmp.Ordering.TheVariants.{Less, Equal, Greater}
 use Rattle.std.specs.Cmp.Lexicographic.{slice_cmp}
 use Rattle.std.specs.BTreeMap.{insert_entry, is_at}
@@ -12,7 +11,7 @@ use Rattle.std.specs.String.{string_cmp}
 use Rattle.std.specs.declared.string.String.{String}
 use Rattle.std.specs.declared.alloc.Global.{Global}
 use Rattle.std.proofs.lemmas.Map.Text.{is_eq-slice_cmp}
-use Rattle.ftp_base.specs.Features.{Entries, Feature, shown, with_feature, value_at, feature_of, is_last, is_space, listed, listed_features}
+use Rattle.ftp_base.specs.Features.{Entries, shown, with_feature, value_at, feature_of, is_last, is_space, listed}
 
 -- what a map shows after an insertion
 pub shown-insert_entry : (entries : List (String Global × Option (String Global))) (name : String Global) (value : Option (String Global)) →
@@ -20,11 +19,12 @@ pub shown-insert_entry : (entries : List (String Global × Option (String Global
 shown-insert_entry [] name value = refl
 shown-insert_entry (e ∷ es) name value =
     elim (string_cmp name e.0) as (λ o. shown (match_ordering o ((name, value) ∷ e ∷ es) ((e.0, value) ∷ es) (e ∷ insert_entry string_cmp es name value))
-        ≡ match_ordering o ((string_bytes name, option_map string_bytes value) ∷ shown (e ∷ es)) ((string_bytes e.0, option_map string_bytes value) ∷ shown es)
-        ((string_bytes e.0, option_map string_bytes e.1) ∷ with_feature (shown es) (string_bytes name, option_map string_bytes value)))
-    [ Less ↦ refl
-    | Equal ↦ refl
-    | Greater ↦ ap (λ rest. (string_bytes e.0, option_map string_bytes e.1) ∷ rest) (shown-insert_entry es name value) ]
+    ≡ match_ordering o ((string_bytes name, option_map string_bytes value) ∷ shown (e ∷ es)) ((string_bytes e.0, option_map string_bytes value) ∷ shown es)
+    ((string_bytes e.0, option_map string_bytes e.1) ∷ with_feature (shown es) (string_bytes name, option_map string_bytes value))) [
+      | Less ↦ refl
+      | Equal ↦ refl
+      | Greater ↦ ap (λ rest. (string_bytes e.0, option_map string_bytes e.1) ∷ rest) (shown-insert_entry es name value)
+    ]
 
 -- what a map shows at a name
 pub value_at-shown : (entries : List (String Global × Option (String Global))) (name : List ℕ) →
@@ -33,9 +33,10 @@ value_at-shown [] name = refl
 value_at-shown (e ∷ es) name =
     rw (is_eq-slice_cmp name (string_bytes e.0))
     (elim (bytes_eq name (string_bytes e.0)) as (λ b. cond b (Some (option_map string_bytes e.1)) (value_at (shown es) name)
-        ≡ option_map (λ value. option_map string_bytes value) (cond b (Some e.1) (lookup (is_at (λ k. slice_cmp nat_cmp name (string_bytes k))) es)))
-    [ true ↦ refl
-    | false ↦ value_at-shown es name ])
+    ≡ option_map (λ value. option_map string_bytes value) (cond b (Some e.1) (lookup (is_at (λ k. slice_cmp nat_cmp name (string_bytes k))) es))) [
+      | true ↦ refl
+      | false ↦ value_at-shown es name
+    ])
 
 -- what is lent of a value is the value
 pub lent_value : (found : Option (Bor (Option (String Global)))) (value : Option (Option (List ℕ))) (there : Option (Option (String Global))) → option_copied found ≡ there →
@@ -63,29 +64,33 @@ pub listed_from-is : (known : Entries) (lines : List (List ℕ)) → listed_from
 listed_from-is known [] = refl
 listed_from-is known (line ∷ lines) =
     elim (is_last line) as (λ b. is_last line ≡ b → listed_from known (line ∷ lines)
-        ≡ (if list_all (λ l. starts_with nat_eq l (codes " ")) (listed (line ∷ lines)) then Some (fold with_feature known (map feature_of (listed (line ∷ lines)))) else None))
-    [ true ↦ λ last. rw last refl
-    | false ↦ λ more. rw (listed-cons line lines more, more)
-        (elim (starts_with nat_eq line (codes " ")) as (λ b. (if b then listed_from (with_feature known (feature_of line)) lines else None)
-            ≡ (if b && list_all (λ l. starts_with nat_eq l (codes " ")) (listed lines) then Some (fold with_feature (with_feature known (feature_of line)) (map feature_of (listed lines))) else None))
-        [ true ↦ listed_from-is (with_feature known (feature_of line)) lines
-        | false ↦ refl ]) ]
+    ≡ (if list_all (λ l. starts_with nat_eq l (codes " ")) (listed (line ∷ lines)) then Some (fold with_feature known (map feature_of (listed (line ∷ lines)))) else None)) [
+      | true ↦ λ last. rw last refl
+      | false ↦ λ more. rw (listed-cons line lines more, more)
+          (elim (starts_with nat_eq line (codes " ")) as (λ b. (if b then listed_from (with_feature known (feature_of line)) lines else None)
+          ≡ (if b && list_all (λ l. starts_with nat_eq l (codes " ")) (listed lines) then Some (fold with_feature (with_feature known (feature_of line)) (map feature_of (listed lines))) else None)) [
+            | true ↦ listed_from-is (with_feature known (feature_of line)) lines
+            | false ↦ refl
+          ])
+    ]
     refl
 
 -- a text whose first space stands before its end has one
 pub has_space : (bytes : List ℕ) → position_or_len is_space bytes < length bytes → list_any is_space bytes ≡ true
 has_space [] before = absurd (omega (arith, before))
 has_space (b ∷ bs) before =
-    elim (is_space b) as (λ t. cond (not t) (1 + position_or_len is_space bs) 0 < suc (length bs) → t || list_any is_space bs ≡ true)
-    [ true ↦ λ _. refl
-    | false ↦ λ h. has_space bs (omega (arith, h)) ]
+    elim (is_space b) as (λ t. cond (not t) (1 + position_or_len is_space bs) 0 < suc (length bs) → t || list_any is_space bs ≡ true) [
+      | true ↦ λ _. refl
+      | false ↦ λ h. has_space bs (omega (arith, h))
+    ]
     before
 
 -- one whose first space stands at its end has none
 pub no_space : (bytes : List ℕ) → position_or_len is_space bytes ≡ length bytes → list_any is_space bytes ≡ false
 no_space [] end = refl
 no_space (b ∷ bs) end =
-    elim (is_space b) as (λ t. cond (not t) (1 + position_or_len is_space bs) 0 ≡ suc (length bs) → t || list_any is_space bs ≡ false)
-    [ true ↦ λ h. absurd (omega (arith, h))
-    | false ↦ λ h. no_space bs (omega (arith, h)) ]
+    elim (is_space b) as (λ t. cond (not t) (1 + position_or_len is_space bs) 0 ≡ suc (length bs) → t || list_any is_space bs ≡ false) [
+      | true ↦ λ h. absurd (omega (arith, h))
+      | false ↦ λ h. no_space bs (omega (arith, h))
+    ]
     end

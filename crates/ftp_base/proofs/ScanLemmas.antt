@@ -1,11 +1,11 @@
 -- Lemmas on numbers in a text.
-use Rattle.std.proofs.Common.{◌≡◌, ◌≢◌, ℕ, zero, suc, ◌+◌, ◌<◌, ◌≤◌, ◌⊎◌, inl, inr, Bool, IsTrue, nat_eq, true, false, List, [], ◌∷◌, length, drop, slice_index, refl, sym, ap, subst, ◌∙◌, arith}
+use Rattle.std.proofs.Common.{◌≡◌, ℕ, zero, suc, ◌+◌, ◌<◌, ◌≤◌, inl, inr, IsTrue, nat_eq, List, [], ◌∷◌, length, slice_index, sym, subst, arith}
 use Rattle.std.proofs.lemmas.Bool.{cases_order, eqb-true, and_parts}
 use Rattle.std.proofs.lemmas.List.{get_or_past}
 use Rattle.std.specs.List.{starts_with}
 use Rattle.std.specs.Char.{IsAsciiDigit}
 use Rattle.ftp_base.specs.declared.command.scan.Span.{Span}
-use Rattle.ftp_base.specs.Scan.{AreDigits, IsNumber, AreFields, IsPassive, IsExtended, IsTimestamp, StandsAt, LacksFields, IsMark, StandsNotBefore, StandsNowhere}
+use Rattle.ftp_base.specs.Scan.{AreDigits, IsNumber, AreFields, IsPassive, IsTimestamp, StandsAt, LacksFields, IsMark, StandsNotBefore, StandsNowhere}
 
 -- a mark is no digit
 pub mark_no_digit : (c : ℕ) → IsMark c → IsAsciiDigit c → ⊥

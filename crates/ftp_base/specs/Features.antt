@@ -1,5 +1,5 @@
 -- What a server can do beyond RFC 959, by its answer to FEAT: RFC 2389, section 3.2.
-use Rattle.std.specs.Prelude.{ℕ, Bool, List, [], ◌∷◌, ◌&&◌, ◌==◌, Option, Some, None, codes, map, not, nat_eq, bytes_eq, take_while, fold, string_bytes, if◌then◌else◌}
+use Rattle.std.specs.Prelude.{ℕ, Bool, List, [], ◌∷◌, ◌==◌, Option, Some, None, codes, map, not, nat_eq, bytes_eq, take_while, fold, string_bytes, if◌then◌else◌}
 use Rattle.std.specs.List.{list_any, list_all, starts_with, before_first, after_first}
 use Rattle.std.specs.Option.{option_map}
 use Rattle.std.specs.Map.{lookup}

@@ -1,8 +1,7 @@
 //! A list that contracts see as one.
 
 ghost use Rattle.std.specs.Prelude.{◌≡◌, List};
-ghost use Rattle.std.specs.Cmp.Lexicographic.{pointwise};
-ghost use Rattle.std.proofs.Common.{rules};
+ghost use Rattle.std.specs.Cmp.Lexicographic.{pointwise, lists_per, lists_equiv};
 
 use std::fmt;
 use std::marker::Model;
@@ -52,7 +51,7 @@ impl<T: fmt::Debug> fmt::Debug for Items<T> {
 impl<T: PartialEq> PartialEq for Items<T> {
     ghost eq = { pointwise T.eq };
 
-    ghost laws = { Prim.search rules };
+    ghost laws = { lists_per T.PartialEq.laws };
 
     fn eq(&self, other: &Items<T>) -> bool {
         self.items == other.items
@@ -60,5 +59,5 @@ impl<T: PartialEq> PartialEq for Items<T> {
 }
 
 impl<T: Eq> Eq for Items<T> {
-    ghost laws = { Prim.search rules };
+    ghost laws = { lists_equiv T.Eq.laws };
 }

@@ -1,5 +1,5 @@
-use Rattle.std.proofs.Common.{◌≡◌, ◌<◌, ◌≤◌, ◌++◌, ◌∙◌, refl, sym, length, take, arith}
-use Rattle.ftp_base.proofs.CopyLemmas.{Copies, Copies-start, Copies-end, Copies-more, Copies-too_large, added-length, added-all}
+use Rattle.std.proofs.Common.{◌≡◌, ◌≤◌, ◌∙◌, sym, length, take, arith}
+use Rattle.ftp_base.proofs.CopyLemmas.{Copies-start, Copies-more, Copies-too_large, added-length, added-all}
 use Rattle.ftp_base.proofs.ascii.copy_through.Goals as goal
 
 pub loop-init : goal.loop-init

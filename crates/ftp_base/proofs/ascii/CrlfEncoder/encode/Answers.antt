@@ -1,5 +1,5 @@
-use Rattle.std.proofs.Common.{◌≡◌, ◌++◌, ◌∙◌, Bool, sym, ap}
-use Rattle.ftp_base.specs.Ascii.{ends_in_return, converted, last_return, AddsPiece}
+use Rattle.std.proofs.Common.{◌++◌, ◌∙◌, Bool, sym, ap}
+use Rattle.ftp_base.specs.Ascii.{ends_in_return, converted, last_return}
 use Rattle.ftp_base.proofs.AsciiLemmas.{crlf-append, ends_in_return-append}
 use Rattle.ftp_base.proofs.ascii.CrlfEncoder.encode.Goals as goal
 

@@ -1,4 +1,4 @@
-use Rattle.std.proofs.Common.{[], map, string_bytes, ◌∙◌}
+use Rattle.std.proofs.Common.{[], map, string_bytes}
 use Rattle.ftp_base.proofs.FeatureLemmas.{listed_from-is}
 use Rattle.ftp_base.proofs.command.feat.list_features.Goals as goal
 

@@ -1,5 +1,5 @@
-use Rattle.std.proofs.Common.{◌≡◌, ◌∙◌, ◌<◌, ◌==◌, ℕ, List, Bool, true, false, Option, Some, None, if◌then◌else◌, length, string_bytes, sym, ap, arith, refl, take, take_all}
-use Rattle.std.specs.List.{list_any, position_or_len, before_first, after_first}
+use Rattle.std.proofs.Common.{◌≡◌, ◌∙◌, ◌<◌, ℕ, List, Some, None, length, sym, ap, arith, refl, take_all}
+use Rattle.std.specs.List.{position_or_len, before_first, after_first}
 use Rattle.std.specs.Str.{trim}
 use Rattle.std.proofs.lemmas.Str.Pattern.{split_once_first}
 use Rattle.ftp_base.specs.Features.{Feature, feature_of, is_space}

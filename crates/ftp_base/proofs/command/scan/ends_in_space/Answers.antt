@@ -1,4 +1,4 @@
-use Rattle.std.proofs.Common.{rules, refl, ◌≡◌, ◌-◌, ◌++◌, List, [], ℕ, true, false, ◌∙◌, sym, ap, MatchBool, length, take, drop, take-append-drop, append-nil, inl, inr, arith}
+use Rattle.std.proofs.Common.{rules, refl, ◌≡◌, ◌++◌, List, [], ℕ, true, false, ◌∙◌, sym, ap, take, drop, take-append-drop, append-nil, inl, inr}
 use Rattle.std.proofs.lemmas.Bool.{cases_Bool}
 use Rattle.std.proofs.Math.Seq.{drop-length}
 use Rattle.std.proofs.lemmas.Fn.{always_returns_same}

@@ -1,5 +1,4 @@
-use Rattle.std.proofs.Common.{◌≡◌, ◌+◌, ◌<◌, slice_index, subst, ℕ, codes, Bool, true, false, ◌∙◌, sym, arith}
-use Rattle.std.specs.Char.{IsAsciiDigit}
+use Rattle.std.proofs.Common.{◌≡◌, ◌+◌, slice_index, codes, Bool, true, false, ◌∙◌, sym, arith}
 use Rattle.ftp_base.specs.Scan.{StandsAt}
 use Rattle.ftp_base.proofs.ScanLemmas.{number_end, StandsAt-first}
 use Rattle.ftp_base.proofs.command.scan.extended_at.Goals as goal

@@ -1,5 +1,4 @@
 use Rattle.std.proofs.Common.{ℕ, List, subst, length, arith}
-use Rattle.ftp_base.specs.declared.command.scan.Span.{Span}
 use Rattle.ftp_base.specs.Scan.{IsTimestamp, StandsFirst, StandsNowhere}
 use Rattle.ftp_base.proofs.ScanLemmas.{StandsNotBefore-next, StandsNowhere-from, IsTimestamp-within}
 use Rattle.ftp_base.proofs.command.scan.mdtm.Goals as goal

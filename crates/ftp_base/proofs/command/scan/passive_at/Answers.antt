@@ -1,6 +1,6 @@
-use Rattle.std.proofs.Common.{ℕ, List, [], codes, arith}
+use Rattle.std.proofs.Common.{List, [], codes, arith}
 use Rattle.ftp_base.specs.declared.command.scan.Span.{Span}
-use Rattle.ftp_base.specs.Scan.{LacksFields, IsPassive}
+use Rattle.ftp_base.specs.Scan.{IsPassive}
 use Rattle.ftp_base.proofs.ScanLemmas.{LacksFields-behind}
 use Rattle.ftp_base.proofs.command.scan.passive_at.Goals as goal
 

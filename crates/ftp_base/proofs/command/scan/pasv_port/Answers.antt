@@ -1,5 +1,4 @@
 use Rattle.std.proofs.Common.{ℕ, List, subst, length, arith}
-use Rattle.ftp_base.specs.declared.command.scan.Span.{Span}
 use Rattle.ftp_base.specs.Scan.{IsPassive, StandsFirst, StandsNowhere}
 use Rattle.ftp_base.proofs.ScanLemmas.{StandsNotBefore-next, StandsNowhere-from, IsPassive-within}
 use Rattle.ftp_base.proofs.command.scan.pasv_port.Goals as goal

@@ -1,7 +1,6 @@
-use Rattle.std.proofs.Common.{◌≡◌, ◌≤◌, ◌<◌, ◌∙◌, ℕ, List, Bool, true, false, sym, ap, take, length, arith}
+use Rattle.std.proofs.Common.{◌≡◌, ◌∙◌, true, false, sym, ap, take, length, arith}
 use Rattle.std.proofs.Math.Nat.{sub-zero}
 use Rattle.std.specs.Str.{trim_end}
-use Rattle.ftp_base.specs.Scan.{AreDigits, EndsInSpace}
 use Rattle.ftp_base.proofs.SizeLemmas.{size_start}
 use Rattle.ftp_base.proofs.command.scan.size.Goals as goal
 use Rattle.ftp_base.proofs.command.scan.size.Goals.{else-start-trimmed-via-then-start-trimmed+else-ends_in_space, else-start-trimmed-via-else-start-trimmed}

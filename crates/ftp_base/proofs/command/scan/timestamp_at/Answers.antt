@@ -1,5 +1,4 @@
-use Rattle.std.proofs.Common.{◌≡◌, ◌+◌, ◌-◌, ◌<◌, ℕ, refl, ap, sym, subst, ◌∙◌, slice_index, arith, false}
-use Rattle.ftp_base.specs.Scan.{IsTimestamp, is_word_byte}
+use Rattle.std.proofs.Common.{◌≡◌, ◌+◌, ◌-◌, refl, sym, ◌∙◌, arith}
 use Rattle.ftp_base.proofs.command.scan.timestamp_at.Goals as goal
 use Rattle.ftp_base.proofs.command.scan.timestamp_at.Goals.{else-place-gt0-via-then-place-gt0+else-is_word_at, else-place-gt0-via-else-place-gt0}
 
