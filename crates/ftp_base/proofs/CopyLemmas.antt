@@ -1,9 +1,9 @@
 -- Lemmas on a copy from a reader to a writer, CR LF at each line's end.
-use Rattle.std.proofs.Common.{◌≡◌, ℕ, Bool, true, false, cond, not, ◌&&◌, ◌==◌, List, [], ◌∷◌, ◌++◌, ◌+◌, ◌-◌, ◌≤◌, ◌<◌, Option, Some, None, IfSome, refl, sym, ap, subst, ◌∙◌, length, arith}
+use Rattle.std.proofs.Common.{append_assoc, append-nil, Result, Ok, Err, OnErr, ◌≡◌, ℕ, Bool, true, false, cond, not, ◌&&◌, ◌==◌, List, [], ◌∷◌, ◌++◌, ◌+◌, ◌-◌, ◌≤◌, ◌<◌, Option, Some, None, IfSome, refl, sym, ap, subst, ◌∙◌, length, arith}
 use Rattle.std.specs.Io.KnownBytes.{Appends, Consumes, IsAtEnd}
 use Rattle.std.proofs.KnownBytes.{Appends-trans, Appends-nil, Consumes-nil, Consumes-trans, Consumes-whole}
 use Rattle.std.proofs.lemmas.List.{append_cancel_left, length-append}
-use Rattle.ftp_base.specs.Ascii.{on_wire, crlf, converted, ends_in_return, AddsPiece}
+use Rattle.ftp_base.specs.Ascii.{on_wire, crlf, converted, ends_in_return, AddsPiece, AppendsFront}
 use Rattle.ftp_base.proofs.AsciiLemmas.{crlf-append}
 
 -- bytes from the reader went to the writer as wire bytes, so many of them
@@ -79,3 +79,35 @@ Copies-too_large r s t w v after count piece old new most copied taken adds empt
     front_too_large None t front most taken long = tt
     front_too_large (Some xs) None front most taken long = absurd taken
     front_too_large (Some xs) (Some ys) front most taken long = rw taken (omega (arith, long, length-crlf-append front ys))
+
+-- what was copied so far is a front of what stands on the wire for the source, with what went of a piece
+pub Copies-front_piece : (r s t w v u : Option (List ℕ)) (after : Bool) (count : ℕ) (piece old new : List ℕ) (copied : Copies r s w v after count) → Consumes s t piece →
+    AddsPiece copied.given piece old new → old ≡ [] → AppendsFront v u new → IfSome r (λ source. AppendsFront w u (crlf source))
+Copies-front_piece r s t w v u after count piece old new copied taken adds empty went =
+    let (front, rest, parts, written) = went in
+    let whole : crlf (copied.given ++ piece) ≡ (crlf copied.given ++ front) ++ rest =
+    adds.whole ∙ ap (λ l. crlf copied.given ++ l) (sym (added-all copied.given piece old new adds empty) ∙ parts) ∙ sym (append_assoc (crlf copied.given) front rest) in
+    front_of_source r t (copied.given ++ piece) (crlf copied.given ++ front) rest w u (Consumes-trans r s t copied.given piece copied.taken taken) whole
+    (Appends-trans w v u (crlf copied.given) front copied.written written)
+  where
+    front_of_source : (r t : Option (List ℕ)) (given front rest : List ℕ) (w u : Option (List ℕ)) → Consumes r t given → crlf given ≡ front ++ rest → Appends w u front →
+        IfSome r (λ source. AppendsFront w u (crlf source))
+    front_of_source None t given front rest w u taken parts written = tt
+    front_of_source (Some xs) None given front rest w u taken parts written = absurd taken
+    front_of_source (Some xs) (Some ys) given front rest w u taken parts written = (
+      front,
+      rest ++ converted (ends_in_return given) ys,
+      rw taken (crlf-append given ys ∙ ap (λ l. l ++ converted (ends_in_return given) ys) parts ∙ append_assoc front rest (converted (ends_in_return given) ys)),
+      written,
+    )
+
+-- what was copied so far is a front of what stands on the wire for the source
+pub Copies-front : (r s w v : Option (List ℕ)) (after : Bool) (count : ℕ) → Copies r s w v after count → IfSome r (λ source. AppendsFront w v (crlf source))
+Copies-front r s w v after count copied =
+    Copies-front_piece r s s w v v after count [] [] [] copied (Consumes-nil s)
+    (record { added = []; whole = ap crlf (append-nil copied.given) ∙ sym (append-nil (crlf copied.given)); grown = refl }) refl ([], [], refl, Appends-nil v)
+
+-- what holds anyway holds of an error
+pub OnErr-always : {T E : Type 0} (result : Result T E) (P : Type 0) → P → OnErr result P
+OnErr-always (Ok value) P holds = tt
+OnErr-always (Err error) P holds = holds

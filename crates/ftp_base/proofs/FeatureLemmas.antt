@@ -1,5 +1,5 @@
 -- Lemmas on the features of a server.
-use Rattle.std.proofs.Common.{◌≡◌, ℕ, true, false, cond, List, [], ◌∷◌, Option, Some, None, MatchOption, refl, sym, ap, ◌∙◌, map, bytes_eq, string_bytes, Bor, codes, nat_eq, fold, suc, length, take, arith, ◌+◌, ◌<◌, ◌&&◌, ◌||◌, not, if◌then◌else◌}
+use Rattle.std.proofs.Common.{◌++◌, ◌≡◌, ℕ, true, false, cond, List, [], ◌∷◌, Option, Some, None, MatchOption, refl, sym, ap, ◌∙◌, map, bytes_eq, string_bytes, Bor, codes, nat_eq, fold, suc, length, take, arith, ◌+◌, ◌<◌, ◌&&◌, ◌||◌, not, if◌then◌else◌}
 use Rattle.std.specs.List.{starts_with, list_all, list_any, position_or_len, prefix_len}
 use Rattle.std.specs.Option.{option_map, option_copied}
 use Rattle.std.specs.Map.{lookup}
@@ -11,7 +11,11 @@ use Rattle.std.specs.String.{string_cmp}
 use Rattle.std.specs.declared.string.String.{String}
 use Rattle.std.specs.declared.alloc.Global.{Global}
 use Rattle.std.proofs.lemmas.Map.Text.{is_eq-slice_cmp}
-use Rattle.ftp_base.specs.Features.{Entries, shown, with_feature, value_at, feature_of, is_last, is_space, listed}
+use Rattle.std.proofs.lemmas.Slice.Eq.{bytes_eq-Decides}
+use Rattle.std.proofs.lemmas.Cmp.{nat_list_cmp_total, tied_itself}
+use Rattle.std.proofs.lemmas.List.Sums.{fold-append}
+use Rattle.std.specs.FinMap.{slice_cmp-IsAntisymmetric, nat_cmp-IsAntisymmetric}
+use Rattle.ftp_base.specs.Features.{Entries, Feature, map_of, shown, with_feature, value_at, feature_of, is_last, is_space, listed}
 
 -- what a map shows after an insertion
 pub shown-insert_entry : (entries : List (String Global × Option (String Global))) (name : String Global) (value : Option (String Global)) →
@@ -94,3 +98,41 @@ no_space (b ∷ bs) end =
       | false ↦ λ h. no_space bs (omega (arith, h))
     ]
     end
+
+-- texts that tie are equal
+tied : (xs ys : List ℕ) → slice_cmp nat_cmp xs ys ≡ Equal → xs ≡ ys
+tied = slice_cmp-IsAntisymmetric nat_cmp-IsAntisymmetric
+
+-- a text is found at one of two that differ
+found_once : (name one other : List ℕ) → bytes_eq name one ≡ true → bytes_eq name other ≡ true → one ≡ other
+found_once name one other first second = sym ((bytes_eq-Decides name one).0 first) ∙ (bytes_eq-Decides name other).0 second
+
+-- the value at a name, once a feature has been put in
+pub value_at-with_feature : (entries : Entries) (feature : Feature) (name : List ℕ) →
+    value_at (with_feature entries feature) name ≡ (if bytes_eq name feature.0 then Some feature.1 else value_at entries name)
+value_at-with_feature [] feature name = refl
+value_at-with_feature (e ∷ es) feature name =
+    elim (slice_cmp nat_cmp feature.0 e.0) as (λ o. slice_cmp nat_cmp feature.0 e.0 ≡ o → value_at (match_ordering o (feature ∷ e ∷ es) ((e.0, feature.1) ∷ es) (e ∷ with_feature es feature)) name
+    ≡ (if bytes_eq name feature.0 then Some feature.1 else value_at (e ∷ es) name)) [
+      | Less ↦ λ _. refl
+      | Equal ↦ λ same. rw (tied feature.0 e.0 same)
+          (elim (bytes_eq name e.0) as (λ b. cond b (Some feature.1) (value_at es name) ≡ (if b then Some feature.1 else cond b (Some e.1) (value_at es name)))
+          [ true ↦ refl | false ↦ refl ])
+      | Greater ↦ λ more. rw (value_at-with_feature es feature name)
+          (elim (bytes_eq name feature.0) as (λ b. bytes_eq name feature.0 ≡ b → cond (bytes_eq name e.0) (Some e.1) (if b then Some feature.1 else value_at es name)
+          ≡ (if b then Some feature.1 else cond (bytes_eq name e.0) (Some e.1) (value_at es name))) [
+            | true ↦ λ here. elim (bytes_eq name e.0) as (λ t. bytes_eq name e.0 ≡ t → cond t (Some e.1) (Some feature.1) ≡ Some feature.1)
+                [ true ↦ λ there. absurd (differ feature.0 e.0 (found_once name feature.0 e.0 here there) more) | false ↦ λ _. refl ] refl
+            | false ↦ λ _. refl
+          ]
+          refl)
+    ]
+    refl
+  where
+    differ : (xs ys : List ℕ) → xs ≡ ys → slice_cmp nat_cmp xs ys ≡ Greater → ⊥
+    differ xs ys same more = let both : Equal ≡ Greater = sym (tied_itself nat_list_cmp_total ys) ∙ ap (λ (l : List ℕ). slice_cmp nat_cmp l ys) (sym same) ∙ more in cc both
+
+-- the last feature of a name counts
+pub value_at-map_of : (features : List Feature) (feature : Feature) (name : List ℕ) →
+    value_at (map_of (features ++ feature ∷ [])) name ≡ (if bytes_eq name feature.0 then Some feature.1 else value_at (map_of features) name)
+value_at-map_of features feature name = rw (fold-append with_feature [] features (feature ∷ [])) (value_at-with_feature (map_of features) feature name)

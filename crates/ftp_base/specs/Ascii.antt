@@ -1,6 +1,7 @@
 -- Line ends of a text upload: RFC 959, section 3.1.1.1 (a line ends in CR LF on the wire).
-use Rattle.std.specs.Prelude.{◌≡◌, ℕ, Bool, List, [], ◌∷◌, ◌++◌, ◌&&◌, zero, suc, false, ◌==◌, not, if◌then◌else◌, length, slice_index}
+use Rattle.std.specs.Prelude.{◌≡◌, ℕ, Bool, Option, List, [], ◌∷◌, ◌++◌, ◌&&◌, zero, suc, false, ◌==◌, not, if◌then◌else◌, length, slice_index}
 use Rattle.std.specs.List.{flat_map, enumerate_from}
+use Rattle.std.specs.Io.KnownBytes.{Appends}
 
 -- what stands on the wire for a byte: CR LF for an LF that follows no CR, else the byte
 abbrev pub on_wire : Bool → ℕ → List ℕ
@@ -24,6 +25,10 @@ pub record AddsPiece (before piece old new : List ℕ) : Type 0 where
   pub added : List ℕ
   pub whole : crlf (before ++ piece) ≡ crlf before ++ added
   pub grown : new ≡ old ++ added
+
+-- a writer that held old, where that is known, holds old and a front of these bytes
+abbrev pub AppendsFront : Option (List ℕ) → Option (List ℕ) → List ℕ → Type 0
+AppendsFront old new bytes = (front : List ℕ) × (rest : List ℕ) × (bytes ≡ front ++ rest) × Appends old new front
 
 -- what stands on the wire for bytes that come after CR or not
 abbrev pub converted : Bool → List ℕ → List ℕ

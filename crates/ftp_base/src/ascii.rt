@@ -5,7 +5,7 @@ ghost use Rattle.std.specs.Io.{ReadsAtMost, WritesAtMost};
 ghost use Rattle.std.specs.Io.KnownBytes.{Appends, IsAtEnd, ReadConsumes, WriteAppends};
 ghost use Rattle.ftp_base.specs.declared.types.fault.FtpError.TheVariants as fault;
 ghost use Rattle.ftp_base.specs.declared.types.fault.ConnectionError.TheVariants as connection;
-ghost use Rattle.ftp_base.specs.Ascii.{crlf, ends_in_return, AddsPiece, converted, last_return};
+ghost use Rattle.ftp_base.specs.Ascii.{crlf, ends_in_return, AddsPiece, AppendsFront, converted, last_return};
 
 use crate::types::{ConnectionError, FtpError, FtpResult};
 use std::alloc::{AllocError, Global};
@@ -114,6 +114,8 @@ pub fn copy_crlf<R: Read, W: Write>(alloc: Global, reader: &mut R, writer: &mut 
     ensures limit { IfOk result (λ n. n ≤ GREATEST_UPLOAD) }
     ensures too_large { result ≡ Err (fault.ConnectionError connection.SourceTooLarge) →
         IfSome (R.remaining reader.old) (λ source. GREATEST_UPLOAD < length (crlf source)) }
+    ensures err { OnErr result (IfSome (R.remaining reader.old)
+        (λ source. AppendsFront (W.contents writer.old) (W.contents writer.new) (crlf source))) }
 {
     let mut input = vec![in alloc; 0u8; BUFFER]?;
     copy_through(alloc, reader, writer, &mut input)
@@ -134,6 +136,8 @@ fn copy_through<R: Read, W: Write>(
     ensures limit { IfOk result (λ n. n ≤ GREATEST_UPLOAD) }
     ensures too_large { result ≡ Err (fault.ConnectionError connection.SourceTooLarge) →
         IfSome (R.remaining reader.old) (λ source. GREATEST_UPLOAD < length (crlf source)) }
+    ensures err { OnErr result (IfSome (R.remaining reader.old)
+        (λ source. AppendsFront (W.contents writer.old) (W.contents writer.new) (crlf source))) }
 {
     let mut output = Vec::new(alloc);
     let mut encoder = CrlfEncoder::new();
@@ -185,7 +189,8 @@ fn write_retrying<W: Write>(writer: &mut W, bytes: &[u8]) -> io::Result<usize>
 
 /// Writes all bytes. A write that takes none is a fault.
 fn write_all_retrying<W: Write>(writer: &mut W, bytes: &[u8]) -> io::Result<()>
-    ensures { OnOk result (Appends (W.contents writer.old) (W.contents writer.new) bytes.now) }
+    ensures ok { OnOk result (Appends (W.contents writer.old) (W.contents writer.new) bytes.now) }
+    ensures err { OnErr result (AppendsFront (W.contents writer.old) (W.contents writer.new) bytes.now) }
 {
     let mut rest = bytes;
     while !rest.is_empty() {

@@ -1,11 +1,12 @@
 //! What a server can do beyond RFC 959, by its answer to FEAT (RFC 2389, section 3.2).
 
-ghost use Rattle.std.specs.Prelude.{◌≡◌, [], None, Some, MatchOption, OnOk, OnErr, string_bytes};
+ghost use Rattle.std.specs.Prelude.{◌≡◌, ℕ, List, [], ◌∷◌, ◌++◌, bytes_eq, if◌then◌else◌, None, Some, MatchOption, OnOk, OnErr, string_bytes};
 ghost use Rattle.std.specs.Option.{option_map};
-ghost use Rattle.ftp_base.specs.Features.{Entries, shown, with_feature, value_at};
+ghost use Rattle.ftp_base.specs.Features.{Entries, Feature, map_of, shown, with_feature, value_at};
 
 use std::alloc::{AllocError, Global};
 use std::collections::BTreeMap;
+use std::fmt;
 use std::marker::Model;
 
 /// The features of a server: for each name a value or none. A contract sees the names with their values,
@@ -63,3 +64,16 @@ impl Features {
         map
     }
 }
+
+impl fmt::Debug for Features {
+    fn fmt<W: fmt::Write>(&self, f: &mut fmt::Formatter<W>) -> fmt::Result {
+        fmt::Debug::fmt(&self.map, f)
+    }
+}
+
+/// Of several features of one name the last counts.
+pub fn last_feature_counts()
+    ensures { (features : List Feature) (feature : Feature) (name : List ℕ) →
+        value_at (map_of (features ++ feature ∷ [])) name
+        ≡ (if bytes_eq name feature.0 then Some feature.1 else value_at (map_of features) name) }
+{}

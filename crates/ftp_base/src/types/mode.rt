@@ -33,7 +33,7 @@ impl Default for ActivePeerCheck {
     ghost is_default = { λ check. check ≡ peers.ControlPeer };
 
     fn default() -> ActivePeerCheck {
-        ActivePeerCheck::ControlPeer
+        Self::ControlPeer
     }
 }
 
