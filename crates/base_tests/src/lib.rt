@@ -7,6 +7,7 @@ mod commands;
 mod features;
 #[cfg(test)]
 mod peers;
+pub mod laws;
 pub mod plain;
 #[cfg(test)]
 mod replies;

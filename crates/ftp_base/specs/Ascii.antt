@@ -14,13 +14,15 @@ follows_return bytes (suc before) = slice_index bytes before == 13
 
 -- the bytes of a text upload on the wire: what stands for the byte at each place, joined
 abbrev pub crlf : List ℕ → List ℕ
-crlf bytes = flat_map (λ place. on_wire (follows_return bytes place.0) place.1) (enumerate_from 0 bytes)
+crlf bytes =
+    flat_map (λ place. on_wire (follows_return bytes place.0) place.1) (enumerate_from 0 bytes)
 
 -- whether the bytes end in CR
 abbrev pub ends_in_return : List ℕ → Bool
 ends_in_return bytes = follows_return bytes (length bytes)
 
--- old grew by what makes the wire bytes of the bytes before into those of the bytes before and the piece
+-- old grew by what makes the wire bytes of the bytes before into those of the bytes before and the
+-- piece
 pub record AddsPiece (before piece old new : List ℕ) : Type 0 where
   pub added : List ℕ
   pub whole : crlf (before ++ piece) ≡ crlf before ++ added
@@ -28,7 +30,8 @@ pub record AddsPiece (before piece old new : List ℕ) : Type 0 where
 
 -- a writer that held old, where that is known, holds old and a front of these bytes
 abbrev pub AppendsFront : Option (List ℕ) → Option (List ℕ) → List ℕ → Type 0
-AppendsFront old new bytes = (front : List ℕ) × (rest : List ℕ) × (bytes ≡ front ++ rest) × Appends old new front
+AppendsFront old new bytes =
+    (front : List ℕ) × (rest : List ℕ) × (bytes ≡ front ++ rest) × Appends old new front
 
 -- what stands on the wire for bytes that come after CR or not
 abbrev pub converted : Bool → List ℕ → List ℕ

@@ -1,5 +1,6 @@
--- Commands: RFC 959, sections 4.1 and 5.3.1; RFC 2228, section 3 (AUTH, PBSZ, PROT, CCC); RFC 2389, sections 3
--- and 4 (FEAT, OPTS); RFC 2428, sections 2 and 3 (EPRT, EPSV); RFC 3659, sections 3, 4 and 7 (MDTM, SIZE, MLSx).
+-- Commands: RFC 959, sections 4.1 and 5.3.1; RFC 2228, section 3 (AUTH, PBSZ, PROT, CCC); RFC 2389,
+-- sections 3 and 4 (FEAT, OPTS); RFC 2428, sections 2 and 3 (EPRT, EPSV); RFC 3659, sections 3, 4, 5
+-- and 7 (MDTM, SIZE, REST, MLST and MLSD).
 use Rattle.std.specs.Prelude.{ℕ, List, [], ◌++◌, Option, Some, None, codes}
 use Rattle.std.specs.Fmt.{decimal}
 use Rattle.std.specs.Net.Text.{ip_text}
@@ -31,7 +32,8 @@ family_text (V6 ip) = codes "2"
 -- an address between bars: its family, its IP address (IPv6 by RFC 5952), its port
 abbrev pub address_text : SocketAddr → List ℕ
 address_text address =
-    codes "|" ++ family_text (socket_ip address) ++ codes "|" ++ ip_text (socket_ip address) ++ codes "|" ++ decimal (socket_port address) ++ codes "|"
+    codes "|" ++ family_text (socket_ip address) ++ codes "|" ++ ip_text (socket_ip address)
+    ++ codes "|" ++ decimal (socket_port address) ++ codes "|"
 
 -- the text of a command without its line end
 abbrev pub words_of : Command → List ℕ

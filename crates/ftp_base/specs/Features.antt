@@ -37,11 +37,13 @@ map_of features = fold with_feature [] features
 abbrev pub is_space : ℕ → Bool
 is_space byte = byte == 32
 
--- the feature on a line: white space is cut at both ends, the name runs to the first space, and what stands
--- behind that space is the value
+-- the feature on a line: white space is cut at both ends, the name runs to the first space, and what
+-- stands behind that space is the value
 abbrev pub feature_of : List ℕ → Feature
-feature_of line =
-    (before_first is_space (trim line), if list_any is_space (trim line) then Some (after_first is_space (trim line)) else None)
+feature_of line = (
+  before_first is_space (trim line),
+  if list_any is_space (trim line) then Some (after_first is_space (trim line)) else None,
+)
 
 -- a line that ends the list
 abbrev pub is_last : List ℕ → Bool
@@ -58,8 +60,8 @@ listed_features lines =
     then Some (map_of (map feature_of (listed lines)))
     else None
 
--- the features that a reply's lines tell, unless they break the grammar: a first line "211 " tells none, a first
--- line "211-" opens the list
+-- the features that a reply's lines tell, unless they break the grammar: a first line "211 " tells
+-- none, a first line "211-" opens the list
 abbrev pub features_of : List (List ℕ) → Option Entries
 features_of [] = None
 features_of (first ∷ lines) =

@@ -15,10 +15,12 @@ as_written (V6 ip) = (6, ipv6_segments ip)
 abbrev pub canonical : IpAddr → ℕ × List ℕ
 canonical (V4 ip) = as_written (V4 ip)
 canonical (V6 ip) =
-    if bytes_eq (take 6 (ipv6_segments ip)) (0 ∷ 0 ∷ 0 ∷ 0 ∷ 0 ∷ 0xffff ∷ []) then (4, low_octets ip) else as_written (V6 ip)
+    if bytes_eq (take 6 (ipv6_segments ip)) (0 ∷ 0 ∷ 0 ∷ 0 ∷ 0 ∷ 0xffff ∷ [])
+    then (4, low_octets ip) else as_written (V6 ip)
 
 -- a check allows a peer, beside the control connection's peer
 abbrev pub IsAllowed : ActivePeerCheck → IpAddr → IpAddr → Type 0
 IsAllowed ControlPeer peer control_peer = canonical peer ≡ canonical control_peer
 IsAllowed AnyPeer peer control_peer = Unit {0}
-IsAllowed (Allow addresses) peer control_peer = Any (λ address. canonical address ≡ canonical peer) addresses
+IsAllowed (Allow addresses) peer control_peer =
+    Any (λ address. canonical address ≡ canonical peer) addresses

@@ -12,7 +12,8 @@ StandsAt bytes text place = IsTrue (starts_with nat_eq (drop place text) bytes)
 
 -- each byte of a text from a place on and before another is a digit
 abbrev pub AreDigits : List ℕ → ℕ → ℕ → Type 0
-AreDigits text from to = (place : ℕ) → from ≤ place → place < to → IsAsciiDigit (slice_index text place)
+AreDigits text from to =
+    (place : ℕ) → from ≤ place → place < to → IsAsciiDigit (slice_index text place)
 
 -- a run of one or more digits begins at a place and fills the span
 pub record IsNumber (text : List ℕ) (from : ℕ) (span : Span) : Type 0 where
@@ -24,7 +25,8 @@ pub record IsNumber (text : List ℕ) (from : ℕ) (span : Span) : Type 0 where
 abbrev pub AreFields : List ℕ → ℕ → List ℕ → List Span → Type 0
 AreFields text from [] [] = Unit {0}
 AreFields text from (close ∷ closes) (span ∷ spans) =
-    IsNumber text from span × (slice_index text span.end ≡ close) × AreFields text (span.end + 1) closes spans
+    IsNumber text from span × (slice_index text span.end ≡ close)
+    × AreFields text (span.end + 1) closes spans
 AreFields text from [] (span ∷ spans) = ⊥
 AreFields text from (close ∷ closes) [] = ⊥
 
@@ -47,14 +49,16 @@ is_word_byte byte = is_ascii_alphanumeric byte || (byte == 95) || nat_le 128 byt
 abbrev pub between : ℕ → ℕ → Span
 between from to = record { start = from; end = to }
 
--- fourteen digits stand at a place, with no byte of a word on either side: the year in four, then month,
--- day, hour, minute and second in two each
+-- fourteen digits stand at a place, with no byte of a word on either side: the year in four, then
+-- month, day, hour, minute and second in two each
 pub record IsTimestamp (text : List ℕ) (place : ℕ) (spans : List Span) : Type 0 where
   pub digits : AreDigits text place (place + 14)
   pub before : (last : ℕ) → last + 1 ≡ place → is_word_byte (slice_index text last) ≡ false
   pub after : is_word_byte (slice_index text (place + 14)) ≡ false
-  pub parts : spans ≡ between place (place + 4) ∷ between (place + 4) (place + 6) ∷ between (place + 6) (place + 8)
-      ∷ between (place + 8) (place + 10) ∷ between (place + 10) (place + 12) ∷ between (place + 12) (place + 14) ∷ []
+  pub parts : spans ≡ between place (place + 4)
+      ∷ between (place + 4) (place + 6) ∷ between (place + 6) (place + 8)
+      ∷ between (place + 8) (place + 10) ∷ between (place + 10) (place + 12)
+      ∷ between (place + 12) (place + 14) ∷ []
 
 -- the shape stands nowhere
 abbrev pub StandsNowhere : {S : Type 0} → (ℕ → S → Type 0) → Type 0
@@ -85,7 +89,8 @@ pub record EndsInSpace (bytes : List ℕ) : Type 0 where
   pub whole : bytes ≡ front ++ encode_utf8 space
   pub is_white : is_whitespace space ≡ true
 
--- a text, white space cut at its end, ends in a run of digits that stands right behind white space: the span
+-- a text, white space cut at its end, ends in a run of digits that stands right behind white space:
+-- the span of the run
 pub record IsTrailingSize (text : List ℕ) (span : Span) : Type 0 where
   pub ends : span.end ≡ length (trim_end text)
   pub some : span.start < span.end

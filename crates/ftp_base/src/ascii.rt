@@ -72,14 +72,15 @@ impl CrlfEncoder {
     }
 }
 
-/// Adds the wire bytes of a piece, and tells whether its last byte is CR, or the byte before where it
-/// is empty. Where memory is refused some may have been added.
+/// Adds the wire bytes of a piece, and tells whether its last byte is CR, or the byte before where
+/// it is empty. Where memory is refused some may have been added.
 fn push_converted(
     mut after_return: bool,
     input: &[u8],
     out: &mut Vec<u8>,
 ) -> Result<bool, AllocError>
-    ensures written { OnOk result (out.new.items ≡ out.old.items ++ converted after_return input.now) }
+    ensures written { OnOk result
+        (out.new.items ≡ out.old.items ++ converted after_return input.now) }
     ensures last { IfOk result (λ last. last ≡ last_return after_return input.now) }
     ensures err { OnErr result (take (length out.old.items) out.new.items ≡ out.old.items) }
 {
@@ -99,8 +100,8 @@ pub fn crlf_is_idempotent()
     ensures { (bytes : List ℕ) → crlf (crlf bytes) ≡ crlf bytes }
 {}
 
-/// Copies a text to a writer, each line ended by CR LF, up to the end of the reader, and answers how
-/// many bytes were written. It reads at most 8,192 bytes at once.
+/// Copies a text to a writer, each line ended by CR LF, up to the end of the reader, and answers
+/// how many bytes were written. It reads at most 8,192 bytes at once.
 ///
 /// # Errors
 /// What the reader or the writer answers, an interruption only after 64 tries in a row were
@@ -110,7 +111,8 @@ pub fn copy_crlf<R: Read, W: Write>(alloc: Global, reader: &mut R, writer: &mut 
     ensures written { OnOk result (IfSome (R.remaining reader.old)
         (λ source. Appends (W.contents writer.old) (W.contents writer.new) (crlf source))) }
     ensures end { OnOk result (IsAtEnd (R.remaining reader.new)) }
-    ensures count { IfOk result (λ n. IfSome (R.remaining reader.old) (λ source. n ≡ length (crlf source))) }
+    ensures count { IfOk result (λ n. IfSome (R.remaining reader.old)
+        (λ source. n ≡ length (crlf source))) }
     ensures limit { IfOk result (λ n. n ≤ GREATEST_UPLOAD) }
     ensures too_large { result ≡ Err (fault.ConnectionError connection.SourceTooLarge) →
         IfSome (R.remaining reader.old) (λ source. GREATEST_UPLOAD < length (crlf source)) }
@@ -132,7 +134,8 @@ fn copy_through<R: Read, W: Write>(
     ensures written { OnOk result (IfSome (R.remaining reader.old)
         (λ source. Appends (W.contents writer.old) (W.contents writer.new) (crlf source))) }
     ensures end { OnOk result (IsAtEnd (R.remaining reader.new)) }
-    ensures count { IfOk result (λ n. IfSome (R.remaining reader.old) (λ source. n ≡ length (crlf source))) }
+    ensures count { IfOk result (λ n. IfSome (R.remaining reader.old)
+        (λ source. n ≡ length (crlf source))) }
     ensures limit { IfOk result (λ n. n ≤ GREATEST_UPLOAD) }
     ensures too_large { result ≡ Err (fault.ConnectionError connection.SourceTooLarge) →
         IfSome (R.remaining reader.old) (λ source. GREATEST_UPLOAD < length (crlf source)) }
@@ -162,7 +165,8 @@ fn copy_through<R: Read, W: Write>(
 /// Reads once. An interrupted read is tried again, at most 64 times.
 fn read_retrying<R: Read>(reader: &mut R, buffer: &mut [u8]) -> io::Result<usize>
     ensures bound { ReadsAtMost result buffer.new }
-    ensures bytes { ReadConsumes (R.remaining reader.old) (R.remaining reader.new) result buffer.new }
+    ensures bytes { ReadConsumes
+        (R.remaining reader.old) (R.remaining reader.new) result buffer.new }
 {
     for _ in 0..RETRIES {
         match reader.read(buffer) {
@@ -190,7 +194,8 @@ fn write_retrying<W: Write>(writer: &mut W, bytes: &[u8]) -> io::Result<usize>
 /// Writes all bytes. A write that takes none is a fault.
 fn write_all_retrying<W: Write>(writer: &mut W, bytes: &[u8]) -> io::Result<()>
     ensures ok { OnOk result (Appends (W.contents writer.old) (W.contents writer.new) bytes.now) }
-    ensures err { OnErr result (AppendsFront (W.contents writer.old) (W.contents writer.new) bytes.now) }
+    ensures err { OnErr result
+        (AppendsFront (W.contents writer.old) (W.contents writer.new) bytes.now) }
 {
     let mut rest = bytes;
     while !rest.is_empty() {

@@ -16,16 +16,18 @@ pub fn is_last_line(line: &str) -> bool
     begins_with(line, "211 ")
 }
 
-/// The features that the lines of an answer tell, its first line first. A later line takes the place of
-/// an earlier one of its name.
+/// The features that the lines of an answer tell, its first line first. A later line takes the
+/// place of an earlier one of its name.
 ///
 /// # Errors
-/// `BadResponse` where there is no line, the first begins neither with `211 ` nor with `211-`, or a line
-/// of the list doesn't begin with a space; `OutOfMemory`.
+/// `BadResponse` where there is no line, the first begins neither with `211 ` nor with `211-`, or
+/// a line of the list doesn't begin with a space; `OutOfMemory`.
 pub fn parse_features(alloc: Global, lines: &[String]) -> FtpResult<Features>
-    ensures ok { IfOk result (λ features. features_of (map string_bytes lines.now) ≡ Some features) }
+    ensures ok { IfOk result
+        (λ features. features_of (map string_bytes lines.now) ≡ Some features) }
     ensures bad { result ≡ Err fault.BadResponse → features_of (map string_bytes lines.now) ≡ None }
-    ensures errors { IfErr result (λ error. (error ≡ fault.BadResponse) ⊎ (error ≡ fault.OutOfMemory)) }
+    ensures errors { IfErr result
+        (λ error. (error ≡ fault.BadResponse) ⊎ (error ≡ fault.OutOfMemory)) }
 {
     match lines.split_first() {
         Some((first, _)) if is_last_line(first) => Ok(Features::new(alloc)),
@@ -36,9 +38,12 @@ pub fn parse_features(alloc: Global, lines: &[String]) -> FtpResult<Features>
 
 /// The features of the lines of a list, up to one that ends it.
 fn list_features(alloc: Global, lines: &[String]) -> FtpResult<Features>
-    ensures ok { IfOk result (λ features. listed_features (map string_bytes lines.now) ≡ Some features) }
-    ensures bad { result ≡ Err fault.BadResponse → listed_features (map string_bytes lines.now) ≡ None }
-    ensures errors { IfErr result (λ error. (error ≡ fault.BadResponse) ⊎ (error ≡ fault.OutOfMemory)) }
+    ensures ok { IfOk result
+        (λ features. listed_features (map string_bytes lines.now) ≡ Some features) }
+    ensures bad { result ≡ Err fault.BadResponse →
+        listed_features (map string_bytes lines.now) ≡ None }
+    ensures errors { IfErr result
+        (λ error. (error ≡ fault.BadResponse) ⊎ (error ≡ fault.OutOfMemory)) }
 {
     let mut features = Features::new(alloc);
     for line in lines {
@@ -56,7 +61,8 @@ fn list_features(alloc: Global, lines: &[String]) -> FtpResult<Features>
 
 /// The name on a line, and the value behind its first space.
 fn read_feature(alloc: Global, line: &str) -> Result<(String, Option<String>), AllocError>
-    ensures { IfOk result (λ found. (string_bytes found.0, option_map string_bytes found.1) ≡ feature_of line.now) }
+    ensures { IfOk result
+        (λ found. (string_bytes found.0, option_map string_bytes found.1) ≡ feature_of line.now) }
 {
     let words = line.trim();
     match words.split_once(' ') {

@@ -1,8 +1,9 @@
 //! Finds numbers in the text of a reply: the address of PASV (RFC 959, section 4.1.2), the port of
 //! EPSV (RFC 2428, section 3), the time of MDTM and the size of SIZE (RFC 3659, sections 3 and 4).
 //!
-//! A text is gone through once, from its first byte on, and no memory is taken. The digits behind an
-//! opening are looked at once more, and hold no other opening, so the time grows as the text does.
+//! A text is gone through once, from its first byte on, and no memory is taken. The digits behind
+//! an opening are looked at once more, and hold no other opening, so the time grows as the text
+//! does.
 
 ghost use Rattle.std.specs.Prelude.{◌≡◌, ◌<◌, ◌≤◌, ◌+◌, ℕ, List, ◌∷◌, length, slice_index, IsTrue, ◌↔◌, MatchOption, IfSome, IfNone};
 ghost use Rattle.ftp_base.specs.declared.command.scan.Span.{Span};
@@ -18,9 +19,11 @@ pub struct Span {
     pub end: usize,
 }
 
-/// Finds the first `(d,d,d,d,d,d)`, each `d` a run of digits, and answers the spans of the six runs.
+/// Finds the first `(d,d,d,d,d,d)`, each `d` a run of digits, and answers the spans of the six
+/// runs.
 pub fn pasv_port(text: &str) -> Option<[Span; 6]>
-    ensures { MatchOption result (StandsNowhere (IsPassive text.now)) (StandsFirst (IsPassive text.now)) }
+    ensures { MatchOption result
+        (StandsNowhere (IsPassive text.now)) (StandsFirst (IsPassive text.now)) }
 {
     let bytes = text.as_bytes();
     for place in 0..bytes.len() {
@@ -33,7 +36,8 @@ pub fn pasv_port(text: &str) -> Option<[Span; 6]>
 
 /// Finds the first `(|||d|)`, `d` a run of digits, and answers the span of the run.
 pub fn epsv_port(text: &str) -> Option<Span>
-    ensures { MatchOption result (StandsNowhere (IsExtended text.now)) (StandsFirst (IsExtended text.now)) }
+    ensures { MatchOption result
+        (StandsNowhere (IsExtended text.now)) (StandsFirst (IsExtended text.now)) }
 {
     let bytes = text.as_bytes();
     for place in 0..bytes.len() {
@@ -47,7 +51,8 @@ pub fn epsv_port(text: &str) -> Option<Span>
 /// Finds the first fourteen digits with no byte of a word on either side, and answers the spans of
 /// the year, the month, the day, the hour, the minute and the second.
 pub fn mdtm(text: &str) -> Option<[Span; 6]>
-    ensures { MatchOption result (StandsNowhere (IsTimestamp text.now)) (StandsFirst (IsTimestamp text.now)) }
+    ensures { MatchOption result
+        (StandsNowhere (IsTimestamp text.now)) (StandsFirst (IsTimestamp text.now)) }
 {
     let bytes = text.as_bytes();
     for place in 0..bytes.len() {
@@ -58,10 +63,11 @@ pub fn mdtm(text: &str) -> Option<[Span; 6]>
     None
 }
 
-/// Finds the digits behind the last white space of a text whose end is trimmed, and answers their span;
-/// `None` where there is no white space before it, or anything but digits behind it.
+/// Finds the digits behind the last white space of a text whose end is trimmed, and answers their
+/// span; `None` where no white space is before them, or anything but digits behind it.
 pub fn size(text: &str) -> Option<Span>
-    ensures { MatchOption result ((span : Span) → IsTrailingSize text.now span → ⊥) (IsTrailingSize text.now) }
+    ensures { MatchOption result
+        ((span : Span) → IsTrailingSize text.now span → ⊥) (IsTrailingSize text.now) }
 {
     let trimmed = text.trim_end();
     let start = digits_start(trimmed.as_bytes());
@@ -78,7 +84,8 @@ pub fn size(text: &str) -> Option<Span>
 /// The shape of PASV at a place.
 fn passive_at(bytes: &[u8], place: usize) -> Option<[Span; 6]>
     requires { place < length bytes.now }
-    ensures { MatchOption result ((spans : List Span) → IsPassive bytes.now place spans → ⊥) (IsPassive bytes.now place) }
+    ensures { MatchOption result
+        ((spans : List Span) → IsPassive bytes.now place spans → ⊥) (IsPassive bytes.now place) }
 {
     if !stands_at(bytes, place, b"(") {
         return None;
@@ -95,7 +102,8 @@ fn passive_at(bytes: &[u8], place: usize) -> Option<[Span; 6]>
 /// The shape of EPSV at a place.
 fn extended_at(bytes: &[u8], place: usize) -> Option<Span>
     requires { place < length bytes.now }
-    ensures { MatchOption result ((span : Span) → IsExtended bytes.now place span → ⊥) (IsExtended bytes.now place) }
+    ensures { MatchOption result
+        ((span : Span) → IsExtended bytes.now place span → ⊥) (IsExtended bytes.now place) }
 {
     if !stands_at(bytes, place, b"(|||") {
         return None;
@@ -111,7 +119,8 @@ fn extended_at(bytes: &[u8], place: usize) -> Option<Span>
 /// The shape of MDTM at a place.
 fn timestamp_at(bytes: &[u8], place: usize) -> Option<[Span; 6]>
     requires { place < length bytes.now }
-    ensures { MatchOption result ((spans : List Span) → IsTimestamp bytes.now place spans → ⊥) (IsTimestamp bytes.now place) }
+    ensures { MatchOption result
+        ((spans : List Span) → IsTimestamp bytes.now place spans → ⊥) (IsTimestamp bytes.now place) }
 {
     if place > 0 && is_word_at(bytes, place - 1) {
         return None;
@@ -152,7 +161,8 @@ fn timestamp_at(bytes: &[u8], place: usize) -> Option<[Span; 6]>
 fn field_at(bytes: &[u8], from: usize, close: u8) -> Option<Span>
     requires within { from ≤ length bytes.now }
     requires mark { IsMark close }
-    ensures found { IfSome result (λ span. IsNumber bytes.now from span × (slice_index bytes.now span.end ≡ close)) }
+    ensures found { IfSome result
+        (λ span. IsNumber bytes.now from span × (slice_index bytes.now span.end ≡ close)) }
     ensures bound { IfSome result (λ span. span.end < length bytes.now) }
     ensures none { IfNone result ((closes : List ℕ) → LacksFields bytes.now from (close ∷ closes)) }
 {

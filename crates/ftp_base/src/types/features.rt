@@ -9,8 +9,8 @@ use std::collections::BTreeMap;
 use std::fmt;
 use std::marker::Model;
 
-/// The features of a server: for each name a value or none. A contract sees the names with their values,
-/// in the order of names.
+/// The features of a server: for each name a value or none. A contract sees the names with their
+/// values, in the order of names.
 #[derive(Clone, Drop)]
 pub struct Features {
     map: BTreeMap<String, Option<String>>,
@@ -32,9 +32,11 @@ impl Features {
         }
     }
 
-    /// Gives a name this value, in place of an earlier one. Where memory is refused nothing changes.
+    /// Gives a name this value, in place of an earlier one. Where memory is refused nothing
+    /// changes.
     pub fn insert(&mut self, name: String, value: Option<String>) -> Result<(), AllocError>
-        ensures ok { OnOk result (self.new ≡ with_feature self.old (string_bytes name, option_map string_bytes value)) }
+        ensures ok { OnOk result
+            (self.new ≡ with_feature self.old (string_bytes name, option_map string_bytes value)) }
         ensures err { OnErr result (self.new ≡ self.old) }
     {
         self.map.insert(name, value)?;

@@ -38,8 +38,9 @@ impl Default for ActivePeerCheck {
 }
 
 impl ActivePeerCheck {
-    /// Whether a peer may open a data connection, beside a control connection to this peer. Addresses
-    /// are compared as canonical ones: an IPv4-mapped IPv6 address is its IPv4 address.
+    /// Whether a peer may open a data connection, beside a control connection to this peer.
+    /// Addresses are compared as canonical ones: an IPv4-mapped IPv6 address is its IPv4 address.
+    /// Takes no memory.
     pub fn allows(&self, peer: IpAddr, control_peer: IpAddr) -> bool
         ensures { IsTrue result ↔ IsAllowed self.now peer control_peer }
     {
