@@ -1,5 +1,5 @@
 -- Lemmas on lines: how the lines of bytes go on with more bytes.
-use Rattle.std.proofs.Common.{◌≡◌, ℕ, ◌+◌, ◌≤◌, ◌<◌, Bool, true, false, cond, ◌||◌, List, [], ◌∷◌, ◌++◌, length, refl, ap, sym, ◌∙◌, append_assoc, arith, length-append, append-nil}
+use Rattle.std.proofs.Common.{◌≡◌, ℕ, ◌≤◌, ◌<◌, Bool, true, false, cond, List, [], ◌∷◌, ◌++◌, length, refl, ap, ◌∙◌, append_assoc, arith, length-append, append-nil}
 use Rattle.std.proofs.Math.Bool.{or-true}
 use Rattle.std.proofs.lemmas.List.Folds.{list_any-append}
 use Rattle.ftp_control.specs.Grammar.{is_line_feed, has_line_feed, onto_first_line, whole_lines, rest, last_line, lines, joined}

@@ -1,14 +1,13 @@
 -- Lemmas on a read of a reply: byte by byte, with whatever else was read before.
-use Rattle.std.proofs.Common.{◌≡◌, ℕ, ◌+◌, ◌≤◌, ◌<◌, Bool, true, false, List, [], ◌∷◌, ◌++◌, length, Result, Ok, Err, refl, ap, sym, ◌∙◌, append_assoc, append-nil, arith, length-append, subst}
+use Rattle.std.proofs.Common.{◌≡◌, ℕ, Bool, true, false, List, [], ◌∷◌, ◌++◌, Ok, Err, refl, ap, sym, ◌∙◌, append_assoc, append-nil, subst}
 use Rattle.std.specs.declared.io.ErrorKind.{ErrorKind}
 use Rattle.ftp_control.specs.declared.control.rule.ReplyRule.{ReplyRule}
-use Rattle.ftp_control.specs.declared.control.broken.Broken.{Broken}
 use Rattle.ftp_control.specs.declared.control.broken.Broken.TheVariants.{Connection, OutOfMemory}
 use Rattle.ftp_control.specs.declared.control.outcome.Outcome.{Outcome}
 use Rattle.ftp_control.specs.declared.control.outcome.Outcome.TheVariants.{Whole, Bad, TooLarge, Ended, Waits}
 use Rattle.ftp_control.specs.Grammar.{outcome, left_by}
 use Rattle.ftp_control.specs.Told.{Told, IsDry, HasFailed, after_read, after_end}
-use Rattle.ftp_control.specs.Reading.{after_input, AnswersOutcome, kept_after, HearTells, Hears}
+use Rattle.ftp_control.specs.Reading.{after_input, HearTells, Hears}
 
 -- what was read so far, where it says nothing yet
 pub record SoFar (tells : Type 0) (rule : ReplyRule) (system : Bool) (kept kept' : List ℕ) (ended : Bool) (t u : Told) : Type 0 where
@@ -22,7 +21,7 @@ nothing_so_far tells rule system kept ended t known = record {
   came = [];
   grown = sym (append-nil kept);
   waits = λ w. w;
-  told = λ h. rw (append-nil t.received, ← known h)
+  told = λ h. rw (append-nil t.received, ← known h);
 }
 
 module _ (tells : Type 0) (rule : ReplyRule) (system : Bool) (kept now : List ℕ) (t u : Told) (so_far : SoFar tells rule system kept now false t u) where
@@ -32,7 +31,7 @@ module _ (tells : Type 0) (rule : ReplyRule) (system : Bool) (kept now : List �
     came = so_far.came ++ byte ∷ [];
     grown = is ∙ ap (λ bs. bs ++ byte ∷ []) so_far.grown ∙ append_assoc kept so_far.came (byte ∷ []);
     waits = λ w. rw is (sym (waits (so_far.waits w)));
-    told = λ h. told h ∙ rw (so_far.told h, append_assoc)
+    told = λ h. told h ∙ rw (so_far.told h, append_assoc);
   }
 
   -- the end, where nothing was said before
@@ -47,7 +46,7 @@ module _ (tells : Type 0) (rule : ReplyRule) (system : Bool) (kept now : List �
         came = so_far.came ++ byte ∷ [];
         answer = λ w. is (so_far.waits w) ∙ rw all;
         left = left ∙ rw all;
-        told = λ h. go heard settled (told h ∙ rw (so_far.told h, append_assoc))
+        told = λ h. go heard settled (told h ∙ rw (so_far.told h, append_assoc));
       }
     where
       go : (o : Outcome) → (o ≡ Waits → ⊥) → v ≡ after_input (so_far.came ++ byte ∷ []) false t → HearTells (Ok o) (so_far.came ++ byte ∷ []) false t v
@@ -63,7 +62,7 @@ module _ (tells : Type 0) (rule : ReplyRule) (system : Bool) (kept now : List �
     came = so_far.came;
     answer = λ w. sym (so_far.waits w) ∙ rw so_far.grown;
     left = so_far.grown;
-    told = λ h. ((told h).0 ∙ so_far.told h, (told h).1)
+    told = λ h. ((told h).0 ∙ so_far.told h, (told h).1);
   }
 
 -- the read breaks off, and nothing is lost
@@ -73,7 +72,7 @@ module _ (tells : Type 0) (rule : ReplyRule) (system ended : Bool) (kept now : L
     came = so_far.came;
     answer = λ w. tt;
     left = so_far.grown;
-    told = λ h. let P : Told → Type 0 = λ x. HasFailed x v in subst P (so_far.told h) (told h)
+    told = λ h. let P : Told → Type 0 = λ x. HasFailed x v in subst P (so_far.told h) (told h);
   }
 
   pub memory_hears : Hears tells rule system kept now ended t u (Err OutOfMemory)
@@ -85,7 +84,7 @@ end_settles tells rule system kept now t u so_far later heard settled is left = 
   came = so_far.came;
   answer = λ w. is (so_far.waits w) ∙ rw so_far.grown;
   left = left ∙ rw so_far.grown;
-  told = λ h. go heard settled (so_far.told h)
+  told = λ h. go heard settled (so_far.told h);
 }
   where
     go : (o : Outcome) → (o ≡ Waits → ⊥) → u ≡ after_input so_far.came true t → HearTells (Ok o) so_far.came true t u

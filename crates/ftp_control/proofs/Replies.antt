@@ -1,6 +1,8 @@
 -- Lemmas on replies: how what lines hold goes on with more lines.
-use Rattle.std.proofs.Common.{◌≡◌, ℕ, ◌+◌, ◌≤◌, ◌<◌, Bool, true, false, cond, ◌||◌, List, [], ◌∷◌, ◌++◌, length, refl, ap, sym, ◌∙◌, append_assoc, arith, length-append, append-nil}
-use Rattle.ftp_control.specs.Grammar.{joined, opens, ends, code_at_start, Found, Reply, NoReply, Unfinished, after_line, to_end, reply_in}
+use Rattle.std.proofs.Common.{◌≡◌, ℕ, Bool, true, false, List, [], ◌∷◌, ◌++◌, refl, sym, append_assoc}
+use Rattle.ftp_control.specs.Grammar.{joined, opens, ends, code_at_start, after_line, to_end, reply_in}
+use Rattle.ftp_control.specs.declared.plain.Found.{Found}
+use Rattle.ftp_control.specs.declared.plain.Found.TheVariants.{Reply, NoReply, Unfinished}
 use Rattle.ftp_control.specs.declared.control.rule.ReplyRule.{ReplyRule}
 
 -- lines before what is found behind them

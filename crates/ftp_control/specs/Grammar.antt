@@ -1,11 +1,13 @@
 -- The grammar of replies: RFC 959, section 4.2. A definition speaks of all bytes that came, and of whether
 -- they have ended.
-use Rattle.std.specs.Prelude.{ℕ, ◌+◌, ◌*◌, ◌-◌, Bool, true, false, ◌||◌, ◌&&◌, ◌==◌, nat_eq, nat_le, nat_lt, List, [], ◌∷◌, ◌++◌, length, take, drop, slice_index, if◌then◌else◌}
+use Rattle.std.specs.Prelude.{ℕ, ◌+◌, ◌*◌, ◌-◌, Bool, ◌||◌, ◌&&◌, ◌==◌, nat_eq, nat_le, nat_lt, List, [], ◌∷◌, ◌++◌, length, take, drop, slice_index, if◌then◌else◌}
 use Rattle.std.specs.List.{list_any, list_all}
 use Rattle.std.specs.Cmp.Lexicographic.{pointwise}
 use Rattle.std.specs.Char.{is_ascii_digit}
 use Rattle.ftp_control.specs.declared.control.rule.ReplyRule.{ReplyRule}
 use Rattle.ftp_control.specs.declared.control.rule.ReplyRule.TheVariants.{Lenient}
+use Rattle.ftp_control.specs.declared.plain.Found.{Found}
+use Rattle.ftp_control.specs.declared.plain.Found.TheVariants.{Reply, NoReply, Unfinished}
 use Rattle.ftp_control.specs.declared.control.outcome.Outcome.{Outcome}
 use Rattle.ftp_control.specs.declared.control.outcome.Outcome.TheVariants.{Whole, Bad, TooLarge, Ended, Waits}
 
@@ -72,11 +74,7 @@ ends Lenient system first line =
 
 -- A reply
 
--- what lines hold: a reply's bytes and its code; a first line that opens none; or too little
-pub data Found : Type 0 where
-  Reply : List ℕ → ℕ → Found
-  NoReply : List ℕ → Found
-  Unfinished : Found
+-- what lines hold: a reply's bytes and its code; a first line that opens none; or too little (`Found`)
 
 -- a line before what is found behind it
 abbrev pub after_line : List ℕ → Found → Found

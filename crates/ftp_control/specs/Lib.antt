@@ -1,5 +1,13 @@
+pub mod Answer
+pub mod Channel
 pub mod Grammar
+pub mod Held
+pub mod Memory
+pub mod Performing
 pub mod Reading
+pub mod Refusal
+pub mod Saying
+pub mod Sending
 pub mod Told
 pub mod UnderWay
 pub mod Verdict

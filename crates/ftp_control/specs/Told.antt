@@ -1,13 +1,10 @@
 -- What a connection tells of itself.
-use Rattle.std.specs.Prelude.{◌≡◌, ℕ, ◌+◌, ◌≤◌, ◌<◌, ◌==◌, ◌⊎◌, Bool, true, false, List, [], ◌++◌, length, take, Result, Ok, Err, if◌then◌else◌}
+use Rattle.std.specs.Prelude.{◌≡◌, ℕ, ◌≤◌, ◌<◌, ◌==◌, ◌⊎◌, Bool, true, false, List, [], ◌++◌, length, take, Result, Ok, Err, if◌then◌else◌}
 use Rattle.std.specs.declared.io.ErrorKind.{ErrorKind}
+use Rattle.ftp_control.specs.declared.transport.room.Room.{Room}
+use Rattle.ftp_control.specs.declared.transport.room.Room.TheVariants.{Any, UpTo}
 use Rattle.futures.specs.declared.task.Poll.{Poll}
 use Rattle.futures.specs.declared.task.Poll.TheVariants.{Ready, Pending}
-
--- how many bytes may be written on a connection: any number, or so many in all
-pub data Room : Type 0 where
-  Any : Room
-  UpTo : ℕ → Room
 
 -- what is at hand: the bytes that came for reading, whether no others come, and the room for writing
 pub record Given : Type 0 where

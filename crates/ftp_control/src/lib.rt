@@ -2,4 +2,5 @@
 #![tactic(auto)]
 
 pub mod control;
+pub mod plain;
 pub mod transport;

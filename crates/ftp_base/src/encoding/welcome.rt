@@ -1,11 +1,11 @@
 //! The text that a server greets with.
 
-ghost use Rattle.std.specs.Prelude.{◌≡◌, IfOk, OnOk, OnErr};
+ghost use Rattle.std.specs.Prelude.{◌≡◌, IfOk, IfErr, OnOk, OnErr};
 ghost use Rattle.ftp_base.specs.Welcome.{welcome_text};
 
 use super::Encoding;
 use crate::command::unescape_telnet_iac;
-use crate::types::{Bytes, FtpResult, Text};
+use crate::types::{Bytes, FtpError, FtpResult, Text};
 use std::alloc::Global;
 use std::marker::Model;
 
@@ -37,6 +37,7 @@ impl WelcomeMessage {
     ) -> FtpResult<WelcomeMessage>
         ensures greeting { IfOk result (λ message. message.greeting ≡ greeting) }
         ensures text { IfOk result (λ message. message.text ≡ welcome_text (E.decoded encoding.now) greeting) }
+        ensures memory { IfErr result (λ fault. fault ≡ FtpError.OutOfMemory) }
     {
         let text = read_welcome(alloc, greeting.as_slice(), encoding)?;
         Ok(WelcomeMessage { greeting, text })
@@ -50,6 +51,7 @@ impl WelcomeMessage {
         ensures greeting { self.new.greeting ≡ self.old.greeting }
         ensures text { OnOk result (self.new.text ≡ welcome_text (E.decoded encoding.now) self.old.greeting) }
         ensures err { OnErr result (self.new.text ≡ self.old.text) }
+        ensures memory { IfErr result (λ fault. fault ≡ FtpError.OutOfMemory) }
     {
         let text = read_welcome(alloc, self.greeting.as_slice(), encoding)?;
         self.text = text;
@@ -66,7 +68,8 @@ impl WelcomeMessage {
 
 /// The text of a greeting's bytes.
 fn read_welcome<E: Encoding>(alloc: Global, greeting: &[u8], encoding: &E) -> FtpResult<Text>
-    ensures { IfOk result (λ text. text ≡ welcome_text (E.decoded encoding.now) greeting.now) }
+    ensures text { IfOk result (λ text. text ≡ welcome_text (E.decoded encoding.now) greeting.now) }
+    ensures memory { IfErr result (λ fault. fault ≡ FtpError.OutOfMemory) }
 {
     let plain = unescape_telnet_iac(alloc, greeting)?;
     let decoded = encoding.decode(alloc, plain.as_slice())?;

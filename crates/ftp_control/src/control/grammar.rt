@@ -42,7 +42,7 @@ pub(crate) fn judge(
 }
 
 /// Whether a line opens a reply.
-fn opens(rule: ReplyRule, line: &[u8]) -> bool
+pub(crate) fn opens(rule: ReplyRule, line: &[u8]) -> bool
     ensures { result ≡ opens rule line.now }
 {
     match rule {
@@ -54,7 +54,7 @@ fn opens(rule: ReplyRule, line: &[u8]) -> bool
 }
 
 /// Whether a line ends the reply that began with these bytes.
-fn ends(rule: ReplyRule, system: bool, reply: &[u8], line: &[u8]) -> bool
+pub(crate) fn ends(rule: ReplyRule, system: bool, reply: &[u8], line: &[u8]) -> bool
     ensures { result ≡ ends rule system reply.now line.now }
 {
     match rule {
@@ -90,7 +90,7 @@ fn are_digits(bytes: &[u8]) -> bool
 }
 
 /// The number that the first three digits write.
-fn code_at_start(line: &[u8]) -> u32
+pub(crate) fn code_at_start(line: &[u8]) -> u32
     requires { IsTrue (begins_with_digits line.now) }
     ensures { result ≡ code_at_start line.now }
 {

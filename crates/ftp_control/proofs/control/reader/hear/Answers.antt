@@ -1,8 +1,6 @@
-use Rattle.std.proofs.Common.{◌≡◌, ◌≤◌, ◌<◌, ◌+◌, ◌-◌, ◌++◌, ◌∷◌, [], length, length-append, cond, false, true, arith, sym, ◌∙◌, ap, refl}
-use Rattle.ftp_control.specs.Grammar.{left_by}
-use Rattle.ftp_control.specs.declared.control.outcome.Outcome.TheVariants as outcomes
+use Rattle.std.proofs.Common.{◌≡◌, ◌<◌, ◌+◌, ◌-◌, ◌++◌, ◌∷◌, [], length, length-append, cond, arith, ◌∙◌, ap}
 use Rattle.ftp_control.proofs.Outcomes.{too_little}
-use Rattle.ftp_control.proofs.Reading.{SoFar, fails_hears, memory_hears, end_settles}
+use Rattle.ftp_control.proofs.Reading.{fails_hears, memory_hears, end_settles}
 use Rattle.ftp_control.proofs.control.reader.hear.Goals as goal
 
 pub returns-then-is_err-clause-heard : goal.returns-then-is_err-clause-heard

@@ -1,6 +1,6 @@
-use Rattle.std.proofs.Common.{◌≡◌, ◌≤◌, ◌<◌, ◌++◌, ◌∷◌, [], ◌+◌, length, length-append, arith, sym, ◌∙◌, ap, ne_eqb, refl, false}
+use Rattle.std.proofs.Common.{◌≡◌, ◌++◌, ◌∷◌, [], ◌+◌, length, length-append, arith, sym, ◌∙◌, ap, ne_eqb, false}
 use Rattle.std.proofs.Math.ListN.{drop_of_length-le}
-use Rattle.ftp_control.specs.Grammar.{reply_limit, left_by, whole_lines, rest}
+use Rattle.ftp_control.specs.Grammar.{left_by, whole_lines, rest}
 use Rattle.ftp_control.specs.Verdict.{verdict, outcome_by}
 use Rattle.ftp_control.proofs.Outcomes.{too_little, is_first_of, byte_too_many, waits_on, line_more, byte_leaves, line_leaves, judged_line, nothing_under_way}
 use Rattle.ftp_control.proofs.control.reply_buffer.take_byte.Goals as goal

@@ -1,4 +1,4 @@
-use Rattle.std.proofs.Common.{◌≡◌, ◌≢◌, [], length, sym, ◌∙◌, true}
+use Rattle.std.proofs.Common.{◌≡◌, ◌≢◌, length, sym, ◌∙◌, true}
 use Rattle.ftp_control.specs.Grammar.{left_by, whole_lines, rest}
 use Rattle.ftp_control.specs.Verdict.{verdict, outcome_by}
 use Rattle.ftp_control.proofs.Outcomes.{is_first_of, ends_empty, ends_inside, judged_end, end_leaves, end_settled, empty_rest, open_rest, nothing_under_way}

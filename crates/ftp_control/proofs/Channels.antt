@@ -1,0 +1,98 @@
+-- The sound channel goes on.
+use Rattle.std.proofs.Common.{◌≡◌, ℕ, ◌+◌, Bool, true, false, List, [], ◌++◌, take, drop, Result, Ok, Err, refl, ap, sym, ◌∙◌, subst, append_assoc, append-nil, arith}
+use Rattle.std.proofs.lemmas.List.{take-append-drop}
+use Rattle.ftp_control.specs.declared.control.rule.ReplyRule.{ReplyRule}
+use Rattle.ftp_control.specs.declared.control.broken.Broken.{Broken}
+use Rattle.ftp_control.specs.declared.control.broken.Broken.TheVariants.{Connection, OutOfMemory}
+use Rattle.ftp_control.specs.declared.control.outcome.Outcome.{Outcome}
+use Rattle.ftp_control.specs.declared.control.outcome.Outcome.TheVariants.{Whole, Bad, TooLarge, Ended, Waits}
+use Rattle.ftp_control.specs.Grammar.{reply_limit}
+use Rattle.ftp_control.specs.Told.{Told, IsFresh}
+use Rattle.ftp_control.proofs.Outcomes.{nothing_under_way}
+use Rattle.ftp_control.proofs.WireLines.{line_behind}
+use Rattle.ftp_control.specs.UnderWay.{IsUnderWay}
+use Rattle.ftp_control.specs.Reading.{Hears, HearTells, kept_after}
+use Rattle.ftp_control.specs.Sending.{IsLines, is_wire_line}
+use Rattle.ftp_control.specs.Channel.{IsEndOf}
+use Rattle.ftp_control.specs.Held.{Holds}
+
+-- a read gives bytes and sends none
+pub record OnlyReads (came : List ℕ) (t u : Told) : Type 0 where
+  pub received : u.received ≡ t.received ++ came
+  pub sent : u.sent ≡ t.sent
+
+pub only_reads : (result : Result Outcome Broken) (came : List ℕ) (ended : Bool) (t u : Told) → HearTells result came ended t u → OnlyReads came t u
+only_reads (Ok (Whole bytes code)) came ended t u told = record { received = ap (λ x. x.received) told; sent = ap (λ x. x.sent) told }
+only_reads (Ok (Bad line)) came ended t u told = record { received = ap (λ x. x.received) told; sent = ap (λ x. x.sent) told }
+only_reads (Ok TooLarge) came ended t u told = record { received = ap (λ x. x.received) told; sent = ap (λ x. x.sent) told }
+only_reads (Ok Ended) came ended t u told = record { received = ap (λ x. x.received) told; sent = ap (λ x. x.sent) told }
+only_reads (Ok Waits) came ended t u told = record { received = ap (λ x. x.received) told.0; sent = ap (λ x. x.sent) told.0 }
+only_reads (Err OutOfMemory) came ended t u told = record { received = ap (λ x. x.received) told; sent = ap (λ x. x.sent) told }
+only_reads (Err (Connection kind)) came ended t u told = record { received = ap (λ x. x.received) told.same; sent = ap (λ x. x.sent) told.same }
+
+dropped_end : (n : ℕ) (bytes : List ℕ) → IsEndOf (drop n bytes) bytes
+dropped_end n bytes = record { front = take n bytes; is = sym (take-append-drop n bytes) }
+
+-- what is left is an end of what there was
+left_end : (result : Result Outcome Broken) (bytes : List ℕ) → IsEndOf (kept_after result bytes) bytes
+left_end (Ok (Whole reply code)) bytes = dropped_end _ bytes
+left_end (Ok (Bad line)) bytes = dropped_end _ bytes
+left_end (Ok TooLarge) bytes = dropped_end (reply_limit + 1) bytes
+left_end (Ok Ended) bytes = record { front = bytes; is = sym (append-nil bytes) }
+left_end (Ok Waits) bytes = record { front = []; is = refl }
+left_end (Err broken) bytes = record { front = []; is = refl }
+
+end_of_end : (part middle whole : List ℕ) → IsEndOf part middle → IsEndOf middle whole → IsEndOf part whole
+end_of_end part middle whole a b = record { front = b.front ++ a.front; is = b.is ∙ ap (λ m. b.front ++ m) a.is ∙ sym (append_assoc b.front a.front part) }
+
+end_with_more : (part whole more : List ℕ) → IsEndOf part whole → IsEndOf (part ++ more) (whole ++ more)
+end_with_more part whole more a = record { front = a.front; is = ap (λ w. w ++ more) a.is ∙ append_assoc a.front part more }
+
+-- after a read
+pub read_holds : (tells : Type 0) (t u : Told) (kept kept' : List ℕ) (start start' : ℕ) (line : List ℕ) (sent : ℕ) (ended ended' failed failed' : Bool) (rule : ReplyRule) (system : Bool) (result : Result Outcome Broken) → Holds tells t kept start line sent ended failed rule → IsUnderWay rule kept' start' → (tells → u.ended ≡ ended') → Hears tells rule system kept kept' ended' t u result → Holds tells u kept' start' line sent ended' failed' rule
+read_holds tells t u kept kept' start start' line sent ended ended' failed failed' rule system result held under known heard = record {
+  under_way = under;
+  within = held.within;
+  sound = record {
+    waits = under.waits;
+    kept = λ h.
+        let reads = only_reads result heard.came ended' t u (heard.told h) in
+        let all : IsEndOf (kept ++ heard.came) u.received = let P : List ℕ → Type 0 = IsEndOf (kept ++ heard.came) in subst P (sym reads.received) (end_with_more kept t.received heard.came (held.sound.kept h)) in
+        let left : IsEndOf kept' (kept ++ heard.came) = let P : List ℕ → Type 0 = λ k. IsEndOf k (kept ++ heard.came) in subst P (sym heard.left) (left_end result (kept ++ heard.came)) in
+        end_of_end kept' (kept ++ heard.came) u.received left all;
+    lines = λ h.
+        let reads = only_reads result heard.came ended' t u (heard.told h) in
+        let P : List ℕ → Type 0 = λ s. IsLines (s ++ drop sent line) (drop sent line) in subst P (sym reads.sent) (held.sound.lines h);
+    ended = known;
+  };
+}
+
+-- a channel begins
+pub idle_holds : (tells : Type 0) (t : Told) (rule : ReplyRule) → (tells → IsFresh t) → Holds tells t [] 0 [] 0 false false rule
+idle_holds tells t rule fresh = record {
+  under_way = nothing_under_way rule;
+  within = omega arith;
+  sound = record {
+    waits = (nothing_under_way rule).waits;
+    kept = λ h. record { front = t.received; is = sym (append-nil t.received) };
+    lines = λ h. let P : List ℕ → Type 0 = λ s. IsLines (s ++ []) [] in subst P (sym (fresh h).sent) (record { whole = refl; lines = tt; end_of_last = omega arith });
+    ended = λ h. (fresh h).ended;
+  };
+}
+
+-- a line is taken whole, to go out
+pub push_holds : (tells : Type 0) (t : Told) (kept : List ℕ) (start : ℕ) (old line : List ℕ) (sent : ℕ) (ended failed : Bool) (rule : ReplyRule) → Holds tells t kept start old sent ended failed rule → drop sent old ≡ [] → is_wire_line line ≡ true → Holds tells t kept start line 0 ended failed rule
+push_holds tells t kept start old line sent ended failed rule held none is = record {
+  under_way = held.under_way;
+  within = omega arith;
+  sound = record {
+    waits = held.sound.waits;
+    kept = held.sound.kept;
+    lines = λ h.
+        let P : List ℕ → Type 0 = λ u. IsLines (t.sent ++ u) u in
+        let before : IsLines (t.sent ++ []) [] = subst P none (held.sound.lines h) in
+        let Q : List ℕ → Type 0 = λ s. IsLines s [] in
+        line_behind t.sent line (subst Q (append-nil t.sent) before) is;
+    ended = held.sound.ended;
+  };
+}

@@ -1,0 +1,13 @@
+use Rattle.std.proofs.Common.{length-drop, arith, sym}
+use Rattle.std.proofs.lemmas.List.{drop-drop}
+use Rattle.ftp_control.proofs.Sending.{more_sent}
+use Rattle.ftp_control.proofs.control.outbox.flush.Goals as goal
+
+pub loop-outbox-preserved : goal.loop-outbox-preserved
+loop-outbox-preserved g c =
+    let bound = rw (c.in-Ok-Ready.field-0-is, c.unsent.ensures) at c.in-Ok-Ready.ensures.bound in
+    let told = rw (c.in-Ok-Ready.field-0-is, c.unsent.ensures) at c.in-Ok-Ready.ensures.told in
+    record {
+      within = omega (arith, bound.1, length-drop c.loop-outbox.outbox.sent c.loop-outbox.outbox.line.items);
+      so_far = more_sent _ _ _ _ _ c.loop-outbox.invariant.so_far c.in-Ok-Ready.count _ _ (sym (drop-drop c.in-Ok-Ready.count c.loop-outbox.outbox.sent c.loop-outbox.outbox.line.items)) told;
+    }

@@ -1,0 +1,187 @@
+//! The control channel.
+
+ghost use Rattle.std.specs.Prelude.{◌≡◌, Ok, [], false, true};
+ghost use Rattle.futures.specs.declared.task.Poll.TheVariants as poll;
+ghost use Rattle.ftp_control.specs.declared.control.outcome.Outcome.TheVariants as outcomes;
+ghost use Rattle.ftp_control.specs.Channel.{fails_by};
+
+use super::outbox::{Outbox, flush};
+use super::reader::hear;
+use super::reply_buffer::ReplyBuffer;
+use super::{Broken, Outcome, ReplyRule, WireLine};
+use crate::transport::{PollConn, Tells};
+use futures::task::Poll;
+use std::alloc::Global;
+use std::io::ErrorKind;
+use std::marker::Model;
+
+/// A control connection: it takes replies whole and in order, and sends nothing but whole command lines.
+///
+/// A read or a write that has to wait may be dropped: what was read is kept for the next read, and the rest of
+/// a line that was begun goes out before any other byte.
+#[derive(Drop)]
+pub struct ControlChannel<C: Tells + Drop> {
+    conn: C,
+    reply: ReplyBuffer,
+    outbox: Outbox,
+    ended: bool,
+    failed: bool,
+    rule: ReplyRule,
+}
+
+impl<C: Tells + Drop> Model for ControlChannel<C> {
+    ghost use Rattle.std.specs.Prelude.{◌≡◌, ◌≤◌, length, drop};
+    ghost use Rattle.ftp_control.specs.Channel.{Channel, IsSound};
+    ghost use Rattle.ftp_control.specs.UnderWay.{IsUnderWay};
+    ghost use Rattle.ftp_control.specs.Held.{Holds};
+
+    ghost Value = { Channel };
+
+    ghost view = { λ c. record { told = C.told c.conn; kept = c.reply.bytes.items; unsent = drop c.outbox.sent c.outbox.line.items; ended = c.ended; failed = c.failed; rule = c.rule } };
+
+    ghost invariant = { λ c. Holds C.tells (C.told c.conn) c.reply.bytes.items c.reply.line_start c.outbox.line.items c.outbox.sent c.ended c.failed c.rule };
+}
+
+impl<C: Tells + Drop> ControlChannel<C> {
+    ghost use Rattle.std.specs.Prelude.{length};
+    ghost use Rattle.ftp_control.specs.Told.{IsFresh};
+    ghost use Rattle.ftp_control.specs.Channel.{Channel, IsIdle, IsSound, ReadsReply, FlushesRest};
+
+    /// Reads a reply as far as it has come, and takes exactly its bytes. `Waits` says that the connection
+    /// waits.
+    ///
+    /// # Errors
+    /// A fault of the connection, after which the channel has failed, or want of memory. Neither loses a byte.
+    pub fn poll_outcome<W>(
+        &mut self,
+        alloc: Global,
+        system: bool,
+        w: &mut W,
+    ) -> Result<Outcome, Broken>
+    where
+        C: PollConn<W>,
+        ensures waits { result ≡ Ok outcomes.Waits → C.may_wait }
+        ensures reads { ReadsReply C.Tells.tells system self.old self.new result }
+    {
+        let result = hear(
+            alloc,
+            &mut self.conn,
+            &mut self.reply,
+            &mut self.ended,
+            self.rule,
+            system,
+            w,
+        );
+        self.failed = self.failed || fails(&result);
+        result
+    }
+
+    /// A channel on a connection: nothing is read, nothing is sent.
+    pub fn new(alloc: Global, mut conn: C) -> ControlChannel<C>
+        ensures fresh { C.tells → IsFresh result.told }
+        ensures idle { IsIdle result }
+        ensures sound { IsSound C.tells result }
+    {
+        conn.begin();
+        ControlChannel {
+            conn,
+            reply: ReplyBuffer {
+                bytes: Vec::new(alloc),
+                line_start: 0,
+            },
+            outbox: Outbox {
+                line: Vec::new(alloc),
+                sent: 0,
+            },
+            ended: false,
+            failed: false,
+            rule: ReplyRule::Lenient,
+        }
+    }
+
+    /// Whether a read, a write or the server broke the channel off. Such a channel sends and reads nothing.
+    pub fn failed(&self) -> bool
+        ensures value { result ≡ self.now.failed }
+        ensures sound { IsSound C.tells self.now }
+    {
+        self.failed
+    }
+
+    /// From now on the channel has failed, as after a fault in the middle of a dialogue.
+    pub fn fail(&mut self)
+        ensures { self.new ≡ record self.old { failed = true } }
+    {
+        self.failed = true;
+    }
+
+    /// How many received bytes are part of no reply yet.
+    pub fn untaken(&self) -> usize
+        ensures value { result ≡ length self.now.kept }
+        ensures sound { IsSound C.tells self.now }
+    {
+        self.reply.bytes.as_slice().len()
+    }
+
+    /// The connection.
+    pub fn get_ref(&self) -> &C
+        ensures { C.told result.now ≡ self.now.told }
+    {
+        &self.conn
+    }
+
+    /// The connection, given back. What is kept or unsent is dropped.
+    pub fn into_inner(self) -> C
+        ensures { C.told result ≡ self.told }
+    {
+        let ControlChannel {
+            conn,
+            reply: _,
+            outbox: _,
+            ended: _,
+            failed: _,
+            rule: _,
+        } = self;
+        conn
+    }
+
+    /// Sends the rest of a line that was begun.
+    ///
+    /// # Errors
+    /// A fault of the connection, after which the channel has failed.
+    pub fn poll_flush<W>(&mut self, w: &mut W) -> Result<Poll<()>, ErrorKind>
+    where
+        C: PollConn<W>,
+        ensures waits { result ≡ Ok poll.Pending → C.may_wait }
+        ensures flushes { FlushesRest C.Tells.tells self.old self.new result }
+    {
+        let result = flush(&mut self.conn, &mut self.outbox, w);
+        self.failed = self.failed || result.is_err();
+        result
+    }
+
+    /// Takes a line whole, to go out.
+    pub(crate) fn push(&mut self, line: WireLine)
+        requires { self.old.unsent ≡ [] }
+        ensures { self.new ≡ record self.old { unsent = line } }
+    {
+        self.outbox = Outbox {
+            line: line.into_vec(),
+            sent: 0,
+        };
+    }
+}
+
+/// Whether the channel has failed after a read.
+fn fails(heard: &Result<Outcome, Broken>) -> bool
+    ensures { result ≡ fails_by heard.now }
+{
+    match heard {
+        Ok(Outcome::TooLarge) => true,
+        Ok(Outcome::Ended) => true,
+        Ok(Outcome::Whole(_, _)) => false,
+        Ok(Outcome::Bad(_)) => false,
+        Ok(Outcome::Waits) => false,
+        Err(Broken::Connection(_)) => true,
+        Err(Broken::OutOfMemory) => false,
+    }
+}

@@ -1,0 +1,48 @@
+//! The line that goes out, as far as it hasn't yet.
+
+ghost use Rattle.std.specs.Prelude.{◌≡◌, ◌≤◌, Ok, length, drop};
+ghost use Rattle.futures.specs.declared.task.Poll.TheVariants as poll;
+ghost use Rattle.ftp_control.specs.Sending.{Flushes};
+
+use crate::transport::PollConn;
+use futures::task::Poll;
+use std::io::ErrorKind;
+
+/// The last line, and how many of its bytes went out.
+#[derive(Drop)]
+pub(crate) struct Outbox {
+    pub(crate) line: Vec<u8>,
+    pub(crate) sent: usize,
+}
+
+/// Sends what is unsent, as far as there is room. `Pending` says that the connection waits for room.
+///
+/// # Errors
+/// A fault of the connection, whose bytes stay unsent.
+pub(crate) fn flush<W, C: PollConn<W>>(
+    conn: &mut C,
+    outbox: &mut Outbox,
+    w: &mut W,
+) -> Result<Poll<()>, ErrorKind>
+    requires { outbox.old.sent ≤ length outbox.old.line.items }
+    ensures within { outbox.new.sent ≤ length outbox.new.line.items }
+    ensures waits { result ≡ Ok poll.Pending → C.may_wait }
+    ensures flushed { Flushes C.Tells.tells (drop outbox.old.sent outbox.old.line.items) (drop outbox.new.sent outbox.new.line.items) (C.Tells.told conn.old) (C.Tells.told conn.new) result }
+{
+    while outbox.sent < outbox.line.as_slice().len() {
+        match conn.poll_write(w, unsent(outbox)) {
+            Ok(Poll::Ready(count)) => outbox.sent += count,
+            Ok(Poll::Pending) => return Ok(Poll::Pending),
+            Err(kind) => return Err(kind),
+        }
+    }
+    Ok(Poll::Ready(()))
+}
+
+/// What hasn't gone out.
+pub(crate) fn unsent(outbox: &Outbox) -> &[u8]
+    requires { outbox.now.sent ≤ length outbox.now.line.items }
+    ensures { result.now ≡ drop outbox.now.sent outbox.now.line.items }
+{
+    &outbox.line.as_slice()[outbox.sent..]
+}

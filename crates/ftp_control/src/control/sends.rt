@@ -1,0 +1,77 @@
+//! Commands that go out.
+
+ghost use Rattle.std.specs.Prelude.{◌≡◌, ◌++◌, Ok, Err, Some, None, [], IfOk, IfErr, true, false};
+ghost use Rattle.futures.specs.declared.task.Poll.TheVariants as poll;
+ghost use Rattle.ftp_base.specs.Command.{text_of};
+ghost use Rattle.ftp_base.specs.Wire.{wire};
+ghost use Rattle.ftp_control.specs.Saying.{SaysLine, said};
+ghost use Rattle.ftp_control.specs.Performing.{Performs};
+
+use super::{ControlChannel, WireLine};
+use crate::transport::{Conn, NeverWaits, PollConn, Tells};
+use ftp_base::command::Command;
+use ftp_base::encoding::Encoding;
+use ftp_base::types::{ConnectionError, FtpError, FtpResult};
+use futures::task::Poll;
+use std::alloc::Global;
+
+impl<C: Tells + Drop> ControlChannel<C> {
+    /// Sends a line, behind the rest of the one before. The line is taken out of the option once it begins to
+    /// go out, whole; dropped while it waits and called again, the call goes on where it was.
+    ///
+    /// # Errors
+    /// `SessionFailed` where the channel has failed, and nothing is sent. A fault of the connection, after
+    /// which the channel has failed.
+    pub fn poll_perform<W>(&mut self, line: &mut Option<WireLine>, w: &mut W) -> Poll<FtpResult<()>>
+    where
+        C: PollConn<W>,
+        ensures waits { result ≡ poll.Pending → C.may_wait }
+        ensures failed { self.old.failed ≡ true → (result ≡ poll.Ready (Err FtpError.SessionFailed)) × (self.new ≡ self.old) × (line.new ≡ line.old) }
+        ensures says { self.old.failed ≡ false → SaysLine C.Tells.tells self.old self.new line.old line.new result }
+    {
+        if self.failed() {
+            return Poll::Ready(Err(FtpError::SessionFailed));
+        }
+        match self.poll_flush(w) {
+            Ok(Poll::Ready(())) => {}
+            Ok(Poll::Pending) => return Poll::Pending,
+            Err(kind) => return Poll::Ready(Err(ConnectionError::Io(kind).into())),
+        }
+        let Some(next) = line.take() else {
+            return Poll::Ready(Ok(()));
+        };
+        self.push(next);
+        match self.poll_flush(w) {
+            Ok(Poll::Ready(())) => Poll::Ready(Ok(())),
+            Ok(Poll::Pending) => Poll::Pending,
+            Err(kind) => Poll::Ready(Err(ConnectionError::Io(kind).into())),
+        }
+    }
+
+    /// Sends a command as one line, behind the rest of the one before, and returns when all of it went out.
+    ///
+    /// # Errors
+    /// `SessionFailed` where the channel has failed. `LineBreak`, the encoding's refusal, `EncodedWithoutCrlf`
+    /// or `EncodedLineBreak` where the command has no wire line, or `OutOfMemory`: nothing is sent then, and
+    /// nothing changes. A fault of the connection, after which the channel has failed.
+    pub fn perform<E: Encoding>(
+        &mut self,
+        alloc: Global,
+        command: &Command,
+        encoding: &E,
+    ) -> FtpResult<()>
+    where
+        C: Conn,
+        ensures failed { self.old.failed ≡ true → (result ≡ Err FtpError.SessionFailed) × (self.new ≡ self.old) }
+        ensures performs { self.old.failed ≡ false → Performs C.Tells.tells (wire (E.encoded encoding.now) (text_of command.now)) self.old self.new result }
+    {
+        if self.failed() {
+            return Err(FtpError::SessionFailed);
+        }
+        let mut line = Some(WireLine::of(alloc, command, encoding)?);
+        match self.poll_perform(&mut line, &mut NeverWaits) {
+            Poll::Ready(answer) => answer,
+            Poll::Pending => unreachable!(),
+        }
+    }
+}

@@ -1,0 +1,211 @@
+//! Connections over memory, which tell all that goes over them.
+
+ghost use Rattle.std.specs.Prelude.{◌≡◌, ◌≤◌, ◌<◌, OnOk, OnErr, length, take, drop, min};
+ghost use Rattle.ftp_control.specs.Told.{after_read, as_poll, WritesSome, WriteTells};
+ghost use Rattle.ftp_control.specs.Memory.{fresh_memory, fed, closed_memory, widened};
+
+use super::{Conn, Network, PollConn, Room, Tells};
+use futures::task::Poll;
+use std::alloc::{AllocError, Global};
+use std::io::ErrorKind;
+use std::marker::Model;
+
+/// A connection over memory: the server's bytes are fed to it, and what is written can be looked at.
+///
+/// Polled, a read waits where no byte is left and the end wasn't told, and a write waits where no room is left.
+/// Blocking, the input ends behind the last byte, and there is room for everything.
+#[derive(Drop)]
+pub struct MemoryConn {
+    input: Vec<u8>,
+    begun: usize,
+    read: usize,
+    closed: bool,
+    ended: bool,
+    room: Room,
+    sent: Vec<u8>,
+    failures: u64,
+}
+
+impl Model for MemoryConn {
+    ghost use Rattle.std.specs.Prelude.{◌≤◌, length, take, drop};
+    ghost use Rattle.ftp_control.specs.Told.{Told, Given};
+
+    ghost Value = { Told };
+
+    ghost view = { λ c. record { received = drop c.begun (take c.read c.input.items); ended = c.ended; sent = c.sent.items; failures = c.failures; given = record { bytes = drop c.begun c.input.items; closed = c.closed; room = c.room } } };
+
+    ghost invariant = { λ c. (c.begun ≤ c.read) × (c.read ≤ length c.input.items) };
+}
+
+impl MemoryConn {
+    /// A connection on which no byte came yet, with room for any number.
+    pub fn new(alloc: Global) -> MemoryConn
+        ensures { result ≡ fresh_memory }
+    {
+        MemoryConn {
+            input: Vec::new(alloc),
+            begun: 0,
+            read: 0,
+            closed: false,
+            ended: false,
+            room: Room::Any,
+            sent: Vec::new(alloc),
+            failures: 0,
+        }
+    }
+
+    /// The server's bytes come. Behind the end none do.
+    pub fn feed(&mut self, bytes: &[u8]) -> Result<(), AllocError>
+        ensures ok { OnOk result (self.new ≡ fed bytes.now self.old) }
+        ensures err { OnErr result (self.new ≡ self.old) }
+    {
+        if self.closed {
+            return Ok(());
+        }
+        self.input.extend_from_slice(bytes)
+    }
+
+    /// The server's bytes end.
+    pub fn end(&mut self)
+        ensures { self.new ≡ closed_memory self.old }
+    {
+        self.closed = true;
+    }
+
+    /// Room for so many more bytes; the first call sets how many.
+    pub fn allow(&mut self, more: u64)
+        ensures { self.new ≡ widened more self.old }
+    {
+        self.room = match self.room {
+            Room::Any => Room::UpTo(more),
+            Room::UpTo(room) => Room::UpTo(room.saturating_add(more)),
+        };
+    }
+
+    /// What was written since the channel began.
+    pub fn sent(&self) -> &[u8]
+        ensures { result.now ≡ self.now.sent }
+    {
+        self.sent.as_slice()
+    }
+
+    /// How many bytes were read since the channel began.
+    pub fn received(&self) -> usize
+        ensures { result ≡ length self.now.received }
+    {
+        self.read - self.begun
+    }
+
+    /// Gives what there is to read, or nothing.
+    fn give(&mut self, buffer: &mut [u8]) -> usize
+        ensures bound { result ≤ length buffer.old }
+        ensures given { self.new ≡ after_read (take result buffer.new) self.old }
+        ensures none { result ≡ 0 → 0 < length buffer.old → self.old.received ≡ self.old.given.bytes }
+    {
+        let count = copy_front(behind(self.input.as_slice(), self.read), buffer);
+        self.read += count;
+        count
+    }
+
+    /// Takes what there is to write, as far as memory has room.
+    fn take(&mut self, bytes: &[u8]) -> Result<usize, ErrorKind>
+        requires { 0 < length bytes.now }
+        ensures bound { WritesSome (as_poll result) (length bytes.now) }
+        ensures told { WriteTells (as_poll result) bytes.now self.old self.new }
+    {
+        match self.sent.extend_from_slice(bytes) {
+            Ok(()) => Ok(bytes.len()),
+            Err(AllocError) => {
+                self.failures = self.failures.saturating_add(1);
+                Err(ErrorKind::OutOfMemory)
+            }
+        }
+    }
+}
+
+/// The bytes behind so many.
+fn behind(bytes: &[u8], count: usize) -> &[u8]
+    requires { count ≤ length bytes.now }
+    ensures { result.now ≡ drop count bytes.now }
+{
+    &bytes[count..]
+}
+
+/// Copies as many bytes as there are and fit, to the front, and answers how many.
+fn copy_front(from: &[u8], to: &mut [u8]) -> usize
+    ensures count { result ≡ min (length from.now) (length to.old) }
+    ensures copied { take result to.new ≡ take result from.now }
+{
+    let count = from.len().min(to.len());
+    to[..count].copy_from_slice(&from[..count]);
+    count
+}
+
+impl Tells for MemoryConn {
+    ghost tells = { Unit {0} };
+
+    ghost told = { λ c. c };
+
+    fn begin(&mut self) {
+        if let Room::UpTo(room) = self.room {
+            self.room = Room::UpTo(room.saturating_sub(self.sent.len() as u64));
+        }
+        self.begun = self.read;
+        self.ended = false;
+        self.sent.clear();
+    }
+}
+
+impl Conn for MemoryConn {
+    fn read(&mut self, buffer: &mut [u8]) -> Result<usize, ErrorKind> {
+        let count = self.give(buffer);
+        if count == 0 {
+            self.ended = true;
+        }
+        Ok(count)
+    }
+
+    fn write(&mut self, bytes: &[u8]) -> Result<usize, ErrorKind> {
+        self.take(bytes)
+    }
+}
+
+impl PollConn<()> for MemoryConn {
+    ghost may_wait = { Unit {0} };
+
+    fn poll_read(&mut self, _w: &mut (), buffer: &mut [u8]) -> Result<Poll<usize>, ErrorKind> {
+        let count = self.give(buffer);
+        if count > 0 {
+            return Ok(Poll::Ready(count));
+        }
+        if !self.closed {
+            return Ok(Poll::Pending);
+        }
+        self.ended = true;
+        Ok(Poll::Ready(0))
+    }
+
+    fn poll_write(&mut self, _w: &mut (), bytes: &[u8]) -> Result<Poll<usize>, ErrorKind> {
+        let free = match self.room {
+            Room::Any => bytes.len(),
+            Room::UpTo(room) => room
+                .saturating_sub(self.sent.len() as u64)
+                .min(bytes.len() as u64) as usize,
+        };
+        if free == 0 {
+            return Ok(Poll::Pending);
+        }
+        match self.take(&bytes[..free]) {
+            Ok(count) => Ok(Poll::Ready(count)),
+            Err(kind) => Err(kind),
+        }
+    }
+}
+
+/// A transport whose connections are handed in.
+#[derive(Drop)]
+pub struct MemoryTransport;
+
+impl Network for MemoryTransport {
+    type Conn = MemoryConn;
+}

@@ -1,0 +1,75 @@
+//! Connections over TCP sockets. Nothing is claimed of what a socket carried.
+
+ghost use Rattle.ftp_control.specs.Memory.{fresh_memory};
+
+use super::{Conn, Network, Tells};
+use std::io::{Error, ErrorKind, Read, Write};
+use std::net::TcpStream;
+
+/// How often in a row a call that was interrupted is tried again.
+pub const INTERRUPTED_LIMIT: u32 = 64;
+
+/// A connection over a TCP socket.
+#[derive(Drop)]
+pub struct TcpConn {
+    stream: TcpStream,
+}
+
+impl TcpConn {
+    /// A connection over a socket that is connected.
+    pub fn new(stream: TcpStream) -> TcpConn {
+        TcpConn { stream }
+    }
+
+    /// The socket.
+    pub fn get_ref(&self) -> &TcpStream {
+        &self.stream
+    }
+}
+
+impl Tells for TcpConn {
+    ghost tells = { ⊥ };
+
+    ghost told = { λ _. fresh_memory };
+
+    fn begin(&mut self) {}
+}
+
+impl Conn for TcpConn {
+    fn read(&mut self, buffer: &mut [u8]) -> Result<usize, ErrorKind> {
+        for _ in 0..INTERRUPTED_LIMIT {
+            match self.stream.read(buffer) {
+                Ok(count) => return Ok(count),
+                Err(error) if error.kind() == ErrorKind::Interrupted => {}
+                Err(error) => return Err(error.kind()),
+            }
+        }
+        self.stream
+            .read(buffer)
+            .map_err(|error: Error| error.kind())
+    }
+
+    fn write(&mut self, bytes: &[u8]) -> Result<usize, ErrorKind> {
+        for _ in 0..INTERRUPTED_LIMIT {
+            match self.stream.write(bytes) {
+                Ok(0) => return Err(ErrorKind::WriteZero),
+                Ok(count) => return Ok(count),
+                Err(error) if error.kind() == ErrorKind::Interrupted => {}
+                Err(error) => return Err(error.kind()),
+            }
+        }
+        match self.stream.write(bytes) {
+            Ok(0) => Err(ErrorKind::WriteZero),
+            Ok(count) => Ok(count),
+            Err(error) => Err(error.kind()),
+        }
+    }
+}
+
+/// The transport over TCP sockets.
+#[derive(Drop)]
+pub struct TcpTransport;
+
+impl Network for TcpTransport {
+    type Conn = TcpConn;
+}

@@ -1,0 +1,47 @@
+//! Connections that tell an event loop what they wait for.
+
+ghost use Rattle.std.specs.Prelude.{◌≤◌, ◌<◌, length};
+ghost use Rattle.ftp_control.specs.Told.{ReadTells, WriteTells, ReadsAtMost, WritesSome};
+
+use super::{PollConn, Tells};
+use futures::task::{Context, Poll};
+use std::io::ErrorKind;
+
+/// A connection that waits in a task: where it waits it arranges that the task is polled again.
+pub trait TaskConn: Tells {
+    /// Reads bytes into the front of the buffer. 0 bytes are the end of the input.
+    fn poll_read_in(
+        &mut self,
+        cx: &mut Context<'_>,
+        buffer: &mut [u8],
+    ) -> Result<Poll<usize>, ErrorKind>
+        requires { 0 < length buffer.old }
+        ensures bound { ReadsAtMost result (length buffer.old) }
+        ensures told { Self.tells → ReadTells result buffer.new (Self.told self.old) (Self.told self.new) };
+
+    /// Writes bytes from the front, at least one.
+    fn poll_write_in(
+        &mut self,
+        cx: &mut Context<'_>,
+        bytes: &[u8],
+    ) -> Result<Poll<usize>, ErrorKind>
+        requires { 0 < length bytes.now }
+        ensures bound { WritesSome result (length bytes.now) }
+        ensures told { Self.tells → WriteTells result bytes.now (Self.told self.old) (Self.told self.new) };
+}
+
+impl<'a, C: TaskConn> PollConn<Context<'a>> for C {
+    ghost may_wait = { Unit {0} };
+
+    fn poll_read(
+        &mut self,
+        w: &mut Context<'a>,
+        buffer: &mut [u8],
+    ) -> Result<Poll<usize>, ErrorKind> {
+        self.poll_read_in(w, buffer)
+    }
+
+    fn poll_write(&mut self, w: &mut Context<'a>, bytes: &[u8]) -> Result<Poll<usize>, ErrorKind> {
+        self.poll_write_in(w, bytes)
+    }
+}

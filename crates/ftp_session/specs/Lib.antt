@@ -1,0 +1,4 @@
+pub mod Calls
+pub mod Exchange
+pub mod Greeting
+pub mod State

@@ -1,0 +1,4 @@
+//! The dialogues of an FTP session.
+#![tactic(auto)]
+
+pub mod session;

@@ -1,0 +1,78 @@
+//! What a session keeps.
+
+ghost use Rattle.std.specs.Prelude.{◌≡◌, None, IsOk, IfOk, length, option_map};
+ghost use Rattle.ftp_control.specs.Channel.{IsIdle, IsSound};
+ghost use Rattle.ftp_control.specs.Told.{IsFresh};
+
+use ftp_base::encoding::WelcomeMessage;
+use ftp_base::types::FtpResult;
+use ftp_control::control::ControlChannel;
+use ftp_control::transport::Network;
+use std::alloc::Global;
+use std::marker::Model;
+
+/// A session over the connections of a transport.
+#[derive(Drop)]
+pub struct Session<Tr: Network> {
+    pub(super) transport: Tr,
+    pub(super) channel: ControlChannel<Tr::Conn>,
+    pub(super) welcome: Option<WelcomeMessage>,
+}
+
+impl<Tr: Network> Model for Session<Tr> {
+    ghost use Rattle.ftp_session.specs.State.{State};
+
+    ghost Value = { State };
+
+    ghost view = { λ s. record { channel = s.channel; welcome = s.welcome } };
+}
+
+impl<Tr: Network> Session<Tr> {
+    /// A session on a connection. Nothing is read and nothing is sent.
+    ///
+    /// # Errors
+    /// None today: the answer leaves room for a session that makes a buffer.
+    pub fn new(alloc: Global, transport: Tr, conn: Tr::Conn) -> FtpResult<Session<Tr>>
+        ensures succeeds { IsOk result }
+        ensures idle { IfOk result (λ session. IsIdle session.channel) }
+        ensures fresh { IfOk result (λ session. Tr.Conn.tells → IsFresh session.channel.told) }
+        ensures sound { IfOk result (λ session. IsSound Tr.Conn.tells session.channel) }
+        ensures ungreeted { IfOk result (λ session. session.welcome ≡ None) }
+    {
+        Ok(Session {
+            transport,
+            channel: ControlChannel::new(alloc, conn),
+            welcome: None,
+        })
+    }
+
+    /// The transport.
+    pub fn transport(&self) -> &Tr {
+        &self.transport
+    }
+
+    /// The control connection.
+    pub fn get_ref(&self) -> &Tr::Conn
+        ensures { Tr.Conn.told result.now ≡ self.now.channel.told }
+    {
+        self.channel.get_ref()
+    }
+
+    /// How many received bytes are part of no reply yet.
+    pub fn untaken(&self) -> usize
+        ensures value { result ≡ length self.now.channel.kept }
+        ensures sound { IsSound Tr.Conn.tells self.now.channel }
+    {
+        self.channel.untaken()
+    }
+
+    /// The text that the server greeted with, once the greeting was taken.
+    pub fn get_welcome_msg(&self) -> Option<&str>
+        ensures { option_map (λ text. text.now) result ≡ option_map (λ welcome. welcome.text) self.now.welcome }
+    {
+        match &self.welcome {
+            Some(welcome) => Some(welcome.text()),
+            None => None,
+        }
+    }
+}
