@@ -1,8 +1,13 @@
+pub mod Ascii
 pub mod Command
 pub mod Encoding
 pub mod Fault
+pub mod Features
+pub mod FileType
 pub mod Line
+pub mod Peer
 pub mod Reply
+pub mod Scan
 pub mod Status
 pub mod Telnet
 pub mod Welcome

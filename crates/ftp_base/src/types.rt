@@ -2,8 +2,16 @@
 
 mod content;
 mod fault;
+mod features;
+mod file_type;
+mod items;
+mod mode;
 mod reply;
 
 pub use content::{Bytes, Text};
 pub use fault::{ConnectionError, FtpError, FtpResult, ReplyTooLarge};
+pub use features::{Features, last_feature_counts};
+pub use file_type::{FileType, FormatControl};
+pub use items::Items;
+pub use mode::{ActivePeerCheck, Mode};
 pub use reply::{BodyError, Response};

@@ -1,0 +1,17 @@
+//! Tests of the base crate, and the plain functions that its real ones are compared with.
+#![tactic(auto)]
+
+#[cfg(test)]
+mod commands;
+#[cfg(test)]
+mod features;
+#[cfg(test)]
+mod peers;
+pub mod laws;
+pub mod plain;
+#[cfg(test)]
+mod replies;
+#[cfg(test)]
+mod scans;
+#[cfg(test)]
+mod uploads;

@@ -1,0 +1,17 @@
+use Rattle.std.proofs.Common.{ℕ, List, subst, length, arith}
+use Rattle.ftp_base.specs.Scan.{IsPassive, StandsFirst, StandsNowhere}
+use Rattle.ftp_base.proofs.ScanLemmas.{StandsNotBefore-next, StandsNowhere-from, IsPassive-within}
+use Rattle.ftp_base.proofs.command.scan.pasv_port.Goals as goal
+
+pub returns-in-Some : goal.returns-in-Some
+returns-in-Some c =
+    subst (λ (text : List ℕ). StandsFirst (IsPassive text) c.in-Some.spans) c.as_bytes-bytes.ensures.value
+    (record { place = c.loop-place.place; stands = c.in-Some.ensures; first = λ earlier other less. c.loop-place.invariant earlier other less })
+
+pub loop-place-preserved : goal.loop-place-preserved
+loop-place-preserved c = StandsNotBefore-next (IsPassive c.as_bytes-bytes.result.now) c.loop-place.place c.loop-place.invariant c.in_default.ensures
+
+pub returns : goal.returns
+returns c =
+    subst (λ (text : List ℕ). StandsNowhere (IsPassive text)) c.as_bytes-bytes.ensures.value
+    (StandsNowhere-from (IsPassive c.as_bytes-bytes.result.now) (length c.as_bytes-bytes.result.now) c.loop-place.place c.loop-place.invariant (omega (arith, c.loop-place-test.false)) (IsPassive-within c.as_bytes-bytes.result.now))

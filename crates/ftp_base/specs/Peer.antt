@@ -1,0 +1,26 @@
+-- Which peers may open a data connection, by canonical addresses (RFC 4291, section 2.5.5.2).
+use Rattle.std.specs.Prelude.{◌≡◌, ℕ, List, [], ◌∷◌, bytes_eq, take, Any, if◌then◌else◌}
+use Rattle.std.specs.Net.Addr.{ipv4_octets, ipv6_segments, low_octets}
+use Rattle.std.specs.declared.net.ip_addr.IpAddr.{IpAddr}
+use Rattle.std.specs.declared.net.ip_addr.IpAddr.TheVariants.{V4, V6}
+use Rattle.ftp_base.specs.declared.types.mode.ActivePeerCheck.{ActivePeerCheck}
+use Rattle.ftp_base.specs.declared.types.mode.ActivePeerCheck.TheVariants.{ControlPeer, Any as AnyPeer, Allow}
+
+-- an address as written: its family, and its four octets or its eight segments
+abbrev pub as_written : IpAddr → ℕ × List ℕ
+as_written (V4 ip) = (4, ipv4_octets ip)
+as_written (V6 ip) = (6, ipv6_segments ip)
+
+-- the canonical address: an IPv4-mapped IPv6 address is its IPv4 address, any other is as written
+abbrev pub canonical : IpAddr → ℕ × List ℕ
+canonical (V4 ip) = as_written (V4 ip)
+canonical (V6 ip) =
+    if bytes_eq (take 6 (ipv6_segments ip)) (0 ∷ 0 ∷ 0 ∷ 0 ∷ 0 ∷ 0xffff ∷ [])
+    then (4, low_octets ip) else as_written (V6 ip)
+
+-- a check allows a peer, beside the control connection's peer
+abbrev pub IsAllowed : ActivePeerCheck → IpAddr → IpAddr → Type 0
+IsAllowed ControlPeer peer control_peer = canonical peer ≡ canonical control_peer
+IsAllowed AnyPeer peer control_peer = Unit {0}
+IsAllowed (Allow addresses) peer control_peer =
+    Any (λ address. canonical address ≡ canonical peer) addresses

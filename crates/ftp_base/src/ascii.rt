@@ -1,0 +1,209 @@
+//! Text uploads: each line ends in CR LF on the wire (RFC 959, section 3.1.1.1).
+
+ghost use Rattle.std.specs.Prelude.{◌≡◌, ◌<◌, ◌≤◌, ℕ, Bool, List, [], ◌++◌, OnOk, OnErr, IfOk, IfSome, length, take};
+ghost use Rattle.std.specs.Io.{ReadsAtMost, WritesAtMost};
+ghost use Rattle.std.specs.Io.KnownBytes.{Appends, IsAtEnd, ReadConsumes, WriteAppends};
+ghost use Rattle.ftp_base.specs.declared.types.fault.FtpError.TheVariants as fault;
+ghost use Rattle.ftp_base.specs.declared.types.fault.ConnectionError.TheVariants as connection;
+ghost use Rattle.ftp_base.specs.Ascii.{crlf, ends_in_return, AddsPiece, AppendsFront, converted, last_return};
+
+use crate::types::{ConnectionError, FtpError, FtpResult};
+use std::alloc::{AllocError, Global};
+use std::io;
+use std::io::{ErrorKind, Read, Write};
+use std::marker::Model;
+
+/// How many bytes of input are read at once.
+const BUFFER: usize = 8_192;
+
+/// How often an interrupted read or write is tried again before its fault is told.
+const RETRIES: usize = 64;
+
+/// The most bytes that an upload may write.
+pub const GREATEST_UPLOAD: u64 = (1 << 63) - 1;
+
+/// Puts CR before each LF of a text that doesn't follow a CR already. The text may come in any
+/// pieces: the encoder remembers whether the last byte that it was given is CR.
+#[derive(Drop)]
+pub struct CrlfEncoder {
+    after_return: bool,
+}
+
+impl Model for CrlfEncoder {
+    ghost Value = { Bool };
+
+    ghost view = { λ encoder. encoder.after_return };
+}
+
+impl CrlfEncoder {
+    /// An encoder that was given no byte yet.
+    pub fn new() -> CrlfEncoder
+        ensures { result ≡ ends_in_return [] }
+    {
+        CrlfEncoder {
+            after_return: false,
+        }
+    }
+
+    /// Adds the wire bytes of the next piece at the end of `out`.
+    ///
+    /// # Errors
+    /// Where memory is refused nothing changes, neither `out` nor the encoder.
+    pub fn encode(&mut self, input: &[u8], out: &mut Vec<u8>) -> Result<(), AllocError>
+        // Whatever the pieces before were, the encoder goes on as if all had come as one.
+        ensures written { OnOk result ((before : List ℕ) → self.old ≡ ends_in_return before →
+            AddsPiece before input.now out.old.items out.new.items) }
+        ensures last { OnOk result ((before : List ℕ) → self.old ≡ ends_in_return before →
+            self.new ≡ ends_in_return (before ++ input.now)) }
+        ensures err { OnErr result (self.new ≡ self.old) }
+        ensures err_out { OnErr result (out.new.items ≡ out.old.items) }
+    {
+        let start = out.len();
+        match push_converted(self.after_return, input, out) {
+            Ok(after_return) => {
+                self.after_return = after_return;
+                Ok(())
+            }
+            Err(error) => {
+                out.truncate(start);
+                Err(error)
+            }
+        }
+    }
+}
+
+/// Adds the wire bytes of a piece, and tells whether its last byte is CR, or the byte before where
+/// it is empty. Where memory is refused some may have been added.
+fn push_converted(
+    mut after_return: bool,
+    input: &[u8],
+    out: &mut Vec<u8>,
+) -> Result<bool, AllocError>
+    ensures written { OnOk result
+        (out.new.items ≡ out.old.items ++ converted after_return input.now) }
+    ensures last { IfOk result (λ last. last ≡ last_return after_return input.now) }
+    ensures err { OnErr result (take (length out.old.items) out.new.items ≡ out.old.items) }
+{
+    for byte in input {
+        if *byte == b'\n' && !after_return {
+            out.extend_from_slice(b"\r\n")?;
+        } else {
+            out.push(*byte)?;
+        }
+        after_return = *byte == b'\r';
+    }
+    Ok(after_return)
+}
+
+/// Wire bytes are their own wire bytes, so a text that is encoded twice is as if encoded once.
+pub fn crlf_is_idempotent()
+    ensures { (bytes : List ℕ) → crlf (crlf bytes) ≡ crlf bytes }
+{}
+
+/// Copies a text to a writer, each line ended by CR LF, up to the end of the reader, and answers
+/// how many bytes were written. It reads at most 8,192 bytes at once.
+///
+/// # Errors
+/// What the reader or the writer answers, an interruption only after 64 tries in a row were
+/// interrupted again; `SourceTooLarge` where more than 2^63 - 1 bytes would be written;
+/// `OutOfMemory`. What was read before a fault of the reader has been written.
+pub fn copy_crlf<R: Read, W: Write>(alloc: Global, reader: &mut R, writer: &mut W) -> FtpResult<u64>
+    ensures written { OnOk result (IfSome (R.remaining reader.old)
+        (λ source. Appends (W.contents writer.old) (W.contents writer.new) (crlf source))) }
+    ensures end { OnOk result (IsAtEnd (R.remaining reader.new)) }
+    ensures count { IfOk result (λ n. IfSome (R.remaining reader.old)
+        (λ source. n ≡ length (crlf source))) }
+    ensures limit { IfOk result (λ n. n ≤ GREATEST_UPLOAD) }
+    ensures too_large { result ≡ Err (fault.ConnectionError connection.SourceTooLarge) →
+        IfSome (R.remaining reader.old) (λ source. GREATEST_UPLOAD < length (crlf source)) }
+    ensures err { OnErr result (IfSome (R.remaining reader.old)
+        (λ source. AppendsFront (W.contents writer.old) (W.contents writer.new) (crlf source))) }
+{
+    let mut input = vec![in alloc; 0u8; BUFFER]?;
+    copy_through(alloc, reader, writer, &mut input)
+}
+
+/// The same through this buffer.
+fn copy_through<R: Read, W: Write>(
+    alloc: Global,
+    reader: &mut R,
+    writer: &mut W,
+    input: &mut [u8],
+) -> FtpResult<u64>
+    requires { 0 < length input.old }
+    ensures written { OnOk result (IfSome (R.remaining reader.old)
+        (λ source. Appends (W.contents writer.old) (W.contents writer.new) (crlf source))) }
+    ensures end { OnOk result (IsAtEnd (R.remaining reader.new)) }
+    ensures count { IfOk result (λ n. IfSome (R.remaining reader.old)
+        (λ source. n ≡ length (crlf source))) }
+    ensures limit { IfOk result (λ n. n ≤ GREATEST_UPLOAD) }
+    ensures too_large { result ≡ Err (fault.ConnectionError connection.SourceTooLarge) →
+        IfSome (R.remaining reader.old) (λ source. GREATEST_UPLOAD < length (crlf source)) }
+    ensures err { OnErr result (IfSome (R.remaining reader.old)
+        (λ source. AppendsFront (W.contents writer.old) (W.contents writer.new) (crlf source))) }
+{
+    let mut output = Vec::new(alloc);
+    let mut encoder = CrlfEncoder::new();
+    let mut count = 0u64;
+    for _ in 0..u64::MAX {
+        let taken = read_retrying(reader, input)?;
+        if taken == 0 {
+            return Ok(count);
+        }
+        output.clear();
+        encoder.encode(&input[..taken], &mut output)?;
+        let added = output.len() as u64;
+        if GREATEST_UPLOAD - count < added {
+            return Err(ConnectionError::SourceTooLarge.into());
+        }
+        write_all_retrying(writer, &output)?;
+        count += added;
+    }
+    unreachable!()
+}
+
+/// Reads once. An interrupted read is tried again, at most 64 times.
+fn read_retrying<R: Read>(reader: &mut R, buffer: &mut [u8]) -> io::Result<usize>
+    ensures bound { ReadsAtMost result buffer.new }
+    ensures bytes { ReadConsumes
+        (R.remaining reader.old) (R.remaining reader.new) result buffer.new }
+{
+    for _ in 0..RETRIES {
+        match reader.read(buffer) {
+            Err(error) if error.kind() == ErrorKind::Interrupted => {}
+            other => return other,
+        }
+    }
+    reader.read(buffer)
+}
+
+/// Writes once. An interrupted write is tried again, at most 64 times.
+fn write_retrying<W: Write>(writer: &mut W, bytes: &[u8]) -> io::Result<usize>
+    ensures bound { WritesAtMost result bytes.now }
+    ensures bytes { WriteAppends (W.contents writer.old) (W.contents writer.new) result bytes.now }
+{
+    for _ in 0..RETRIES {
+        match writer.write(bytes) {
+            Err(error) if error.kind() == ErrorKind::Interrupted => {}
+            other => return other,
+        }
+    }
+    writer.write(bytes)
+}
+
+/// Writes all bytes. A write that takes none is a fault.
+fn write_all_retrying<W: Write>(writer: &mut W, bytes: &[u8]) -> io::Result<()>
+    ensures ok { OnOk result (Appends (W.contents writer.old) (W.contents writer.new) bytes.now) }
+    ensures err { OnErr result
+        (AppendsFront (W.contents writer.old) (W.contents writer.new) bytes.now) }
+{
+    let mut rest = bytes;
+    while !rest.is_empty() {
+        let written = write_retrying(writer, rest)?;
+        if written == 0 {
+            return Err(ErrorKind::WriteZero.into());
+        }
+        rest = &rest[written..];
+    }
+    Ok(())
+}

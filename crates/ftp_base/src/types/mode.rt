@@ -1,0 +1,74 @@
+//! How data connections come about, and which peers may make one (RFC 959, section 3.2; RFC 2428).
+
+ghost use Rattle.std.specs.Prelude.{◌≡◌, ◌↔◌, IsTrue};
+ghost use Rattle.ftp_base.specs.declared.types.mode.ActivePeerCheck.TheVariants as peers;
+ghost use Rattle.ftp_base.specs.Peer.{as_written, canonical, IsAllowed};
+
+use super::Items;
+use std::net::IpAddr;
+
+/// Who opens a data connection, and how it is asked for.
+#[derive(Clone, Copy, Debug, PartialEq, Eq)]
+pub enum Mode {
+    /// The server opens it to an address that PORT or EPRT tells.
+    Active,
+    /// The client opens it to the address and port of the reply to PASV.
+    Passive,
+    /// The client opens it to the port of the reply to EPSV, at the control connection's address.
+    ExtendedPassive,
+}
+
+/// Which peers may open an active data connection.
+#[derive(Clone, Debug, PartialEq, Eq, Drop)]
+pub enum ActivePeerCheck {
+    /// The peer of the control connection, and no other.
+    ControlPeer,
+    /// Every peer.
+    Any,
+    /// The listed addresses, and no other.
+    Allow(Items<IpAddr>),
+}
+
+impl Default for ActivePeerCheck {
+    ghost is_default = { λ check. check ≡ peers.ControlPeer };
+
+    fn default() -> ActivePeerCheck {
+        Self::ControlPeer
+    }
+}
+
+impl ActivePeerCheck {
+    /// Whether a peer may open a data connection, beside a control connection to this peer.
+    /// Addresses are compared as canonical ones: an IPv4-mapped IPv6 address is its IPv4 address.
+    /// Takes no memory.
+    pub fn allows(&self, peer: IpAddr, control_peer: IpAddr) -> bool
+        ensures { IsTrue result ↔ IsAllowed self.now peer control_peer }
+    {
+        match self {
+            ActivePeerCheck::ControlPeer => is_same_address(peer, control_peer),
+            ActivePeerCheck::Any => true,
+            ActivePeerCheck::Allow(addresses) => addresses
+                .as_slice()
+                .iter()
+                .any(|address| is_same_address(*address, peer)),
+        }
+    }
+}
+
+/// Whether two addresses are canonically the same.
+fn is_same_address(one: IpAddr, other: IpAddr) -> bool
+    ensures { IsTrue result ↔ (canonical one ≡ canonical other) }
+{
+    match (canonical_of(one), canonical_of(other)) {
+        (IpAddr::V4(one), IpAddr::V4(other)) => one.octets() == other.octets(),
+        (IpAddr::V6(one), IpAddr::V6(other)) => one.segments() == other.segments(),
+        _ => false,
+    }
+}
+
+/// The canonical address.
+fn canonical_of(address: IpAddr) -> IpAddr
+    ensures { as_written result ≡ canonical address }
+{
+    address.to_canonical()
+}
