@@ -116,3 +116,24 @@ fn a_dropped_lines_rest_goes_out_before_the_next(rt: HostRuntime) -> Result<(), 
     assert_eq!(rt; channel.get_ref().sent(), b"NOOP\r\nQUIT\r\n".as_slice());
     Ok(())
 }
+
+#[test]
+fn lines_behind_a_reply_are_taken_one_by_one(rt: HostRuntime) -> Result<(), Fail> {
+    let alloc = rt.alloc();
+    let mut channel = ControlChannel::new(alloc, MemoryConn::new(alloc));
+    channel.feed(b"one\r\ntw")?;
+    let line = channel.read_line(alloc)?;
+    assert_eq!(rt; line.as_slice(), b"one\r\n".as_slice());
+    let mut channel = ControlChannel::new(alloc, MemoryConn::new(alloc));
+    channel.feed(b"tw")?;
+    assert!(rt; matches!(channel.poll_read_line(alloc, &mut ()), Poll::Pending));
+    channel.feed(b"o\nthree")?;
+    channel.end_input();
+    let line = channel.read_line(alloc)?;
+    assert_eq!(rt; line.as_slice(), b"two\n".as_slice());
+    let line = channel.read_line(alloc)?;
+    assert_eq!(rt; line.as_slice(), b"three".as_slice());
+    assert!(rt; channel.read_line(alloc).is_err());
+    assert!(rt; channel.failed());
+    Ok(())
+}
