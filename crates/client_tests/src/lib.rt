@@ -3,6 +3,7 @@
 
 #[cfg(test)]
 mod encodings;
+pub mod first_use;
 #[cfg(test)]
 mod grammar;
 #[cfg(test)]
@@ -11,3 +12,5 @@ mod rows_r1;
 mod rows_r2;
 #[cfg(test)]
 mod scene;
+#[cfg(test)]
+mod sockets;
