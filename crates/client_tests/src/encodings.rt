@@ -1,13 +1,14 @@
 //! Encodings of the caller's: Latin-1, one that makes line breaks, one that drops the line end.
 
-ghost use Rattle.std.specs.Prelude.{◌≡◌, ◌-◌, IfOk, Ok, length, take, map, option_map, encode_utf8_all};
+ghost use Rattle.std.specs.Prelude.{◌≡◌, ◌-◌, IfOk, IfErr, Ok, length, take, map, encode_utf8_all};
 ghost use Rattle.std.specs.Str.{chars};
-ghost use Rattle.client_tests.specs.Encodings.{latin_1_bytes, latin_1_or, feed_for_space};
+ghost use Rattle.ftp_base.specs.Encoding.{IsRefusal};
+ghost use Rattle.client_tests.specs.Encodings.{latin_1_bytes, feed_for_space};
 
 use crate::scene::refusal;
-use ftp_base::command::{Command, escape_telnet_iac, unescape_telnet_iac};
+use ftp_base::command::{Command, unescape_telnet_iac};
 use ftp_base::encoding::{EncodeError, Encoding, Utf8Encoding};
-use ftp_base::types::Text;
+use ftp_base::types::{FtpResult, Text};
 use ftp_control::control::WireLine;
 use std::alloc::{AllocError, Global};
 use std::io::ErrorKind;
@@ -20,41 +21,43 @@ struct Latin1;
 impl Encoding for Latin1 {
     ghost decoded = { λ _ bytes. encode_utf8_all bytes };
 
-    ghost encoded = { λ _ text. latin_1_or (latin_1_bytes (chars text)) };
+    ghost encoded = { λ _ text. latin_1_bytes (chars text) };
 
     fn decode(&self, alloc: Global, bytes: &[u8]) -> Result<String, AllocError> {
         bytes.iter().map(|byte| char::from(*byte)).collect(alloc)
     }
 
     fn encode(&self, alloc: Global, text: &str) -> Result<Vec<u8>, EncodeError> {
-        let Ok(letters) = text.chars().collect::<Vec<char>>(alloc) else {
-            return Err(EncodeError::OutOfMemory);
-        };
-        match latin_1(alloc, letters.as_slice()) {
-            Ok(Some(bytes)) => Ok(bytes),
-            Ok(None) => Err(EncodeError::Refused(ErrorKind::InvalidData)),
+        match letters_of(alloc, text) {
+            Ok(letters) => latin_1(alloc, letters.as_slice()),
             Err(AllocError) => Err(EncodeError::OutOfMemory),
         }
     }
 }
 
-/// The bytes of characters, or none where one of them has no byte.
-fn latin_1(alloc: Global, letters: &[char]) -> Result<Option<Vec<u8>>, AllocError>
-    ensures { IfOk result (λ bytes. option_map (λ b. b.items) bytes ≡ latin_1_bytes letters.now) }
+/// The characters of a text.
+fn letters_of(alloc: Global, text: &str) -> Result<Vec<char>, AllocError>
+    ensures { IfOk result (λ letters. letters.items ≡ chars text.now) }
+{
+    text.chars().collect(alloc)
+}
+
+/// The bytes of characters, which are refused where one of them has no byte.
+fn latin_1(alloc: Global, letters: &[char]) -> Result<Vec<u8>, EncodeError>
+    ensures ok { IfOk result (λ bytes. latin_1_bytes letters.now ≡ Ok bytes.items) }
+    ensures refused { IfErr result (IsRefusal (latin_1_bytes letters.now)) }
 {
     let Some((first, others)) = letters.split_first() else {
-        return Ok(Some(Vec::new(alloc)));
+        return Ok(Vec::new(alloc));
     };
     let code = u32::from(*first);
     if code > 255 {
-        return Ok(None);
+        return Err(EncodeError::Refused(ErrorKind::InvalidData));
     }
-    match latin_1(alloc, others)? {
-        Some(mut bytes) => {
-            bytes.insert(0, code as u8)?;
-            Ok(Some(bytes))
-        }
-        None => Ok(None),
+    let mut bytes = latin_1(alloc, others)?;
+    match bytes.insert(0, code as u8) {
+        Ok(()) => Ok(bytes),
+        Err(_) => Err(EncodeError::OutOfMemory),
     }
 }
 
@@ -106,45 +109,63 @@ impl Encoding for WithoutLineEnd {
     }
 }
 
+/// The line that changes to this folder.
+fn cwd<E: Encoding>(alloc: Global, folder: &str, encoding: &E) -> FtpResult<WireLine> {
+    WireLine::of(
+        alloc,
+        &Command::Cwd(Text::from_str(alloc, folder)?),
+        encoding,
+    )
+}
+
 #[test]
-fn a_name_with_byte_255_goes_out_doubled(rt: HostRuntime) -> Result<(), Fail> {
-    let alloc = rt.alloc();
-    let command = Command::Cwd(Text::from_str(alloc, "ÿ")?);
-    let line = WireLine::of(alloc, &command, &Latin1)?;
-    assert_eq!(rt;
-        line.as_slice(),
-        [0x43, 0x57, 0x44, 0x20, 0xff, 0xff, 0x0d, 0x0a].as_slice()
-    );
-    let line = WireLine::of(alloc, &command, &Utf8Encoding)?;
-    assert_eq!(rt;
-        line.as_slice(),
-        [0x43, 0x57, 0x44, 0x20, 0xc3, 0xbf, 0x0d, 0x0a].as_slice()
-    );
-    let single = unescape_telnet_iac(alloc, &[255, 255, 255])?;
-    assert_eq!(rt; single.as_slice(), [255, 255].as_slice());
-    let twice = escape_telnet_iac(alloc, &[1, 255])?;
-    assert_eq!(rt; twice.as_slice(), [1, 255, 255].as_slice());
+fn byte_255_of_a_name_goes_out_doubled(rt: HostRuntime) -> Result<(), Fail> {
+    let line = cwd(rt.alloc(), "ÿ", &Latin1)?;
+    assert_eq!(rt; line.as_slice(), b"CWD \xff\xff\r\n".as_slice());
     Ok(())
 }
 
 #[test]
-fn what_an_encoding_makes_of_a_line_is_tested(rt: HostRuntime) -> Result<(), Fail> {
-    let alloc = rt.alloc();
-    let command = Command::Cwd(Text::from_str(alloc, "a b")?);
-    assert_eq!(rt; refusal(&WireLine::of(alloc, &command, &FeedsForSpaces)), 6);
+fn a_name_goes_out_in_utf_8(rt: HostRuntime) -> Result<(), Fail> {
+    let line = cwd(rt.alloc(), "ÿ", &Utf8Encoding)?;
+    assert_eq!(rt; line.as_slice(), b"CWD \xc3\xbf\r\n".as_slice());
+    Ok(())
+}
+
+#[test]
+fn three_bytes_255_are_a_pair_and_one(rt: HostRuntime) -> Result<(), Fail> {
+    let single = unescape_telnet_iac(rt.alloc(), b"\xff\xff\xff")?;
+    assert_eq!(rt; single.as_slice(), b"\xff\xff".as_slice());
+    Ok(())
+}
+
+#[test]
+fn an_encoding_that_makes_line_breaks_is_refused(rt: HostRuntime) {
+    assert_eq!(rt; refusal(&cwd(rt.alloc(), "a b", &FeedsForSpaces)), 6);
+    assert_eq!(rt; refusal(&cwd(rt.alloc(), "ab", &FeedsForSpaces)), 6);
+}
+
+#[test]
+fn an_encoding_that_drops_the_line_end_is_refused(rt: HostRuntime) {
     assert_eq!(rt;
-        refusal(&WireLine::of(alloc, &Command::Noop, &WithoutLineEnd)),
+        refusal(&WireLine::of(rt.alloc(), &Command::Noop, &WithoutLineEnd)),
         5
     );
-    let command = Command::Cwd(Text::from_str(alloc, "ā")?);
-    assert_eq!(rt; refusal(&WireLine::of(alloc, &command, &Latin1)), 7);
-    let command = Command::Cwd(Text::from_str(alloc, "a\r\nDELE b")?);
-    assert_eq!(rt; refusal(&WireLine::of(alloc, &command, &Latin1)), 4);
     assert_eq!(rt;
-        refusal(&WireLine::of(alloc, &Command::Noop, &FeedsForSpaces)),
+        refusal(&WireLine::of(rt.alloc(), &Command::Noop, &FeedsForSpaces)),
         0
     );
-    let text = Latin1.decode(alloc, &[0x61, 0xff])?;
+}
+
+#[test]
+fn a_text_without_bytes_is_the_encodings_refusal(rt: HostRuntime) {
+    assert_eq!(rt; refusal(&cwd(rt.alloc(), "ā", &Latin1)), 7);
+    assert_eq!(rt; refusal(&cwd(rt.alloc(), "a\r\nDELE b", &Latin1)), 4);
+}
+
+#[test]
+fn latin_1_is_read(rt: HostRuntime) -> Result<(), Fail> {
+    let text = Latin1.decode(rt.alloc(), b"a\xff")?;
     assert_eq!(rt; text.as_str(), "aÿ");
     Ok(())
 }
