@@ -1,5 +1,6 @@
 //! Numbers in the text of replies.
 
+use ftp_base::command::number;
 use ftp_base::command::scan::{Span, epsv_port, mdtm, pasv_port, size};
 use std::test::Fail;
 
@@ -137,4 +138,36 @@ fn hostile_texts_are_gone_through_in_time(rt: HostRuntime) -> Result<(), Fail> {
     assert_eq!(rt; pasv_port(&digits), None);
     assert_eq!(rt; mdtm(&openings), None);
     Ok(())
+}
+
+#[test]
+fn a_number_is_within_its_most(rt: HostRuntime) {
+    let rows: [(&str, u64, Option<u64>); 7] = [
+        ("65535", 65_535, Some(65_535)),
+        ("65536", 65_535, None),
+        ("70000", 65_535, None),
+        ("007", 255, Some(7)),
+        ("18446744073709551615", u64::MAX, Some(u64::MAX)),
+        ("18446744073709551616", u64::MAX, None),
+        ("99999999999999999999999", u64::MAX, None),
+    ];
+    for (text, most, value) in rows {
+        let span = Span {
+            start: 0,
+            end: text.len(),
+        };
+        assert_eq!(rt; number(text, span, most), value, "{text}");
+    }
+}
+
+#[test]
+fn a_number_is_of_digits_within_the_text(rt: HostRuntime) {
+    assert_eq!(rt;
+        number("(6446)", Span { start: 1, end: 5 }, 65_535),
+        Some(6_446)
+    );
+    assert_eq!(rt; number("(6446)", Span { start: 0, end: 5 }, 65_535), None);
+    assert_eq!(rt; number("(6446)", Span { start: 5, end: 1 }, 65_535), None);
+    assert_eq!(rt; number("(6446)", Span { start: 1, end: 7 }, 65_535), None);
+    assert_eq!(rt; number("(6446)", Span { start: 1, end: 1 }, 65_535), None);
 }

@@ -1,6 +1,7 @@
 pub mod AsciiLemmas
 pub mod CopyLemmas
 pub mod FeatureLemmas
+pub mod NumberLemmas
 pub mod ReplyLemmas
 pub mod ScanLemmas
 pub mod SizeLemmas

@@ -1,8 +1,8 @@
 -- What is found in the text of a reply: RFC 959, section 4.1.2 (PASV), RFC 2428, section 3 (EPSV),
 -- RFC 3659, sections 3 (MDTM) and 4 (SIZE).
-use Rattle.std.specs.Prelude.{◌≡◌, ℕ, ◌+◌, ◌<◌, ◌≤◌, Bool, true, false, IsTrue, ◌||◌, ◌==◌, nat_eq, nat_le, List, [], ◌∷◌, ◌++◌, codes, length, take, drop, slice_index, encode_utf8}
-use Rattle.std.specs.List.{starts_with}
-use Rattle.std.specs.Char.{IsAsciiDigit, is_ascii_alphanumeric, is_whitespace}
+use Rattle.std.specs.Prelude.{◌≡◌, ℕ, ◌+◌, ◌-◌, ◌*◌, ◌<◌, ◌≤◌, Bool, true, false, Option, Some, None, if◌then◌else◌, IsTrue, ◌||◌, ◌==◌, nat_eq, nat_le, List, [], ◌∷◌, ◌++◌, codes, length, take, drop, slice_index, encode_utf8}
+use Rattle.std.specs.List.{starts_with, list_all}
+use Rattle.std.specs.Char.{IsAsciiDigit, is_ascii_digit, is_ascii_alphanumeric, is_whitespace}
 use Rattle.std.specs.Str.{trim_end}
 use Rattle.ftp_base.specs.declared.command.scan.Span.{Span}
 
@@ -96,3 +96,16 @@ pub record IsTrailingSize (text : List ℕ) (span : Span) : Type 0 where
   pub some : span.start < span.end
   pub digits : AreDigits (trim_end text) span.start span.end
   pub space : EndsInSpace (take span.start (trim_end text))
+
+-- the number that digits write behind a number
+abbrev pub digits_value : ℕ → List ℕ → ℕ
+digits_value before [] = before
+digits_value before (digit ∷ digits) = digits_value (before * 10 + (digit - 48)) digits
+
+-- the number that digits write, where there are some, they are all digits, and it isn't above the most
+abbrev pub number_up_to : ℕ → List ℕ → Option ℕ
+number_up_to most [] = None
+number_up_to most (digit ∷ digits) =
+    if list_all is_ascii_digit (digit ∷ digits)
+    then (if nat_le (digits_value 0 (digit ∷ digits)) most then Some (digits_value 0 (digit ∷ digits)) else None)
+    else None

@@ -3,12 +3,14 @@
 ghost use Rattle.std.specs.Prelude.{Some};
 ghost use Rattle.ftp_base.specs.Command.{address_text, after_space, level_text, text_of};
 
+mod digits;
 pub mod feat;
 mod line;
 pub mod scan;
 mod telnet;
 
 use crate::types::{FileType, Text};
+pub use digits::number;
 pub use line::{validate_command_line, validate_encoded_command_line};
 use std::fmt;
 use std::net::SocketAddr;
