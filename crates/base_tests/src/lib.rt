@@ -5,9 +5,9 @@
 mod commands;
 #[cfg(test)]
 mod features;
+pub mod laws;
 #[cfg(test)]
 mod peers;
-pub mod laws;
 pub mod plain;
 #[cfg(test)]
 mod replies;
