@@ -1,13 +1,10 @@
 //! Greet, noop, quit and a custom command, from bytes to bytes: the server's bytes come whole, and one by one.
 
-use crate::scene::{conn_with, greeted, refusal, unexpected};
+use crate::scene::{PIECES, conn_with, greeted, refusal, unexpected};
 use ftp_base::status::Status;
 use ftp_control::transport::{MemoryConn, MemoryTransport};
 use ftp_session::session::Session;
-use std::process::Abort;
 use std::test::Fail;
-
-const PIECES: [usize; 2] = [1, 1_000_000];
 
 /// How many bytes were taken: those received less those of no reply yet.
 fn taken(session: &Session<MemoryTransport>) -> usize {

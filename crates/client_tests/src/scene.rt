@@ -7,6 +7,9 @@ use ftp_control::transport::{MemoryConn, MemoryTransport};
 use ftp_session::session::Session;
 use std::alloc::{AllocError, Global};
 
+/// The sizes of the pieces in which the server's bytes come: one by one, and whole.
+pub const PIECES: [usize; 2] = [1, 1_000_000];
+
 /// A connection that the server's bytes came on, in pieces of so many bytes.
 pub fn conn_with(alloc: Global, input: &[u8], piece: usize) -> Result<MemoryConn, AllocError>
     requires { 0 < piece }

@@ -5,15 +5,15 @@ use Rattle.ftp_base.specs.declared.types.fault.ConnectionError.{ConnectionError}
 use Rattle.ftp_base.specs.declared.types.fault.ConnectionError.TheVariants.{LineBreak, EncodedWithoutCrlf, EncodedLineBreak}
 
 -- the end of a line: CR LF
-abbrev pub crlf : List ℕ
-crlf = 13 ∷ 10 ∷ []
+abbrev pub line_end : List ℕ
+line_end = 13 ∷ 10 ∷ []
 
 -- CR or LF stands in the bytes
 abbrev pub has_line_break : List ℕ → Bool
 has_line_break bytes = list_any (λ b. (b == 13) || (b == 10)) bytes
 
 abbrev pub ends_in_crlf : List ℕ → Bool
-ends_in_crlf bytes = ends_with nat_eq bytes crlf
+ends_in_crlf bytes = ends_with nat_eq bytes line_end
 
 -- the bytes before the final CR LF, or all of them where they don't end so
 abbrev pub before_crlf : List ℕ → List ℕ

@@ -49,8 +49,8 @@ end_with_more : (part whole more : List ℕ) → IsEndOf part whole → IsEndOf 
 end_with_more part whole more a = record { front = a.front; is = ap (λ w. w ++ more) a.is ∙ append_assoc a.front part more }
 
 -- after a read
-pub read_holds : (tells : Type 0) (t u : Told) (kept kept' : List ℕ) (start start' : ℕ) (line : List ℕ) (sent : ℕ) (ended ended' failed failed' : Bool) (rule : ReplyRule) (system : Bool) (result : Result Outcome Broken) → Holds tells t kept start line sent ended failed rule → IsUnderWay rule kept' start' → (tells → u.ended ≡ ended') → Hears tells rule system kept kept' ended' t u result → Holds tells u kept' start' line sent ended' failed' rule
-read_holds tells t u kept kept' start start' line sent ended ended' failed failed' rule system result held under known heard = record {
+pub read_holds : (tells : Type 0) (t u : Told) (kept kept' : List ℕ) (start start' : ℕ) (line : List ℕ) (sent : ℕ) (ended ended' failed failed' : Bool) (rule : ReplyRule) (says : List ℕ → Bool → Outcome) (result : Result Outcome Broken) → Holds tells t kept start line sent ended failed rule → IsUnderWay rule kept' start' → (tells → u.ended ≡ ended') → Hears tells says kept kept' ended' t u result → Holds tells u kept' start' line sent ended' failed' rule
+read_holds tells t u kept kept' start start' line sent ended ended' failed failed' rule says result held under known heard = record {
   under_way = under;
   within = held.within;
   sound = record {

@@ -1,4 +1,5 @@
 pub mod Channels
+pub mod Law
 pub mod Lines
 pub mod Memory
 pub mod Outcomes

@@ -10,7 +10,7 @@ use Rattle.ftp_control.specs.declared.control.rule.ReplyRule.TheVariants.{Lenien
 use Rattle.ftp_control.specs.declared.control.outcome.Outcome.TheVariants.{Whole, Bad, TooLarge, Ended, Waits}
 use Rattle.ftp_control.specs.declared.control.grammar.Verdict.{Verdict}
 use Rattle.ftp_control.specs.declared.control.grammar.Verdict.TheVariants.{Refused, Ends, GoesOn}
-use Rattle.ftp_control.specs.Grammar.{is_line_feed, whole_lines, rest, last_line, lines, joined, begins_with_digits, opens, ends, code_at_start, to_end, reply_in, reply_limit, within, outcome, left_by}
+use Rattle.ftp_control.specs.Grammar.{is_line_feed, whole_lines, rest, last_line, lines, joined, begins_with_digits, opens, ends, code_at_start, to_end, reply_in, reply_limit, within, outcome, line_outcome, left_by}
 use Rattle.ftp_control.specs.declared.plain.Found.{Found}
 use Rattle.ftp_control.specs.declared.plain.Found.TheVariants.{Reply, NoReply, Unfinished}
 use Rattle.ftp_control.specs.Verdict.{verdict, outcome_by}
@@ -306,3 +306,68 @@ pub end_settled : (v : Verdict) (bytes : List ℕ) → outcome_by true v bytes �
 end_settled Refused bytes is = let clash : Bad bytes ≡ Waits = is in cc
 end_settled (Ends code) bytes is = let clash : Whole bytes code ≡ Waits = is in cc
 end_settled GoesOn bytes is = let clash : Ended ≡ Waits = is in cc
+
+-- One line at a time
+
+rest_all : (bytes : List ℕ) → whole_lines bytes ≡ [] → rest bytes ≡ bytes
+rest_all bytes none = rw none at (joined-whole_lines bytes)
+
+-- a byte that closes no line
+pub line_waits : (bytes : List ℕ) (b : ℕ) → whole_lines bytes ≡ [] → is_line_feed b ≡ false → length bytes < reply_limit → line_outcome (bytes ++ b ∷ []) false ≡ Waits
+unfolding line_outcome
+line_waits bytes b none other below =
+    let short : length (bytes ++ b ∷ []) ≤ reply_limit = rw (length-append bytes (b ∷ [])) (omega (arith, below)) in
+    rw (lines-open (bytes ++ b ∷ []), whole_lines-other bytes b other, none, le-ltb _ _ short)
+
+-- the LF that closes it
+pub line_closes : (bytes : List ℕ) → whole_lines bytes ≡ [] → length bytes < reply_limit → line_outcome (bytes ++ 10 ∷ []) false ≡ Whole (bytes ++ 10 ∷ []) 0
+unfolding line_outcome
+line_closes bytes none below =
+    let short : length (bytes ++ 10 ∷ []) ≤ reply_limit = rw (length-append bytes (10 ∷ [])) (omega (arith, below)) in
+    rw (lines-open (bytes ++ 10 ∷ []), whole_lines-line_feed bytes [], none, rest_all bytes none, le-leb _ _ short)
+
+-- past the limit
+pub line_too_long : (bytes : List ℕ) (b : ℕ) → whole_lines bytes ≡ [] → reply_limit ≤ length bytes → line_outcome (bytes ++ b ∷ []) false ≡ TooLarge
+unfolding line_outcome
+line_too_long bytes b none full =
+    elim (is_line_feed b) as (λ t. is_line_feed b ≡ t → line_outcome (bytes ++ b ∷ []) false ≡ TooLarge) [
+      | true ↦ λ is.
+          let ten : b ≡ 10 = eqb-true b 10 is in
+          rw (ten, lines-open (bytes ++ 10 ∷ []), whole_lines-line_feed bytes [], none, rest_all bytes none, lt-leb _ _ (over 10))
+      | false ↦ λ other. rw (lines-open (bytes ++ b ∷ []), whole_lines-other bytes b other, none, lt-ltb _ _ (over b))
+    ]
+    refl
+  where
+    over : (c : ℕ) → reply_limit < length (bytes ++ c ∷ [])
+    over c = rw (length-append bytes (c ∷ [])) (omega (arith, full))
+
+-- the end
+pub line_ends : (bytes : List ℕ) → whole_lines bytes ≡ [] → length bytes ≤ reply_limit → 0 < length bytes → line_outcome bytes true ≡ Whole bytes 0
+unfolding line_outcome
+line_ends bytes none fits some = rw (none, rest_all bytes none, open_end bytes some, le-leb _ _ fits)
+  where
+    open_end : (r : List ℕ) → 0 < length r → last_line true r ≡ r ∷ []
+    open_end [] nothing = absurd (omega arith)
+    open_end (b ∷ r) some = refl
+
+pub line_nothing : line_outcome [] true ≡ Ended
+unfolding line_outcome
+line_nothing = refl
+
+pub no_line_yet : (bytes : List ℕ) (b : ℕ) → whole_lines bytes ≡ [] → is_line_feed b ≡ false → whole_lines (bytes ++ b ∷ []) ≡ []
+no_line_yet bytes b none other = whole_lines-other bytes b other ∙ none
+
+pub nothing_waits : line_outcome [] false ≡ Waits
+unfolding line_outcome
+nothing_waits = refl
+
+-- no whole line is kept exactly where the line under way begins at 0
+pub no_line_starts : (bytes : List ℕ) (start : ℕ) → start + length (rest bytes) ≡ length bytes → whole_lines bytes ≡ [] → start ≡ 0
+no_line_starts bytes start split none = let all : length (rest bytes) ≡ length bytes = ap length (rest_all bytes none) in omega (arith, split, all)
+
+pub starts_no_line : (bytes : List ℕ) (start : ℕ) → start + length (rest bytes) ≡ length bytes → start ≡ 0 → whole_lines bytes ≡ []
+starts_no_line bytes start split zero = go (whole_lines bytes) refl (first_starts bytes start split ∙ ap (λ s. nat_eq s 0) zero)
+  where
+    go : (ls : List (List ℕ)) → whole_lines bytes ≡ ls → is_first_of ls ≡ true → whole_lines bytes ≡ []
+    go [] is first = is
+    go (l ∷ ls) is first = let clash : false ≡ true = first in cc

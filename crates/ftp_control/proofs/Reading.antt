@@ -1,32 +1,31 @@
 -- Lemmas on a read of a reply: byte by byte, with whatever else was read before.
 use Rattle.std.proofs.Common.{◌≡◌, ℕ, Bool, true, false, List, [], ◌∷◌, ◌++◌, Ok, Err, refl, ap, sym, ◌∙◌, append_assoc, append-nil, subst}
 use Rattle.std.specs.declared.io.ErrorKind.{ErrorKind}
-use Rattle.ftp_control.specs.declared.control.rule.ReplyRule.{ReplyRule}
 use Rattle.ftp_control.specs.declared.control.broken.Broken.TheVariants.{Connection, OutOfMemory}
 use Rattle.ftp_control.specs.declared.control.outcome.Outcome.{Outcome}
 use Rattle.ftp_control.specs.declared.control.outcome.Outcome.TheVariants.{Whole, Bad, TooLarge, Ended, Waits}
-use Rattle.ftp_control.specs.Grammar.{outcome, left_by}
+use Rattle.ftp_control.specs.Grammar.{left_by}
 use Rattle.ftp_control.specs.Told.{Told, IsDry, HasFailed, after_read, after_end}
 use Rattle.ftp_control.specs.Reading.{after_input, HearTells, Hears}
 
 -- what was read so far, where it says nothing yet
-pub record SoFar (tells : Type 0) (rule : ReplyRule) (system : Bool) (kept kept' : List ℕ) (ended : Bool) (t u : Told) : Type 0 where
+pub record SoFar (tells : Type 0) (says : List ℕ → Bool → Outcome) (kept kept' : List ℕ) (ended : Bool) (t u : Told) : Type 0 where
   pub came : List ℕ
   pub grown : kept' ≡ kept ++ came
-  pub waits : outcome rule system kept false ≡ Waits → outcome rule system kept' false ≡ Waits
+  pub waits : says kept false ≡ Waits → says kept' false ≡ Waits
   pub told : tells → u ≡ after_input came ended t
 
-pub nothing_so_far : (tells : Type 0) (rule : ReplyRule) (system : Bool) (kept : List ℕ) (ended : Bool) (t : Told) → (tells → t.ended ≡ ended) → SoFar tells rule system kept kept ended t t
-nothing_so_far tells rule system kept ended t known = record {
+pub nothing_so_far : (tells : Type 0) (says : List ℕ → Bool → Outcome) (kept : List ℕ) (ended : Bool) (t : Told) → (tells → t.ended ≡ ended) → SoFar tells says kept kept ended t t
+nothing_so_far tells says kept ended t known = record {
   came = [];
   grown = sym (append-nil kept);
   waits = λ w. w;
   told = λ h. rw (append-nil t.received, ← known h);
 }
 
-module _ (tells : Type 0) (rule : ReplyRule) (system : Bool) (kept now : List ℕ) (t u : Told) (so_far : SoFar tells rule system kept now false t u) where
+module _ (tells : Type 0) (says : List ℕ → Bool → Outcome) (kept now : List ℕ) (t u : Told) (so_far : SoFar tells says kept now false t u) where
   -- one byte more, which says nothing yet
-  pub one_more : (later : List ℕ) (byte : ℕ) (v : Told) → later ≡ now ++ byte ∷ [] → (outcome rule system now false ≡ Waits → Waits ≡ outcome rule system (now ++ byte ∷ []) false) → (tells → v ≡ after_read (byte ∷ []) u) → SoFar tells rule system kept later false t v
+  pub one_more : (later : List ℕ) (byte : ℕ) (v : Told) → later ≡ now ++ byte ∷ [] → (says now false ≡ Waits → Waits ≡ says (now ++ byte ∷ []) false) → (tells → v ≡ after_read (byte ∷ []) u) → SoFar tells says kept later false t v
   one_more later byte v is waits told = record {
     came = so_far.came ++ byte ∷ [];
     grown = is ∙ ap (λ bs. bs ++ byte ∷ []) so_far.grown ∙ append_assoc kept so_far.came (byte ∷ []);
@@ -35,11 +34,11 @@ module _ (tells : Type 0) (rule : ReplyRule) (system : Bool) (kept now : List �
   }
 
   -- the end, where nothing was said before
-  pub at_end : (v : Told) → (tells → v ≡ after_end u) → SoFar tells rule system kept now true t v
+  pub at_end : (v : Told) → (tells → v ≡ after_end u) → SoFar tells says kept now true t v
   at_end v told = record { came = so_far.came; grown = so_far.grown; waits = so_far.waits; told = λ h. told h ∙ rw (so_far.told h) }
 
   -- one byte more settles it
-  pub byte_settles : (later : List ℕ) (byte : ℕ) (heard : Outcome) (v : Told) → (heard ≡ Waits → ⊥) → (outcome rule system now false ≡ Waits → heard ≡ outcome rule system (now ++ byte ∷ []) false) → later ≡ left_by heard (now ++ byte ∷ []) → (tells → v ≡ after_read (byte ∷ []) u) → Hears tells rule system kept later false t v (Ok heard)
+  pub byte_settles : (later : List ℕ) (byte : ℕ) (heard : Outcome) (v : Told) → (heard ≡ Waits → ⊥) → (says now false ≡ Waits → heard ≡ says (now ++ byte ∷ []) false) → later ≡ left_by heard (now ++ byte ∷ []) → (tells → v ≡ after_read (byte ∷ []) u) → Hears tells says kept later false t v (Ok heard)
   byte_settles later byte heard v settled is left told =
       let all : now ++ byte ∷ [] ≡ kept ++ (so_far.came ++ byte ∷ []) = ap (λ bs. bs ++ byte ∷ []) so_far.grown ∙ append_assoc kept so_far.came (byte ∷ []) in
       record {
@@ -57,7 +56,7 @@ module _ (tells : Type 0) (rule : ReplyRule) (system : Bool) (kept now : List �
       go Waits other e = absurd (other refl)
 
   -- the connection waits
-  pub waits_hears : (v : Told) → (tells → (v ≡ u) × IsDry v) → Hears tells rule system kept now false t v (Ok Waits)
+  pub waits_hears : (v : Told) → (tells → (v ≡ u) × IsDry v) → Hears tells says kept now false t v (Ok Waits)
   waits_hears v told = record {
     came = so_far.came;
     answer = λ w. sym (so_far.waits w) ∙ rw so_far.grown;
@@ -66,8 +65,8 @@ module _ (tells : Type 0) (rule : ReplyRule) (system : Bool) (kept now : List �
   }
 
 -- the read breaks off, and nothing is lost
-module _ (tells : Type 0) (rule : ReplyRule) (system ended : Bool) (kept now : List ℕ) (t u : Told) (so_far : SoFar tells rule system kept now ended t u) where
-  pub fails_hears : (kind : ErrorKind) (v : Told) → (tells → HasFailed u v) → Hears tells rule system kept now ended t v (Err (Connection kind))
+module _ (tells : Type 0) (says : List ℕ → Bool → Outcome) (ended : Bool) (kept now : List ℕ) (t u : Told) (so_far : SoFar tells says kept now ended t u) where
+  pub fails_hears : (kind : ErrorKind) (v : Told) → (tells → HasFailed u v) → Hears tells says kept now ended t v (Err (Connection kind))
   fails_hears kind v told = record {
     came = so_far.came;
     answer = λ w. tt;
@@ -75,12 +74,12 @@ module _ (tells : Type 0) (rule : ReplyRule) (system ended : Bool) (kept now : L
     told = λ h. let P : Told → Type 0 = λ x. HasFailed x v in subst P (so_far.told h) (told h);
   }
 
-  pub memory_hears : Hears tells rule system kept now ended t u (Err OutOfMemory)
+  pub memory_hears : Hears tells says kept now ended t u (Err OutOfMemory)
   memory_hears = record { came = so_far.came; answer = λ w. tt; left = so_far.grown; told = so_far.told }
 
 -- the end settles it
-pub end_settles : (tells : Type 0) (rule : ReplyRule) (system : Bool) (kept now : List ℕ) (t u : Told) → SoFar tells rule system kept now true t u → (later : List ℕ) (heard : Outcome) → (heard ≡ Waits → ⊥) → (outcome rule system now false ≡ Waits → heard ≡ outcome rule system now true) → later ≡ left_by heard now → Hears tells rule system kept later true t u (Ok heard)
-end_settles tells rule system kept now t u so_far later heard settled is left = record {
+pub end_settles : (tells : Type 0) (says : List ℕ → Bool → Outcome) (kept now : List ℕ) (t u : Told) → SoFar tells says kept now true t u → (later : List ℕ) (heard : Outcome) → (heard ≡ Waits → ⊥) → (says now false ≡ Waits → heard ≡ says now true) → later ≡ left_by heard now → Hears tells says kept later true t u (Ok heard)
+end_settles tells says kept now t u so_far later heard settled is left = record {
   came = so_far.came;
   answer = λ w. is (so_far.waits w) ∙ rw so_far.grown;
   left = left ∙ rw so_far.grown;

@@ -8,7 +8,7 @@ use Rattle.std.proofs.lemmas.Grind.{flat_map-append}
 use Rattle.std.proofs.lemmas.List.Folds.{list_any-append}
 use Rattle.ftp_base.specs.declared.types.fault.ConnectionError.{ConnectionError}
 use Rattle.ftp_base.specs.declared.types.fault.ConnectionError.TheVariants.{EncodedLineBreak, EncodedWithoutCrlf}
-use Rattle.ftp_base.specs.Line.{crlf, has_line_break, ends_in_crlf, before_crlf, encoded_fault}
+use Rattle.ftp_base.specs.Line.{line_end, has_line_break, ends_in_crlf, before_crlf, encoded_fault}
 use Rattle.ftp_base.specs.Telnet.{escaped}
 use Rattle.ftp_control.specs.Sending.{is_wire_line, AreWireLines, last_length, IsLines}
 use Rattle.ftp_control.specs.Grammar.{is_line_feed, has_line_feed, whole_lines, rest}
@@ -17,26 +17,26 @@ use Rattle.ftp_control.proofs.Lines.{whole_lines-closed, rest-closed, whole_line
 -- a line is what stands before its CR LF, and CR LF
 pub record Ending (bytes : List ℕ) : Type 0 where
   pub front : List ℕ
-  pub is : bytes ≡ front ++ crlf
+  pub is : bytes ≡ front ++ line_end
 
 pub crlf_ending : (bytes : List ℕ) → ends_in_crlf bytes ≡ true → Ending bytes
 crlf_ending bytes ends = record {
   front = take (length bytes - 2) bytes;
   is =
-      let tail : drop (length bytes - 2) bytes ≡ crlf = sym (same_text crlf (drop (length bytes - 2) bytes) (sym ends)) in
+      let tail : drop (length bytes - 2) bytes ≡ line_end = sym (same_text line_end (drop (length bytes - 2) bytes) (sym ends)) in
       sym (take-append-drop (length bytes - 2) bytes) ∙ ap (λ d. take (length bytes - 2) bytes ++ d) tail;
 }
 
-less_two : (front : List ℕ) → length (front ++ crlf) - 2 ≡ length front
-less_two front = rw (length-append front crlf) (omega arith)
+less_two : (front : List ℕ) → length (front ++ line_end) - 2 ≡ length front
+less_two front = rw (length-append front line_end) (omega arith)
 
-pub ends_in_crlf-append : (front : List ℕ) → ends_in_crlf (front ++ crlf) ≡ true
-ends_in_crlf-append front = rw (less_two front, drop-append_seam front crlf)
+pub ends_in_crlf-append : (front : List ℕ) → ends_in_crlf (front ++ line_end) ≡ true
+ends_in_crlf-append front = rw (less_two front, drop-append_seam front line_end)
 
-pub before_crlf-append : (front : List ℕ) → before_crlf (front ++ crlf) ≡ front
-before_crlf-append front = rw (ends_in_crlf-append front, less_two front, take-append_seam front crlf)
+pub before_crlf-append : (front : List ℕ) → before_crlf (front ++ line_end) ≡ front
+before_crlf-append front = rw (ends_in_crlf-append front, less_two front, take-append_seam front line_end)
 
-pub wire_line-append : (front : List ℕ) → has_line_break front ≡ false → is_wire_line (front ++ crlf) ≡ true
+pub wire_line-append : (front : List ℕ) → has_line_break front ≡ false → is_wire_line (front ++ line_end) ≡ true
 wire_line-append front none = both_true (ends_in_crlf-append front) (ap (λ bytes. not (has_line_break bytes)) (before_crlf-append front) ∙ ap not none)
 
 -- doubling byte 255 makes no line break and takes none away
@@ -66,7 +66,7 @@ escaped_line bytes sound = go (ends_in_crlf bytes) refl sound
             let line = crlf_ending bytes ends in
             let same : before_crlf bytes ≡ line.front = ap before_crlf line.is ∙ before_crlf-append line.front in
             let plain : has_line_break line.front ≡ false = ap has_line_break (sym same) ∙ none in
-            let doubled : escaped bytes ≡ escaped line.front ++ crlf = ap escaped line.is ∙ flat_map-append _ line.front crlf in
+            let doubled : escaped bytes ≡ escaped line.front ++ line_end = ap escaped line.is ∙ flat_map-append _ line.front line_end in
             ap is_wire_line doubled ∙ wire_line-append (escaped line.front) (has_line_break-escaped line.front ∙ plain)
 
 -- what a test that passed says

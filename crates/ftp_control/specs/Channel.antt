@@ -7,7 +7,7 @@ use Rattle.ftp_control.specs.declared.control.broken.Broken.{Broken}
 use Rattle.ftp_control.specs.declared.control.broken.Broken.TheVariants.{Connection, OutOfMemory}
 use Rattle.ftp_control.specs.declared.control.outcome.Outcome.{Outcome}
 use Rattle.ftp_control.specs.declared.control.outcome.Outcome.TheVariants.{Whole, Bad, TooLarge, Ended, Waits}
-use Rattle.ftp_control.specs.Grammar.{outcome}
+use Rattle.ftp_control.specs.Grammar.{outcome, line_outcome}
 use Rattle.ftp_control.specs.Told.{Told}
 use Rattle.ftp_control.specs.Reading.{Hears}
 use Rattle.ftp_control.specs.Sending.{IsLines, Flushes}
@@ -54,7 +54,12 @@ fails_by (Err OutOfMemory) = false
 
 -- a read of a reply
 pub record ReadsReply (tells : Type 0) (system : Bool) (old new : Channel) (result : Result Outcome Broken) : Type 0 where
-  pub heard : Hears tells old.rule system old.kept new.kept new.ended old.told new.told result
+  pub heard : Hears tells (outcome old.rule system) old.kept new.kept new.ended old.told new.told result
+  pub same : new ≡ record old { told = new.told; kept = new.kept; ended = new.ended; failed = old.failed || fails_by result }
+
+-- a read of one line, where no whole line is kept
+pub record ReadsLine (tells : Type 0) (old new : Channel) (result : Result Outcome Broken) : Type 0 where
+  pub heard : Hears tells line_outcome old.kept new.kept new.ended old.told new.told result
   pub same : new ≡ record old { told = new.told; kept = new.kept; ended = new.ended; failed = old.failed || fails_by result }
 
 -- a flush fails where the connection does

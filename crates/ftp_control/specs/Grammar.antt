@@ -120,3 +120,12 @@ left_by (Bad line) bytes = drop (length line) bytes
 left_by TooLarge bytes = drop (reply_limit + 1) bytes
 left_by Ended bytes = []
 left_by Waits bytes = bytes
+
+-- the first of these lines, within the limit; it stands as a whole of no code
+abbrev pub first_within : ℕ → Bool → List (List ℕ) → Outcome
+first_within count ended [] = within count ended Unfinished
+first_within count ended (line ∷ lines) = if nat_le (length line) reply_limit then Whole line 0 else TooLarge
+
+-- what a read of one line says of all bytes that came since the line began
+unfoldable pub line_outcome : List ℕ → Bool → Outcome
+line_outcome bytes ended = first_within (length bytes) ended (lines bytes ended)

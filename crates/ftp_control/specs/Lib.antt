@@ -2,6 +2,8 @@ pub mod Answer
 pub mod Channel
 pub mod Grammar
 pub mod Held
+pub mod Law
+pub mod LineAnswer
 pub mod Memory
 pub mod Performing
 pub mod Reading

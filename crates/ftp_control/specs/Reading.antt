@@ -1,14 +1,13 @@
--- What a read of a reply does, and what it tells.
+-- What a read does, and what it tells.
 use Rattle.std.specs.Prelude.{◌≡◌, ℕ, Bool, false, List, [], ◌∷◌, ◌++◌, Option, Some, None, Result, Ok, Err}
 use Rattle.std.specs.declared.io.ErrorKind.{ErrorKind}
 use Rattle.futures.specs.declared.task.Poll.{Poll}
 use Rattle.futures.specs.declared.task.Poll.TheVariants.{Ready, Pending}
-use Rattle.ftp_control.specs.declared.control.rule.ReplyRule.{ReplyRule}
 use Rattle.ftp_control.specs.declared.control.broken.Broken.{Broken}
 use Rattle.ftp_control.specs.declared.control.broken.Broken.TheVariants.{Connection, OutOfMemory}
 use Rattle.ftp_control.specs.declared.control.outcome.Outcome.{Outcome}
 use Rattle.ftp_control.specs.declared.control.outcome.Outcome.TheVariants.{Waits}
-use Rattle.ftp_control.specs.Grammar.{outcome, left_by}
+use Rattle.ftp_control.specs.Grammar.{left_by}
 use Rattle.ftp_control.specs.Told.{Told, IsDry, HasFailed, after_read, after_end}
 
 -- what a read of one byte tells
@@ -39,10 +38,10 @@ HearTells (Ok heard) came ended t u = u ≡ after_input came ended t
 HearTells (Err OutOfMemory) came ended t u = u ≡ after_input came ended t
 HearTells (Err (Connection kind)) came ended t u = HasFailed (after_input came ended t) u
 
--- a read of a reply: it answers the outcome of all bytes since the reply began, where those kept said nothing
--- yet, and takes exactly that outcome's bytes
-pub record Hears (tells : Type 0) (rule : ReplyRule) (system : Bool) (kept kept' : List ℕ) (ended' : Bool) (t u : Told) (result : Result Outcome Broken) : Type 0 where
+-- a read: it answers what is said of all bytes since the read began, where those kept said nothing yet, and
+-- takes exactly that outcome's bytes
+pub record Hears (tells : Type 0) (says : List ℕ → Bool → Outcome) (kept kept' : List ℕ) (ended' : Bool) (t u : Told) (result : Result Outcome Broken) : Type 0 where
   pub came : List ℕ
-  pub answer : outcome rule system kept false ≡ Waits → AnswersOutcome result (outcome rule system (kept ++ came) ended')
+  pub answer : says kept false ≡ Waits → AnswersOutcome result (says (kept ++ came) ended')
   pub left : kept' ≡ kept_after result (kept ++ came)
   pub told : tells → HearTells result came ended' t u

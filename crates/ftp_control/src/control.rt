@@ -2,7 +2,10 @@
 
 mod broken;
 mod channel;
+mod feeding;
 pub(crate) mod grammar;
+mod line_reader;
+mod lines;
 mod outbox;
 mod outcome;
 mod reader;

@@ -2,6 +2,7 @@
 //! with it.
 
 ghost use Rattle.std.specs.Prelude.{◌≡◌, ◌∷◌, [], ◌++◌, IfOk};
+ghost use Rattle.ftp_control.specs.Law.{SettledStays};
 ghost use Rattle.ftp_control.specs.Grammar.{whole_lines, rest, last_line, lines, to_end, reply_in, after_line, within, outcome, has_line_feed};
 
 use crate::control::grammar::{code_at_start, ends, opens};
@@ -184,3 +185,8 @@ fn has_line_feed(bytes: &[u8]) -> bool
 {
     bytes.iter().any(|byte| *byte == b'\n')
 }
+
+/// The law of outcomes: what is settled before the input has ended stays, however it goes on.
+pub fn settled_outcomes_stay()
+    ensures { SettledStays }
+{}

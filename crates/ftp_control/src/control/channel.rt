@@ -21,12 +21,12 @@ use std::marker::Model;
 /// a line that was begun goes out before any other byte.
 #[derive(Drop)]
 pub struct ControlChannel<C: Tells + Drop> {
-    conn: C,
-    reply: ReplyBuffer,
-    outbox: Outbox,
-    ended: bool,
-    failed: bool,
-    rule: ReplyRule,
+    pub(super) conn: C,
+    pub(super) reply: ReplyBuffer,
+    pub(super) outbox: Outbox,
+    pub(super) ended: bool,
+    pub(super) failed: bool,
+    pub(super) rule: ReplyRule,
 }
 
 impl<C: Tells + Drop> Model for ControlChannel<C> {
@@ -172,7 +172,7 @@ impl<C: Tells + Drop> ControlChannel<C> {
 }
 
 /// Whether the channel has failed after a read.
-fn fails(heard: &Result<Outcome, Broken>) -> bool
+pub(super) fn fails(heard: &Result<Outcome, Broken>) -> bool
     ensures { result ≡ fails_by heard.now }
 {
     match heard {

@@ -4,6 +4,7 @@ ghost use Rattle.std.specs.Prelude.{◌≡◌, Ok};
 ghost use Rattle.futures.specs.declared.task.Poll.TheVariants as poll;
 ghost use Rattle.ftp_control.specs.declared.control.outcome.Outcome.TheVariants as outcomes;
 ghost use Rattle.ftp_control.specs.UnderWay.{IsUnderWay};
+ghost use Rattle.ftp_control.specs.Grammar.{outcome};
 ghost use Rattle.ftp_control.specs.Reading.{ByteTells, Hears};
 
 use super::reply_buffer::{ReplyBuffer, take_byte, take_end};
@@ -32,7 +33,7 @@ pub(crate) fn hear<W, C: PollConn<W>>(
     ensures under_way { IsUnderWay rule reply.new.bytes.items reply.new.line_start }
     ensures known { C.Tells.tells → (C.Tells.told conn.new).ended ≡ ended.new }
     ensures waits { result ≡ Ok outcomes.Waits → C.may_wait }
-    ensures heard { Hears C.Tells.tells rule system reply.old.bytes.items reply.new.bytes.items ended.new (C.Tells.told conn.old) (C.Tells.told conn.new) result }
+    ensures heard { Hears C.Tells.tells (outcome rule system) reply.old.bytes.items reply.new.bytes.items ended.new (C.Tells.told conn.old) (C.Tells.told conn.new) result }
 {
     while !*ended {
         if reply.bytes.reserve(1).is_err() {
@@ -52,7 +53,10 @@ pub(crate) fn hear<W, C: PollConn<W>>(
 }
 
 /// Reads one byte, or `None` at the end of the input.
-fn poll_byte<W, C: PollConn<W>>(conn: &mut C, w: &mut W) -> Result<Poll<Option<u8>>, ErrorKind>
+pub(super) fn poll_byte<W, C: PollConn<W>>(
+    conn: &mut C,
+    w: &mut W,
+) -> Result<Poll<Option<u8>>, ErrorKind>
     ensures waits { result ≡ Ok poll.Pending → C.may_wait }
     ensures told { C.Tells.tells → ByteTells result (C.Tells.told conn.old) (C.Tells.told conn.new) }
 {

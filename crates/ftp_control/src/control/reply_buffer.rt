@@ -103,14 +103,14 @@ fn judge_line(reply: &ReplyBuffer, rule: ReplyRule, system: bool) -> Verdict
 }
 
 /// How many bytes of the reply there are.
-fn count(reply: &ReplyBuffer) -> usize
+pub(super) fn count(reply: &ReplyBuffer) -> usize
     ensures { result ≡ length reply.now.bytes.items }
 {
     reply.bytes.as_slice().len()
 }
 
 /// Takes all bytes out, for the next reply to begin.
-fn take_all(alloc: Global, reply: &mut ReplyBuffer) -> Bytes
+pub(super) fn take_all(alloc: Global, reply: &mut ReplyBuffer) -> Bytes
     ensures taken { result ≡ reply.old.bytes.items }
     ensures left { reply.new.bytes.items ≡ [] }
     ensures start { reply.new.line_start ≡ 0 }

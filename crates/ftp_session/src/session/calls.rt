@@ -1,6 +1,6 @@
 //! The calls of a session (RFC 959, section 4.1).
 
-ghost use Rattle.std.specs.Prelude.{◌≡◌, Err, true, false};
+ghost use Rattle.std.specs.Prelude.{◌≡◌, Err, IfOk, IfErr, true, false};
 ghost use Rattle.std.specs.Prelude.{[], ◌∷◌};
 ghost use Rattle.ftp_base.specs.Command.{text_of};
 ghost use Rattle.ftp_session.specs.Calls.{Hears, unit_of};
@@ -91,7 +91,7 @@ where
         if self.channel.failed() {
             return Err(FtpError::SessionFailed);
         }
-        let command = Command::Custom(Text::from_str(alloc, line)?);
+        let command = custom(alloc, line)?;
         self.hear(alloc, &command, expected)
     }
 
@@ -102,4 +102,12 @@ where
     {
         exchange(alloc, &mut self.channel, &Utf8Encoding, command, expected)
     }
+}
+
+/// A line of the caller's as a command.
+fn custom(alloc: Global, line: &str) -> FtpResult<Command>
+    ensures text { IfOk result (λ command. text_of command ≡ text_of (Command.Custom line.now)) }
+    ensures memory { IfErr result (λ fault. fault ≡ FtpError.OutOfMemory) }
+{
+    Ok(Command::Custom(Text::from_str(alloc, line)?))
 }

@@ -1,0 +1,32 @@
+//! What happens from the outside to a channel over memory.
+
+ghost use Rattle.std.specs.Prelude.{◌≡◌, OnOk, OnErr};
+ghost use Rattle.ftp_control.specs.Memory.{fed, closed_memory, widened};
+
+use super::ControlChannel;
+use crate::transport::MemoryConn;
+use std::alloc::AllocError;
+
+impl ControlChannel<MemoryConn> {
+    /// The server's bytes come. Behind the end none do.
+    pub fn feed(&mut self, bytes: &[u8]) -> Result<(), AllocError>
+        ensures ok { OnOk result (self.new ≡ record self.old { told = fed bytes.now self.old.told }) }
+        ensures err { OnErr result (self.new ≡ self.old) }
+    {
+        self.conn.feed(bytes)
+    }
+
+    /// The server's bytes end.
+    pub fn end_input(&mut self)
+        ensures { self.new ≡ record self.old { told = closed_memory self.old.told } }
+    {
+        self.conn.end();
+    }
+
+    /// Room for so many more bytes; the first call sets how many.
+    pub fn allow(&mut self, more: u64)
+        ensures { self.new ≡ record self.old { told = widened more self.old.told } }
+    {
+        self.conn.allow(more);
+    }
+}

@@ -1,0 +1,11 @@
+pub mod PlaceFacts
+pub mod ReachFacts
+pub mod RowFacts
+pub mod TableFacts
+pub mod SplitFacts
+pub mod NumberFacts
+pub mod TextFacts
+pub mod DateFacts
+pub mod ListingFacts
+pub mod FactFacts
+pub mod LawFacts

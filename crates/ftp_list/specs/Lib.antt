@@ -1,0 +1,16 @@
+pub mod FileTypes
+pub mod Pex
+pub mod Entry
+pub mod Places
+pub mod Shapes
+pub mod Split
+pub mod Rows
+pub mod Numbers
+pub mod Texts
+pub mod OptionSteps
+pub mod Dates
+pub mod ResultSteps
+pub mod Listing
+pub mod Times
+pub mod Facts
+pub mod Lines

@@ -1,0 +1,41 @@
+ghost use Rattle.std.specs.Prelude.{◌≡◌};
+ghost use Rattle.ftp_list.specs.declared.error.ParseError.TheVariants.{OutOfMemory};
+
+use std::alloc::{AllocError, AllocFailed};
+use thiserror::Error;
+
+/// What a parser answers.
+pub type ParseResult<T> = Result<T, ParseError>;
+
+/// Why a line could not be read.
+#[derive(Debug, PartialEq, Eq, Drop, Error)]
+pub enum ParseError {
+    /// The line has not the form, or a fact has a value that it cannot have (P1).
+    #[error("syntax error in the listing line")]
+    SyntaxError,
+    /// A date or a time of day that does not exist (P2).
+    #[error("invalid date in the listing line")]
+    InvalidDate,
+    /// A size that is no number or is above 2^64 - 1 (P3).
+    #[error("invalid file size in the listing line")]
+    BadSize,
+    /// The allocator had no memory (P4).
+    #[error("out of memory")]
+    OutOfMemory,
+}
+
+impl From<AllocError> for ParseError {
+    ghost from_gives = { λ _ e. e ≡ OutOfMemory };
+
+    fn from(_e: AllocError) -> ParseError {
+        ParseError::OutOfMemory
+    }
+}
+
+impl<T: Drop> From<AllocFailed<T>> for ParseError {
+    ghost from_gives = { λ _ e. e ≡ OutOfMemory };
+
+    fn from(_e: AllocFailed<T>) -> ParseError {
+        ParseError::OutOfMemory
+    }
+}

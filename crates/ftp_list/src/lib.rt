@@ -1,0 +1,34 @@
+//! Parsers of the lines of FTP directory listings: the POSIX and DOS forms of `LIST`, and the
+//! facts of `MLSD` and `MLST` (RFC 3659, section 7).
+#![tactic(auto)]
+
+mod class;
+mod dates;
+mod dos;
+mod error;
+mod facts;
+mod file;
+mod file_type;
+pub mod laws;
+mod moments;
+mod numbers;
+mod parser;
+mod pex;
+mod places;
+#[cfg(test)]
+mod plain;
+mod posix;
+mod reach;
+mod rows;
+mod shape;
+mod split;
+mod text;
+mod times;
+mod trims;
+
+pub use crate::error::{ParseError, ParseResult};
+pub use crate::file::File;
+pub use crate::file_type::FileType;
+pub use crate::parser::ListParser;
+pub use crate::pex::{PosixPex, PosixPexQuery};
+pub use crate::text::Text;

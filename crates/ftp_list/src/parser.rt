@@ -1,0 +1,115 @@
+ghost use Rattle.std.specs.Prelude.{◌≡◌};
+ghost use Rattle.std.specs.Str.{chars};
+ghost use Rattle.ftp_list.specs.Listing.{UnlessMemory, IsPosix, IsDos};
+ghost use Rattle.ftp_list.specs.Facts.{mlsd, mlst};
+ghost use Rattle.ftp_list.specs.Lines.{IsListed, IsAfterPosix};
+
+use crate::error::{ParseError, ParseResult};
+use crate::file::File;
+use crate::trims::chars_of;
+use crate::{dos, facts, posix};
+use jiff::Timestamp;
+use std::alloc::Global;
+
+/// The parsers of the forms of a listing line.
+pub struct ListParser;
+
+impl ListParser {
+    /// The file of a line in the POSIX form, as most servers answer `LIST`. A date without a year
+    /// is of the UTC year of `now`, or of the one before if it would lie more than 180 days ahead.
+    ///
+    /// `SyntaxError`: the line has no split into the parts of the form. `InvalidDate`: the
+    /// calendar has no such day, or the clock no such time. `BadSize`: a size of 2^64 or more.
+    /// The date is tested before the size.
+    pub fn parse_posix(alloc: Global, line: &str, now: Timestamp) -> ParseResult<File>
+        ensures exact { UnlessMemory (IsPosix (chars line.now) now.nanosecond) result }
+    {
+        let text = chars_of(alloc, line)?;
+        posix::parse(alloc, &text, now)
+    }
+
+    /// The file of a line in the DOS form, as IIS answers `LIST`.
+    ///
+    /// `SyntaxError`: the line has no split into the parts of the form. `InvalidDate`: the
+    /// calendar has no such day, or the clock no such time. `BadSize`: a file without a size, or
+    /// one of 2^64 or more. The date is tested before the size.
+    pub fn parse_dos(alloc: Global, line: &str) -> ParseResult<File>
+        ensures exact { UnlessMemory (IsDos (chars line.now)) result }
+    {
+        let text = chars_of(alloc, line)?;
+        dos::parse(alloc, &text)
+    }
+
+    /// The file of a line of `MLSD` (RFC 3659, section 7). Where the line begins with a space it
+    /// has no facts.
+    ///
+    /// The first fault of a fact is the answer. `SyntaxError`: a type or a mode that there is not.
+    /// `InvalidDate`: a time that does not exist. `BadSize`: a size that is no number below 2^64.
+    pub fn parse_mlsd(alloc: Global, line: &str) -> ParseResult<File>
+        ensures exact { UnlessMemory (λ answer. answer ≡ mlsd (chars line.now)) result }
+    {
+        let text = chars_of(alloc, line)?;
+        facts::parse_mlsd(alloc, &text)
+    }
+
+    /// The file of a line of `MLST`: as `parse_mlsd`, but one leading space is cut first.
+    pub fn parse_mlst(alloc: Global, line: &str) -> ParseResult<File>
+        ensures exact { UnlessMemory (λ answer. answer ≡ mlst (chars line.now)) result }
+    {
+        let text = chars_of(alloc, line)?;
+        facts::parse_mlst(alloc, &text)
+    }
+}
+
+impl File {
+    /// The file of a line of any form: POSIX, DOS and MLST are tried in this order, and the first
+    /// that gives a file answers. Where none does, the fault of the last is the answer. Want of
+    /// memory is answered at once.
+    pub fn from_line(alloc: Global, line: &str, now: Timestamp) -> ParseResult<File>
+        ensures exact { UnlessMemory (IsListed (chars line.now) now.nanosecond) result }
+    {
+        let text = chars_of(alloc, line)?;
+        listed(alloc, &text, now)
+    }
+
+    /// The file of a line in the POSIX form: `ListParser::parse_posix`.
+    pub fn from_posix_line(alloc: Global, line: &str, now: Timestamp) -> ParseResult<File>
+        ensures exact { UnlessMemory (IsPosix (chars line.now) now.nanosecond) result }
+    {
+        ListParser::parse_posix(alloc, line, now)
+    }
+
+    /// The file of a line in the DOS form: `ListParser::parse_dos`.
+    pub fn from_dos_line(alloc: Global, line: &str) -> ParseResult<File>
+        ensures exact { UnlessMemory (IsDos (chars line.now)) result }
+    {
+        ListParser::parse_dos(alloc, line)
+    }
+
+    /// The file of a line of `MLSD`: `ListParser::parse_mlsd`.
+    pub fn from_mlsx_line(alloc: Global, line: &str) -> ParseResult<File>
+        ensures exact { UnlessMemory (λ answer. answer ≡ mlsd (chars line.now)) result }
+    {
+        ListParser::parse_mlsd(alloc, line)
+    }
+}
+
+fn listed(alloc: Global, text: &[char], now: Timestamp) -> ParseResult<File>
+    ensures { UnlessMemory (IsListed text.now now.nanosecond) result }
+{
+    match posix::parse(alloc, text, now) {
+        Ok(file) => Ok(file),
+        Err(ParseError::OutOfMemory) => Err(ParseError::OutOfMemory),
+        Err(_) => listed_beyond_posix(alloc, text),
+    }
+}
+
+fn listed_beyond_posix(alloc: Global, text: &[char]) -> ParseResult<File>
+    ensures { UnlessMemory (IsAfterPosix text.now (Err ParseError.SyntaxError)) result }
+{
+    match dos::parse(alloc, text) {
+        Ok(file) => Ok(file),
+        Err(ParseError::OutOfMemory) => Err(ParseError::OutOfMemory),
+        Err(_) => facts::parse_mlst(alloc, text),
+    }
+}
