@@ -36,7 +36,7 @@ address_text address =
     ++ codes "|" ++ decimal (socket_port address) ++ codes "|"
 
 -- the text of a command without its line end
-abbrev pub words_of : Command → List ℕ
+unfoldable pub words_of : Command → List ℕ
 words_of Abor = codes "ABOR"
 words_of (Appe file) = codes "APPE " ++ file
 words_of Auth = codes "AUTH TLS"
@@ -75,5 +75,5 @@ words_of (User name) = codes "USER " ++ name
 words_of (Custom line) = line
 
 -- the text of a command, with CR LF at its end
-abbrev pub text_of : Command → List ℕ
+unfoldable pub text_of : Command → List ℕ
 text_of command = words_of command ++ codes "\r\n"

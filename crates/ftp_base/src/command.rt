@@ -105,6 +105,7 @@ pub enum ProtectionLevel {
 impl fmt::Display for Command {
     ghost output = { λ command. Some (text_of command) };
 
+    #[tactic(auto, unfolding(crate::specs::Command::text_of, crate::specs::Command::words_of))]
     fn fmt<W: fmt::Write>(&self, f: &mut fmt::Formatter<W>) -> fmt::Result {
         match self {
             Command::Abor => f.write_str("ABOR\r\n"),
