@@ -10,7 +10,8 @@ use super::scan::Span;
 /// `None` where the number is above `most`, where the span is empty or not within the text, or where it holds
 /// anything but digits.
 pub fn number(text: &str, span: Span, most: u64) -> Option<u64>
-    ensures within { span.start ≤ span.end → span.end ≤ length text.now → result ≡ number_up_to most (take (span.end - span.start) (drop span.start text.now)) }
+    ensures within { span.start ≤ span.end → span.end ≤ length text.now → result ≡
+        number_up_to most (take (span.end - span.start) (drop span.start text.now)) }
     ensures outside { (span.end < span.start) ⊎ (length text.now < span.end) → result ≡ None }
 {
     let bytes = text.as_bytes();

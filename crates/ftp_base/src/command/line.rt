@@ -13,7 +13,8 @@ const CRLF: [u8; 2] = *b"\r\n";
 /// `LineBreak` where CR or LF stands before the final CR LF; a text that doesn't end in CR LF is tested
 /// whole.
 pub fn validate_command_line(line: &str) -> FtpResult<()>
-    ensures { MatchOption (text_fault line.now) (IsOk result) (λ fault. result ≡ Err (FtpError.ConnectionError fault)) }
+    ensures { MatchOption (text_fault line.now) (IsOk result)
+        (λ fault. result ≡ Err (FtpError.ConnectionError fault)) }
 {
     if has_line_break(before_crlf(line.as_bytes())) {
         return Err(ConnectionError::LineBreak.into());
@@ -27,7 +28,8 @@ pub fn validate_command_line(line: &str) -> FtpResult<()>
 /// `EncodedWithoutCrlf` where the bytes don't end in CR LF, else `EncodedLineBreak` where CR or LF stands
 /// before those two.
 pub fn validate_encoded_command_line(line: &[u8]) -> FtpResult<()>
-    ensures { MatchOption (encoded_fault line.now) (IsOk result) (λ fault. result ≡ Err (FtpError.ConnectionError fault)) }
+    ensures { MatchOption (encoded_fault line.now) (IsOk result)
+        (λ fault. result ≡ Err (FtpError.ConnectionError fault)) }
 {
     if !line.ends_with(&CRLF) {
         return Err(ConnectionError::EncodedWithoutCrlf.into());

@@ -36,7 +36,8 @@ impl WelcomeMessage {
         encoding: &E,
     ) -> FtpResult<WelcomeMessage>
         ensures greeting { IfOk result (λ message. message.greeting ≡ greeting) }
-        ensures text { IfOk result (λ message. message.text ≡ welcome_text (E.decoded encoding.now) greeting) }
+        ensures text { IfOk result (λ message. message.text ≡
+            welcome_text (E.decoded encoding.now) greeting) }
         ensures memory { IfErr result (λ fault. fault ≡ FtpError.OutOfMemory) }
     {
         let text = read_welcome(alloc, greeting.as_slice(), encoding)?;
@@ -49,7 +50,8 @@ impl WelcomeMessage {
     /// `OutOfMemory` where memory is refused.
     pub fn decode_again<E: Encoding>(&mut self, alloc: Global, encoding: &E) -> FtpResult<()>
         ensures greeting { self.new.greeting ≡ self.old.greeting }
-        ensures text { OnOk result (self.new.text ≡ welcome_text (E.decoded encoding.now) self.old.greeting) }
+        ensures text { OnOk result (self.new.text ≡
+            welcome_text (E.decoded encoding.now) self.old.greeting) }
         ensures err { OnErr result (self.new.text ≡ self.old.text) }
         ensures memory { IfErr result (λ fault. fault ≡ FtpError.OutOfMemory) }
     {

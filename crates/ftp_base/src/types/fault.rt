@@ -125,7 +125,8 @@ impl From<ReplyTooLarge> for FtpError {
 }
 
 impl From<io::Error> for FtpError {
-    ghost from_gives = { λ cause error. error ≡ fault.ConnectionError (connection.Io (error_kind cause)) };
+    ghost from_gives = { λ cause error. error ≡
+        fault.ConnectionError (connection.Io (error_kind cause)) };
 
     fn from(cause: io::Error) -> FtpError {
         FtpError::ConnectionError(ConnectionError::Io(cause.kind()))

@@ -60,7 +60,8 @@ impl Response {
 
     /// The body as text, white space cut at its end, or `None` where it isn't UTF-8. Takes no memory.
     fn text(&self) -> Option<&str>
-        ensures { MatchOption result (strict_text self.now.body ≡ None) (λ text. strict_text self.now.body ≡ Some text.now) }
+        ensures { MatchOption result (strict_text self.now.body ≡ None)
+            (λ text. strict_text self.now.body ≡ Some text.now) }
     {
         match str::from_utf8(self.body.as_slice()) {
             Ok(text) => Some(text.trim_end()),

@@ -37,9 +37,17 @@ impl<C: Tells + Drop> Model for ControlChannel<C> {
 
     ghost Value = { Channel };
 
-    ghost view = { λ c. record { told = C.told c.conn; kept = c.reply.bytes.items; unsent = drop c.outbox.sent c.outbox.line.items; ended = c.ended; failed = c.failed; rule = c.rule } };
+    ghost view = { λ c. record {
+      told = C.told c.conn;
+      kept = c.reply.bytes.items;
+      unsent = drop c.outbox.sent c.outbox.line.items;
+      ended = c.ended;
+      failed = c.failed;
+      rule = c.rule;
+    } };
 
-    ghost invariant = { λ c. Holds C.tells (C.told c.conn) c.reply.bytes.items c.reply.line_start c.outbox.line.items c.outbox.sent c.ended c.failed c.rule };
+    ghost invariant = { λ c. Holds C.tells (C.told c.conn) c.reply.bytes.items c.reply.line_start
+        c.outbox.line.items c.outbox.sent c.ended c.failed c.rule };
 }
 
 impl<C: Tells + Drop> ControlChannel<C> {

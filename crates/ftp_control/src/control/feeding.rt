@@ -10,7 +10,9 @@ use std::alloc::AllocError;
 impl ControlChannel<MemoryConn> {
     /// The server's bytes come. Behind the end none do.
     pub fn feed(&mut self, bytes: &[u8]) -> Result<(), AllocError>
-        ensures ok { OnOk result (self.new ≡ record self.old { told = fed bytes.now self.old.told }) }
+        ensures ok { OnOk result (self.new ≡ record self.old {
+          told = fed bytes.now self.old.told;
+        }) }
         ensures err { OnErr result (self.new ≡ self.old) }
     {
         self.conn.feed(bytes)

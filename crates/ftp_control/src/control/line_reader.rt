@@ -31,7 +31,8 @@ pub(crate) fn hear_line<W, C: PollConn<W>>(
     ensures under_way { IsUnderWay rule reply.new.bytes.items reply.new.line_start }
     ensures known { C.Tells.tells → (C.Tells.told conn.new).ended ≡ ended.new }
     ensures waits { result ≡ Ok outcomes.Waits → C.may_wait }
-    ensures heard { Hears C.Tells.tells line_outcome reply.old.bytes.items reply.new.bytes.items ended.new (C.Tells.told conn.old) (C.Tells.told conn.new) result }
+    ensures heard { Hears C.Tells.tells line_outcome reply.old.bytes.items reply.new.bytes.items
+        ended.new (C.Tells.told conn.old) (C.Tells.told conn.new) result }
 {
     while !*ended {
         if reply.bytes.reserve(1).is_err() {

@@ -27,9 +27,12 @@ impl<C: Tells + Drop> ControlChannel<C> {
     where
         C: PollConn<W>,
         ensures waits { result ≡ poll.Pending → C.may_wait }
-        ensures failed { self.old.failed ≡ true → (result ≡ poll.Ready (Err FtpError.SessionFailed)) × (self.new ≡ self.old) }
-        ensures under_way { self.old.failed ≡ false → whole_lines self.old.kept ≢ [] → (result ≡ poll.Ready (Err FtpError.BadResponse)) × (self.new ≡ self.old) }
-        ensures reads { self.old.failed ≡ false → whole_lines self.old.kept ≡ [] → AnswersLine C.Tells.tells self.old self.new result }
+        ensures failed { self.old.failed ≡ true →
+            (result ≡ poll.Ready (Err FtpError.SessionFailed)) × (self.new ≡ self.old) }
+        ensures under_way { self.old.failed ≡ false → whole_lines self.old.kept ≢ [] →
+            (result ≡ poll.Ready (Err FtpError.BadResponse)) × (self.new ≡ self.old) }
+        ensures reads { self.old.failed ≡ false → whole_lines self.old.kept ≡ [] →
+            AnswersLine C.Tells.tells self.old self.new result }
     {
         if self.failed {
             return Poll::Ready(Err(FtpError::SessionFailed));
@@ -56,9 +59,12 @@ impl<C: Tells + Drop> ControlChannel<C> {
     pub fn read_line(&mut self, alloc: Global) -> FtpResult<Bytes>
     where
         C: Conn,
-        ensures failed { self.old.failed ≡ true → (result ≡ Err FtpError.SessionFailed) × (self.new ≡ self.old) }
-        ensures under_way { self.old.failed ≡ false → whole_lines self.old.kept ≢ [] → (result ≡ Err FtpError.BadResponse) × (self.new ≡ self.old) }
-        ensures reads { self.old.failed ≡ false → whole_lines self.old.kept ≡ [] → AnswersLine C.Tells.tells self.old self.new (poll.Ready result) }
+        ensures failed { self.old.failed ≡ true → (result ≡ Err FtpError.SessionFailed) ×
+            (self.new ≡ self.old) }
+        ensures under_way { self.old.failed ≡ false → whole_lines self.old.kept ≢ [] →
+            (result ≡ Err FtpError.BadResponse) × (self.new ≡ self.old) }
+        ensures reads { self.old.failed ≡ false → whole_lines self.old.kept ≡ [] →
+            AnswersLine C.Tells.tells self.old self.new (poll.Ready result) }
     {
         match self.poll_read_line(alloc, &mut NeverWaits) {
             Poll::Ready(answer) => answer,

@@ -27,7 +27,9 @@ pub(crate) fn flush<W, C: PollConn<W>>(
     requires { outbox.old.sent ≤ length outbox.old.line.items }
     ensures within { outbox.new.sent ≤ length outbox.new.line.items }
     ensures waits { result ≡ Ok poll.Pending → C.may_wait }
-    ensures flushed { Flushes C.Tells.tells (drop outbox.old.sent outbox.old.line.items) (drop outbox.new.sent outbox.new.line.items) (C.Tells.told conn.old) (C.Tells.told conn.new) result }
+    ensures flushed { Flushes C.Tells.tells (drop outbox.old.sent outbox.old.line.items)
+        (drop outbox.new.sent outbox.new.line.items) (C.Tells.told conn.old)
+        (C.Tells.told conn.new) result }
 {
     while outbox.sent < outbox.line.as_slice().len() {
         match conn.poll_write(w, unsent(outbox)) {

@@ -33,7 +33,8 @@ pub(crate) fn hear<W, C: PollConn<W>>(
     ensures under_way { IsUnderWay rule reply.new.bytes.items reply.new.line_start }
     ensures known { C.Tells.tells → (C.Tells.told conn.new).ended ≡ ended.new }
     ensures waits { result ≡ Ok outcomes.Waits → C.may_wait }
-    ensures heard { Hears C.Tells.tells (outcome rule system) reply.old.bytes.items reply.new.bytes.items ended.new (C.Tells.told conn.old) (C.Tells.told conn.new) result }
+    ensures heard { Hears C.Tells.tells (outcome rule system) reply.old.bytes.items
+        reply.new.bytes.items ended.new (C.Tells.told conn.old) (C.Tells.told conn.new) result }
 {
     while !*ended {
         if reply.bytes.reserve(1).is_err() {
@@ -58,7 +59,8 @@ pub(super) fn poll_byte<W, C: PollConn<W>>(
     w: &mut W,
 ) -> Result<Poll<Option<u8>>, ErrorKind>
     ensures waits { result ≡ Ok poll.Pending → C.may_wait }
-    ensures told { C.Tells.tells → ByteTells result (C.Tells.told conn.old) (C.Tells.told conn.new) }
+    ensures told { C.Tells.tells → ByteTells result (C.Tells.told conn.old)
+        (C.Tells.told conn.new) }
 {
     let mut one = [0u8; 1];
     match conn.poll_read(w, &mut one) {

@@ -30,8 +30,10 @@ impl<C: Tells + Drop> ControlChannel<C> {
     where
         C: PollConn<W>,
         ensures waits { result ≡ poll.Pending → C.may_wait }
-        ensures failed { self.old.failed ≡ true → (result ≡ poll.Ready (Err FtpError.SessionFailed)) × (self.new ≡ self.old) }
-        ensures reads { self.old.failed ≡ false → AnswersRead C.Tells.tells expected.now self.old self.new result }
+        ensures failed { self.old.failed ≡ true →
+            (result ≡ poll.Ready (Err FtpError.SessionFailed)) × (self.new ≡ self.old) }
+        ensures reads { self.old.failed ≡ false →
+            AnswersRead C.Tells.tells expected.now self.old self.new result }
     {
         if self.failed() {
             return Poll::Ready(Err(FtpError::SessionFailed));
@@ -54,8 +56,10 @@ impl<C: Tells + Drop> ControlChannel<C> {
     where
         C: PollConn<W>,
         ensures waits { result ≡ poll.Pending → C.may_wait }
-        ensures failed { self.old.failed ≡ true → (result ≡ poll.Ready (Err FtpError.SessionFailed)) × (self.new ≡ self.old) }
-        ensures reads { self.old.failed ≡ false → AnswersRead C.Tells.tells (expected ∷ []) self.old self.new result }
+        ensures failed { self.old.failed ≡ true →
+            (result ≡ poll.Ready (Err FtpError.SessionFailed)) × (self.new ≡ self.old) }
+        ensures reads { self.old.failed ≡ false →
+            AnswersRead C.Tells.tells (expected ∷ []) self.old self.new result }
     {
         self.poll_read_response_in(alloc, &[expected], w)
     }
@@ -67,8 +71,10 @@ impl<C: Tells + Drop> ControlChannel<C> {
     pub fn read_response_in(&mut self, alloc: Global, expected: &[Status]) -> FtpResult<Response>
     where
         C: Conn,
-        ensures failed { self.old.failed ≡ true → (result ≡ Err FtpError.SessionFailed) × (self.new ≡ self.old) }
-        ensures reads { self.old.failed ≡ false → AnswersRead C.Tells.tells expected.now self.old self.new (poll.Ready result) }
+        ensures failed { self.old.failed ≡ true → (result ≡ Err FtpError.SessionFailed) ×
+            (self.new ≡ self.old) }
+        ensures reads { self.old.failed ≡ false →
+            AnswersRead C.Tells.tells expected.now self.old self.new (poll.Ready result) }
     {
         match self.poll_read_response_in(alloc, expected, &mut NeverWaits) {
             Poll::Ready(answer) => answer,
@@ -83,8 +89,10 @@ impl<C: Tells + Drop> ControlChannel<C> {
     pub fn read_response(&mut self, alloc: Global, expected: Status) -> FtpResult<Response>
     where
         C: Conn,
-        ensures failed { self.old.failed ≡ true → (result ≡ Err FtpError.SessionFailed) × (self.new ≡ self.old) }
-        ensures reads { self.old.failed ≡ false → AnswersRead C.Tells.tells (expected ∷ []) self.old self.new (poll.Ready result) }
+        ensures failed { self.old.failed ≡ true → (result ≡ Err FtpError.SessionFailed) ×
+            (self.new ≡ self.old) }
+        ensures reads { self.old.failed ≡ false →
+            AnswersRead C.Tells.tells (expected ∷ []) self.old self.new (poll.Ready result) }
     {
         self.read_response_in(alloc, &[expected])
     }

@@ -31,7 +31,8 @@ pub(crate) fn take_byte(
 ) -> Outcome
     requires under_way { IsUnderWay rule reply.old.bytes.items reply.old.line_start }
     requires room { vec_len reply.old.bytes < vec_capacity reply.old.bytes }
-    ensures outcome { outcome rule system reply.old.bytes.items false ≡ Outcome.Waits → result ≡ outcome rule system (reply.old.bytes.items ++ byte ∷ []) false }
+    ensures outcome { outcome rule system reply.old.bytes.items false ≡ Outcome.Waits → result ≡
+        outcome rule system (reply.old.bytes.items ++ byte ∷ []) false }
     ensures left { reply.new.bytes.items ≡ left_by result (reply.old.bytes.items ++ byte ∷ []) }
     ensures under_way { IsUnderWay rule reply.new.bytes.items reply.new.line_start }
 {
@@ -55,7 +56,8 @@ pub(crate) fn take_end(
     system: bool,
 ) -> Outcome
     requires { IsUnderWay rule reply.old.bytes.items reply.old.line_start }
-    ensures outcome { outcome rule system reply.old.bytes.items false ≡ Outcome.Waits → result ≡ outcome rule system reply.old.bytes.items true }
+    ensures outcome { outcome rule system reply.old.bytes.items false ≡ Outcome.Waits → result ≡
+        outcome rule system reply.old.bytes.items true }
     ensures settled { result ≡ Outcome.Waits → ⊥ }
     ensures left { reply.new.bytes.items ≡ left_by result reply.old.bytes.items }
     ensures under_way { IsUnderWay rule reply.new.bytes.items reply.new.line_start }
@@ -91,7 +93,8 @@ fn settle(alloc: Global, reply: &mut ReplyBuffer, ended: bool, verdict: Verdict)
 /// What the line under way comes to.
 fn judge_line(reply: &ReplyBuffer, rule: ReplyRule, system: bool) -> Verdict
     requires { reply.now.line_start ≤ length reply.now.bytes.items }
-    ensures { result ≡ verdict rule system (nat_eq reply.now.line_start 0) reply.now.bytes.items (drop reply.now.line_start reply.now.bytes.items) }
+    ensures { result ≡ verdict rule system (nat_eq reply.now.line_start 0) reply.now.bytes.items
+        (drop reply.now.line_start reply.now.bytes.items) }
 {
     judge(
         rule,

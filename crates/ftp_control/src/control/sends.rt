@@ -26,8 +26,11 @@ impl<C: Tells + Drop> ControlChannel<C> {
     where
         C: PollConn<W>,
         ensures waits { result ≡ poll.Pending → C.may_wait }
-        ensures failed { self.old.failed ≡ true → (result ≡ poll.Ready (Err FtpError.SessionFailed)) × (self.new ≡ self.old) × (line.new ≡ line.old) }
-        ensures says { self.old.failed ≡ false → SaysLine C.Tells.tells self.old self.new line.old line.new result }
+        ensures failed { self.old.failed ≡ true →
+            (result ≡ poll.Ready (Err FtpError.SessionFailed)) × (self.new ≡ self.old) ×
+            (line.new ≡ line.old) }
+        ensures says { self.old.failed ≡ false →
+            SaysLine C.Tells.tells self.old self.new line.old line.new result }
     {
         if self.failed() {
             return Poll::Ready(Err(FtpError::SessionFailed));
@@ -62,8 +65,11 @@ impl<C: Tells + Drop> ControlChannel<C> {
     ) -> FtpResult<()>
     where
         C: Conn,
-        ensures failed { self.old.failed ≡ true → (result ≡ Err FtpError.SessionFailed) × (self.new ≡ self.old) }
-        ensures performs { self.old.failed ≡ false → Performs C.Tells.tells (wire (E.encoded encoding.now) (text_of command.now)) self.old self.new result }
+        ensures failed { self.old.failed ≡ true → (result ≡ Err FtpError.SessionFailed) ×
+            (self.new ≡ self.old) }
+        ensures performs { self.old.failed ≡ false →
+            Performs C.Tells.tells (wire (E.encoded encoding.now) (text_of command.now)) self.old
+            self.new result }
     {
         if self.failed() {
             return Err(FtpError::SessionFailed);

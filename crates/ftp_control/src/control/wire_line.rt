@@ -41,8 +41,10 @@ impl WireLine {
     /// refusal, else `EncodedWithoutCrlf` or `EncodedLineBreak` where the encoded bytes are no line;
     /// `OutOfMemory` where memory is refused.
     pub fn of<E: Encoding>(alloc: Global, command: &Command, encoding: &E) -> FtpResult<WireLine>
-        ensures line { IfOk result (λ line. wire (E.encoded encoding.now) (text_of command.now) ≡ Ok line) }
-        ensures refused { IfErr result (IsRefusalOf (wire (E.encoded encoding.now) (text_of command.now))) }
+        ensures line { IfOk result (λ line. wire (E.encoded encoding.now) (text_of command.now) ≡
+            Ok line) }
+        ensures refused { IfErr result (IsRefusalOf
+            (wire (E.encoded encoding.now) (text_of command.now))) }
     {
         let text = format!(in alloc; "{command}")?;
         validate_command_line(text.as_str())?;

@@ -30,14 +30,16 @@ pub trait PollConn<W>: Tells {
         requires { 0 < length buffer.old }
         ensures bound { ReadsAtMost result (length buffer.old) }
         ensures waits { result ≡ Ok poll.Pending → may_wait }
-        ensures told { Self.tells → ReadTells result buffer.new (Self.told self.old) (Self.told self.new) };
+        ensures told { Self.tells → ReadTells result buffer.new (Self.told self.old)
+            (Self.told self.new) };
 
     /// Writes bytes from the front, at least one.
     fn poll_write(&mut self, w: &mut W, bytes: &[u8]) -> Result<Poll<usize>, ErrorKind>
         requires { 0 < length bytes.now }
         ensures bound { WritesSome result (length bytes.now) }
         ensures waits { result ≡ Ok poll.Pending → may_wait }
-        ensures told { Self.tells → WriteTells result bytes.now (Self.told self.old) (Self.told self.new) };
+        ensures told { Self.tells → WriteTells result bytes.now (Self.told self.old)
+            (Self.told self.new) };
 }
 
 /// A connection whose calls return only when they are done.
@@ -46,13 +48,15 @@ pub trait Conn: Tells {
     fn read(&mut self, buffer: &mut [u8]) -> Result<usize, ErrorKind>
         requires { 0 < length buffer.old }
         ensures bound { ReadsAtMost (as_poll result) (length buffer.old) }
-        ensures told { Self.tells → ReadTells (as_poll result) buffer.new (Self.told self.old) (Self.told self.new) };
+        ensures told { Self.tells → ReadTells (as_poll result) buffer.new (Self.told self.old)
+            (Self.told self.new) };
 
     /// Writes bytes from the front, at least one.
     fn write(&mut self, bytes: &[u8]) -> Result<usize, ErrorKind>
         requires { 0 < length bytes.now }
         ensures bound { WritesSome (as_poll result) (length bytes.now) }
-        ensures told { Self.tells → WriteTells (as_poll result) bytes.now (Self.told self.old) (Self.told self.new) };
+        ensures told { Self.tells → WriteTells (as_poll result) bytes.now (Self.told self.old)
+            (Self.told self.new) };
 }
 
 /// Through which nothing is told to wait: a poll under it is a call that blocks.

@@ -32,7 +32,17 @@ impl Model for MemoryConn {
 
     ghost Value = { Told };
 
-    ghost view = { λ c. record { received = drop c.begun (take c.read c.input.items); ended = c.ended; sent = c.sent.items; failures = c.failures; given = record { bytes = drop c.begun c.input.items; closed = c.closed; room = c.room } } };
+    ghost view = { λ c. record {
+      received = drop c.begun (take c.read c.input.items);
+      ended = c.ended;
+      sent = c.sent.items;
+      failures = c.failures;
+      given = record {
+        bytes = drop c.begun c.input.items;
+        closed = c.closed;
+        room = c.room;
+      };
+    } };
 
     ghost invariant = { λ c. (c.begun ≤ c.read) × (c.read ≤ length c.input.items) };
 }
@@ -100,7 +110,8 @@ impl MemoryConn {
     fn give(&mut self, buffer: &mut [u8]) -> usize
         ensures bound { result ≤ length buffer.old }
         ensures given { self.new ≡ after_read (take result buffer.new) self.old }
-        ensures none { result ≡ 0 → 0 < length buffer.old → self.old.received ≡ self.old.given.bytes }
+        ensures none { result ≡ 0 → 0 < length buffer.old → self.old.received ≡
+            self.old.given.bytes }
     {
         let count = copy_front(behind(self.input.as_slice(), self.read), buffer);
         self.read += count;

@@ -17,7 +17,8 @@ pub trait TaskConn: Tells {
     ) -> Result<Poll<usize>, ErrorKind>
         requires { 0 < length buffer.old }
         ensures bound { ReadsAtMost result (length buffer.old) }
-        ensures told { Self.tells → ReadTells result buffer.new (Self.told self.old) (Self.told self.new) };
+        ensures told { Self.tells → ReadTells result buffer.new (Self.told self.old)
+            (Self.told self.new) };
 
     /// Writes bytes from the front, at least one.
     fn poll_write_in(
@@ -27,7 +28,8 @@ pub trait TaskConn: Tells {
     ) -> Result<Poll<usize>, ErrorKind>
         requires { 0 < length bytes.now }
         ensures bound { WritesSome result (length bytes.now) }
-        ensures told { Self.tells → WriteTells result bytes.now (Self.told self.old) (Self.told self.new) };
+        ensures told { Self.tells → WriteTells result bytes.now (Self.told self.old)
+            (Self.told self.new) };
 }
 
 impl<'a, C: TaskConn> PollConn<Context<'a>> for C {

@@ -56,8 +56,11 @@ where
     /// # Errors
     /// Those of a command and its reply.
     pub fn noop(&mut self, alloc: Global) -> FtpResult<()>
-        ensures failed { self.old.channel.failed ≡ true → (result ≡ Err FtpError.SessionFailed) × (self.new ≡ self.old) }
-        ensures exchanges { self.old.channel.failed ≡ false → Hears Tr.Conn.tells (text_of Command.Noop) (Status.CommandOk ∷ []) self.old self.new (λ answer. result ≡ unit_of answer) }
+        ensures failed { self.old.channel.failed ≡ true → (result ≡ Err FtpError.SessionFailed) ×
+            (self.new ≡ self.old) }
+        ensures exchanges { self.old.channel.failed ≡ false →
+            Hears Tr.Conn.tells (text_of Command.Noop) (Status.CommandOk ∷ []) self.old self.new
+            (λ answer. result ≡ unit_of answer) }
     {
         self.hear(alloc, &Command::Noop, &[Status::CommandOk])?;
         Ok(())
@@ -68,8 +71,11 @@ where
     /// # Errors
     /// Those of a command and its reply.
     pub fn quit(&mut self, alloc: Global) -> FtpResult<()>
-        ensures failed { self.old.channel.failed ≡ true → (result ≡ Err FtpError.SessionFailed) × (self.new ≡ self.old) }
-        ensures exchanges { self.old.channel.failed ≡ false → Hears Tr.Conn.tells (text_of Command.Quit) (Status.Closing ∷ []) self.old self.new (λ answer. result ≡ unit_of answer) }
+        ensures failed { self.old.channel.failed ≡ true → (result ≡ Err FtpError.SessionFailed) ×
+            (self.new ≡ self.old) }
+        ensures exchanges { self.old.channel.failed ≡ false →
+            Hears Tr.Conn.tells (text_of Command.Quit) (Status.Closing ∷ []) self.old self.new
+            (λ answer. result ≡ unit_of answer) }
     {
         self.hear(alloc, &Command::Quit, &[Status::Closing])?;
         Ok(())
@@ -85,8 +91,11 @@ where
         line: &str,
         expected: &[Status],
     ) -> FtpResult<Response>
-        ensures failed { self.old.channel.failed ≡ true → (result ≡ Err FtpError.SessionFailed) × (self.new ≡ self.old) }
-        ensures exchanges { self.old.channel.failed ≡ false → Hears Tr.Conn.tells (text_of (Command.Custom line.now)) expected.now self.old self.new (λ answer. result ≡ answer) }
+        ensures failed { self.old.channel.failed ≡ true → (result ≡ Err FtpError.SessionFailed) ×
+            (self.new ≡ self.old) }
+        ensures exchanges { self.old.channel.failed ≡ false →
+            Hears Tr.Conn.tells (text_of (Command.Custom line.now)) expected.now self.old self.new
+            (λ answer. result ≡ answer) }
     {
         if self.channel.failed() {
             return Err(FtpError::SessionFailed);
@@ -97,8 +106,11 @@ where
 
     /// A command and its reply.
     fn hear(&mut self, alloc: Global, command: &Command, expected: &[Status]) -> FtpResult<Response>
-        ensures failed { self.old.channel.failed ≡ true → (result ≡ Err FtpError.SessionFailed) × (self.new ≡ self.old) }
-        ensures exchanges { self.old.channel.failed ≡ false → Hears Tr.Conn.tells (text_of command.now) expected.now self.old self.new (λ answer. result ≡ answer) }
+        ensures failed { self.old.channel.failed ≡ true → (result ≡ Err FtpError.SessionFailed) ×
+            (self.new ≡ self.old) }
+        ensures exchanges { self.old.channel.failed ≡ false →
+            Hears Tr.Conn.tells (text_of command.now) expected.now self.old self.new
+            (λ answer. result ≡ answer) }
     {
         exchange(alloc, &mut self.channel, &Utf8Encoding, command, expected)
     }

@@ -25,8 +25,11 @@ pub(super) fn exchange<C: Conn + Drop, E: Encoding>(
     command: &Command,
     expected: &[Status],
 ) -> FtpResult<Response>
-    ensures failed { channel.old.failed ≡ true → (result ≡ Err FtpError.SessionFailed) × (channel.new ≡ channel.old) }
-    ensures exchanges { channel.old.failed ≡ false → Exchanges C.Tells.tells (wire (E.encoded encoding.now) (text_of command.now)) expected.now channel.old channel.new result }
+    ensures failed { channel.old.failed ≡ true → (result ≡ Err FtpError.SessionFailed) ×
+        (channel.new ≡ channel.old) }
+    ensures exchanges { channel.old.failed ≡ false →
+        Exchanges C.Tells.tells (wire (E.encoded encoding.now) (text_of command.now)) expected.now
+        channel.old channel.new result }
 {
     channel.perform(alloc, command, encoding)?;
     let answer = channel.read_response_in(alloc, expected);

@@ -68,7 +68,8 @@ impl<Tr: Network> Session<Tr> {
 
     /// The text that the server greeted with, once the greeting was taken.
     pub fn get_welcome_msg(&self) -> Option<&str>
-        ensures { option_map (λ text. text.now) result ≡ option_map (λ welcome. welcome.text) self.now.welcome }
+        ensures { option_map (λ text. text.now) result ≡
+            option_map (λ welcome. welcome.text) self.now.welcome }
     {
         match &self.welcome {
             Some(welcome) => Some(welcome.text()),
