@@ -27,7 +27,9 @@ where
         alloc: Global,
         transport: Tr,
         conn: Tr::Conn,
-    ) -> FtpResult<Session<Tr>> {
+    ) -> FtpResult<Session<Tr>>
+        ensures { Connected Tr.Conn.tells result }
+    {
         let mut session = Session::new(alloc, transport, conn)?;
         session.greet(alloc)?;
         Ok(session)
