@@ -137,3 +137,20 @@ fn lines_behind_a_reply_are_taken_one_by_one(rt: HostRuntime) -> Result<(), Fail
     assert!(rt; channel.failed());
     Ok(())
 }
+
+#[test]
+fn a_reply_has_at_most_262144_bytes(rt: HostRuntime) -> Result<(), Fail> {
+    let alloc = rt.alloc();
+    for (letters, is_whole) in [(262_127, true), (262_128, false)] {
+        let mut channel = ControlChannel::new(alloc, MemoryConn::new(alloc));
+        channel.feed(b"220-")?;
+        for _ in 0..letters {
+            channel.feed(b"a")?;
+        }
+        channel.feed(b"\r\n220 ready\r\n")?;
+        let answer = channel.read_response(alloc, Status::Ready);
+        assert_eq!(rt; answer.is_ok(), is_whole, "{letters} letters");
+        assert_eq!(rt; channel.failed(), !is_whole, "{letters} letters");
+    }
+    Ok(())
+}

@@ -110,7 +110,8 @@ pub enum Status {
 impl Status {
     /// The three-digit code, or 0 for [`Status::Unknown`].
     pub fn code(&self) -> u32
-        ensures { result ≡ code_of self.now }
+        ensures value { result ≡ code_of self.now }
+        ensures back { status_of result ≡ self.now }
     {
         match self {
             Status::Unknown => 0,
