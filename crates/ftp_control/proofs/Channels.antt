@@ -1,13 +1,15 @@
 -- The sound channel goes on.
-use Rattle.std.proofs.Common.{◌≡◌, ℕ, ◌+◌, Bool, true, false, List, [], ◌++◌, take, drop, Result, Ok, Err, refl, ap, sym, ◌∙◌, subst, append_assoc, append-nil, arith}
+use Rattle.std.proofs.Common.{◌≡◌, ℕ, ◌+◌, Bool, true, false, List, [], ◌++◌, length, take, drop, Result, Ok, Err, refl, ap, sym, ◌∙◌, subst, append_assoc, append-nil, arith}
 use Rattle.std.proofs.lemmas.List.{take-append-drop}
 use Rattle.ftp_control.specs.declared.control.rule.ReplyRule.{ReplyRule}
+use Rattle.ftp_control.specs.declared.transport.room.Room.{Room}
+use Rattle.ftp_control.specs.declared.transport.room.Room.TheVariants.{Any, UpTo}
 use Rattle.ftp_control.specs.declared.control.broken.Broken.{Broken}
 use Rattle.ftp_control.specs.declared.control.broken.Broken.TheVariants.{Connection, OutOfMemory}
 use Rattle.ftp_control.specs.declared.control.outcome.Outcome.{Outcome}
 use Rattle.ftp_control.specs.declared.control.outcome.Outcome.TheVariants.{Whole, Bad, TooLarge, Ended, Waits}
 use Rattle.ftp_control.specs.Grammar.{reply_limit}
-use Rattle.ftp_control.specs.Told.{Told, IsFresh}
+use Rattle.ftp_control.specs.Told.{Told, HasRoomFor, IsFresh}
 use Rattle.ftp_control.proofs.Outcomes.{nothing_under_way}
 use Rattle.ftp_control.proofs.WireLines.{line_behind}
 use Rattle.ftp_control.specs.UnderWay.{IsUnderWay}
@@ -20,15 +22,16 @@ use Rattle.ftp_control.specs.Held.{Holds}
 pub record OnlyReads (came : List ℕ) (t u : Told) : Type 0 where
   pub received : u.received ≡ t.received ++ came
   pub sent : u.sent ≡ t.sent
+  pub room : u.given.room ≡ t.given.room
 
 pub only_reads : (result : Result Outcome Broken) (came : List ℕ) (ended : Bool) (t u : Told) → HearTells result came ended t u → OnlyReads came t u
-only_reads (Ok (Whole bytes code)) came ended t u told = record { received = ap (λ x. x.received) told; sent = ap (λ x. x.sent) told }
-only_reads (Ok (Bad line)) came ended t u told = record { received = ap (λ x. x.received) told; sent = ap (λ x. x.sent) told }
-only_reads (Ok TooLarge) came ended t u told = record { received = ap (λ x. x.received) told; sent = ap (λ x. x.sent) told }
-only_reads (Ok Ended) came ended t u told = record { received = ap (λ x. x.received) told; sent = ap (λ x. x.sent) told }
-only_reads (Ok Waits) came ended t u told = record { received = ap (λ x. x.received) told.0; sent = ap (λ x. x.sent) told.0 }
-only_reads (Err OutOfMemory) came ended t u told = record { received = ap (λ x. x.received) told; sent = ap (λ x. x.sent) told }
-only_reads (Err (Connection kind)) came ended t u told = record { received = ap (λ x. x.received) told.same; sent = ap (λ x. x.sent) told.same }
+only_reads (Ok (Whole bytes code)) came ended t u told = record { received = ap (λ x. x.received) told; sent = ap (λ x. x.sent) told; room = ap (λ x. x.given.room) told }
+only_reads (Ok (Bad line)) came ended t u told = record { received = ap (λ x. x.received) told; sent = ap (λ x. x.sent) told; room = ap (λ x. x.given.room) told }
+only_reads (Ok TooLarge) came ended t u told = record { received = ap (λ x. x.received) told; sent = ap (λ x. x.sent) told; room = ap (λ x. x.given.room) told }
+only_reads (Ok Ended) came ended t u told = record { received = ap (λ x. x.received) told; sent = ap (λ x. x.sent) told; room = ap (λ x. x.given.room) told }
+only_reads (Ok Waits) came ended t u told = record { received = ap (λ x. x.received) told.0; sent = ap (λ x. x.sent) told.0; room = ap (λ x. x.given.room) told.0 }
+only_reads (Err OutOfMemory) came ended t u told = record { received = ap (λ x. x.received) told; sent = ap (λ x. x.sent) told; room = ap (λ x. x.given.room) told }
+only_reads (Err (Connection kind)) came ended t u told = record { received = ap (λ x. x.received) told.same; sent = ap (λ x. x.sent) told.same; room = ap (λ x. x.given.room) told.same }
 
 dropped_end : (n : ℕ) (bytes : List ℕ) → IsEndOf (drop n bytes) bytes
 dropped_end n bytes = record { front = take n bytes; is = sym (take-append-drop n bytes) }
@@ -49,7 +52,7 @@ end_with_more : (part whole more : List ℕ) → IsEndOf part whole → IsEndOf 
 end_with_more part whole more a = record { front = a.front; is = ap (λ w. w ++ more) a.is ∙ append_assoc a.front part more }
 
 -- after a read
-pub read_holds : (tells : Type 0) (t u : Told) (kept kept' : List ℕ) (start start' : ℕ) (line : List ℕ) (sent : ℕ) (ended ended' failed failed' : Bool) (rule : ReplyRule) (says : List ℕ → Bool → Outcome) (result : Result Outcome Broken) → Holds tells t kept start line sent ended failed rule → IsUnderWay rule kept' start' → (tells → u.ended ≡ ended') → Hears tells says kept kept' ended' t u result → Holds tells u kept' start' line sent ended' failed' rule
+pub read_holds : (tells : Type 0) (t u : Told) (kept kept' : List ℕ) (start start' : ℕ) (line : List ℕ) (sent : ℕ) (ended ended' failed failed' : Bool) (rule : ReplyRule) (says : List ℕ → Bool → Outcome) (result : Result Outcome Broken) → Holds tells t kept start line sent ended failed rule → IsUnderWay rule kept' start' → (tells → u.ended ≡ ended') → Hears tells says kept kept' ended ended' t u result → Holds tells u kept' start' line sent ended' failed' rule
 read_holds tells t u kept kept' start start' line sent ended ended' failed failed' rule says result held under known heard = record {
   under_way = under;
   within = held.within;
@@ -64,8 +67,18 @@ read_holds tells t u kept kept' start start' line sent ended ended' failed faile
         let reads = only_reads result heard.came ended' t u (heard.told h) in
         let P : List ℕ → Type 0 = λ s. IsLines (s ++ drop sent line) (drop sent line) in subst P (sym reads.sent) (held.sound.lines h);
     ended = known;
+    fits = λ h.
+        let reads = only_reads result heard.came ended' t u (heard.told h) in
+        let P : Room → List ℕ → Type 0 = λ room s. HasRoomFor room (length s) in
+        let Q : List ℕ → Type 0 = P u.given.room in
+        let R : Room → Type 0 = λ room. P room t.sent in
+        subst Q (sym reads.sent) (subst R (sym reads.room) (held.sound.fits h));
   };
 }
+
+fresh_fits : (room : Room) (sent : List ℕ) → sent ≡ [] → HasRoomFor room (length sent)
+fresh_fits Any sent none = tt
+fresh_fits (UpTo most) sent none = rw none (omega arith)
 
 -- a channel begins
 pub idle_holds : (tells : Type 0) (t : Told) (rule : ReplyRule) → (tells → IsFresh t) → Holds tells t [] 0 [] 0 false false rule
@@ -77,6 +90,7 @@ idle_holds tells t rule fresh = record {
     kept = λ h. record { front = t.received; is = sym (append-nil t.received) };
     lines = λ h. let P : List ℕ → Type 0 = λ s. IsLines (s ++ []) [] in subst P (sym (fresh h).sent) (record { whole = refl; lines = tt; end_of_last = omega arith });
     ended = λ h. (fresh h).ended;
+    fits = λ h. fresh_fits t.given.room t.sent (fresh h).sent;
   };
 }
 
@@ -94,5 +108,6 @@ push_holds tells t kept start old line sent ended failed rule held none is = rec
         let Q : List ℕ → Type 0 = λ s. IsLines s [] in
         line_behind t.sent line (subst Q (append-nil t.sent) before) is;
     ended = held.sound.ended;
+    fits = held.sound.fits;
   };
 }

@@ -1,8 +1,11 @@
 -- What is settled stays, however the input goes on.
-use Rattle.std.proofs.Common.{◌≡◌, ℕ, ◌+◌, ◌≤◌, ◌<◌, Bool, true, false, cond, List, [], ◌∷◌, ◌++◌, length, refl, ap, sym, ◌∙◌, subst, arith, length-append, ltb}
+use Rattle.std.proofs.Common.{◌≡◌, ℕ, ◌+◌, ◌≤◌, ◌<◌, Bool, true, false, cond, List, [], ◌∷◌, ◌++◌, length, Result, Ok, Err, refl, ap, sym, ◌∙◌, subst, arith, length-append, append-nil, leb, ltb}
 use Rattle.std.proofs.lemmas.Bool.{lt-leb, lt-ltb, ltb-true}
 use Rattle.ftp_control.specs.declared.control.rule.ReplyRule.{ReplyRule}
-use Rattle.ftp_control.specs.declared.control.outcome.Outcome.TheVariants.{TooLarge, Waits}
+use Rattle.ftp_control.specs.declared.control.outcome.Outcome.{Outcome}
+use Rattle.ftp_control.specs.declared.control.outcome.Outcome.TheVariants.{Whole, Bad, TooLarge, Ended, Waits}
+use Rattle.ftp_control.specs.declared.control.broken.Broken.{Broken}
+use Rattle.ftp_control.specs.Reading.{AnswersOutcome, GoesOn, Stays}
 use Rattle.ftp_control.specs.declared.plain.Found.{Found}
 use Rattle.ftp_control.specs.declared.plain.Found.TheVariants.{Reply, NoReply, Unfinished}
 use Rattle.ftp_control.specs.Grammar.{whole_lines, rest, lines, joined, opens, ends, code_at_start, after_line, to_end, reply_in, reply_limit, within, outcome}
@@ -104,3 +107,47 @@ settled_stays rule system bytes more ended settled = go (reply_in rule system (w
           | false ↦ λ t e. absurd (subst IsSettled e settled)
         ]
         refl now
+
+-- nothing ends before the end of the input
+never_ended : (rule : ReplyRule) (system : Bool) (bytes : List ℕ) → outcome rule system bytes false ≡ Ended → ⊥
+never_ended rule system bytes is = go (reply_in rule system (whole_lines bytes)) (sym (outcome-open rule system bytes) ∙ is)
+  where
+    go : (found : Found) → within (length bytes) false found ≡ Ended → ⊥
+    go (Reply w c) e =
+        elim (leb (length w) reply_limit) as (λ t. cond t (Whole w c) TooLarge ≡ Ended → ⊥)
+        [ true ↦ λ f. let clash : Whole w c ≡ Ended = f in cc | false ↦ λ f. let clash : TooLarge ≡ Ended = f in cc ] e
+    go (NoReply l) e =
+        elim (leb (length l) reply_limit) as (λ t. cond t (Bad l) TooLarge ≡ Ended → ⊥)
+        [ true ↦ λ f. let clash : Bad l ≡ Ended = f in cc | false ↦ λ f. let clash : TooLarge ≡ Ended = f in cc ] e
+    go Unfinished e =
+        elim (ltb reply_limit (length bytes)) as (λ t. cond t TooLarge Waits ≡ Ended → ⊥)
+        [ true ↦ λ f. let clash : TooLarge ≡ Ended = f in cc | false ↦ λ f. let clash : Waits ≡ Ended = f in cc ] e
+
+-- what was answered stays, however the input goes on
+pub answer_stays : (rule : ReplyRule) (system : Bool) (bytes : List ℕ) (ended : Bool) (heard : Outcome) → (heard ≡ Waits → ⊥) → heard ≡ outcome rule system bytes ended → (more : List ℕ) (e : Bool) → GoesOn ended more e → outcome rule system (bytes ++ more) e ≡ heard
+answer_stays rule system bytes true heard settled is more e on = rw (on.nothing refl, on.over refl, append-nil bytes) (sym is)
+answer_stays rule system bytes false heard settled is more e on =
+    settled_stays rule system bytes more e (let P : Outcome → Type 0 = IsSettled in subst P is (go heard settled is)) ∙ sym is
+  where
+    go : (o : Outcome) → (o ≡ Waits → ⊥) → o ≡ outcome rule system bytes false → IsSettled o
+    go (Whole reply code) other e = tt
+    go (Bad line) other e = tt
+    go TooLarge other e = tt
+    go Ended other e = never_ended rule system bytes (sym e)
+    go Waits other e = other refl
+
+pub stays : (rule : ReplyRule) (system : Bool) (bytes : List ℕ) (ended : Bool) (result : Result Outcome Broken) → AnswersOutcome result (outcome rule system bytes ended) → Stays result (outcome rule system) bytes ended
+stays rule system bytes ended (Ok (Whole reply code)) is = answer_stays rule system bytes ended (Whole reply code) (λ e. let clash : Whole reply code ≡ Waits = e in cc) is
+stays rule system bytes ended (Ok (Bad line)) is = answer_stays rule system bytes ended (Bad line) (λ e. let clash : Bad line ≡ Waits = e in cc) is
+stays rule system bytes ended (Ok TooLarge) is = answer_stays rule system bytes ended TooLarge (λ e. let clash : TooLarge ≡ Waits = e in cc) is
+stays rule system bytes ended (Ok Ended) is = answer_stays rule system bytes ended Ended (λ e. let clash : Ended ≡ Waits = e in cc) is
+stays rule system bytes ended (Ok Waits) is = tt
+stays rule system bytes ended (Err broken) is = tt
+
+-- a reply is cut off by the end of the input alone
+pub ended_last : (rule : ReplyRule) (system : Bool) (bytes : List ℕ) (ended : Bool) (result : Result Outcome Broken) → AnswersOutcome result (outcome rule system bytes ended) → result ≡ Ok Ended → ended ≡ true
+ended_last rule system bytes true result is e = refl
+ended_last rule system bytes false result is e =
+    let P : Result Outcome Broken → Type 0 = λ r. AnswersOutcome r (outcome rule system bytes false) in
+    let ended : Ended ≡ outcome rule system bytes false = subst P e is in
+    absurd (never_ended rule system bytes (sym ended))

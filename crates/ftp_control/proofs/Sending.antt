@@ -1,9 +1,9 @@
 -- Lemmas on what goes out.
-use Rattle.std.proofs.Common.{◌≡◌, ℕ, List, [], ◌++◌, take, drop, Ok, Err, refl, ◌∙◌, subst, append_assoc, append-nil}
+use Rattle.std.proofs.Common.{◌≡◌, ℕ, List, [], ◌++◌, take, drop, Ok, Err, refl, sym, ◌∙◌, subst, append_assoc, append-nil}
 use Rattle.std.specs.declared.io.ErrorKind.{ErrorKind}
 use Rattle.futures.specs.declared.task.Poll.TheVariants.{Ready, Pending}
 use Rattle.std.proofs.lemmas.List.{take-append-drop}
-use Rattle.ftp_control.specs.Told.{Told, IsFull, HasFailed, after_write}
+use Rattle.ftp_control.specs.Told.{Told, Fits, IsFull, HasFailed, after_write}
 use Rattle.ftp_control.specs.Sending.{Flushes}
 
 -- bytes went out
@@ -11,21 +11,23 @@ pub record SentSoFar (tells : Type 0) (unsent unsent' : List ℕ) (t u : Told) :
   pub part : List ℕ
   pub split : unsent ≡ part ++ unsent'
   pub told : tells → u ≡ after_write part t
+  pub fits : tells → Fits t → Fits u
 
 pub nothing_sent : (tells : Type 0) (unsent : List ℕ) (t : Told) → SentSoFar tells unsent unsent t t
-nothing_sent tells unsent t = record { part = []; split = refl; told = λ h. rw (append-nil t.sent) }
+nothing_sent tells unsent t = record { part = []; split = refl; told = λ h. rw (append-nil t.sent); fits = λ h f. f }
 
 module _ (tells : Type 0) (unsent now : List ℕ) (t u : Told) (so_far : SentSoFar tells unsent now t u) where
   -- more bytes go out
-  pub more_sent : (count : ℕ) (later : List ℕ) (v : Told) → later ≡ drop count now → (tells → v ≡ after_write (take count now) u) → SentSoFar tells unsent later t v
+  pub more_sent : (count : ℕ) (later : List ℕ) (v : Told) → later ≡ drop count now → (tells → (v ≡ after_write (take count now) u) × (Fits u → Fits v)) → SentSoFar tells unsent later t v
   more_sent count later v is told = record {
     part = so_far.part ++ take count now;
     split = so_far.split ∙ rw (is, append_assoc, take-append-drop);
-    told = λ h. told h ∙ rw (so_far.told h, append_assoc);
+    told = λ h. (told h).0 ∙ rw (so_far.told h, append_assoc);
+    fits = λ h f. (told h).1 (so_far.fits h f);
   }
 
   pub all_sent : now ≡ [] → Flushes tells unsent now t u (Ok (Ready tt))
-  all_sent none = record { part = so_far.part; split = so_far.split; leaves = none; told = so_far.told }
+  all_sent none = record { part = so_far.part; split = so_far.split; leaves = none; told = so_far.told; fits = so_far.fits }
 
   pub room_awaited : (v : Told) → (now ≡ [] → ⊥) → (tells → (v ≡ u) × IsFull v) → Flushes tells unsent now t v (Ok Pending)
   room_awaited v some told = record {
@@ -33,6 +35,7 @@ module _ (tells : Type 0) (unsent now : List ℕ) (t u : Told) (so_far : SentSoF
     split = so_far.split;
     leaves = some;
     told = λ h. ((told h).0 ∙ so_far.told h, (told h).1);
+    fits = λ h f. let P : Told → Type 0 = Fits in subst P (sym (told h).0) (so_far.fits h f);
   }
 
   pub write_failed : (kind : ErrorKind) (v : Told) → (tells → HasFailed u v) → Flushes tells unsent now t v (Err kind)
@@ -41,4 +44,5 @@ module _ (tells : Type 0) (unsent now : List ℕ) (t u : Told) (so_far : SentSoF
     split = so_far.split;
     leaves = tt;
     told = λ h. let P : Told → Type 0 = λ x. HasFailed x v in subst P (so_far.told h) (told h);
+    fits = λ h f. let P : Told → Type 0 = Fits in subst P (sym (told h).same) (so_far.fits h f);
   }

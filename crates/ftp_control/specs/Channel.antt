@@ -8,8 +8,8 @@ use Rattle.ftp_control.specs.declared.control.broken.Broken.TheVariants.{Connect
 use Rattle.ftp_control.specs.declared.control.outcome.Outcome.{Outcome}
 use Rattle.ftp_control.specs.declared.control.outcome.Outcome.TheVariants.{Whole, Bad, TooLarge, Ended, Waits}
 use Rattle.ftp_control.specs.Grammar.{outcome, line_outcome}
-use Rattle.ftp_control.specs.Told.{Told}
-use Rattle.ftp_control.specs.Reading.{Hears}
+use Rattle.ftp_control.specs.Told.{Told, Fits}
+use Rattle.ftp_control.specs.Reading.{Hears, Stays}
 use Rattle.ftp_control.specs.Sending.{IsLines, Flushes}
 
 -- what its connection tells, the bytes of the reply under way, the rest of the line that goes out, whether the
@@ -27,13 +27,14 @@ pub record IsEndOf (part whole : List ℕ) : Type 0 where
   pub front : List ℕ
   pub is : whole ≡ front ++ part
 
--- the sound channel: what is kept says nothing yet and ends what was received; what went out and what is unsent
--- are whole wire lines
+-- the sound channel: what is kept says nothing yet and ends what was received; what went out is within the room,
+-- and with what is unsent it is whole wire lines
 pub record IsSound (tells : Type 0) (c : Channel) : Type 0 where
   pub waits : outcome c.rule false c.kept false ≡ Waits
   pub kept : tells → IsEndOf c.kept c.told.received
   pub lines : tells → IsLines (c.told.sent ++ c.unsent) c.unsent
   pub ended : tells → c.told.ended ≡ c.ended
+  pub fits : tells → Fits c.told
 
 -- nothing was read or sent yet
 pub record IsIdle (c : Channel) : Type 0 where
@@ -54,12 +55,14 @@ fails_by (Err OutOfMemory) = false
 
 -- a read of a reply
 pub record ReadsReply (tells : Type 0) (system : Bool) (old new : Channel) (result : Result Outcome Broken) : Type 0 where
-  pub heard : Hears tells (outcome old.rule system) old.kept new.kept new.ended old.told new.told result
+  pub heard : Hears tells (outcome old.rule system) old.kept new.kept old.ended new.ended old.told new.told result
+  pub stays : outcome old.rule system old.kept false ≡ Waits → Stays result (outcome old.rule system) (old.kept ++ heard.came) new.ended
+  pub last : outcome old.rule system old.kept false ≡ Waits → result ≡ Ok Ended → new.ended ≡ true
   pub same : new ≡ record old { told = new.told; kept = new.kept; ended = new.ended; failed = old.failed || fails_by result }
 
 -- a read of one line, where no whole line is kept
 pub record ReadsLine (tells : Type 0) (old new : Channel) (result : Result Outcome Broken) : Type 0 where
-  pub heard : Hears tells line_outcome old.kept new.kept new.ended old.told new.told result
+  pub heard : Hears tells line_outcome old.kept new.kept old.ended new.ended old.told new.told result
   pub same : new ≡ record old { told = new.told; kept = new.kept; ended = new.ended; failed = old.failed || fails_by result }
 
 -- a flush fails where the connection does

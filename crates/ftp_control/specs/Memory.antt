@@ -1,5 +1,5 @@
 -- What happens to a connection over memory from the outside.
-use Rattle.std.specs.Prelude.{ℕ, ◌+◌, true, false, List, [], ◌++◌, if◌then◌else◌, min}
+use Rattle.std.specs.Prelude.{◌≡◌, ℕ, ◌+◌, ◌||◌, true, false, List, [], ◌++◌, length, if◌then◌else◌, min}
 use Rattle.ftp_control.specs.declared.transport.room.Room.{Room}
 use Rattle.ftp_control.specs.declared.transport.room.Room.TheVariants.{Any, UpTo}
 use Rattle.ftp_control.specs.Told.{Told}
@@ -8,18 +8,25 @@ use Rattle.ftp_control.specs.Told.{Told}
 abbrev pub fresh_memory : Told
 fresh_memory = record { received = []; ended = false; sent = []; failures = 0; given = record { bytes = []; closed = false; room = Any } }
 
--- bytes came, where the end hadn't
+-- bytes came, where the end wasn't told and wasn't met
 abbrev pub fed : List ℕ → Told → Told
-fed bytes t = if t.given.closed then t else record t { given = record t.given { bytes = t.given.bytes ++ bytes } }
+fed bytes t = if t.given.closed || t.ended then t else record t { given = record t.given { bytes = t.given.bytes ++ bytes } }
+
+-- what came and wasn't read yet: nothing once the end was met
+pub record IsGiven (t : Told) : Type 0 where
+  pub ahead : List ℕ
+  pub front : t.given.bytes ≡ t.received ++ ahead
+  pub over : t.ended ≡ true → ahead ≡ []
 
 -- the end came
 abbrev pub closed_memory : Told → Told
 closed_memory t = record t { given = record t.given { closed = true } }
 
--- room for more bytes; a count stays at its greatest value
-abbrev pub more_room : ℕ → Room → Room
-more_room more Any = UpTo more
-more_room more (UpTo room) = UpTo (min (room + more) 18446744073709551615)
+-- room for more bytes: first beside those that went out, then beside those that were allowed; a count stays at
+-- its greatest value
+abbrev pub more_room : ℕ → ℕ → Room → Room
+more_room more sent Any = UpTo (min (sent + more) 18446744073709551615)
+more_room more sent (UpTo room) = UpTo (min (room + more) 18446744073709551615)
 
 abbrev pub widened : ℕ → Told → Told
-widened more t = record t { given = record t.given { room = more_room more t.given.room } }
+widened more t = record t { given = record t.given { room = more_room more (length t.sent) t.given.room } }

@@ -1,5 +1,5 @@
 -- How a command's line goes out: RFC 959, section 4.1.3.
-use Rattle.std.specs.Prelude.{◌≡◌, ℕ, ◌<◌, ◌⊎◌, true, List, [], ◌++◌, Option, Some, None, Result, Ok, Err}
+use Rattle.std.specs.Prelude.{◌≡◌, ℕ, ◌<◌, ◌≤◌, ◌⊎◌, true, List, [], ◌++◌, length, Option, Some, None, Result, Ok, Err}
 use Rattle.std.specs.declared.io.ErrorKind.{ErrorKind}
 use Rattle.futures.specs.declared.task.Poll.{Poll}
 use Rattle.futures.specs.declared.task.Poll.TheVariants.{Ready, Pending}
@@ -27,16 +27,18 @@ pub record IsIoFault (fault : FtpError) : Type 0 where
   pub kind : ErrorKind
   pub is : fault ≡ ConnectionError (Io kind)
 
--- what saying a line leaves: all of it went out; or something waits for room; or the connection failed
+-- what saying a line leaves: all of it went out; or something waits for room; or the connection failed, which
+-- was counted
 abbrev pub SayLeaves : Poll (Result (Unit {0}) FtpError) → Type 0 → Channel → Channel → Option (List ℕ) → Type 0
-SayLeaves (Ready (Ok done)) tells old new line' = (new.unsent ≡ []) × (line' ≡ None) × (new.failed ≡ old.failed)
-SayLeaves Pending tells old new line' = (new.unsent ≡ [] → ⊥) × (tells → IsFull new.told) × (new.failed ≡ old.failed)
+SayLeaves (Ready (Ok done)) tells old new line' = (new.unsent ≡ []) × (line' ≡ None) × (new.failed ≡ old.failed) × (tells → new.told.failures ≡ old.told.failures)
+SayLeaves Pending tells old new line' = (new.unsent ≡ [] → ⊥) × (tells → IsFull new.told) × (new.failed ≡ old.failed) × (tells → new.told.failures ≡ old.told.failures)
 SayLeaves (Ready (Err fault)) tells old new line' = IsIoFault fault × (new.failed ≡ true) × (tells → HasCounted old.told new.told)
 
 -- saying a line: it goes out whole behind the rest of the one before, or not at all, and nothing else does
 pub record SaysLine (tells : Type 0) (old new : Channel) (line line' : Option (List ℕ)) (answer : Poll (Result (Unit {0}) FtpError)) : Type 0 where
   pub whole : (line' ≡ line) ⊎ (line' ≡ None)
   pub said : tells → said new ++ due line' ≡ said old ++ due line
+  pub sends : tells → length old.told.sent ≤ length new.told.sent
   pub hears_nothing : tells → new.told ≡ record old.told { sent = new.told.sent; failures = new.told.failures }
   pub same : new ≡ record old { told = new.told; unsent = new.unsent; failed = new.failed }
   pub leaves : SayLeaves answer tells old new line'

@@ -21,6 +21,15 @@ pub record Told : Type 0 where
   pub failures : ℕ
   pub given : Given
 
+-- so many bytes are within the room
+abbrev pub HasRoomFor : Room → ℕ → Type 0
+HasRoomFor Any count = Unit {0}
+HasRoomFor (UpTo most) count = count ≤ most
+
+-- what went out is within the room
+abbrev pub Fits : Told → Type 0
+Fits t = HasRoomFor t.given.room (length t.sent)
+
 -- a channel begins
 pub record IsFresh (t : Told) : Type 0 where
   pub received : t.received ≡ []
@@ -60,9 +69,13 @@ ReadTells (Ok (Ready count)) buffer t u = u ≡ (if count == 0 then after_end t 
 ReadTells (Ok Pending) buffer t u = (u ≡ t) × IsDry t
 ReadTells (Err kind) buffer t u = HasFailed t u
 
--- what a write of bytes tells: how many it took, that it waits, or a failure
+-- the end is met only where it was told
+abbrev pub EndsAsTold : Bool → Bool → Told → Type 0
+EndsAsTold ended ended' t = ended' ≡ true → (ended ≡ true) ⊎ (t.given.closed ≡ true)
+
+-- what a write of bytes tells: how many it took, within the room, that it waits, or a failure
 abbrev pub WriteTells : Result (Poll ℕ) ErrorKind → List ℕ → Told → Told → Type 0
-WriteTells (Ok (Ready count)) bytes t u = u ≡ after_write (take count bytes) t
+WriteTells (Ok (Ready count)) bytes t u = (u ≡ after_write (take count bytes) t) × (Fits t → Fits u)
 WriteTells (Ok Pending) bytes t u = (u ≡ t) × IsFull t
 WriteTells (Err kind) bytes t u = HasFailed t u
 

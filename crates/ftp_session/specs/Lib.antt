@@ -1,4 +1,8 @@
 pub mod Calls
-pub mod Exchange
-pub mod Greeting
+pub mod Dialogue
+pub mod Moving
+pub mod Play
+pub mod Run
+pub mod Running
+pub mod Sound
 pub mod State

@@ -1,4 +1,5 @@
 //! The dialogues of an FTP session.
 #![tactic(auto)]
 
+pub mod plain;
 pub mod session;

@@ -1,7 +1,15 @@
 //! A session: the dialogues of RFC 959 on one control connection.
 
+pub mod ask;
+mod call;
 mod calls;
-mod exchange;
+mod machine;
+mod run;
+mod settings;
+mod stage;
+mod step;
 mod state;
 
+pub use call::{Answer, Call, Event};
+pub use settings::{Counts, Owed, Settings, State};
 pub use state::Session;

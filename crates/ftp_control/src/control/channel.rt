@@ -1,6 +1,6 @@
 //! The control channel.
 
-ghost use Rattle.std.specs.Prelude.{◌≡◌, Ok, [], false, true};
+ghost use Rattle.std.specs.Prelude.{◌≡◌, ◌||◌, Ok, [], false, true};
 ghost use Rattle.futures.specs.declared.task.Poll.TheVariants as poll;
 ghost use Rattle.ftp_control.specs.declared.control.outcome.Outcome.TheVariants as outcomes;
 ghost use Rattle.ftp_control.specs.Channel.{fails_by};
@@ -52,7 +52,7 @@ impl<C: Tells + Drop> Model for ControlChannel<C> {
 
 impl<C: Tells + Drop> ControlChannel<C> {
     ghost use Rattle.std.specs.Prelude.{length};
-    ghost use Rattle.ftp_control.specs.Told.{IsFresh};
+    ghost use Rattle.ftp_control.specs.Told.{EndsAsTold, IsFresh};
     ghost use Rattle.ftp_control.specs.Channel.{Channel, IsIdle, IsSound, ReadsReply, FlushesRest};
 
     /// Reads a reply as far as it has come, and takes exactly its bytes. `Waits` says that the connection
@@ -69,6 +69,8 @@ impl<C: Tells + Drop> ControlChannel<C> {
     where
         C: PollConn<W>,
         ensures waits { result ≡ Ok outcomes.Waits → C.may_wait }
+        ensures end { C.Tells.tells → C.may_wait →
+            EndsAsTold self.old.ended self.new.ended self.old.told }
         ensures reads { ReadsReply C.Tells.tells system self.old self.new result }
     {
         let result = hear(
@@ -80,7 +82,7 @@ impl<C: Tells + Drop> ControlChannel<C> {
             system,
             w,
         );
-        self.failed = self.failed || fails(&result);
+        self.failed = fails(self.failed, &result);
         result
     }
 
@@ -179,17 +181,17 @@ impl<C: Tells + Drop> ControlChannel<C> {
     }
 }
 
-/// Whether the channel has failed after a read.
-pub(super) fn fails(heard: &Result<Outcome, Broken>) -> bool
-    ensures { result ≡ fails_by heard.now }
+/// Whether a channel has failed after a read.
+pub(super) fn fails(failed: bool, heard: &Result<Outcome, Broken>) -> bool
+    ensures { result ≡ (failed || fails_by heard.now) }
 {
     match heard {
         Ok(Outcome::TooLarge) => true,
         Ok(Outcome::Ended) => true,
-        Ok(Outcome::Whole(_, _)) => false,
-        Ok(Outcome::Bad(_)) => false,
-        Ok(Outcome::Waits) => false,
+        Ok(Outcome::Whole(_, _)) => failed,
+        Ok(Outcome::Bad(_)) => failed,
+        Ok(Outcome::Waits) => failed,
         Err(Broken::Connection(_)) => true,
-        Err(Broken::OutOfMemory) => false,
+        Err(Broken::OutOfMemory) => failed,
     }
 }

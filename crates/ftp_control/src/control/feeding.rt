@@ -1,14 +1,15 @@
 //! What happens from the outside to a channel over memory.
 
-ghost use Rattle.std.specs.Prelude.{◌≡◌, OnOk, OnErr};
-ghost use Rattle.ftp_control.specs.Memory.{fed, closed_memory, widened};
+ghost use Rattle.std.specs.Prelude.{◌≡◌, ◌+◌, OnOk, OnErr, length};
+ghost use Rattle.ftp_control.specs.Memory.{fed, closed_memory, widened, IsGiven};
+ghost use Rattle.ftp_control.specs.Channel.{IsSound};
 
 use super::ControlChannel;
 use crate::transport::MemoryConn;
 use std::alloc::AllocError;
 
 impl ControlChannel<MemoryConn> {
-    /// The server's bytes come. Behind the end none do.
+    /// The server's bytes come. Behind the end none do, whether it was told or met.
     pub fn feed(&mut self, bytes: &[u8]) -> Result<(), AllocError>
         ensures ok { OnOk result (self.new ≡ record self.old {
           told = fed bytes.now self.old.told;
@@ -16,6 +17,16 @@ impl ControlChannel<MemoryConn> {
         ensures err { OnErr result (self.new ≡ self.old) }
     {
         self.conn.feed(bytes)
+    }
+
+    /// How many bytes came that weren't read yet.
+    pub fn unread(&self) -> usize
+        ensures value { length self.now.told.received + result ≡
+            length self.now.told.given.bytes }
+        ensures given { IsGiven self.now.told }
+        ensures sound { IsSound (Unit {0}) self.now }
+    {
+        self.conn.unread()
     }
 
     /// The server's bytes end.

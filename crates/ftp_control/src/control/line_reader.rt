@@ -3,7 +3,7 @@
 ghost use Rattle.std.specs.Prelude.{◌≡◌, ◌<◌, Ok, false, true, ◌∷◌, [], ◌++◌, vec_len, vec_capacity};
 ghost use Rattle.ftp_control.specs.declared.control.outcome.Outcome.TheVariants as outcomes;
 ghost use Rattle.ftp_control.specs.Grammar.{line_outcome, whole_lines, left_by};
-ghost use Rattle.ftp_control.specs.Reading.{Hears};
+ghost use Rattle.ftp_control.specs.Reading.{Hears, IsAll};
 ghost use Rattle.ftp_control.specs.UnderWay.{IsUnderWay};
 
 use super::reader::poll_byte;
@@ -32,7 +32,7 @@ pub(crate) fn hear_line<W, C: PollConn<W>>(
     ensures known { C.Tells.tells → (C.Tells.told conn.new).ended ≡ ended.new }
     ensures waits { result ≡ Ok outcomes.Waits → C.may_wait }
     ensures heard { Hears C.Tells.tells line_outcome reply.old.bytes.items reply.new.bytes.items
-        ended.new (C.Tells.told conn.old) (C.Tells.told conn.new) result }
+        ended.old ended.new (C.Tells.told conn.old) (C.Tells.told conn.new) result }
 {
     while !*ended {
         if reply.bytes.reserve(1).is_err() {
@@ -63,6 +63,7 @@ pub(crate) fn take_line_byte(
     requires room { vec_len reply.old.bytes < vec_capacity reply.old.bytes }
     ensures outcome { result ≡ line_outcome (reply.old.bytes.items ++ byte ∷ []) false }
     ensures left { reply.new.bytes.items ≡ left_by result (reply.old.bytes.items ++ byte ∷ []) }
+    ensures all { IsAll (Ok result) (reply.old.bytes.items ++ byte ∷ []) reply.new.bytes.items }
     ensures under_way { IsUnderWay rule reply.new.bytes.items reply.new.line_start }
     ensures no_line { whole_lines reply.new.bytes.items ≡ [] }
 {
@@ -84,6 +85,7 @@ pub(crate) fn take_line_end(alloc: Global, reply: &mut ReplyBuffer, rule: ReplyR
     ensures outcome { result ≡ line_outcome reply.old.bytes.items true }
     ensures settled { result ≡ Outcome.Waits → ⊥ }
     ensures left { reply.new.bytes.items ≡ left_by result reply.old.bytes.items }
+    ensures all { IsAll (Ok result) reply.old.bytes.items reply.new.bytes.items }
     ensures under_way { IsUnderWay rule reply.new.bytes.items reply.new.line_start }
     ensures no_line { whole_lines reply.new.bytes.items ≡ [] }
 {

@@ -48,7 +48,7 @@ impl<C: Tells + Drop> ControlChannel<C> {
             self.rule,
             w,
         );
-        self.failed = fails(&heard);
+        self.failed = fails(self.failed, &heard);
         answer(heard)
     }
 

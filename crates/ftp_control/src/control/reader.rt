@@ -1,11 +1,12 @@
 //! The reply reader: one machine for every way to wait.
 
-ghost use Rattle.std.specs.Prelude.{◌≡◌, Ok};
+ghost use Rattle.std.specs.Prelude.{◌≡◌, Ok, None, true};
 ghost use Rattle.futures.specs.declared.task.Poll.TheVariants as poll;
 ghost use Rattle.ftp_control.specs.declared.control.outcome.Outcome.TheVariants as outcomes;
 ghost use Rattle.ftp_control.specs.UnderWay.{IsUnderWay};
 ghost use Rattle.ftp_control.specs.Grammar.{outcome};
 ghost use Rattle.ftp_control.specs.Reading.{ByteTells, Hears};
+ghost use Rattle.ftp_control.specs.Told.{EndsAsTold};
 
 use super::reply_buffer::{ReplyBuffer, take_byte, take_end};
 use super::{Broken, Outcome, ReplyRule};
@@ -33,8 +34,11 @@ pub(crate) fn hear<W, C: PollConn<W>>(
     ensures under_way { IsUnderWay rule reply.new.bytes.items reply.new.line_start }
     ensures known { C.Tells.tells → (C.Tells.told conn.new).ended ≡ ended.new }
     ensures waits { result ≡ Ok outcomes.Waits → C.may_wait }
+    ensures end { C.Tells.tells → C.may_wait →
+        EndsAsTold ended.old ended.new (C.Tells.told conn.old) }
     ensures heard { Hears C.Tells.tells (outcome rule system) reply.old.bytes.items
-        reply.new.bytes.items ended.new (C.Tells.told conn.old) (C.Tells.told conn.new) result }
+        reply.new.bytes.items ended.old ended.new (C.Tells.told conn.old) (C.Tells.told conn.new)
+        result }
 {
     while !*ended {
         if reply.bytes.reserve(1).is_err() {
@@ -59,6 +63,8 @@ pub(super) fn poll_byte<W, C: PollConn<W>>(
     w: &mut W,
 ) -> Result<Poll<Option<u8>>, ErrorKind>
     ensures waits { result ≡ Ok poll.Pending → C.may_wait }
+    ensures end { C.Tells.tells → C.may_wait → result ≡ Ok (poll.Ready None) →
+        (C.Tells.told conn.old).given.closed ≡ true }
     ensures told { C.Tells.tells → ByteTells result (C.Tells.told conn.old)
         (C.Tells.told conn.new) }
 {

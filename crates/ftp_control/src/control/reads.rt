@@ -2,6 +2,7 @@
 
 ghost use Rattle.std.specs.Prelude.{◌≡◌, Err, true, false, ◌∷◌, []};
 ghost use Rattle.futures.specs.declared.task.Poll.TheVariants as poll;
+ghost use Rattle.ftp_control.specs.Told.{EndsAsTold};
 ghost use Rattle.ftp_control.specs.Answer.{AnswersRead, answer_of, is_among, expected_reply};
 
 use super::{Broken, ControlChannel, Outcome};
@@ -30,6 +31,8 @@ impl<C: Tells + Drop> ControlChannel<C> {
     where
         C: PollConn<W>,
         ensures waits { result ≡ poll.Pending → C.may_wait }
+        ensures end { C.Tells.tells → C.may_wait →
+            EndsAsTold self.old.ended self.new.ended self.old.told }
         ensures failed { self.old.failed ≡ true →
             (result ≡ poll.Ready (Err FtpError.SessionFailed)) × (self.new ≡ self.old) }
         ensures reads { self.old.failed ≡ false →
@@ -56,6 +59,8 @@ impl<C: Tells + Drop> ControlChannel<C> {
     where
         C: PollConn<W>,
         ensures waits { result ≡ poll.Pending → C.may_wait }
+        ensures end { C.Tells.tells → C.may_wait →
+            EndsAsTold self.old.ended self.new.ended self.old.told }
         ensures failed { self.old.failed ≡ true →
             (result ≡ poll.Ready (Err FtpError.SessionFailed)) × (self.new ≡ self.old) }
         ensures reads { self.old.failed ≡ false →

@@ -1,7 +1,8 @@
 //! The bytes of the reply under way. Each byte is looked at once.
 
-ghost use Rattle.std.specs.Prelude.{◌≡◌, ◌≤◌, ◌<◌, nat_eq, false, true, ◌∷◌, [], ◌++◌, drop, length, vec_len, vec_capacity};
+ghost use Rattle.std.specs.Prelude.{◌≡◌, ◌≤◌, ◌<◌, Ok, nat_eq, false, true, ◌∷◌, [], ◌++◌, drop, length, vec_len, vec_capacity};
 ghost use Rattle.ftp_control.specs.Grammar.{outcome, left_by};
+ghost use Rattle.ftp_control.specs.Reading.{IsAll};
 ghost use Rattle.ftp_control.specs.UnderWay.{IsUnderWay};
 ghost use Rattle.ftp_control.specs.Verdict.{verdict, outcome_by};
 
@@ -34,6 +35,7 @@ pub(crate) fn take_byte(
     ensures outcome { outcome rule system reply.old.bytes.items false ≡ Outcome.Waits → result ≡
         outcome rule system (reply.old.bytes.items ++ byte ∷ []) false }
     ensures left { reply.new.bytes.items ≡ left_by result (reply.old.bytes.items ++ byte ∷ []) }
+    ensures all { IsAll (Ok result) (reply.old.bytes.items ++ byte ∷ []) reply.new.bytes.items }
     ensures under_way { IsUnderWay rule reply.new.bytes.items reply.new.line_start }
 {
     reply.bytes.push(byte).unwrap();
@@ -60,6 +62,7 @@ pub(crate) fn take_end(
         outcome rule system reply.old.bytes.items true }
     ensures settled { result ≡ Outcome.Waits → ⊥ }
     ensures left { reply.new.bytes.items ≡ left_by result reply.old.bytes.items }
+    ensures all { IsAll (Ok result) reply.old.bytes.items reply.new.bytes.items }
     ensures under_way { IsUnderWay rule reply.new.bytes.items reply.new.line_start }
 {
     if reply.line_start == count(reply) {
@@ -74,6 +77,7 @@ pub(crate) fn take_end(
 fn settle(alloc: Global, reply: &mut ReplyBuffer, ended: bool, verdict: Verdict) -> Outcome
     ensures outcome { result ≡ outcome_by ended verdict reply.old.bytes.items }
     ensures left { reply.new.bytes.items ≡ left_by result reply.old.bytes.items }
+    ensures all { IsAll (Ok result) reply.old.bytes.items reply.new.bytes.items }
     ensures start { reply.new.line_start ≡ length reply.new.bytes.items }
 {
     match verdict {

@@ -1,6 +1,6 @@
 //! What a connection does and tells.
 
-ghost use Rattle.std.specs.Prelude.{◌≡◌, ◌<◌, ◌≤◌, Ok, length};
+ghost use Rattle.std.specs.Prelude.{◌≡◌, ◌<◌, ◌≤◌, Ok, length, true};
 ghost use Rattle.futures.specs.declared.task.Poll.TheVariants as poll;
 ghost use Rattle.ftp_control.specs.Told.{Told, IsFresh, ReadTells, WriteTells, ReadsAtMost, WritesSome, as_poll};
 
@@ -31,7 +31,9 @@ pub trait PollConn<W>: Tells {
         ensures bound { ReadsAtMost result (length buffer.old) }
         ensures waits { result ≡ Ok poll.Pending → may_wait }
         ensures told { Self.tells → ReadTells result buffer.new (Self.told self.old)
-            (Self.told self.new) };
+            (Self.told self.new) }
+        ensures end { Self.tells → may_wait → result ≡ Ok (poll.Ready 0) →
+            (Self.told self.old).given.closed ≡ true };
 
     /// Writes bytes from the front, at least one.
     fn poll_write(&mut self, w: &mut W, bytes: &[u8]) -> Result<Poll<usize>, ErrorKind>

@@ -1,8 +1,8 @@
 //! Connections over memory, which tell all that goes over them.
 
-ghost use Rattle.std.specs.Prelude.{◌≡◌, ◌≤◌, ◌<◌, OnOk, OnErr, length, take, drop, min};
-ghost use Rattle.ftp_control.specs.Told.{after_read, as_poll, WritesSome, WriteTells};
-ghost use Rattle.ftp_control.specs.Memory.{fresh_memory, fed, closed_memory, widened};
+ghost use Rattle.std.specs.Prelude.{◌≡◌, ◌≤◌, ◌<◌, ◌+◌, OnOk, OnErr, length, take, drop, min};
+ghost use Rattle.ftp_control.specs.Told.{after_read, as_poll, Fits, HasFailed, HasRoomFor, IsFull, WritesSome, WriteTells};
+ghost use Rattle.ftp_control.specs.Memory.{fresh_memory, fed, closed_memory, widened, IsGiven};
 
 use super::{Conn, Network, PollConn, Room, Tells};
 use futures::task::Poll;
@@ -13,7 +13,7 @@ use std::marker::Model;
 /// A connection over memory: the server's bytes are fed to it, and what is written can be looked at.
 ///
 /// Polled, a read waits where no byte is left and the end wasn't told, and a write waits where no room is left.
-/// Blocking, the input ends behind the last byte, and there is room for everything.
+/// Blocking, the input ends behind the last byte, and a write where no room is left fails.
 #[derive(Drop)]
 pub struct MemoryConn {
     input: Vec<u8>,
@@ -27,7 +27,7 @@ pub struct MemoryConn {
 }
 
 impl Model for MemoryConn {
-    ghost use Rattle.std.specs.Prelude.{◌≤◌, length, take, drop};
+    ghost use Rattle.std.specs.Prelude.{◌≡◌, ◌≤◌, length, take, drop, true};
     ghost use Rattle.ftp_control.specs.Told.{Told, Given};
 
     ghost Value = { Told };
@@ -44,7 +44,8 @@ impl Model for MemoryConn {
       };
     } };
 
-    ghost invariant = { λ c. (c.begun ≤ c.read) × (c.read ≤ length c.input.items) };
+    ghost invariant = { λ c. (c.begun ≤ c.read) × (c.read ≤ length c.input.items) ×
+        (c.ended ≡ true → c.read ≡ length c.input.items) };
 }
 
 impl MemoryConn {
@@ -64,12 +65,12 @@ impl MemoryConn {
         }
     }
 
-    /// The server's bytes come. Behind the end none do.
+    /// The server's bytes come. Behind the end none do, whether it was told or met.
     pub fn feed(&mut self, bytes: &[u8]) -> Result<(), AllocError>
         ensures ok { OnOk result (self.new ≡ fed bytes.now self.old) }
         ensures err { OnErr result (self.new ≡ self.old) }
     {
-        if self.closed {
+        if self.closed || self.ended {
             return Ok(());
         }
         self.input.extend_from_slice(bytes)
@@ -82,14 +83,16 @@ impl MemoryConn {
         self.closed = true;
     }
 
-    /// Room for so many more bytes; the first call sets how many.
+    /// Room for so many more bytes. Before the first call there is room for any number.
     pub fn allow(&mut self, more: u64)
-        ensures { self.new ≡ widened more self.old }
+        ensures widened { self.new ≡ widened more self.old }
+        ensures fits { Fits self.old → Fits self.new }
     {
-        self.room = match self.room {
-            Room::Any => Room::UpTo(more),
-            Room::UpTo(room) => Room::UpTo(room.saturating_add(more)),
+        let room = match self.room {
+            Room::Any => self.sent.as_slice().len() as u64,
+            Room::UpTo(room) => room,
         };
+        self.room = Room::UpTo(room.saturating_add(more));
     }
 
     /// What was written since the channel began.
@@ -106,31 +109,62 @@ impl MemoryConn {
         self.read - self.begun
     }
 
+    /// How many bytes came that weren't read yet.
+    pub fn unread(&self) -> usize
+        ensures value { length self.now.received + result ≡ length self.now.given.bytes }
+        ensures given { IsGiven self.now }
+    {
+        self.input.as_slice().len() - self.read
+    }
+
     /// Gives what there is to read, or nothing.
     fn give(&mut self, buffer: &mut [u8]) -> usize
         ensures bound { result ≤ length buffer.old }
         ensures given { self.new ≡ after_read (take result buffer.new) self.old }
-        ensures none { result ≡ 0 → 0 < length buffer.old → self.old.received ≡
-            self.old.given.bytes }
+        ensures none { result ≡ 0 → 0 < length buffer.old → self.new.received ≡
+            self.new.given.bytes }
     {
         let count = copy_front(behind(self.input.as_slice(), self.read), buffer);
         self.read += count;
         count
     }
 
-    /// Takes what there is to write, as far as memory has room.
+    /// For how many of so many bytes there is room.
+    fn free(&self, wanted: usize) -> usize
+        ensures bound { result ≤ wanted }
+        ensures fits { Fits self.now → HasRoomFor self.now.given.room
+            (length self.now.sent + result) }
+        ensures full { result ≡ 0 → 0 < wanted → IsFull self.now }
+    {
+        match self.room {
+            Room::Any => wanted,
+            Room::UpTo(room) => room
+                .saturating_sub(self.sent.as_slice().len() as u64)
+                .min(wanted as u64) as usize,
+        }
+    }
+
+    /// Takes what there is to write, as far as memory is given.
     fn take(&mut self, bytes: &[u8]) -> Result<usize, ErrorKind>
-        requires { 0 < length bytes.now }
+        requires some { 0 < length bytes.now }
+        requires fits { Fits self.old → HasRoomFor self.old.given.room
+            (length self.old.sent + length bytes.now) }
         ensures bound { WritesSome (as_poll result) (length bytes.now) }
         ensures told { WriteTells (as_poll result) bytes.now self.old self.new }
     {
         match self.sent.extend_from_slice(bytes) {
             Ok(()) => Ok(bytes.len()),
-            Err(AllocError) => {
-                self.failures = self.failures.saturating_add(1);
-                Err(ErrorKind::OutOfMemory)
-            }
+            Err(AllocError) => Err(self.fault(ErrorKind::OutOfMemory)),
         }
+    }
+
+    /// A fault, which is counted.
+    fn fault(&mut self, kind: ErrorKind) -> ErrorKind
+        ensures kind { result ≡ kind }
+        ensures counted { HasFailed self.old self.new }
+    {
+        self.failures = self.failures.saturating_add(1);
+        kind
     }
 }
 
@@ -140,6 +174,14 @@ fn behind(bytes: &[u8], count: usize) -> &[u8]
     ensures { result.now ≡ drop count bytes.now }
 {
     &bytes[count..]
+}
+
+/// The first so many bytes.
+fn front(bytes: &[u8], count: usize) -> &[u8]
+    requires { count ≤ length bytes.now }
+    ensures { result.now ≡ take count bytes.now }
+{
+    &bytes[..count]
 }
 
 /// Copies as many bytes as there are and fit, to the front, and answers how many.
@@ -177,7 +219,11 @@ impl Conn for MemoryConn {
     }
 
     fn write(&mut self, bytes: &[u8]) -> Result<usize, ErrorKind> {
-        self.take(bytes)
+        let free = self.free(bytes.len());
+        if free == 0 {
+            return Err(self.fault(ErrorKind::WouldBlock));
+        }
+        self.take(front(bytes, free))
     }
 }
 
@@ -197,16 +243,11 @@ impl PollConn<()> for MemoryConn {
     }
 
     fn poll_write(&mut self, _w: &mut (), bytes: &[u8]) -> Result<Poll<usize>, ErrorKind> {
-        let free = match self.room {
-            Room::Any => bytes.len(),
-            Room::UpTo(room) => room
-                .saturating_sub(self.sent.len() as u64)
-                .min(bytes.len() as u64) as usize,
-        };
+        let free = self.free(bytes.len());
         if free == 0 {
             return Ok(Poll::Pending);
         }
-        match self.take(&bytes[..free]) {
+        match self.take(front(bytes, free)) {
             Ok(count) => Ok(Poll::Ready(count)),
             Err(kind) => Err(kind),
         }

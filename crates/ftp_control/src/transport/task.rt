@@ -1,6 +1,7 @@
 //! Connections that tell an event loop what they wait for.
 
-ghost use Rattle.std.specs.Prelude.{◌≤◌, ◌<◌, length};
+ghost use Rattle.std.specs.Prelude.{◌≡◌, ◌≤◌, ◌<◌, Ok, length, true};
+ghost use Rattle.futures.specs.declared.task.Poll.TheVariants as poll;
 ghost use Rattle.ftp_control.specs.Told.{ReadTells, WriteTells, ReadsAtMost, WritesSome};
 
 use super::{PollConn, Tells};
@@ -18,7 +19,9 @@ pub trait TaskConn: Tells {
         requires { 0 < length buffer.old }
         ensures bound { ReadsAtMost result (length buffer.old) }
         ensures told { Self.tells → ReadTells result buffer.new (Self.told self.old)
-            (Self.told self.new) };
+            (Self.told self.new) }
+        ensures end { Self.tells → result ≡ Ok (poll.Ready 0) →
+            (Self.told self.old).given.closed ≡ true };
 
     /// Writes bytes from the front, at least one.
     fn poll_write_in(

@@ -1,10 +1,12 @@
 //! What a session keeps.
 
-ghost use Rattle.std.specs.Prelude.{◌≡◌, None, IsOk, IfOk, length, option_map};
+ghost use Rattle.std.specs.Prelude.{◌≡◌, IsOk, IfOk, length, option_map};
 ghost use Rattle.ftp_control.specs.Channel.{IsIdle, IsSound};
 ghost use Rattle.ftp_control.specs.Told.{IsFresh};
+ghost use Rattle.ftp_session.specs.Sound.{SoundCounts};
+ghost use Rattle.ftp_session.specs.State.{IsFirst};
 
-use ftp_base::encoding::WelcomeMessage;
+use super::settings::State;
 use ftp_base::types::FtpResult;
 use ftp_control::control::ControlChannel;
 use ftp_control::transport::Network;
@@ -16,15 +18,15 @@ use std::marker::Model;
 pub struct Session<Tr: Network> {
     pub(super) transport: Tr,
     pub(super) channel: ControlChannel<Tr::Conn>,
-    pub(super) welcome: Option<WelcomeMessage>,
+    pub(super) state: State,
 }
 
 impl<Tr: Network> Model for Session<Tr> {
-    ghost use Rattle.ftp_session.specs.State.{State};
+    ghost use Rattle.ftp_session.specs.State.{SessionValue};
 
-    ghost Value = { State };
+    ghost Value = { SessionValue };
 
-    ghost view = { λ s. record { channel = s.channel; welcome = s.welcome } };
+    ghost view = { λ s. record { channel = s.channel; state = s.state } };
 }
 
 impl<Tr: Network> Session<Tr> {
@@ -37,12 +39,12 @@ impl<Tr: Network> Session<Tr> {
         ensures idle { IfOk result (λ session. IsIdle session.channel) }
         ensures fresh { IfOk result (λ session. Tr.Conn.tells → IsFresh session.channel.told) }
         ensures sound { IfOk result (λ session. IsSound Tr.Conn.tells session.channel) }
-        ensures ungreeted { IfOk result (λ session. session.welcome ≡ None) }
+        ensures first { IfOk result (λ session. IsFirst session.state) }
     {
         Ok(Session {
             transport,
             channel: ControlChannel::new(alloc, conn),
-            welcome: None,
+            state: State::new(),
         })
     }
 
@@ -58,20 +60,29 @@ impl<Tr: Network> Session<Tr> {
         self.channel.get_ref()
     }
 
+    /// What the session keeps beside its channel.
+    pub fn state(&self) -> &State
+        ensures value { result.now ≡ self.now.state }
+    {
+        &self.state
+    }
+
     /// How many received bytes are part of no reply yet.
     pub fn untaken(&self) -> usize
         ensures value { result ≡ length self.now.channel.kept }
         ensures sound { IsSound Tr.Conn.tells self.now.channel }
+        ensures counts { SoundCounts self.now.state.counts }
     {
+        self.state.counts.opened();
         self.channel.untaken()
     }
 
     /// The text that the server greeted with, once the greeting was taken.
     pub fn get_welcome_msg(&self) -> Option<&str>
         ensures { option_map (λ text. text.now) result ≡
-            option_map (λ welcome. welcome.text) self.now.welcome }
+            option_map (λ welcome. welcome.text) self.now.state.welcome }
     {
-        match &self.welcome {
+        match &self.state.welcome {
             Some(welcome) => Some(welcome.text()),
             None => None,
         }

@@ -12,7 +12,7 @@ invariant-loop-ended g l =
       under_way : IsUnderWay l.rule l.reply.bytes.items l.reply.line_start;
       no_line : whole_lines l.reply.bytes.items ≡ [];
       known : g.C.Tells.tells → (told l.conn).ended ≡ l.ended;
-      so_far : SoFar g.C.Tells.tells line_outcome l.fn.reply.bytes.items l.reply.bytes.items l.ended (told l.fn.conn) (told l.conn);
+      so_far : SoFar g.C.Tells.tells line_outcome l.fn.reply.bytes.items l.reply.bytes.items l.fn.ended l.ended (told l.fn.conn) (told l.conn);
     }
 
 -- a byte more is kept, or the input has ended

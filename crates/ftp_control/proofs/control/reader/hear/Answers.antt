@@ -4,7 +4,7 @@ use Rattle.ftp_control.proofs.Reading.{fails_hears, memory_hears, end_settles}
 use Rattle.ftp_control.proofs.control.reader.hear.Goals as goal
 
 pub returns-then-is_err-clause-heard : goal.returns-then-is_err-clause-heard
-returns-then-is_err-clause-heard g c = rw c.reserve.ensures.items (memory_hears _ _ _ _ _ _ _ c.loop-ended.invariant.so_far)
+returns-then-is_err-clause-heard g c = rw c.reserve.ensures.items (memory_hears _ _ _ _ _ _ _ _ c.loop-ended.invariant.so_far)
 
 pub loop-ended-smaller-in-Waits : goal.loop-ended-smaller-in-Waits
 loop-ended-smaller-in-Waits g c =
@@ -21,7 +21,7 @@ loop-ended-smaller g c =
 
 pub returns-in-Err-clause-heard : goal.returns-in-Err-clause-heard
 returns-in-Err-clause-heard g c =
-    rw c.reserve.ensures.items (fails_hears _ _ _ _ _ _ _ c.loop-ended.invariant.so_far _ _ (λ h. c.in-Err.ensures.told h))
+    rw c.reserve.ensures.items (fails_hears _ _ _ _ _ _ _ _ c.loop-ended.invariant.so_far _ _ (λ h. c.in-Err.ensures.told h))
 
 pub returns-clause-waits : goal.returns-clause-waits
 returns-clause-waits g c = λ waits. absurd (c.take_end.ensures.settled (cc waits))
@@ -29,4 +29,4 @@ returns-clause-waits g c = λ waits. absurd (c.take_end.ensures.settled (cc wait
 pub returns-clause-heard : goal.returns-clause-heard
 returns-clause-heard g c =
     rw c.loop-ended-test.false
-    (end_settles _ _ _ _ _ _ (rw c.loop-ended-test.false at c.loop-ended.invariant.so_far) _ _ c.take_end.ensures.settled c.take_end.ensures.outcome c.take_end.ensures.left)
+    (end_settles _ _ _ _ _ _ _ (rw c.loop-ended-test.false at c.loop-ended.invariant.so_far) _ _ c.take_end.ensures.settled c.take_end.ensures.outcome c.take_end.ensures.left c.take_end.ensures.all)

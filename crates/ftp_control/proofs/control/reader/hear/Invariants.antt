@@ -1,6 +1,7 @@
 use Rattle.std.proofs.Common.{◌≡◌, ◌-◌, length, cond}
 use Rattle.ftp_control.specs.Grammar.{outcome}
 use Rattle.ftp_control.specs.UnderWay.{IsUnderWay}
+use Rattle.ftp_control.specs.Told.{EndsAsTold}
 use Rattle.ftp_control.proofs.Reading.{SoFar}
 use Rattle.ftp_control.proofs.control.reader.hear.Given as goal
 
@@ -11,7 +12,8 @@ invariant-loop-ended g l =
     record {
       under_way : IsUnderWay l.rule l.reply.bytes.items l.reply.line_start;
       known : g.C.Tells.tells → (told l.conn).ended ≡ l.ended;
-      so_far : SoFar g.C.Tells.tells (outcome l.rule l.system) l.fn.reply.bytes.items l.reply.bytes.items l.ended (told l.fn.conn) (told l.conn);
+      end : g.C.Tells.tells → g.C.PollConn.may_wait → EndsAsTold l.fn.ended l.ended (told l.fn.conn);
+      so_far : SoFar g.C.Tells.tells (outcome l.rule l.system) l.fn.reply.bytes.items l.reply.bytes.items l.fn.ended l.ended (told l.fn.conn) (told l.conn);
     }
 
 -- a byte more is kept, or the input has ended

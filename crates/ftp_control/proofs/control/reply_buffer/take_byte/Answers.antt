@@ -56,3 +56,11 @@ returns-clause-under_way c =
     rw (c.settle.ensures.outcome, pushed, feed) at c.settle.ensures.left in
     rw c.settle.ensures.start
     (line_leaves _ _ _ _ _ c.requires.under_way (omega (arith, count, c.if-count-gt-REPLY_LIMIT.false)) (sym judged) _ left)
+
+pub returns-then-count-gt-REPLY_LIMIT-clause-all : goal.returns-then-count-gt-REPLY_LIMIT-clause-all
+returns-then-count-gt-REPLY_LIMIT-clause-all c =
+    let held = too_little _ _ _ c.requires.under_way.waits in
+    let pushed : c.push.new.self.items ≡ c.args.reply.now.bytes.items ++ c.args.byte ∷ [] = rw c.unwrap.ensures at c.push.ensures.items in
+    let count : c.count.result ≡ length (c.args.reply.now.bytes.items ++ c.args.byte ∷ []) = c.count.ensures ∙ ap length pushed in
+    let longer = length-append c.args.reply.now.bytes.items (c.args.byte ∷ []) in
+    (omega (arith, count, longer, held.fits, c.if-count-gt-REPLY_LIMIT.true), c.take_all.ensures.left)

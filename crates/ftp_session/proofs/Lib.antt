@@ -1,0 +1,4 @@
+pub mod Hearing
+pub mod Moving
+pub mod Polling
+pub mod Running

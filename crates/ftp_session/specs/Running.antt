@@ -1,0 +1,65 @@
+-- What a session does with a list of calls: what their definition says of all that the server sends, until the
+-- connection fails or memory is refused.
+use Rattle.std.specs.Prelude.{◌≡◌, ◌⊎◌, ℕ, Bool, true, false, List, [], ◌∷◌, ◌++◌, length, Ok}
+use Rattle.ftp_base.specs.declared.types.fault.FtpError.{FtpError}
+use Rattle.ftp_base.specs.declared.types.fault.FtpError.TheVariants.{SessionFailed}
+use Rattle.ftp_control.specs.declared.transport.room.Room.{Room}
+use Rattle.ftp_control.specs.Told.{HasRoomFor}
+use Rattle.ftp_control.specs.Reading.{GoesOn}
+use Rattle.ftp_session.specs.declared.session.ask.Request.{Request}
+use Rattle.ftp_session.specs.declared.session.ask.Outcome.{Outcome}
+use Rattle.ftp_session.specs.declared.session.call.Answer.{Answer}
+use Rattle.ftp_session.specs.declared.session.call.Answer.TheVariants.{Fault}
+use Rattle.ftp_session.specs.declared.session.call.Call.{Call}
+use Rattle.ftp_session.specs.declared.plain.Ran.{Ran}
+use Rattle.ftp_session.specs.declared.plain.Ran.TheVariants.{Finished, Waiting}
+use Rattle.ftp_session.specs.State.{SessionValue}
+use Rattle.ftp_session.specs.Run.{run, before, OneView}
+use Rattle.ftp_session.specs.Moving.{standing, Goes, Breaks}
+
+-- one view of System: what is kept is no whole reply under the first list that these calls hear under
+abbrev pub Agrees : SessionValue → List Call → Type 0
+Agrees v calls = v.channel.failed ≡ false → OneView v.channel.rule v.channel.kept Ok calls
+
+-- answers before those of later calls
+abbrev pub before_all : List Answer → Ran → Ran
+before_all [] ran = ran
+before_all (answer ∷ answers) ran = before answer (before_all answers ran)
+
+-- a run that got so far: it comes to these answers, and to what is left of it from here
+pub record RanTo (tells : Type 0) (calls left : List Call) (old new : SessionValue) (answers : List Answer) : Type 0 where
+  pub came : List ℕ
+  pub goes : Goes tells came old new
+  pub runs : tells → Agrees old calls → (room : Room) (asked : List Request) (more : List ℕ) (ended : Bool) (outcomes : List Outcome) → HasRoomFor room (length new.channel.told.sent) → GoesOn new.channel.ended more ended → run room Ok calls (standing old asked (came ++ more) ended outcomes) ≡ before_all answers (run room Ok left (standing new asked more ended outcomes))
+  pub agrees : Agrees old calls → Agrees new left
+
+-- a run that came to its end: these are the answers, and here it stands, whatever else the server sends
+pub record RunsTo (tells : Type 0) (calls : List Call) (old new : SessionValue) (answers : List Answer) : Type 0 where
+  pub came : List ℕ
+  pub goes : Goes tells came old new
+  pub runs : tells → Agrees old calls → (room : Room) (asked : List Request) (more : List ℕ) (ended : Bool) (outcomes : List Outcome) → HasRoomFor room (length new.channel.told.sent) → GoesOn new.channel.ended more ended → run room Ok calls (standing old asked (came ++ more) ended outcomes) ≡ Finished answers (standing new asked more ended outcomes)
+
+-- each is refused, since the session has failed
+abbrev pub AllRefused : List Answer → Type 0
+AllRefused [] = Unit {0}
+AllRefused (answer ∷ answers) = (answer ≡ Fault SessionFailed) × AllRefused answers
+
+-- a run in which a call broke off: the answers before it are the definition's; where the session has failed, each
+-- later call is refused and changes nothing
+pub record BrokeOff (tells : Type 0) (calls : List Call) (old new : SessionValue) (answers : List Answer) : Type 0 where
+  pub first : List Answer
+  pub call : Call
+  pub later : List Call
+  pub middle : SessionValue
+  pub ran : RanTo tells calls (call ∷ later) old middle first
+  pub going : middle.channel.failed ≡ false
+  pub fault : FtpError
+  pub after : SessionValue
+  pub breaks : Breaks tells (Fault fault) middle after
+  pub rest : List Answer
+  pub answers_are : answers ≡ first ++ Fault fault ∷ rest
+  pub failed : after.channel.failed ≡ true → (new ≡ after) × AllRefused rest
+
+-- the run of a list of calls
+abbrev pub Runs : Type 0 → List Call → SessionValue → SessionValue → List Answer → Type 0
+Runs tells calls old new answers = RunsTo tells calls old new answers ⊎ BrokeOff tells calls old new answers

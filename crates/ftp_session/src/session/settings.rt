@@ -1,0 +1,130 @@
+//! What a session was told to do, and the transfers that it counted.
+
+ghost use Rattle.std.specs.Prelude.{◌≡◌};
+ghost use Rattle.ftp_session.specs.Sound.{no_transfers, SoundCounts};
+ghost use Rattle.ftp_session.specs.State.{IsFirst};
+
+use ftp_base::encoding::WelcomeMessage;
+use ftp_base::types::{ActivePeerCheck, Mode};
+use std::marker::Model;
+use std::time::Duration;
+
+/// How many seconds a session waits for an active data connection, unless it is told otherwise.
+pub const ACTIVE_DEADLINE_SECONDS: u64 = 60;
+
+/// What a session was told to do.
+#[derive(Drop)]
+pub struct Settings {
+    /// Who opens data connections.
+    pub mode: Mode,
+    /// Whether the host of a reply to PASV is passed over for the control peer's.
+    pub passive_nat_workaround: bool,
+    /// Which peers may open an active data connection.
+    pub active_peer_check: ActivePeerCheck,
+    /// How long an active data connection is waited for.
+    pub active_deadline: Duration,
+    /// Whether transfers are of text.
+    pub text: bool,
+    /// Whether data connections are secure.
+    pub secure: bool,
+    /// Where the next transfer begins, in bytes (RFC 3659, section 5).
+    pub restart_offset: u64,
+}
+
+/// The transfer whose last reply hasn't been read.
+#[derive(Clone, Copy, Debug, PartialEq, Eq)]
+pub enum Owed {
+    /// None.
+    Nothing,
+    /// One that is still held, of this number.
+    Live(u64),
+    /// One that was left, of this number.
+    Left(u64),
+}
+
+/// How many transfers were opened, and how they came to their end.
+#[derive(Drop)]
+pub struct Counts {
+    opened: u64,
+    finished: u64,
+    aborted: u64,
+    drained: u64,
+    owed: Owed,
+}
+
+impl Model for Counts {
+    ghost use Rattle.ftp_session.specs.Sound.{Transfers, SoundCounts};
+
+    ghost Value = { Transfers };
+
+    ghost view = { λ c. record {
+      opened = c.opened;
+      finished = c.finished;
+      aborted = c.aborted;
+      drained = c.drained;
+      owed = c.owed;
+    } };
+
+    ghost invariant = { λ c. SoundCounts (record {
+      opened = c.opened;
+      finished = c.finished;
+      aborted = c.aborted;
+      drained = c.drained;
+      owed = c.owed;
+    }) };
+}
+
+impl Counts {
+    /// No transfer was opened.
+    pub fn new() -> Counts
+        ensures { result ≡ no_transfers }
+    {
+        Counts {
+            opened: 0,
+            finished: 0,
+            aborted: 0,
+            drained: 0,
+            owed: Owed::Nothing,
+        }
+    }
+
+    /// How many transfers were opened.
+    pub fn opened(&self) -> u64
+        ensures value { result ≡ self.now.opened }
+        ensures sound { SoundCounts self.now }
+    {
+        self.opened
+    }
+}
+
+/// What a session keeps beside its control channel.
+#[derive(Drop)]
+pub struct State {
+    /// What it was told to do.
+    pub settings: Settings,
+    /// The transfers that it counted.
+    pub counts: Counts,
+    /// What the server greeted with, once the greeting was taken.
+    pub welcome: Option<WelcomeMessage>,
+}
+
+impl State {
+    /// A session begins: passive, its transfers of text, the control peer alone let in.
+    pub fn new() -> State
+        ensures { IsFirst result }
+    {
+        State {
+            settings: Settings {
+                mode: Mode::Passive,
+                passive_nat_workaround: false,
+                active_peer_check: ActivePeerCheck::ControlPeer,
+                active_deadline: Duration::from_secs(ACTIVE_DEADLINE_SECONDS),
+                text: true,
+                secure: false,
+                restart_offset: 0,
+            },
+            counts: Counts::new(),
+            welcome: None,
+        }
+    }
+}
