@@ -34,7 +34,7 @@ use Rattle.ftp_session.specs.State.{SessionValue}
 use Rattle.ftp_session.specs.Dialogue.{Tree, Say, Hear, Ask, Leaf}
 use Rattle.ftp_session.specs.Play.{play, heard_then}
 use Rattle.ftp_session.specs.Run.{Resumes, Silent}
-use Rattle.ftp_session.specs.Moving.{standing, Goes, Keeps, Moves, Completes, BreaksRead, Fails, LacksMemory, WaitsFor, HearsStep}
+use Rattle.ftp_session.specs.Moving.{standing, Goes, Keeps, Moves, Completes, BreaksRead, Fails, LacksMemory, WaitsFor, Rests, HearsStep}
 
 pub play-Hear : (room : Room) (codes : List Status) (next : Response → Tree) (s : Standing) → play room (Hear codes next) s ≡ heard_then (outcome s.rule (is_among codes System) s.bytes s.ended) codes s (λ reply t. play room (next reply) t)
 unfolding play
@@ -51,14 +51,6 @@ nothing_resumes rule (Say (Err cause) next) = tt
 nothing_resumes rule (Hear codes next) = nothing_says rule (is_among codes System)
 nothing_resumes rule (Ask request next) = λ answer. nothing_resumes rule (next answer)
 nothing_resumes rule (Leaf answer state) = tt
-
--- how many bytes were looked at doesn't count
-heard_seen : (heard : Heard) (codes : List Status) (s : Standing) (n : ℕ) (next : Response → Standing → Played) → heard_then heard codes (record s { seen = n }) next ≡ heard_then heard codes s next
-heard_seen (Whole reply code) codes s n next = refl
-heard_seen (Bad line) codes s n next = refl
-heard_seen TooLarge codes s n next = refl
-heard_seen Ended codes s n next = refl
-heard_seen More codes s n next = refl
 
 -- bytes came, and nothing else happened
 tells_input : (heard : Heard) (came : List ℕ) (ended : Bool) (t u : Told) → HearTells (Ok heard) came ended t u → u ≡ after_input came ended t
@@ -97,7 +89,6 @@ module _ (tells : Type 0) (state : State) (t : Told) (kept unsent : List ℕ) (f
       let said = ap (λ x. x.sent) (told h) in
       play-Hear room codes next _
       ∙ rw (← append_assoc kept came more, stays resumes more e on, said)
-      (heard_seen heard codes (record (standing old asked (came ++ more) e outcomes) { bytes = (kept ++ came) ++ more; seen = length kept' }) (length kept) _)
 
   -- bytes behind a reply
   behind : (reply came more : List ℕ) → reply ≡ kept ++ came → drop (length reply) ((kept ++ came) ++ more) ≡ more
@@ -116,6 +107,7 @@ module _ (tells : Type 0) (state : State) (t : Told) (kept unsent : List ℕ) (f
         ∙ rw (among, behind reply came more all, none);
     resumes = λ r. rw none (nothing_resumes rule (next (record { status = status_of code; body = reply })));
     keeps = λ silent. inl none;
+    calm = λ calm. inl none;
   }
 
   -- a reply of another status
@@ -128,6 +120,7 @@ module _ (tells : Type 0) (state : State) (t : Told) (kept unsent : List ℕ) (f
         comes h resumes room asked more e outcomes on
         ∙ rw (among, behind reply came more all, none);
     keeps = inl none;
+    calm = inl none;
   }
 
   refuses_line : (came line : List ℕ) → Goes tells came old (new false) → kept' ≡ [] → line ≡ kept ++ came → Comes false came (Bad line) → Completes tells (Hear codes next) (Fault fault.BadResponse) old (new false)
@@ -138,6 +131,7 @@ module _ (tells : Type 0) (state : State) (t : Told) (kept unsent : List ℕ) (f
     plays = λ h resumes room asked more e outcomes fit on.
         comes h resumes room asked more e outcomes on ∙ rw (behind line came more all, none);
     keeps = inl none;
+    calm = inl none;
   }
 
   refuses_length : (came : List ℕ) → Goes tells came old (new true) → kept' ≡ [] → length (kept ++ came) ≡ reply_limit + 1 → Comes true came TooLarge → Completes tells (Hear codes next) (Fault (fault.ConnectionError connection.ReplyTooLarge)) old (new true)
@@ -148,6 +142,7 @@ module _ (tells : Type 0) (state : State) (t : Told) (kept unsent : List ℕ) (f
     plays = λ h resumes room asked more e outcomes fit on.
         comes h resumes room asked more e outcomes on ∙ rw (← all, drop-append_seam (kept ++ came) more, none);
     keeps = inl none;
+    calm = inl none;
   }
 
   meets_end : (came : List ℕ) → Goes tells came old (new true) → kept' ≡ [] → (outcome rule (is_among codes System) kept false ≡ More → ended ≡ true) → Comes true came Ended → Completes tells (Hear codes next) (Fault (fault.ConnectionError connection.UnexpectedEof)) old (new true)
@@ -158,26 +153,26 @@ module _ (tells : Type 0) (state : State) (t : Told) (kept unsent : List ℕ) (f
     plays = λ h resumes room asked more e outcomes fit on.
         comes h resumes room asked more e outcomes on ∙ rw (on.nothing (last resumes), none);
     keeps = inl none;
+    calm = inl none;
   }
 
-  waits_on : (came : List ℕ) → Goes tells came old (new false) → kept' ≡ kept ++ came → ended ≡ false → (outcome rule (is_among codes System) kept false ≡ More → outcome rule (is_among codes System) kept' false ≡ More) → (tells → u ≡ after_input came ended t) → (tells → IsDry u) → Moves tells (Hear codes next) (Hear codes next) old (new false) × WaitsFor tells (Hear codes next) (new false)
-  waits_on came goes all unended waits told dry = (
-    record {
-      came = came;
-      goes = goes;
-      state = refl;
-      failed = refl;
-      plays = λ h resumes room asked more e outcomes fit on.
-          let said = ap (λ x. x.sent) (told h) in
-          play-Hear room codes next _
-          ∙ rw (← append_assoc kept came more, ← all, said)
-          (heard_seen _ codes (record (standing old asked (came ++ more) e outcomes) { bytes = kept' ++ more; seen = length kept' }) (length kept) _)
-          ∙ sym (play-Hear room codes next _);
-      resumes = λ r. waits r;
-      keeps = λ silent. absurd silent;
-    },
-    (unended, dry)
-  )
+  waits_on : (came : List ℕ) → Goes tells came old (new false) → kept' ≡ kept ++ came → ended ≡ false → (outcome rule (is_among codes System) kept false ≡ More → outcome rule (is_among codes System) kept' false ≡ More) → (tells → u ≡ after_input came ended t) → (tells → IsDry u) → Moves tells (Hear codes next) (Hear codes next) old (new false) × WaitsFor tells (Hear codes next) (new false) × Rests tells old (new false)
+  waits_on came goes all unended waits told dry =
+      let stays : tells → (asked : List Request) (more : List ℕ) (e : Bool) (outcomes : List Outcome) → standing old asked (came ++ more) e outcomes ≡ standing (new false) asked more e outcomes = λ h asked more e outcomes. rw (← append_assoc kept came more, ← all, ap (λ x. x.sent) (told h)) in
+      (
+        record {
+          came = came;
+          goes = goes;
+          state = refl;
+          failed = refl;
+          plays = λ h resumes room asked more e outcomes fit on. ap (λ s. play room (Hear codes next) s) (stays h asked more e outcomes);
+          resumes = λ r. waits r;
+          keeps = λ silent. absurd silent;
+          calm = λ calm. absurd calm;
+        },
+        (unended, dry),
+        record { came = came; goes = goes; failed = refl; stays = stays }
+      )
 
   breaks_off : (kind : ErrorKind) (came : List ℕ) → (tells → HasFailed (after_input came ended t) u) → BreaksRead tells (fault.ConnectionError (connection.Io kind)) old (new true)
   breaks_off kind came told = record {

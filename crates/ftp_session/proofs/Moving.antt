@@ -30,7 +30,7 @@ use Rattle.ftp_base.specs.declared.types.fault.ConnectionError.{ConnectionError 
 use Rattle.ftp_control.specs.Refusal.{IsRefusalOf}
 use Rattle.ftp_session.specs.Play.{play, fits, said_then}
 use Rattle.ftp_session.specs.Run.{Resumes, Silent}
-use Rattle.ftp_session.specs.Moving.{standing, Goes, Keeps, Moves, Completes, Breaks, Fails, WantsMemory, LacksMemory, Accepts, AcceptsNot, WaitsFor, Steps, HearsStep, after_line, step_of, line_of, wants_memory, failed_from, after_fault}
+use Rattle.ftp_session.specs.Moving.{standing, Goes, Keeps, Calm, Moves, Completes, Breaks, Fails, WantsMemory, LacksMemory, Accepts, AcceptsNot, WaitsFor, Steps, HearsStep, after_line, step_of, line_of, wants_memory, failed_from, after_fault}
 
 pub play-Say : (room : Room) (line : List ℕ) (next : Tree) (s : Standing) → play room (Say (Ok line) next) s ≡ said_then room line s (λ t. play room next t)
 unfolding play
@@ -90,7 +90,8 @@ module _ (tells : Type 0) (state : State) (a : Channel) (told : Told) (unsent : 
         let room_for = room_fits room told.sent fit in
         play-Say room (due line) next _ ∙ rw (← all, room_for, says.leaves.0, says.leaves.2);
     resumes = λ r. r;
-    keeps = λ silent. inr (refl, silent);
+    keeps = λ silent. inr (refl, refl, silent);
+      calm = λ calm. inr (refl, refl, tt);
   }
 
   -- the connection waits for room
@@ -105,7 +106,8 @@ module _ (tells : Type 0) (state : State) (a : Channel) (told : Told) (unsent : 
           let all = says.said h in
           play-Say room (due line) next _ ∙ rw (← all, says.leaves.2) (sym (play-Say room (due line') next _));
       resumes = λ r. r;
-      keeps = λ silent. inr (refl, silent);
+      keeps = λ silent. inr (refl, refl, silent);
+      calm = λ calm. inr (refl, refl, tt);
     },
     (says.leaves.0, says.leaves.1)
   )
@@ -142,6 +144,7 @@ accepted_completes tells tree call reply answer old mid new moves accepts =
       plays = λ h resumes room asked more ended outcomes fit on.
           moves.plays h resumes room asked more ended outcomes fit on ∙ rw leaf (play-Leaf room answer new.state _);
       keeps = moves.keeps (let Q : Tree → Type 0 = Silent in subst Q (sym leaf) tt);
+      calm = moves.calm (let Q : Tree → Type 0 = Calm in subst Q (sym leaf) tt);
     })
 
 pub accepted_breaks : (tells : Type 0) (tree tree' : Tree) (answer : Answer) (old mid new : SessionValue) → Moves tells tree tree' old mid → AcceptsNot mid new answer → Breaks tells answer old new
@@ -190,7 +193,8 @@ stays_put tells tree tree' v same =
       failed = refl;
       plays = λ h resumes room asked more ended outcomes fit on. refl;
       resumes = λ r. r;
-      keeps = λ silent. inr (refl, silent);
+      keeps = λ silent. inr (refl, refl, silent);
+      calm = λ calm. inr (refl, refl, calm);
     })
 
 -- a command that has no line is the answer
@@ -199,7 +203,8 @@ refused_line tells cause next v = record {
   came = [];
   goes = nothing_goes tells v;
   plays = λ h resumes room asked more ended outcomes fit on. play-Refused room cause next _;
-  keeps = inr (refl, tt);
+  keeps = inr (refl, refl, tt);
+  calm = inr (refl, refl, tt);
 }
 
 pub no_memory_yet : (tells : Type 0) (v : SessionValue) → Breaks tells (Fault OutOfMemory) v v
@@ -251,13 +256,13 @@ goes_behind first two more last ended a b = record {
   over = λ e. b.over (a.over e);
 }
 
-keeps_behind : (tree tree' : Tree) (a b c : SessionValue) → (Silent tree' → Keeps tree a b) → Keeps tree' b c → Keeps tree a c
-keeps_behind tree tree' a b c first (inl none) = inl none
-keeps_behind tree tree' a b c first (inr same) = go (first same.1)
+keeps_behind : (P Q : Type 0) (one two : List ℕ) (a b c : SessionValue) → (Q → Keeps P one a b) → Keeps Q two b c → Keeps P (one ++ two) a c
+keeps_behind P Q one two a b c first (inl none) = inl none
+keeps_behind P Q one two a b c first (inr same) = go (first same.2)
   where
-    go : Keeps tree a b → Keeps tree a c
+    go : Keeps P one a b → Keeps P (one ++ two) a c
     go (inl none) = inl (same.0 ∙ none)
-    go (inr before) = inr (same.0 ∙ before.0, before.1)
+    go (inr before) = inr (same.0 ∙ before.0, rw (before.1, same.1), before.2)
 
 -- what fits at last has fitted all along
 pub fitted : (room : Room) (m n : ℕ) → m ≤ n → HasRoomFor room n → HasRoomFor room m
@@ -282,7 +287,8 @@ module _ (tells : Type 0) (tree tree' : Tree) (a b c : SessionValue) (first : Mo
         first_plays second.came second.goes h resumes room asked more ended outcomes fit on
         ∙ second.plays h (first.resumes resumes) room asked more ended outcomes fit on;
     resumes = λ r. second.resumes (first.resumes r);
-    keeps = λ silent. keeps_behind tree tree' a b c first.keeps (second.keeps silent);
+    keeps = λ silent. keeps_behind (Silent tree) (Silent tree') first.came second.came a b c first.keeps (second.keeps silent);
+    calm = λ calm. keeps_behind (Calm tree) (Calm tree') first.came second.came a b c first.calm (second.calm calm);
   }
 
   -- the answer behind others
@@ -293,7 +299,8 @@ module _ (tells : Type 0) (tree tree' : Tree) (a b c : SessionValue) (first : Mo
     plays = λ h resumes room asked more ended outcomes fit on.
         first_plays second.came second.goes h resumes room asked more ended outcomes fit on
         ∙ second.plays h (first.resumes resumes) room asked more ended outcomes fit on;
-    keeps = keeps_behind tree tree' a b c first.keeps second.keeps;
+    keeps = keeps_behind (Silent tree) (Silent tree') first.came second.came a b c first.keeps second.keeps;
+    calm = keeps_behind (Calm tree) (Calm tree') first.came second.came a b c first.calm second.calm;
   }
 
   -- a failure behind others: want of memory where nothing was said fails nothing

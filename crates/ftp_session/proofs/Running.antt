@@ -16,6 +16,7 @@ use Rattle.ftp_session.specs.declared.session.call.Call.{Call}
 use Rattle.ftp_session.specs.declared.plain.Standing.{Standing}
 use Rattle.ftp_session.specs.declared.plain.Played.{Played}
 use Rattle.ftp_session.specs.declared.plain.Played.TheVariants.{Done}
+use Rattle.ftp_session.specs.declared.plain.Wait.{Wait}
 use Rattle.ftp_session.specs.declared.plain.Ran.{Ran}
 use Rattle.ftp_session.specs.declared.plain.Ran.TheVariants.{Finished, Waiting}
 use Rattle.ftp_session.specs.State.{SessionValue}
@@ -44,9 +45,9 @@ pub before_all-Finished : (answers later : List Answer) (s : Standing) → befor
 before_all-Finished [] later s = refl
 before_all-Finished (answer ∷ answers) later s = ap (before answer) (before_all-Finished answers later s)
 
-pub before_all-Waiting : (answers later : List Answer) (s : Standing) → before_all answers (Waiting later s) ≡ Waiting (answers ++ later) s
-before_all-Waiting [] later s = refl
-before_all-Waiting (answer ∷ answers) later s = ap (before answer) (before_all-Waiting answers later s)
+pub before_all-Waiting : (answers later : List Answer) (wait : Wait) (s : Standing) → before_all answers (Waiting later wait s) ≡ Waiting (answers ++ later) wait s
+before_all-Waiting [] later wait s = refl
+before_all-Waiting (answer ∷ answers) later wait s = ap (before answer) (before_all-Waiting answers later wait s)
 
 -- where nothing is kept, every list has the same view
 pub nothing_views : (rule : ReplyRule) (calls : List Call) → OneView rule [] Ok calls
@@ -75,9 +76,9 @@ ran_nothing tells calls v = record {
 }
 
 -- the view of the calls behind one that is done
-views_on : (call : Call) (later : List Call) (mid new : SessionValue) (state : State) → new.channel.rule ≡ mid.channel.rule → Keeps (dialogue Ok call state) mid new → OneView mid.channel.rule mid.channel.kept Ok (call ∷ later) → OneView new.channel.rule new.channel.kept Ok later
-views_on call later mid new state rule (inl none) view = rw none (nothing_views new.channel.rule later)
-views_on call later mid new state rule (inr same) view = rw (same.0, rule) ((view state).1 same.1)
+views_on : (call : Call) (later : List Call) (came : List ℕ) (mid new : SessionValue) (state : State) → new.channel.rule ≡ mid.channel.rule → Keeps (Silent (dialogue Ok call state)) came mid new → OneView mid.channel.rule mid.channel.kept Ok (call ∷ later) → OneView new.channel.rule new.channel.kept Ok later
+views_on call later came mid new state rule (inl none) view = rw none (nothing_views new.channel.rule later)
+views_on call later came mid new state rule (inr same) view = rw (same.0, rule) ((view state).1 same.2)
 
 module _ (tells : Type 0) (calls later : List Call) (call : Call) (old mid new : SessionValue) (answers : List Answer) (answer : Answer) (ran : RanTo tells calls (call ∷ later) old mid answers) where
   -- the next call is done
@@ -92,7 +93,7 @@ module _ (tells : Type 0) (calls later : List Call) (call : Call) (old mid new :
         (first
         ∙ ap (before_all answers) (plays_on room call later (standing mid asked (done.came ++ more) ended outcomes) (standing new asked more ended outcomes) answer going played)
         ∙ sym (before_all-snoc answers answer (run room Ok later (standing new asked more ended outcomes))));
-    agrees = λ agrees going'. views_on call later mid new mid.state done.goes.rule done.keeps (ran.agrees agrees going);
+    agrees = λ agrees going'. views_on call later done.came mid new mid.state done.goes.rule done.keeps (ran.agrees agrees going);
   }
 
   -- the session has failed

@@ -49,7 +49,6 @@ standing v asked more ended outcomes = record {
   rest = v.channel.unsent;
   asked = asked;
   bytes = v.channel.kept ++ more;
-  seen = length v.channel.kept;
   ended = ended;
   outcomes = outcomes;
 }
@@ -63,9 +62,16 @@ pub record Goes (tells : Type 0) (came : List ℕ) (old new : SessionValue) : Ty
   pub sent : tells → length old.channel.told.sent ≤ length new.channel.told.sent
   pub rule : new.channel.rule ≡ old.channel.rule
 
--- what is kept afterwards: nothing, or what was where nothing was heard
-abbrev pub Keeps : Tree → SessionValue → SessionValue → Type 0
-Keeps tree old new = (new.channel.kept ≡ []) ⊎ ((new.channel.kept ≡ old.channel.kept) × Silent tree)
+-- what is kept afterwards: nothing, as behind a reply; or what was, where none was read
+abbrev pub Keeps : Type 0 → List ℕ → SessionValue → SessionValue → Type 0
+Keeps untouched came old new = (new.channel.kept ≡ []) ⊎ ((new.channel.kept ≡ old.channel.kept) × (came ≡ []) × untouched)
+
+-- the first node hears nothing
+abbrev pub Calm : Tree → Type 0
+Calm (Say line next) = Unit {0}
+Calm (Hear codes next) = ⊥
+Calm (Ask request next) = Unit {0}
+Calm (Leaf answer state) = Unit {0}
 
 -- one tree is left of another
 pub record Moves (tells : Type 0) (tree tree' : Tree) (old new : SessionValue) : Type 0 where
@@ -75,14 +81,16 @@ pub record Moves (tells : Type 0) (tree tree' : Tree) (old new : SessionValue) :
   pub failed : new.channel.failed ≡ old.channel.failed
   pub plays : tells → Resumes old.channel.rule old.channel.kept tree → (room : Room) (asked : List Request) (more : List ℕ) (ended : Bool) (outcomes : List Outcome) → HasRoomFor room (length new.channel.told.sent) → GoesOn new.channel.ended more ended → play room tree (standing old asked (came ++ more) ended outcomes) ≡ play room tree' (standing new asked more ended outcomes)
   pub resumes : Resumes old.channel.rule old.channel.kept tree → Resumes new.channel.rule new.channel.kept tree'
-  pub keeps : Silent tree' → Keeps tree old new
+  pub keeps : Silent tree' → Keeps (Silent tree) came old new
+  pub calm : Calm tree' → Keeps (Calm tree) came old new
 
 -- a tree comes to its answer
 pub record Completes (tells : Type 0) (tree : Tree) (answer : Answer) (old new : SessionValue) : Type 0 where
   pub came : List ℕ
   pub goes : Goes tells came old new
   pub plays : tells → Resumes old.channel.rule old.channel.kept tree → (room : Room) (asked : List Request) (more : List ℕ) (ended : Bool) (outcomes : List Outcome) → HasRoomFor room (length new.channel.told.sent) → GoesOn new.channel.ended more ended → play room tree (standing old asked (came ++ more) ended outcomes) ≡ played.Done answer (standing new asked more ended outcomes)
-  pub keeps : Keeps tree old new
+  pub keeps : Keeps (Silent tree) came old new
+  pub calm : Keeps (Calm tree) came old new
 
 -- nothing was said, and nothing was taken
 pub record SaysNothing (tells : Type 0) (old new : SessionValue) : Type 0 where
@@ -137,6 +145,13 @@ step_of (Ready (Ok done)) = Next
 step_of (Ready (Err fault)) = Done (Fault fault)
 step_of Pending = Waits
 
+-- a read that waits leaves a run where it stood: what came is kept, and nothing else happened
+pub record Rests (tells : Type 0) (old new : SessionValue) : Type 0 where
+  pub came : List ℕ
+  pub goes : Goes tells came old new
+  pub failed : new.channel.failed ≡ old.channel.failed
+  pub stays : tells → (asked : List Request) (more : List ℕ) (ended : Bool) (outcomes : List Outcome) → standing old asked (came ++ more) ended outcomes ≡ standing new asked more ended outcomes
+
 -- what is left where a line goes out
 abbrev pub after_line : Step → Option (List ℕ) → Tree → Tree
 after_line Next line next = next
@@ -153,7 +168,7 @@ abbrev pub HearsStep : Type 0 → List Status → (Response → Tree) → Sessio
 HearsStep tells codes next old new (Ready (Ok reply)) = Moves tells (Hear codes next) (next reply) old new
 HearsStep tells codes next old new (Ready (Err fault)) =
     (Completes tells (Hear codes next) (Fault fault) old new × (fault ≡ OutOfMemory → ⊥)) ⊎ BreaksRead tells fault old new
-HearsStep tells codes next old new Pending = Moves tells (Hear codes next) (Hear codes next) old new × WaitsFor tells (Hear codes next) new
+HearsStep tells codes next old new Pending = Moves tells (Hear codes next) (Hear codes next) old new × WaitsFor tells (Hear codes next) new × Rests tells old new
 
 -- the nodes that are left
 abbrev pub to_go : Stage → ℕ

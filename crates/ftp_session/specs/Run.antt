@@ -21,12 +21,12 @@ use Rattle.ftp_session.specs.Play.{play_call}
 -- an answer before those of later calls
 abbrev pub before : Answer → Ran → Ran
 before answer (Finished answers s) = Finished (answer ∷ answers) s
-before answer (Waiting answers s) = Waiting (answer ∷ answers) s
+before answer (Waiting answers wait s) = Waiting (answer ∷ answers) wait s
 
 -- a call that is done goes on with the later ones
 abbrev pub and_then : Played → (Standing → Ran) → Ran
 and_then (Done answer s) next = before answer (next s)
-and_then (Waits s) next = Waiting [] s
+and_then (Waits wait s) next = Waiting [] wait s
 
 -- the calls in turn
 unfoldable pub run : Room → Encode → List Call → Standing → Ran

@@ -2,8 +2,9 @@
 
 ghost use Rattle.std.specs.Prelude.{◌≡◌, ◌⊎◌, ◌<◌, Ok, true, false};
 ghost use Rattle.futures.specs.declared.task.Poll.TheVariants as poll;
+ghost use Rattle.ftp_session.specs.Dialogue.{says};
 ghost use Rattle.ftp_session.specs.Calls.{IsKind, PollKind, StepKind};
-ghost use Rattle.ftp_session.specs.Moving.{left, to_go, Quiet, StageOf, Steps, Polls, Plays};
+ghost use Rattle.ftp_session.specs.Moving.{left, to_go, Quiet, Rests, StageOf, Steps, Polls, Plays};
 
 use super::stage::{Stage, Step};
 use super::step::begin;
@@ -33,6 +34,9 @@ impl<Tr: Network> Session<Tr> {
         ensures steps { Steps Tr.Conn.tells (left Ok call.now self.old.state stage.old)
             (left Ok call.now self.old.state stage.new) self.old self.new result }
         ensures quiet { Quiet call.now stage.old stage.new self.old self.new result }
+        ensures begun { result ≡ Step.Waits → stage.new ≡ Stage.Begun → ⊥ }
+        ensures rests { result ≡ Step.Waits → stage.old ≡ Stage.Hearing →
+            Rests Tr.Conn.tells self.old self.new }
     {
         match stage {
             Stage::Begun => match begin(alloc, call) {
@@ -69,6 +73,9 @@ impl<Tr: Network> Session<Tr> {
         ensures stage { StageOf call.now stage.new }
         ensures waits { result ≡ poll.Pending → Tr.Conn.may_wait }
         ensures kind { PollKind call.now result }
+        ensures rests { result ≡ poll.Pending → says call.now ≡ false →
+            Rests Tr.Conn.tells self.old self.new }
+        ensures begun { result ≡ poll.Pending → stage.new ≡ Stage.Begun → ⊥ }
         ensures polls { Polls Tr.Conn.tells (left Ok call.now self.old.state stage.old)
             (left Ok call.now self.old.state stage.new) self.old self.new result }
     {

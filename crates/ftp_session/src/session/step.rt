@@ -4,7 +4,7 @@ ghost use Rattle.std.specs.Prelude.{◌≡◌, ◌⊎◌, Ok, IfOk, true, false}
 ghost use Rattle.futures.specs.declared.task.Poll.TheVariants as poll;
 ghost use Rattle.ftp_session.specs.Dialogue.{Tree, command_of, codes_of, hearing, says};
 ghost use Rattle.ftp_session.specs.Calls.{IsKind, StepKind};
-ghost use Rattle.ftp_session.specs.Moving.{SaysNode, HearsStep, Steps, step_of, Begins, Accepts, AcceptsNot, wants_memory, after_fault};
+ghost use Rattle.ftp_session.specs.Moving.{SaysNode, HearsStep, Rests, Steps, step_of, Begins, Accepts, AcceptsNot, wants_memory, after_fault};
 ghost use Rattle.ftp_base.specs.declared.types.reply.Response.{Response as Heard};
 
 use super::stage::{Stage, Step};
@@ -108,6 +108,7 @@ impl<Tr: Network> Session<Tr> {
         ensures kind { StepKind call.now result }
         ensures steps { Steps Tr.Conn.tells (hearing call.now self.old.state)
             (hearing call.now self.old.state) self.old self.new result }
+        ensures rests { result ≡ Step.Waits → Rests Tr.Conn.tells self.old self.new }
         ensures behind { result ≡ Step.Done (Answer.Fault FtpError.OutOfMemory) →
             says call.now ≡ true → self.new.channel.failed ≡ true }
     {

@@ -21,4 +21,10 @@ returns-in-Ready-Err-clause-steps g c =
 pub returns-in-Pending-clause-steps : goal.returns-in-Pending-clause-steps
 returns-in-Pending-clause-steps g c =
     let heard = rw c.in-Pending.is at c.hear_reply.ensures.hears in
-    heard (accepted c.args.call.now c.args.self.now.state)
+    let waits = heard (accepted c.args.call.now c.args.self.now.state) in
+    (waits.0, waits.1)
+
+pub returns-in-Pending-clause-rests : goal.returns-in-Pending-clause-rests
+returns-in-Pending-clause-rests g c = λ waits.
+    let heard = rw c.in-Pending.is at c.hear_reply.ensures.hears in
+    (heard (accepted c.args.call.now c.args.self.now.state)).2
