@@ -1,4 +1,7 @@
+pub mod Events
+pub mod Following
 pub mod Hearing
 pub mod Moving
 pub mod Polling
 pub mod Running
+pub mod Scripts

@@ -1,5 +1,6 @@
 -- Lemmas on the polls of a call.
-use Rattle.std.proofs.Common.{◌≡◌, Bool, true, false, Ok, inl, inr, ◌⊎◌, ◌∙◌, refl, sym, subst}
+use Rattle.std.proofs.Common.{◌≡◌, Bool, true, false, Ok, inl, inr, ◌⊎◌, ◌∙◌, refl, ap, sym, subst}
+use Rattle.ftp_control.specs.Told.{Told, EndsAsTold}
 use Rattle.ftp_base.specs.declared.types.fault.FtpError.TheVariants.{OutOfMemory}
 use Rattle.ftp_session.specs.declared.session.call.Call.{Call}
 use Rattle.ftp_session.specs.declared.session.call.Answer.{Answer}
@@ -36,3 +37,11 @@ steps_from tells call state state' stage stage' b c step same steps =
 -- memory is refused before anything is said or heard
 pub wants_memory_first : (tells : Type 0) (call : Call) (v : SessionValue) → v.channel.failed ≡ false → Plays tells call v v (Fault OutOfMemory)
 wants_memory_first tells call v going = inr (record { going = going; plays = inr (no_memory_yet tells v) })
+
+-- the end is met only where it was told
+pub ends_on : (first second third : Bool) (t u : Told) → u.given ≡ t.given → EndsAsTold first second t → EndsAsTold second third u → EndsAsTold first third t
+ends_on first second third t u same one two e = go (two e)
+  where
+    go : (second ≡ true) ⊎ (u.given.closed ≡ true) → (first ≡ true) ⊎ (t.given.closed ≡ true)
+    go (inl met) = one met
+    go (inr told) = inr (ap (λ g. g.closed) (sym same) ∙ told)

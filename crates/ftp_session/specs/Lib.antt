@@ -1,8 +1,11 @@
 pub mod Calls
 pub mod Dialogue
+pub mod Following
 pub mod Moving
 pub mod Play
+pub mod Polling
 pub mod Run
 pub mod Running
+pub mod Script
 pub mod Sound
 pub mod State

@@ -5,6 +5,7 @@ mod call;
 mod calls;
 mod machine;
 mod run;
+mod run_polled;
 mod settings;
 mod stage;
 mod step;

@@ -3,6 +3,7 @@
 ghost use Rattle.std.specs.Prelude.{◌≡◌, ◌⊎◌, ◌<◌, Ok, true, false};
 ghost use Rattle.futures.specs.declared.task.Poll.TheVariants as poll;
 ghost use Rattle.ftp_session.specs.Dialogue.{says};
+ghost use Rattle.ftp_control.specs.Told.{EndsAsTold};
 ghost use Rattle.ftp_session.specs.Calls.{IsKind, PollKind, StepKind};
 ghost use Rattle.ftp_session.specs.Moving.{left, to_go, Quiet, Rests, StageOf, Steps, Polls, Plays};
 
@@ -29,6 +30,8 @@ impl<Tr: Network> Session<Tr> {
         requires stage { StageOf call.now stage.old }
         ensures stage { StageOf call.now stage.new }
         ensures waits { result ≡ Step.Waits → Tr.Conn.may_wait }
+        ensures end { Tr.Conn.tells → Tr.Conn.may_wait →
+            EndsAsTold self.old.channel.ended self.new.channel.ended self.old.channel.told }
         ensures kind { StepKind call.now result }
         ensures fewer { result ≡ Step.Next → to_go stage.new < to_go stage.old }
         ensures steps { Steps Tr.Conn.tells (left Ok call.now self.old.state stage.old)
@@ -72,6 +75,8 @@ impl<Tr: Network> Session<Tr> {
         requires stage { StageOf call.now stage.old }
         ensures stage { StageOf call.now stage.new }
         ensures waits { result ≡ poll.Pending → Tr.Conn.may_wait }
+        ensures end { Tr.Conn.tells → Tr.Conn.may_wait →
+            EndsAsTold self.old.channel.ended self.new.channel.ended self.old.channel.told }
         ensures kind { PollKind call.now result }
         ensures rests { result ≡ poll.Pending → says call.now ≡ false →
             Rests Tr.Conn.tells self.old self.new }
@@ -103,5 +108,34 @@ impl<Tr: Network> Session<Tr> {
             Poll::Ready(answer) => answer,
             Poll::Pending => unreachable!(),
         }
+    }
+
+    /// Goes on with a call as far as it gets. A session that has failed refuses it.
+    pub(super) fn poll_started<W>(
+        &mut self,
+        alloc: Global,
+        call: &Call,
+        stage: &mut Stage,
+        w: &mut W,
+    ) -> Poll<Answer>
+    where
+        Tr::Conn: PollConn<W>,
+        requires stage { StageOf call.now stage.old }
+        ensures stage { StageOf call.now stage.new }
+        ensures begun { result ≡ poll.Pending → stage.new ≡ Stage.Begun → ⊥ }
+        ensures refused { self.old.channel.failed ≡ true →
+            (result ≡ poll.Ready (Answer.Fault FtpError.SessionFailed)) × (self.new ≡ self.old) }
+        ensures polls { self.old.channel.failed ≡ false →
+            Polls Tr.Conn.tells (left Ok call.now self.old.state stage.old)
+            (left Ok call.now self.old.state stage.new) self.old self.new result }
+        ensures rests { result ≡ poll.Pending → says call.now ≡ false →
+            Rests Tr.Conn.tells self.old self.new }
+        ensures end { Tr.Conn.tells → Tr.Conn.may_wait →
+            EndsAsTold self.old.channel.ended self.new.channel.ended self.old.channel.told }
+    {
+        if self.channel.failed() {
+            return Poll::Ready(Answer::Fault(FtpError::SessionFailed));
+        }
+        self.poll_call(alloc, call, stage, w)
     }
 }

@@ -3,6 +3,7 @@
 ghost use Rattle.std.specs.Prelude.{◌≡◌, ◌⊎◌, Ok, IfOk, true, false};
 ghost use Rattle.futures.specs.declared.task.Poll.TheVariants as poll;
 ghost use Rattle.ftp_session.specs.Dialogue.{Tree, command_of, codes_of, hearing, says};
+ghost use Rattle.ftp_control.specs.Told.{EndsAsTold};
 ghost use Rattle.ftp_session.specs.Calls.{IsKind, StepKind};
 ghost use Rattle.ftp_session.specs.Moving.{SaysNode, HearsStep, Rests, Steps, step_of, Begins, Accepts, AcceptsNot, wants_memory, after_fault};
 ghost use Rattle.ftp_base.specs.declared.types.reply.Response.{Response as Heard};
@@ -26,6 +27,8 @@ impl<Tr: Network> Session<Tr> {
         requires { self.old.channel.failed ≡ false }
         ensures waits { result ≡ Step.Waits → Tr.Conn.may_wait }
         ensures memory { result ≡ Step.Done (Answer.Fault FtpError.OutOfMemory) → ⊥ }
+        ensures end { Tr.Conn.tells → Tr.Conn.may_wait →
+            EndsAsTold self.old.channel.ended self.new.channel.ended self.old.channel.told }
         ensures kind { (call : Call) → StepKind call result }
         ensures says { SaysNode Tr.Conn.tells line.old line.new self.old self.new result }
     {
@@ -43,6 +46,8 @@ impl<Tr: Network> Session<Tr> {
         Tr::Conn: PollConn<W>,
         requires { self.old.channel.failed ≡ false }
         ensures waits { result ≡ poll.Pending → Tr.Conn.may_wait }
+        ensures end { Tr.Conn.tells → Tr.Conn.may_wait →
+            EndsAsTold self.old.channel.ended self.new.channel.ended self.old.channel.told }
         ensures hears { (next : Heard → Tree) →
             HearsStep Tr.Conn.tells expected.now next self.old self.new result }
     {
@@ -60,6 +65,8 @@ impl<Tr: Network> Session<Tr> {
         Tr::Conn: PollConn<W>,
         requires { self.old.channel.failed ≡ false }
         ensures waits { result ≡ poll.Pending → Tr.Conn.may_wait }
+        ensures end { Tr.Conn.tells → Tr.Conn.may_wait →
+            EndsAsTold self.old.channel.ended self.new.channel.ended self.old.channel.told }
         ensures hears { (next : Heard → Tree) →
             HearsStep Tr.Conn.tells (codes_of call.now) next self.old self.new result }
     {
@@ -76,6 +83,7 @@ impl<Tr: Network> Session<Tr> {
     /// Takes a reply that a call expects. Where memory is refused the session has failed.
     pub(super) fn accept(&mut self, alloc: Global, call: &Call, reply: Response) -> Answer
         ensures kind { IsKind call.now result }
+        ensures ended { self.new.channel.ended ≡ self.old.channel.ended }
         ensures accepts { Accepts call.now reply self.old self.new result ⊎
             AcceptsNot self.old self.new result }
     {
@@ -105,6 +113,8 @@ impl<Tr: Network> Session<Tr> {
         requires { self.old.channel.failed ≡ false }
         ensures waits { result ≡ Step.Waits → Tr.Conn.may_wait }
         ensures goes_on { result ≡ Step.Next → ⊥ }
+        ensures end { Tr.Conn.tells → Tr.Conn.may_wait →
+            EndsAsTold self.old.channel.ended self.new.channel.ended self.old.channel.told }
         ensures kind { StepKind call.now result }
         ensures steps { Steps Tr.Conn.tells (hearing call.now self.old.state)
             (hearing call.now self.old.state) self.old self.new result }

@@ -1,11 +1,11 @@
 use Rattle.std.proofs.Common.{inl, inr, refl}
 use Rattle.ftp_session.specs.declared.session.stage.Step.TheVariants.{Next, Waits, Done}
 use Rattle.ftp_session.proofs.Moving.{stays_put, moves_on, completes_on, breaks_on}
-use Rattle.ftp_session.proofs.Polling.{quiet_next, quiet_done, steps_from}
+use Rattle.ftp_session.proofs.Polling.{quiet_next, quiet_done, steps_from, ends_on}
 use Rattle.ftp_session.proofs.session.state.Session.poll_call.Goals as goal
 
 pub loop-answer-init : goal.loop-answer-init
-loop-answer-init g c = record { moved = stays_put _ _ _ _ refl; stage = c.requires.stage; quiet = inl refl }
+loop-answer-init g c = record { moved = stays_put _ _ _ _ refl; end = λ h may e. inl e; stage = c.requires.stage; quiet = inl refl }
 
 pub loop-answer-preserved : goal.loop-answer-preserved
 loop-answer-preserved g c =
@@ -15,6 +15,7 @@ loop-answer-preserved g c =
     let quiet = rw c.in-Next.is at c.step.ensures.quiet in
     record {
       moved = moves_on _ _ _ _ _ _ moved _ steps;
+      end = λ h may. ends_on c.args.self.now.channel.ended c.loop-answer.self.channel.ended c.step.new.self.channel.ended c.args.self.now.channel.told c.loop-answer.self.channel.told (moved.goes.given h) (c.loop-answer.invariant.end h may) (c.step.ensures.end h may);
       stage = c.step.ensures.stage;
       quiet = quiet_next _ _ _ _ _ _ c.loop-answer.invariant.quiet quiet;
     }

@@ -1,0 +1,151 @@
+-- Polled runs: what a list of events makes of a session. Each Poll plays all calls anew, on all bytes that came by
+-- then; no buffer and no state of a call under way occurs here.
+use Rattle.std.specs.Prelude.{◌≡◌, ◌⊎◌, ℕ, Bool, true, false, ◌||◌, ◌==◌, Option, Some, None, List, [], ◌∷◌, ◌++◌, length, take, drop, Ok, if◌then◌else◌}
+use Rattle.ftp_control.specs.declared.transport.room.Room.{Room}
+use Rattle.ftp_control.specs.declared.transport.room.Room.TheVariants.{Any, UpTo}
+use Rattle.ftp_control.specs.Told.{Told}
+use Rattle.ftp_control.specs.Memory.{more_room}
+use Rattle.ftp_session.specs.declared.session.settings.State.{State}
+use Rattle.ftp_session.specs.declared.session.call.Answer.{Answer}
+use Rattle.ftp_session.specs.declared.session.call.Call.{Call}
+use Rattle.ftp_session.specs.declared.session.call.Call.TheVariants.{Greet, Noop, Quit, CustomCommand, ReadResponse, ReadResponseIn}
+use Rattle.ftp_session.specs.declared.session.call.Event.{Event}
+use Rattle.ftp_session.specs.declared.session.call.Event.TheVariants as event
+use Rattle.ftp_session.specs.declared.plain.Standing.{Standing}
+use Rattle.ftp_session.specs.declared.plain.Wait.{Wait}
+use Rattle.ftp_session.specs.declared.plain.Wait.TheVariants as wait
+use Rattle.ftp_session.specs.declared.plain.Ran.{Ran}
+use Rattle.ftp_session.specs.declared.plain.Ran.TheVariants.{Finished, Waiting}
+use Rattle.ftp_session.specs.State.{SessionValue}
+use Rattle.ftp_session.specs.Dialogue.{dialogue}
+use Rattle.ftp_session.specs.Run.{run, Resumes}
+use Rattle.ftp_session.specs.Moving.{standing}
+
+-- the calls that are done with their answers; the call under way, and whether it was polled; all bytes that came,
+-- and whether they ended; the room; the bytes that went out; those that are part of no reply, and how many of them
+-- a Poll has read
+pub record Script : Type 0 where
+  pub items : List Call
+  pub answers : List Answer
+  pub call : Option Call
+  pub polled : Bool
+  pub bytes : List ℕ
+  pub ended : Bool
+  pub room : Room
+  pub sent : List ℕ
+  pub untaken : List ℕ
+  pub seen : ℕ
+
+-- what came on a connection and wasn't read yet
+abbrev pub unread : Told → List ℕ
+unread t = drop (length t.received) t.given.bytes
+
+-- the input has ended: it was told so, or a read met the end
+abbrev pub is_over : Told → Bool
+is_over t = t.given.closed || t.ended
+
+-- where a run begins, on what has come by then
+abbrev pub start_of : SessionValue → Standing
+start_of v = standing v [] (unread v.channel.told) (is_over v.channel.told) []
+
+abbrev pub script_of : SessionValue → Script
+script_of v = record {
+  items = [];
+  answers = [];
+  call = None;
+  polled = false;
+  bytes = v.channel.kept ++ unread v.channel.told;
+  ended = is_over v.channel.told;
+  room = v.channel.told.given.room;
+  sent = v.channel.told.sent;
+  untaken = v.channel.kept ++ unread v.channel.told;
+  seen = length v.channel.kept;
+}
+
+-- what goes out of what was said
+abbrev pub front : Room → List ℕ → List ℕ
+front Any all = all
+front (UpTo most) all = take most all
+
+-- how many of the untaken bytes are read: those of before, unless a reply was taken; or all, where more are awaited
+abbrev pub seen_in : Script → List ℕ → ℕ
+seen_in s left = if length left == length s.untaken then s.seen else 0
+
+abbrev pub seen_at : Wait → Script → List ℕ → ℕ
+seen_at wait.Room s left = seen_in s left
+seen_at wait.Bytes s left = length left
+seen_at wait.Outcome s left = seen_in s left
+
+-- a Poll completes the call under way exactly if the run of all calls has its answer
+abbrev pub polled_as : Ran → Call → Script → Script
+polled_as (Finished answers t) call s = record s {
+  items = s.items ++ call ∷ [];
+  answers = answers;
+  call = None;
+  polled = false;
+  sent = front s.room t.said;
+  untaken = t.bytes;
+  seen = seen_in s t.bytes;
+}
+polled_as (Waiting answers wait t) call s = record s {
+  polled = true;
+  sent = front s.room t.said;
+  untaken = t.bytes;
+  seen = seen_at wait s t.bytes;
+}
+
+abbrev pub poll_script : Standing → Option Call → Script → Script
+poll_script start None s = s
+poll_script start (Some call) s =
+    polled_as (run s.room Ok (s.items ++ call ∷ []) (record start { bytes = s.bytes; ended = s.ended })) call s
+
+-- a call begins where none is under way
+abbrev pub start_script : Call → Option Call → Script → Script
+start_script call None s = record s { call = Some call; polled = false }
+start_script call (Some other) s = s
+
+-- what an event makes of it
+abbrev pub after_event : Standing → Script → Event → Script
+after_event start s (event.Feed more) = if s.ended then s else record s { bytes = s.bytes ++ more; untaken = s.untaken ++ more }
+after_event start s event.End = record s { ended = true }
+after_event start s (event.Room more) = record s { room = more_room more (length s.sent) s.room }
+after_event start s (event.Start call) = start_script call s.call s
+after_event start s event.Poll = poll_script start s.call s
+after_event start s event.Cancel = record s { call = None; polled = false }
+after_event start s event.Leave = s
+
+abbrev pub script : Standing → Script → List Event → Script
+script start s [] = s
+script start s (event ∷ events) = script start (after_event start s event) events
+
+-- Lawful lists: a call is dropped before its first Poll, or it is a plain read; and what earlier Polls read of a
+-- reply is no whole reply under the list of the call that is polled first with it
+
+abbrev pub is_read : Call → Bool
+is_read Greet = false
+is_read Noop = false
+is_read Quit = false
+is_read (CustomCommand line codes) = false
+is_read (ReadResponse status) = true
+is_read (ReadResponseIn codes) = true
+
+abbrev pub MayCancel : Option Call → Bool → Type 0
+MayCancel None polled = Unit {0}
+MayCancel (Some call) polled = (polled ≡ false) ⊎ (is_read call ≡ true)
+
+abbrev pub MayPoll : Standing → Option Call → Script → Type 0
+MayPoll start None s = Unit {0}
+MayPoll start (Some call) s = s.polled ≡ false → (state : State) → Resumes start.rule (take s.seen s.untaken) (dialogue Ok call state)
+
+abbrev pub IsLawful : Standing → Script → Event → Type 0
+IsLawful start s (event.Feed more) = Unit {0}
+IsLawful start s event.End = Unit {0}
+IsLawful start s (event.Room more) = Unit {0}
+IsLawful start s (event.Start call) = Unit {0}
+IsLawful start s event.Poll = MayPoll start s.call s
+IsLawful start s event.Cancel = MayCancel s.call s.polled
+IsLawful start s event.Leave = Unit {0}
+
+abbrev pub Lawful : Standing → Script → List Event → Type 0
+Lawful start s [] = Unit {0}
+Lawful start s (event ∷ events) = IsLawful start s event × Lawful start (after_event start s event) events

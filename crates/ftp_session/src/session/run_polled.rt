@@ -1,0 +1,142 @@
+//! Polled runs over memory: lists of events.
+
+ghost use Rattle.std.specs.Prelude.{◌≡◌, ◌<◌, ◌≤◌, ◌++◌, IfOk, IfErr, Ok, option_map, vec_len, vec_capacity};
+ghost use Rattle.ftp_control.specs.Channel.{IsSound};
+ghost use Rattle.ftp_control.specs.Memory.{IsGiven};
+ghost use Rattle.ftp_session.specs.Following.{Happens, PollsHere, StageIn, Starts, given_answer};
+ghost use Rattle.ftp_session.specs.Moving.{StageOf};
+ghost use Rattle.ftp_session.specs.Polling.{Polled};
+ghost use Rattle.ftp_session.specs.Script.{Lawful, script_of, start_of};
+ghost use Rattle.ftp_session.specs.Sound.{Sound, SoundCounts};
+
+use super::stage::Stage;
+use super::{Answer, Call, Event, Session};
+use ftp_base::types::{FtpError, FtpResult};
+use ftp_control::transport::MemoryTransport;
+use futures::task::Poll;
+use std::alloc::{AllocError, Global};
+
+impl Session<MemoryTransport> {
+    /// Lets these events happen, one after another, and gives the answers of the calls that were completed, in
+    /// order. A `Start` while a call is under way, a `Poll` or `Cancel` without one, and a `Feed` behind the end
+    /// change nothing. A call under way at the end is dropped, as by `Cancel`.
+    ///
+    /// # Errors
+    /// `OutOfMemory` where memory is refused for the answers, and nothing changes; or for the bytes of a `Feed`,
+    /// and the events before it have happened.
+    pub fn run_polled(&mut self, alloc: Global, events: &[Event]) -> FtpResult<Vec<Answer>>
+        ensures polled { IfOk result (λ answers.
+            Lawful (start_of self.old) (script_of self.old) events.now →
+            Polled self.old events.now self.new answers.items) }
+        ensures memory { IfErr result (λ fault. fault ≡ FtpError.OutOfMemory) }
+        ensures sound { IfOk result (λ answers.
+            Sound (Unit {0}) self.new.channel self.new.state.counts) }
+    {
+        let mut answers = Vec::with_capacity(alloc, events.len())?;
+        let mut under_way = None;
+        let mut stage = Stage::Begun;
+        self.holds();
+        for event in events {
+            let answer = self.happen(alloc, event, &mut under_way, &mut stage)?;
+            note(&mut answers, answer);
+        }
+        self.holds();
+        Ok(answers)
+    }
+
+    /// Lets one event happen, and gives the answer of the call that it completed, if it did.
+    fn happen<'e>(
+        &mut self,
+        alloc: Global,
+        event: &'e Event,
+        under_way: &mut Option<&'e Call>,
+        stage: &mut Stage,
+    ) -> Result<Option<Answer>, AllocError>
+        requires { StageIn (option_map (λ c. c.now) under_way.old) stage.old }
+        ensures stage { StageIn (option_map (λ c. c.now) under_way.new) stage.new }
+        ensures happens { IfOk result (λ answer.
+            Happens self.old self.new (option_map (λ c. c.now) under_way.old)
+            (option_map (λ c. c.now) under_way.new) stage.old stage.new event.now answer) }
+    {
+        match event {
+            Event::Feed(bytes) => self.channel.feed(bytes.as_slice())?,
+            Event::End => self.channel.end_input(),
+            Event::Room(more) => self.channel.allow(*more),
+            Event::Start(call) => start(call, under_way, stage),
+            Event::Poll => return Ok(self.poll_under_way(alloc, under_way, stage)),
+            Event::Cancel => *under_way = None,
+            Event::Leave => {}
+        }
+        self.holds();
+        Ok(None)
+    }
+
+    /// Polls the call under way, if any, and gives its answer once it has one.
+    fn poll_under_way<'e>(
+        &mut self,
+        alloc: Global,
+        under_way: &mut Option<&'e Call>,
+        stage: &mut Stage,
+    ) -> Option<Answer>
+        requires { StageIn (option_map (λ c. c.now) under_way.old) stage.old }
+        ensures stage { StageIn (option_map (λ c. c.now) under_way.new) stage.new }
+        ensures happens { Happens self.old self.new (option_map (λ c. c.now) under_way.old)
+            (option_map (λ c. c.now) under_way.new) stage.old stage.new Event.Poll result }
+    {
+        let Some(call) = *under_way else {
+            return None;
+        };
+        match self.poll_here(alloc, call, stage) {
+            Poll::Ready(answer) => {
+                *under_way = None;
+                Some(answer)
+            }
+            Poll::Pending => None,
+        }
+    }
+
+    /// Polls a call over memory.
+    fn poll_here(&mut self, alloc: Global, call: &Call, stage: &mut Stage) -> Poll<Answer>
+        requires { StageOf call.now stage.old }
+        ensures stage { StageOf call.now stage.new }
+        ensures polled { PollsHere call.now stage.old stage.new self.old self.new result }
+    {
+        let polled = self.poll_started(alloc, call, stage, &mut ());
+        self.holds();
+        polled
+    }
+
+    /// What always holds of a session over memory.
+    fn holds(&self)
+        ensures given { IsGiven self.now.channel.told }
+        ensures sound { IsSound (Unit {0}) self.now.channel }
+        ensures counts { SoundCounts self.now.state.counts }
+    {
+        self.channel.unread();
+        self.state.counts.opened();
+    }
+}
+
+/// Puts an answer, if there is one, behind those of before.
+fn note(answers: &mut Vec<Answer>, answer: Option<Answer>)
+    requires { vec_len answers.old < vec_capacity answers.old }
+    ensures items { answers.new.items ≡ answers.old.items ++ given_answer answer }
+    ensures room { vec_capacity answers.old ≤ vec_capacity answers.new }
+{
+    if let Some(answer) = answer {
+        answers.push(answer).unwrap();
+    }
+}
+
+/// A call begins where none is under way.
+fn start<'e>(call: &'e Call, under_way: &mut Option<&'e Call>, stage: &mut Stage)
+    requires { StageIn (option_map (λ c. c.now) under_way.old) stage.old }
+    ensures stage { StageIn (option_map (λ c. c.now) under_way.new) stage.new }
+    ensures starts { Starts call.now (option_map (λ c. c.now) under_way.old)
+        (option_map (λ c. c.now) under_way.new) stage.old stage.new }
+{
+    if under_way.is_none() {
+        *under_way = Some(call);
+        *stage = Stage::Begun;
+    }
+}
