@@ -1,9 +1,10 @@
 -- Lemmas on the events of a script but Poll.
-use Rattle.std.proofs.Common.{◌≡◌, ℕ, Bool, true, false, cond, ◌||◌, Option, Some, None, List, [], ◌∷◌, ◌++◌, length, drop, Ok, inl, inr, ◌⊎◌, refl, ap, sym, ◌∙◌, subst, append_assoc, append-nil}
+use Rattle.std.proofs.Common.{◌≡◌, ℕ, Bool, true, false, cond, ◌||◌, Option, Some, None, List, [], ◌∷◌, ◌++◌, length, drop, inl, inr, ◌⊎◌, refl, ap, sym, ◌∙◌, subst, append_assoc, append-nil}
 use Rattle.std.proofs.Math.Seq.{drop-append_seam}
-use Rattle.ftp_control.specs.declared.transport.room.Room.{Room}
 use Rattle.ftp_control.specs.Told.{Told, Given}
 use Rattle.ftp_control.specs.Memory.{IsGiven, fed, closed_memory, widened, more_room}
+use Rattle.ftp_control.specs.declared.control.outcome.Outcome.TheVariants.{Waits as More}
+use Rattle.ftp_control.specs.Grammar.{outcome}
 use Rattle.ftp_control.specs.Channel.{Channel, IsSound}
 use Rattle.ftp_session.specs.declared.session.call.Answer.{Answer}
 use Rattle.ftp_session.specs.declared.session.call.Call.{Call}
@@ -14,8 +15,8 @@ use Rattle.ftp_session.specs.declared.session.stage.Stage.TheVariants.{Begun, Sa
 use Rattle.futures.specs.declared.task.Poll.TheVariants.{Ready, Pending}
 use Rattle.ftp_session.specs.declared.session.settings.State.{State}
 use Rattle.ftp_session.specs.State.{SessionValue}
-use Rattle.ftp_session.specs.Script.{Script, script, unread, is_over, start_of, script_of, after_event, start_script, is_read, MayCancel, MayPoll, poll_script, IsLawful, Lawful}
-use Rattle.ftp_session.specs.Following.{Stands, Reaches, UnderWay, Place, Follows, Starts, PollsHere, BreaksCall}
+use Rattle.ftp_session.specs.Script.{Script, unread, is_over, start_of, script_of, after_event, start_script, is_read, MayCancel, MayPoll, poll_script}
+use Rattle.ftp_session.specs.Following.{Stands, UnderWay, Place, Follows, Starts, PollsHere, BreaksCall}
 use Rattle.ftp_session.proofs.Following.{unread_is, poll_follows}
 
 -- what is given to a connection
@@ -70,6 +71,7 @@ module _ (old : SessionValue) (s : Script) (v : SessionValue) (call : Option Cal
         sent = f.sent;
         untaken = ap (λ b. b ++ more) f.untaken ∙ append_assoc v.channel.kept (unread t) more ∙ ap (λ u. v.channel.kept ++ u) (sym unread');
         seen = f.seen;
+        waits = f.waits;
         call_is = f.call_is;
         answers_are = f.answers_are;
       }
@@ -105,6 +107,7 @@ module _ (old : SessionValue) (s : Script) (v : SessionValue) (call : Option Cal
         sent = f.sent;
         untaken = f.untaken;
         seen = f.seen;
+        waits = f.waits;
         call_is = f.call_is;
         answers_are = f.answers_are;
       } in
@@ -128,6 +131,7 @@ module _ (old : SessionValue) (s : Script) (v : SessionValue) (call : Option Cal
         sent = f.sent;
         untaken = f.untaken;
         seen = f.seen;
+        waits = f.waits;
         call_is = f.call_is;
         answers_are = f.answers_are;
       } in
@@ -154,6 +158,7 @@ starts old s v next None call' stage stage' answers f is =
       sent = f.sent;
       untaken = f.untaken;
       seen = f.seen;
+      waits = f.waits;
       call_is = refl;
       answers_are = f.answers_are;
     })))
@@ -177,6 +182,7 @@ cancels old s v call stage stage' answers f may = record {
   sent = f.sent;
   untaken = f.untaken;
   seen = f.seen;
+  waits = f.waits;
   call_is = refl;
   answers_are = f.answers_are;
 }
@@ -192,8 +198,8 @@ cancels old s v call stage stage' answers f may = record {
     go (Some call) Hearing place may = under call Hearing place may
 
 -- a script begins
-pub begins : (v : SessionValue) (stage : Stage) → IsGiven v.channel.told → IsSound (Unit {0}) v.channel → Follows v (script_of v) v None stage []
-begins v stage given sound = record {
+pub begins : (v : SessionValue) (system : Bool) (stage : Stage) → IsGiven v.channel.told → IsSound (Unit {0}) v.channel → outcome v.channel.rule system v.channel.kept false ≡ More → Follows v (script_of v system) v None stage []
+begins v system stage given sound waits = record {
   came = [];
   place = λ later room more ended fit on. refl;
   rule = refl;
@@ -205,6 +211,7 @@ begins v stage given sound = record {
   sent = refl;
   untaken = refl;
   seen = refl;
+  waits = waits;
   call_is = refl;
   answers_are = refl;
 }

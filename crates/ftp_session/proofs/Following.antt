@@ -1,5 +1,5 @@
 -- Lemmas on scripts: what a Poll makes of one, and what the other events do.
-use Rattle.std.proofs.Common.{◌≡◌, ℕ, ◌+◌, ◌<◌, ◌≤◌, Bool, true, false, cond, ◌||◌, eqb, Option, Some, None, List, [], ◌∷◌, ◌++◌, length, take, drop, Ok, inl, inr, ◌⊎◌, refl, ap, sym, ◌∙◌, subst, append_assoc, append-nil, length-append, arith, leb, eq-eqb, ne_eqb}
+use Rattle.std.proofs.Common.{◌≡◌, ℕ, ◌+◌, ◌<◌, Bool, true, false, cond, ◌||◌, eqb, Option, Some, None, List, [], ◌∷◌, ◌++◌, length, take, drop, Result, Ok, Err, inl, inr, ◌⊎◌, refl, ap, sym, ◌∙◌, subst, append_assoc, append-nil, length-append, arith, eq-eqb}
 use Rattle.std.proofs.lemmas.Bool.{lt-leb, eqb-true}
 use Rattle.std.proofs.lemmas.List.{append_cancel_left, take_all}
 use Rattle.std.proofs.Math.Seq.{drop-append_seam, take-append_seam, drop-length}
@@ -9,10 +9,10 @@ use Rattle.ftp_base.specs.declared.types.fault.FtpError.TheVariants.{SessionFail
 use Rattle.ftp_control.specs.declared.control.rule.ReplyRule.{ReplyRule}
 use Rattle.ftp_control.specs.declared.transport.room.Room.{Room}
 use Rattle.ftp_control.specs.declared.transport.room.Room.TheVariants.{Any, UpTo}
-use Rattle.ftp_control.specs.Told.{Told, Given, HasRoomFor, HasNoRoom, IsDry, IsFull, EndsAsTold}
+use Rattle.ftp_control.specs.Told.{Told, HasRoomFor, HasNoRoom, IsDry, IsFull, EndsAsTold}
 use Rattle.ftp_control.specs.Memory.{IsGiven}
 use Rattle.ftp_control.specs.Reading.{GoesOn}
-use Rattle.ftp_control.specs.Channel.{Channel, IsSound}
+use Rattle.ftp_control.specs.Channel.{IsSound}
 use Rattle.ftp_session.specs.declared.session.call.Answer.{Answer}
 use Rattle.ftp_session.specs.declared.session.call.Answer.TheVariants.{Fault}
 use Rattle.ftp_session.specs.declared.session.call.Call.{Call}
@@ -21,7 +21,6 @@ use Rattle.ftp_session.specs.declared.session.stage.Stage.TheVariants.{Begun, Sa
 use Rattle.ftp_session.specs.declared.plain.Standing.{Standing}
 use Rattle.ftp_session.specs.declared.plain.Wait.{Wait}
 use Rattle.ftp_session.specs.declared.plain.Wait.TheVariants as wait
-use Rattle.ftp_session.specs.declared.plain.Played.{Played}
 use Rattle.ftp_session.specs.declared.plain.Played.TheVariants.{Done, Waits}
 use Rattle.ftp_session.specs.declared.plain.Ran.{Ran}
 use Rattle.ftp_session.specs.declared.plain.Ran.TheVariants.{Finished, Waiting}
@@ -35,16 +34,20 @@ use Rattle.ftp_control.specs.Answer.{is_among}
 use Rattle.ftp_control.specs.Saying.{due}
 use Rattle.ftp_session.specs.declared.session.settings.State.{State}
 use Rattle.ftp_session.specs.declared.session.call.Call.TheVariants.{Greet, Noop, Quit, CustomCommand, ReadResponse, ReadResponseIn}
-use Rattle.ftp_session.specs.Dialogue.{Tree, Say, Hear, Ask, Leaf, codes_of, accepted, dialogue, hearing, says}
-use Rattle.ftp_session.specs.Play.{play, play_call, fits, heard_then}
-use Rattle.ftp_session.specs.Run.{run, before, and_then, Resumes, Silent}
+use Rattle.ftp_session.specs.Dialogue.{Tree, Say, Hear, command_of, codes_of, accepted, dialogue, hearing, saying, says}
+use Rattle.ftp_base.specs.declared.command.Command.{Command}
+use Rattle.ftp_base.specs.declared.types.fault.ConnectionError.{ConnectionError as Cause}
+use Rattle.ftp_base.specs.Command.{text_of}
+use Rattle.ftp_base.specs.Wire.{wire}
+use Rattle.ftp_session.specs.Play.{play, fits, heard_then}
+use Rattle.ftp_session.specs.Run.{run, and_then, Resumes, Silent}
 use Rattle.ftp_session.specs.Running.{before_all}
 use Rattle.ftp_session.specs.Moving.{standing, left, Goes, Keeps, Calm, Moves, Completes, Breaks, Polls, Rests, WaitsFor}
-use Rattle.ftp_session.specs.Script.{Script, unread, is_over, start_of, front, seen_in, seen_at, polled_as, poll_script, is_read, MayPoll}
+use Rattle.ftp_session.specs.Script.{Script, unread, is_over, start_of, front, seen_in, seen_at, system_at, hears_system, polled_as, poll_script, is_read, MayPoll}
 use Rattle.ftp_session.specs.Following.{Stands, Reaches, UnderWay, Place, Follows, PollsHere, BreaksCall}
 use Rattle.ftp_session.proofs.Moving.{goes_behind, fitted, play-Say}
-use Rattle.ftp_session.proofs.Hearing.{play-Hear}
-use Rattle.ftp_session.proofs.Running.{run-nil, run-cons, before_all-snoc, before_all-Finished, before_all-Waiting, plays_on, refuses_on}
+use Rattle.ftp_session.proofs.Hearing.{play-Hear, nothing_says}
+use Rattle.ftp_session.proofs.Running.{run-nil, run-cons, before_all-snoc, before_all-Finished, before_all-Waiting, refuses_on}
 
 -- Bytes
 
@@ -158,6 +161,23 @@ seen_kept P s v w came seen untaken split (inr same) =
     ap (λ k. k ++ unread w.channel.told) same.0 ∙ ap (λ u. v.channel.kept ++ u) (sym (split ∙ ap (λ c. c ++ unread w.channel.told) same.1)) ∙ sym untaken in
     seen_same s (w.channel.kept ++ unread w.channel.told) left ∙ seen ∙ ap length (sym same.0)
 
+-- what is kept says nothing yet under the list that it was read under
+pub waits_kept : (P : Type 0) (s : Script) (v w : SessionValue) (came : List ℕ) → w.channel.rule ≡ v.channel.rule → outcome v.channel.rule s.system v.channel.kept false ≡ More → Keeps P came v w → outcome w.channel.rule s.system w.channel.kept false ≡ More
+waits_kept P s v w came rule waits (inl none) = rw none (nothing_says w.channel.rule s.system)
+waits_kept P s v w came rule waits (inr same) = rw (same.0, rule) waits
+
+-- a reply that says nothing yet under a call's list is resumed by the call
+resumes_dialogue : (rule : ReplyRule) (kept : List ℕ) (call : Call) (state : State) → outcome rule (hears_system call) kept false ≡ More → Resumes rule kept (dialogue Ok call state)
+resumes_dialogue rule kept call state waits = go (command_of call)
+  where
+    line : (l : Result (List ℕ) Cause) → Resumes rule kept (Say l (hearing call state))
+    line (Ok bytes) = waits
+    line (Err cause) = tt
+
+    go : (command : Option Command) → Resumes rule kept (saying Ok command (hearing call state))
+    go None = waits
+    go (Some command) = line (wire Ok (text_of command))
+
 positive : (l : List ℕ) → (l ≡ [] → ⊥) → 0 < length l
 positive [] some = absurd (some refl)
 positive (x ∷ l) some = omega arith
@@ -246,14 +266,15 @@ module _ (old : SessionValue) (s : Script) (v w : SessionValue) (call : Call) (s
         sent = front_fits s.room w.channel.told.sent fits_here;
         untaken = refl;
         seen = seen_kept P s v w came f.seen f.untaken c.split keeps;
+        waits = waits_kept P s v w came c.rule f.waits keeps;
         call_is = refl;
         answers_are = ap (λ a. a ++ answer ∷ []) f.answers_are;
       } in
       subst Q (sym ran) follows
 
   -- the call waits
-  pub wait_on : (tree : Tree) (stage' : Stage) (wait : Wait) (t : Standing) → Reaches old s.items (f.came ++ came) w s.answers call tree → play s.room tree here ≡ Waits wait t → front s.room t.said ≡ w.channel.told.sent → t.bytes ≡ w.channel.kept ++ unread w.channel.told → seen_at wait s t.bytes ≡ length w.channel.kept → Place old (polled_as (Waiting s.answers wait t) call s) (f.came ++ came) w (Some call) stage' → Follows old (poll_script (start_of old) (Some call) s) w (Some call) stage' answers
-  wait_on tree stage' wait t reaches waits sent bytes seen place =
+  pub wait_on : (tree : Tree) (stage' : Stage) (wait : Wait) (t : Standing) → Reaches old s.items (f.came ++ came) w s.answers call tree → play s.room tree here ≡ Waits wait t → front s.room t.said ≡ w.channel.told.sent → t.bytes ≡ w.channel.kept ++ unread w.channel.told → seen_at wait s t.bytes ≡ length w.channel.kept → outcome w.channel.rule (system_at wait call s) w.channel.kept false ≡ More → Place old (polled_as (Waiting s.answers wait t) call s) (f.came ++ came) w (Some call) stage' → Follows old (poll_script (start_of old) (Some call) s) w (Some call) stage' answers
+  wait_on tree stage' wait t reaches waits sent bytes seen says_nothing place =
       let next : Standing → Ran = λ u. run s.room Ok [] u in
       let ran : run s.room Ok (s.items ++ call ∷ []) (record (start_of old) { bytes = s.bytes; ended = s.ended }) ≡ Waiting s.answers wait t =
       from_start (s.items ++ call ∷ [])
@@ -274,6 +295,7 @@ module _ (old : SessionValue) (s : Script) (v w : SessionValue) (call : Call) (s
         sent = sent;
         untaken = bytes;
         seen = seen;
+        waits = says_nothing;
         call_is = f.call_is;
         answers_are = f.answers_are;
       } in
@@ -351,8 +373,9 @@ module _ (old : SessionValue) (s : Script) (v w : SessionValue) (call : Call) (s
           let U : Stage → Type 0 = λ x. UnderWay old (polled_as (Waiting s.answers wait.Room t) call s) (f.came ++ moves.came) w call x in
           let stuck = say_waits old s v w call stage answers f moves.came c (due line) (hearing call v.state) waits.0 (waits.1 tt) in
           let seen = seen_kept (Calm (left Ok call v.state stage)) s v w moves.came f.seen f.untaken c.split (calm tt) in
+          let waits' = waits_kept (Calm (left Ok call v.state stage)) s v w moves.came c.rule f.waits (calm tt) in
           subst F (sym is)
-          (wait_on old s v w call stage answers f moves.came c (Say (Ok (due line)) (hearing call v.state)) (Saying line) wait.Room t (subst P is reaches') stuck.0 stuck.1 refl seen (subst U is (under_way t wait.Room)))
+          (wait_on old s v w call stage answers f moves.came c (Say (Ok (due line)) (hearing call v.state)) (Saying line) wait.Room t (subst P is reaches') stuck.0 stuck.1 refl seen waits' (subst U is (under_way t wait.Room)))
       go Hearing is begun calm waits =
           let P : Stage → Type 0 = λ x. Reaches old s.items (f.came ++ moves.came) w s.answers call (left Ok call v.state x) in
           let F : Stage → Type 0 = λ x. Follows old (poll_script (start_of old) (Some call) s) w (Some call) x answers in
@@ -363,7 +386,7 @@ module _ (old : SessionValue) (s : Script) (v w : SessionValue) (call : Call) (s
           let seen : length (w.channel.kept ++ unread w.channel.told) ≡ length w.channel.kept = ap length (ap (λ u. w.channel.kept ++ u) stuck.1 ∙ append-nil w.channel.kept) in
           let sent = front_fits s.room w.channel.told.sent (fits_here old s v w call stage answers f moves.came c) in
           subst F (sym is)
-          (wait_on old s v w call stage answers f moves.came c (hearing call v.state) Hearing wait.Bytes t (subst P is reaches') stuck.0 sent refl seen (subst U is (under_way t wait.Bytes)))
+          (wait_on old s v w call stage answers f moves.came c (hearing call v.state) Hearing wait.Bytes t (subst P is reaches') stuck.0 sent refl seen (subst R is (moves.resumes from.resumes)) (subst U is (under_way t wait.Bytes)))
 
   -- a poll that completes the call
   completed : (stage' : Stage) (answer : Answer) (done : Completes (Unit {0}) (left Ok call v.state stage) answer v w) → Carried v w done.came → Follows old (poll_script (start_of old) (Some call) s) w None stage' (answers ++ answer ∷ [])
@@ -387,15 +410,16 @@ placed old s v call stage answers f may = go stage f.place
     kept = ap (λ n. take n s.untaken) f.seen ∙ ap (λ u. take (length v.channel.kept) u) f.untaken ∙ take-append_seam v.channel.kept (unread v.channel.told)
 
     resumes : s.polled ≡ false → Resumes v.channel.rule v.channel.kept (dialogue Ok call v.state)
-    resumes new =
-        let P : ReplyRule → Type 0 = λ r. Resumes r v.channel.kept (dialogue Ok call v.state) in
-        let Q : List ℕ → Type 0 = λ k. Resumes old.channel.rule k (dialogue Ok call v.state) in
-        subst P (sym f.rule) (subst Q kept (may new v.state))
+    resumes new = resumes_dialogue v.channel.rule v.channel.kept call v.state (pick (may new))
+      where
+        pick : (hears_system call ≡ s.system) ⊎ (outcome old.channel.rule (hears_system call) (take s.seen s.untaken) false ≡ More) → outcome v.channel.rule (hears_system call) v.channel.kept false ≡ More
+        pick (inl same) = ap (λ b. outcome v.channel.rule b v.channel.kept false) same ∙ f.waits
+        pick (inr waits) = ap (λ r. outcome r (hears_system call) v.channel.kept false) f.rule ∙ ap (λ k. outcome old.channel.rule (hears_system call) k false) (sym kept) ∙ waits
 
     under : (x : Stage) → UnderWay old s f.came v call x → (v.channel.failed ≡ false → Resumed old s f.came v call x) × (v.channel.failed ≡ true → Stands old s.items f.came v s.answers)
     under x u = (
       λ going. record { reaches = u.reaches; resumes = u.resumes; read = u.read },
-      λ failed. let clash : true ≡ false = sym failed ∙ u.going in cc
+      λ failed. let clash : true ≡ false = sym failed ∙ u.going in cc,
     )
 
     go : (x : Stage) → Place old s f.came v (Some call) x → (v.channel.failed ≡ false → Resumed old s f.came v call x) × (v.channel.failed ≡ true → Stands old s.items f.came v s.answers)
@@ -405,7 +429,7 @@ placed old s v call stage answers f may = go stage f.place
         resumes = resumes place.0;
         read = λ is. place.1;
       },
-      λ failed. place.1
+      λ failed. place.1,
     )
     go (Saying line) place = under (Saying line) place
     go Hearing place = under Hearing place

@@ -1,5 +1,5 @@
 -- Lemmas on a dialogue's reading of a reply.
-use Rattle.std.proofs.Common.{◌≡◌, ℕ, ◌+◌, Bool, true, false, cond, ◌||◌, List, [], ◌∷◌, ◌++◌, length, drop, Result, Ok, Err, inl, inr, refl, ap, sym, ◌∙◌, subst, append_assoc, append-nil, arith}
+use Rattle.std.proofs.Common.{◌≡◌, ℕ, ◌+◌, Bool, true, false, cond, ◌||◌, List, [], ◌++◌, length, drop, Result, Ok, Err, inl, inr, refl, ap, sym, ◌∙◌, subst, append_assoc, arith}
 use Rattle.std.proofs.Math.Seq.{drop-append_seam}
 use Rattle.std.specs.declared.io.ErrorKind.{ErrorKind}
 use Rattle.futures.specs.declared.task.Poll.{Poll}
@@ -17,30 +17,27 @@ use Rattle.ftp_control.specs.declared.control.broken.Broken.{Broken}
 use Rattle.ftp_control.specs.declared.control.broken.Broken.TheVariants.{Connection, OutOfMemory}
 use Rattle.ftp_control.specs.declared.control.outcome.Outcome.{Outcome as Heard}
 use Rattle.ftp_control.specs.declared.control.outcome.Outcome.TheVariants.{Whole, Bad, TooLarge, Ended, Waits as More}
-use Rattle.ftp_control.specs.Grammar.{outcome, left_by, reply_limit}
-use Rattle.ftp_control.specs.Told.{Told, HasRoomFor, IsDry, HasFailed}
+use Rattle.ftp_control.specs.Grammar.{outcome, reply_limit}
+use Rattle.ftp_control.specs.Told.{Told, IsDry, HasFailed}
 use Rattle.ftp_control.specs.Reading.{GoesOn, HearTells, after_input}
 use Rattle.ftp_control.specs.Channel.{Channel, ReadsReply, fails_by}
-use Rattle.ftp_control.specs.Answer.{AnswersRead, answer_of, expected_reply, is_among}
+use Rattle.ftp_control.specs.Answer.{AnswersRead, answer_of, is_among}
 use Rattle.ftp_session.specs.declared.session.ask.Request.{Request}
 use Rattle.ftp_session.specs.declared.session.ask.Outcome.{Outcome}
 use Rattle.ftp_session.specs.declared.session.settings.State.{State}
-use Rattle.ftp_session.specs.declared.session.call.Answer.{Answer}
 use Rattle.ftp_session.specs.declared.session.call.Answer.TheVariants.{Fault}
 use Rattle.ftp_session.specs.declared.plain.Standing.{Standing}
-use Rattle.ftp_session.specs.declared.plain.Played.{Played}
-use Rattle.ftp_session.specs.declared.plain.Played.TheVariants.{Done}
 use Rattle.ftp_session.specs.State.{SessionValue}
 use Rattle.ftp_session.specs.Dialogue.{Tree, Say, Hear, Ask, Leaf}
 use Rattle.ftp_session.specs.Play.{play, heard_then}
-use Rattle.ftp_session.specs.Run.{Resumes, Silent}
-use Rattle.ftp_session.specs.Moving.{standing, Goes, Keeps, Moves, Completes, BreaksRead, Fails, LacksMemory, WaitsFor, Rests, HearsStep}
+use Rattle.ftp_session.specs.Run.{Resumes}
+use Rattle.ftp_session.specs.Moving.{standing, Goes, Moves, Completes, BreaksRead, WaitsFor, Rests, HearsStep}
 
 pub play-Hear : (room : Room) (codes : List Status) (next : Response → Tree) (s : Standing) → play room (Hear codes next) s ≡ heard_then (outcome s.rule (is_among codes System) s.bytes s.ended) codes s (λ reply t. play room (next reply) t)
 unfolding play
 play-Hear room codes next s = refl
 
-nothing_says : (rule : ReplyRule) (system : Bool) → outcome rule system [] false ≡ More
+pub nothing_says : (rule : ReplyRule) (system : Bool) → outcome rule system [] false ≡ More
 unfolding outcome
 nothing_says rule system = refl
 
@@ -158,8 +155,7 @@ module _ (tells : Type 0) (state : State) (t : Told) (kept unsent : List ℕ) (f
 
   waits_on : (came : List ℕ) → Goes tells came old (new false) → kept' ≡ kept ++ came → ended ≡ false → (outcome rule (is_among codes System) kept false ≡ More → outcome rule (is_among codes System) kept' false ≡ More) → (tells → u ≡ after_input came ended t) → (tells → IsDry u) → Moves tells (Hear codes next) (Hear codes next) old (new false) × WaitsFor tells (Hear codes next) (new false) × Rests tells old (new false)
   waits_on came goes all unended waits told dry =
-      let stays : tells → (asked : List Request) (more : List ℕ) (e : Bool) (outcomes : List Outcome) → standing old asked (came ++ more) e outcomes ≡ standing (new false) asked more e outcomes = λ h asked more e outcomes. rw (← append_assoc kept came more, ← all, ap (λ x. x.sent) (told h)) in
-      (
+      let stays : tells → (asked : List Request) (more : List ℕ) (e : Bool) (outcomes : List Outcome) → standing old asked (came ++ more) e outcomes ≡ standing (new false) asked more e outcomes = λ h asked more e outcomes. rw (← append_assoc kept came more, ← all, ap (λ x. x.sent) (told h)) in (
         record {
           came = came;
           goes = goes;
@@ -171,7 +167,7 @@ module _ (tells : Type 0) (state : State) (t : Told) (kept unsent : List ℕ) (f
           calm = λ calm. absurd calm;
         },
         (unended, dry),
-        record { came = came; goes = goes; failed = refl; stays = stays }
+        record { came = came; goes = goes; failed = refl; stays = stays },
       )
 
   breaks_off : (kind : ErrorKind) (came : List ℕ) → (tells → HasFailed (after_input came ended t) u) → BreaksRead tells (fault.ConnectionError (connection.Io kind)) old (new true)

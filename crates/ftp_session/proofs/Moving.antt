@@ -1,30 +1,28 @@
 -- Lemmas on the steps of a dialogue.
-use Rattle.std.proofs.Common.{◌≡◌, ℕ, ◌+◌, ◌≤◌, Bool, true, false, cond, List, [], ◌∷◌, ◌++◌, length, Option, Some, None, Result, Ok, Err, inl, inr, ◌⊎◌, refl, ap, sym, ◌∙◌, subst, append_assoc, append-nil, arith, leb, nat_le}
+use Rattle.std.proofs.Common.{◌≡◌, ℕ, ◌≤◌, Bool, true, false, cond, List, [], ◌++◌, length, Option, Some, None, Result, Ok, Err, inl, inr, ◌⊎◌, refl, ap, sym, ◌∙◌, subst, append_assoc, append-nil, arith}
 use Rattle.std.proofs.lemmas.Bool.{le-leb}
 use Rattle.ftp_base.specs.declared.types.fault.FtpError.{FtpError}
 use Rattle.ftp_control.specs.declared.transport.room.Room.{Room}
 use Rattle.ftp_control.specs.declared.transport.room.Room.TheVariants.{Any, UpTo}
 use Rattle.futures.specs.declared.task.Poll.{Poll}
 use Rattle.futures.specs.declared.task.Poll.TheVariants.{Ready, Pending}
-use Rattle.ftp_control.specs.Told.{Told, HasRoomFor, IsFull}
+use Rattle.ftp_control.specs.Told.{Told, HasRoomFor}
 use Rattle.ftp_control.specs.Reading.{GoesOn}
 use Rattle.ftp_control.specs.Channel.{Channel}
-use Rattle.ftp_control.specs.Saying.{SaysLine, SayLeaves, due, said}
+use Rattle.ftp_control.specs.Saying.{SaysLine, due}
 use Rattle.ftp_session.specs.declared.session.ask.Request.{Request}
 use Rattle.ftp_session.specs.declared.session.ask.Outcome.{Outcome}
 use Rattle.ftp_session.specs.declared.session.settings.State.{State}
 use Rattle.ftp_session.specs.declared.session.call.Answer.{Answer}
 use Rattle.ftp_session.specs.declared.session.call.Answer.TheVariants.{Fault}
-use Rattle.ftp_session.specs.declared.session.stage.Step.TheVariants as step
 use Rattle.ftp_session.specs.declared.plain.Standing.{Standing}
-use Rattle.ftp_session.specs.declared.plain.Played.{Played}
 use Rattle.ftp_session.specs.declared.plain.Played.TheVariants.{Done}
 use Rattle.ftp_session.specs.declared.session.call.Call.{Call}
 use Rattle.ftp_base.specs.declared.status.Status.{Status}
 use Rattle.ftp_base.specs.declared.types.reply.Response.{Response}
 use Rattle.ftp_base.specs.declared.types.fault.FtpError.TheVariants.{ConnectionError, SecureError, UnexpectedResponse, BadResponse, InvalidAddress, DataConnectionAlreadyOpen, OutOfMemory, SessionFailed}
 use Rattle.ftp_session.specs.State.{SessionValue}
-use Rattle.ftp_session.specs.Dialogue.{Tree, Say, Hear, Ask, Leaf, command_of, accepted, hearing, saying, dialogue, says}
+use Rattle.ftp_session.specs.Dialogue.{Tree, Say, Hear, Leaf, command_of, accepted, hearing, saying, dialogue, says}
 use Rattle.ftp_base.specs.declared.command.Command.{Command}
 use Rattle.ftp_base.specs.declared.types.fault.ConnectionError.{ConnectionError as Cause}
 use Rattle.ftp_control.specs.Refusal.{IsRefusalOf}
@@ -91,7 +89,7 @@ module _ (tells : Type 0) (state : State) (a : Channel) (told : Told) (unsent : 
         play-Say room (due line) next _ ∙ rw (← all, room_for, says.leaves.0, says.leaves.2);
     resumes = λ r. r;
     keeps = λ silent. inr (refl, refl, silent);
-      calm = λ calm. inr (refl, refl, tt);
+    calm = λ calm. inr (refl, refl, tt);
   }
 
   -- the connection waits for room
@@ -109,7 +107,7 @@ module _ (tells : Type 0) (state : State) (a : Channel) (told : Told) (unsent : 
       keeps = λ silent. inr (refl, refl, silent);
       calm = λ calm. inr (refl, refl, tt);
     },
-    (says.leaves.0, says.leaves.1)
+    (says.leaves.0, says.leaves.1),
   )
 
   -- the connection failed

@@ -1,5 +1,5 @@
 -- Lemmas on the polls of a call.
-use Rattle.std.proofs.Common.{◌≡◌, Bool, true, false, Ok, inl, inr, ◌⊎◌, ◌∙◌, refl, ap, sym, subst}
+use Rattle.std.proofs.Common.{◌≡◌, Bool, true, false, Ok, inl, inr, ◌⊎◌, ◌∙◌, ap, sym, subst}
 use Rattle.ftp_control.specs.Told.{Told, EndsAsTold}
 use Rattle.ftp_base.specs.declared.types.fault.FtpError.TheVariants.{OutOfMemory}
 use Rattle.ftp_session.specs.declared.session.call.Call.{Call}
@@ -9,7 +9,7 @@ use Rattle.ftp_session.specs.declared.session.stage.Stage.{Stage}
 use Rattle.ftp_session.specs.declared.session.stage.Stage.TheVariants.{Begun, Saying, Hearing}
 use Rattle.ftp_session.specs.declared.session.stage.Step.{Step}
 use Rattle.ftp_session.specs.declared.session.settings.State.{State}
-use Rattle.ftp_session.specs.declared.session.stage.Step.TheVariants.{Next, Waits, Done}
+use Rattle.ftp_session.specs.declared.session.stage.Step.TheVariants.{Next, Done}
 use Rattle.ftp_session.specs.State.{SessionValue}
 use Rattle.ftp_session.specs.Dialogue.{says}
 use Rattle.ftp_session.specs.Moving.{Quiet, Steps, Plays, left}

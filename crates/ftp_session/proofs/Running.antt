@@ -5,16 +5,11 @@ use Rattle.std.proofs.Common.{◌≡◌, ℕ, ◌+◌, ◌<◌, ◌≤◌, drop,
 use Rattle.ftp_base.specs.declared.types.fault.FtpError.TheVariants.{SessionFailed}
 use Rattle.ftp_control.specs.declared.control.rule.ReplyRule.{ReplyRule}
 use Rattle.ftp_control.specs.declared.transport.room.Room.{Room}
-use Rattle.ftp_control.specs.Told.{HasRoomFor}
-use Rattle.ftp_control.specs.Reading.{GoesOn}
-use Rattle.ftp_session.specs.declared.session.ask.Request.{Request}
-use Rattle.ftp_session.specs.declared.session.ask.Outcome.{Outcome}
 use Rattle.ftp_session.specs.declared.session.settings.State.{State}
 use Rattle.ftp_session.specs.declared.session.call.Answer.{Answer}
 use Rattle.ftp_session.specs.declared.session.call.Answer.TheVariants.{Fault}
 use Rattle.ftp_session.specs.declared.session.call.Call.{Call}
 use Rattle.ftp_session.specs.declared.plain.Standing.{Standing}
-use Rattle.ftp_session.specs.declared.plain.Played.{Played}
 use Rattle.ftp_session.specs.declared.plain.Played.TheVariants.{Done}
 use Rattle.ftp_session.specs.declared.plain.Wait.{Wait}
 use Rattle.ftp_session.specs.declared.plain.Ran.{Ran}
@@ -23,8 +18,8 @@ use Rattle.ftp_session.specs.State.{SessionValue}
 use Rattle.ftp_session.specs.Dialogue.{dialogue}
 use Rattle.ftp_session.specs.Play.{play, play_call}
 use Rattle.ftp_session.specs.Run.{run, before, and_then, OneView, Silent}
-use Rattle.ftp_session.specs.Moving.{standing, Goes, Keeps, Completes, Breaks, Plays, IsRefused, IsPlayed}
-use Rattle.ftp_session.specs.Running.{Agrees, AllRefused, before_all, RanTo, RunsTo, BrokeOff, Runs}
+use Rattle.ftp_session.specs.Moving.{standing, Keeps, Completes, Breaks, Plays, IsRefused}
+use Rattle.ftp_session.specs.Running.{AllRefused, before_all, RanTo, RunsTo, BrokeOff, Runs}
 use Rattle.ftp_session.proofs.Hearing.{nothing_resumes}
 use Rattle.ftp_session.proofs.Moving.{nothing_goes, joined_goes, goes_behind, fitted}
 

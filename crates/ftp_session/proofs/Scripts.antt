@@ -1,7 +1,10 @@
 -- Lemmas on lists of events.
-use Rattle.std.proofs.Common.{◌≡◌, ℕ, ◌+◌, ◌<◌, ◌≤◌, Option, Some, None, List, [], ◌∷◌, ◌++◌, length, drop, get_or, inl, inr, ◌⊎◌, refl, ap, sym, ◌∙◌, subst, append_assoc, append-nil, arith}
-use Rattle.std.proofs.lemmas.List.{drop_more}
+use Rattle.std.proofs.Common.{◌≡◌, Bool, false, ℕ, ◌+◌, ◌<◌, ◌≤◌, Option, Some, None, List, [], ◌∷◌, ◌++◌, length, take, drop, get_or, inl, inr, ◌⊎◌, refl, ap, sym, ◌∙◌, subst, append_assoc, append-nil, arith}
+use Rattle.std.specs.Prelude.{OnErr, Result, Ok, Err}
+use Rattle.std.proofs.lemmas.List.{drop_more, take-append-drop, append_cancel_right}
 use Rattle.std.proofs.Math.ListN.{drop_of_length-le}
+use Rattle.ftp_control.specs.declared.control.outcome.Outcome.TheVariants.{Waits as More}
+use Rattle.ftp_control.specs.Grammar.{outcome}
 use Rattle.ftp_control.specs.Memory.{IsGiven}
 use Rattle.ftp_control.specs.Channel.{IsSound}
 use Rattle.ftp_session.specs.declared.session.call.Answer.{Answer}
@@ -11,36 +14,36 @@ use Rattle.ftp_session.specs.declared.session.call.Event.{Event}
 use Rattle.ftp_session.specs.declared.session.stage.Stage.{Stage}
 use Rattle.ftp_session.specs.declared.plain.Standing.{Standing}
 use Rattle.ftp_session.specs.State.{SessionValue}
-use Rattle.ftp_session.specs.Script.{Script, script, start_of, script_of, after_event, IsLawful, Lawful}
-use Rattle.ftp_session.specs.Polling.{PollsTo, PollBroke, Polled}
-use Rattle.ftp_session.specs.Following.{Follows, Happens, BreaksCall, given_answer}
+use Rattle.ftp_session.specs.Script.{Script, script, start_of, script_of, after_event, Lawful}
+use Rattle.ftp_session.specs.Polling.{PollsTo, PollBroke, Polled, Stops, StopsAtFeed}
+use Rattle.ftp_session.specs.Following.{Follows, Happens, BreaksCall, IsFeed, given_answer}
 use Rattle.ftp_session.proofs.Events.{begins}
 
 -- the session follows the script of the events that happened
-pub record OnScript (old : SessionValue) (events left : List Event) (v : SessionValue) (call : Option Call) (stage : Stage) (answers : List Answer) : Type 0 where
+pub record OnScript (old : SessionValue) (system : Bool) (events left : List Event) (v : SessionValue) (call : Option Call) (stage : Stage) (answers : List Answer) : Type 0 where
   pub done : List Event
   pub split : events ≡ done ++ left
-  pub follows : Follows old (script (start_of old) (script_of old) done) v call stage answers
-  pub lawful : Lawful (start_of old) (script (start_of old) (script_of old) done) left
+  pub follows : Follows old (script (start_of old) (script_of old system) done) v call stage answers
+  pub lawful : Lawful (start_of old) (script (start_of old) (script_of old system) done) left
 
-abbrev pub SoFar : SessionValue → List Event → List Event → SessionValue → Option Call → Stage → List Answer → Type 0
-SoFar old events left v call stage answers = OnScript old events left v call stage answers ⊎ PollBroke old events answers
+abbrev pub SoFar : SessionValue → Bool → List Event → List Event → SessionValue → Option Call → Stage → List Answer → Type 0
+SoFar old system events left v call stage answers = OnScript old system events left v call stage answers ⊎ PollBroke old system events answers
 
 script-snoc : (start : Standing) (s : Script) (events : List Event) (event : Event) → script start s (events ++ event ∷ []) ≡ after_event start (script start s events) event
 script-snoc start s [] event = refl
 script-snoc start s (first ∷ events) event = script-snoc start (after_event start s first) events event
 
-pub starts_script : (old : SessionValue) (events : List Event) (stage : Stage) → IsGiven old.channel.told → IsSound (Unit {0}) old.channel → Lawful (start_of old) (script_of old) events → SoFar old events events old None stage []
-starts_script old events stage given sound lawful = inl (record { done = []; split = refl; follows = begins old stage given sound; lawful = lawful })
+pub starts_script : (old : SessionValue) (system : Bool) (events : List Event) (stage : Stage) → IsGiven old.channel.told → IsSound (Unit {0}) old.channel → outcome old.channel.rule system old.channel.kept false ≡ More → Lawful (start_of old) (script_of old system) events → SoFar old system events events old None stage []
+starts_script old system events stage given sound waits lawful = inl (record { done = []; split = refl; follows = begins old system stage given sound waits; lawful = lawful })
 
 -- one event more
-module _ (old : SessionValue) (events later : List Event) (event : Event) (v w : SessionValue) (call call' : Option Call) (stage stage' : Stage) (answers : List Answer) (result : Option Answer) (happens : Happens v w call call' stage stage' event result) where
-  on : OnScript old events (event ∷ later) v call stage answers → SoFar old events later w call' stage' (answers ++ given_answer result)
-  on so_far = go (happens old (script (start_of old) (script_of old) so_far.done) answers so_far.follows so_far.lawful.0)
+module _ (old : SessionValue) (system : Bool) (events later : List Event) (event : Event) (v w : SessionValue) (call call' : Option Call) (stage stage' : Stage) (answers : List Answer) (result : Option Answer) (happens : Happens v w call call' stage stage' event result) where
+  on : OnScript old system events (event ∷ later) v call stage answers → SoFar old system events later w call' stage' (answers ++ given_answer result)
+  on so_far = go (happens old (script (start_of old) (script_of old system) so_far.done) answers so_far.follows so_far.lawful.0)
     where
-      go : Follows old (after_event (start_of old) (script (start_of old) (script_of old) so_far.done) event) w call' stage' (answers ++ given_answer result) ⊎ BreaksCall v w result → SoFar old events later w call' stage' (answers ++ given_answer result)
+      go : Follows old (after_event (start_of old) (script (start_of old) (script_of old system) so_far.done) event) w call' stage' (answers ++ given_answer result) ⊎ BreaksCall v w result → SoFar old system events later w call' stage' (answers ++ given_answer result)
       go (inl follows) =
-          let next = script-snoc (start_of old) (script_of old) so_far.done event in
+          let next = script-snoc (start_of old) (script_of old system) so_far.done event in
           let P : Script → Type 0 = λ s. Follows old s w call' stage' (answers ++ given_answer result) in
           let Q : Script → Type 0 = λ s. Lawful (start_of old) s later in
           inl (record {
@@ -62,7 +65,7 @@ module _ (old : SessionValue) (events later : List Event) (event : Event) (v w :
             answers_are = ap (λ r. answers ++ given_answer r) breaks.is ∙ ap (λ a. a ++ Fault breaks.fault ∷ []) (sym so_far.follows.answers_are);
           })
 
-  pub one_more : SoFar old events (event ∷ later) v call stage answers → SoFar old events later w call' stage' (answers ++ given_answer result)
+  pub one_more : SoFar old system events (event ∷ later) v call stage answers → SoFar old system events later w call' stage' (answers ++ given_answer result)
   one_more (inl so_far) = on so_far
   one_more (inr broke) = inr (record {
     before = broke.before;
@@ -73,25 +76,50 @@ module _ (old : SessionValue) (events later : List Event) (event : Event) (v w :
     fault = broke.fault;
     breaks = broke.breaks;
     rest = broke.rest ++ given_answer result;
-    answers_are = ap (λ a. a ++ given_answer result) broke.answers_are ∙ append_assoc (script (start_of old) (script_of old) broke.before).answers (Fault broke.fault ∷ broke.rest) (given_answer result);
+    answers_are = ap (λ a. a ++ given_answer result) broke.answers_are ∙ append_assoc (script (start_of old) (script_of old system) broke.before).answers (Fault broke.fault ∷ broke.rest) (given_answer result);
   })
 
-pub next_event : (old : SessionValue) (events : List Event) (i : ℕ) (event : Event) (v w : SessionValue) (call call' : Option Call) (stage stage' : Stage) (answers answers' : List Answer) (result : Option Answer) → i < length events → event ≡ get_or events i event → answers' ≡ answers ++ given_answer result → Happens v w call call' stage stage' event result → SoFar old events (drop i events) v call stage answers → SoFar old events (drop (i + 1) events) w call' stage' answers'
-next_event old events i event v w call call' stage stage' answers answers' result inside is pushed happens so_far =
+pub next_event : (old : SessionValue) (system : Bool) (events : List Event) (i : ℕ) (event : Event) (v w : SessionValue) (call call' : Option Call) (stage stage' : Stage) (answers answers' : List Answer) (result : Option Answer) → i < length events → event ≡ get_or events i event → answers' ≡ answers ++ given_answer result → Happens v w call call' stage stage' event result → SoFar old system events (drop i events) v call stage answers → SoFar old system events (drop (i + 1) events) w call' stage' answers'
+next_event old system events i event v w call call' stage stage' answers answers' result inside is pushed happens so_far =
     let left : drop i events ≡ event ∷ drop (i + 1) events = drop_more events i event inside ∙ ap (λ e. e ∷ drop (i + 1) events) (sym is) in
-    let P : List Event → Type 0 = λ l. SoFar old events l v call stage answers in
-    let Q : List Answer → Type 0 = λ a. SoFar old events (drop (i + 1) events) w call' stage' a in
-    subst Q (sym pushed) (one_more old events (drop (i + 1) events) event v w call call' stage stage' answers result happens (subst P left so_far))
+    let P : List Event → Type 0 = λ l. SoFar old system events l v call stage answers in
+    let Q : List Answer → Type 0 = λ a. SoFar old system events (drop (i + 1) events) w call' stage' a in
+    subst Q (sym pushed) (one_more old system events (drop (i + 1) events) event v w call call' stage stage' answers result happens (subst P left so_far))
 
 -- no event is left
-pub all_events : (old : SessionValue) (events : List Event) (i : ℕ) (v : SessionValue) (call : Option Call) (stage : Stage) (answers : List Answer) → length events ≤ i → SoFar old events (drop i events) v call stage answers → Polled old events v answers
-all_events old events i v call stage answers past (inl so_far) =
+pub all_events : (old : SessionValue) (system : Bool) (events : List Event) (i : ℕ) (v : SessionValue) (call : Option Call) (stage : Stage) (answers : List Answer) → length events ≤ i → SoFar old system events (drop i events) v call stage answers → Polled old system events v answers
+all_events old system events i v call stage answers past (inl so_far) =
     let none : drop i events ≡ [] = drop_of_length-le events {i = i} past in
     let all : events ≡ so_far.done = so_far.split ∙ ap (λ l. so_far.done ++ l) none ∙ append-nil so_far.done in
-    let P : List Event → Type 0 = λ e. PollsTo old e v answers in
+    let P : List Event → Type 0 = λ e. PollsTo old system e v answers in
     inl (subst P (sym all) (record { answers_are = sym so_far.follows.answers_are; sent = sym so_far.follows.sent; untaken = sym so_far.follows.untaken }))
-all_events old events i v call stage answers past (inr broke) = inr broke
+all_events old system events i v call stage answers past (inr broke) = inr broke
 
 pub at_most_one : (answer : Option Answer) → length (given_answer answer) ≤ 1
 at_most_one None = omega arith
 at_most_one (Some answer) = omega arith
+
+-- memory was refused for the bytes of the next event
+pub stops_at : (old : SessionValue) (events : List Event) (i : ℕ) (event : Event) (v w : SessionValue) (call : Option Call) (stage : Stage) (answers : List Answer) → i < length events → event ≡ get_or events i event → w ≡ v → IsFeed event → ((system : Bool) → outcome old.channel.rule system old.channel.kept false ≡ More → Lawful (start_of old) (script_of old system) events → SoFar old system events (drop i events) v call stage answers) → Stops old events w
+stops_at old events i event v w call stage answers inside is same feed so_far =
+    let left : drop i events ≡ event ∷ drop (i + 1) events = drop_more events i event inside ∙ ap (λ e. e ∷ drop (i + 1) events) (sym is) in
+    let P : SessionValue → Type 0 = λ x. StopsAtFeed old events x in
+    inr (subst P (sym same) (record {
+      before = take i events;
+      bytes = feed.bytes;
+      later = drop (i + 1) events;
+      split = sym (take-append-drop i events) ∙ ap (λ l. take i events ++ l) (left ∙ ap (λ e. e ∷ drop (i + 1) events) feed.is);
+      answers = answers;
+      polled = λ system waits lawful. go system (so_far system waits lawful);
+    }))
+  where
+    go : (system : Bool) → SoFar old system events (drop i events) v call stage answers → PollsTo old system (take i events) v answers ⊎ PollBroke old system events answers
+    go system (inl on_script) =
+        let done : take i events ≡ on_script.done = append_cancel_right (take i events) on_script.done (drop i events) (take-append-drop i events ∙ on_script.split) in
+        let Q : List Event → Type 0 = λ e. PollsTo old system e v answers in
+        inl (subst Q (sym done) (record { answers_are = sym on_script.follows.answers_are; sent = sym on_script.follows.sent; untaken = sym on_script.follows.untaken }))
+    go system (inr broke) = inr broke
+
+pub on_err : (T E : Type 0) (result : Result T E) (P : Type 0) → P → OnErr result P
+on_err T E (Ok value) P p = tt
+on_err T E (Err error) P p = p

@@ -7,12 +7,15 @@ use Rattle.ftp_base.specs.declared.types.fault.FtpError.TheVariants.{SessionFail
 use Rattle.ftp_control.specs.declared.transport.room.Room.{Room}
 use Rattle.ftp_control.specs.Told.{HasRoomFor, EndsAsTold}
 use Rattle.ftp_control.specs.Reading.{GoesOn}
+use Rattle.ftp_control.specs.declared.control.outcome.Outcome.TheVariants.{Waits as More}
+use Rattle.ftp_control.specs.Grammar.{outcome}
 use Rattle.ftp_control.specs.Memory.{IsGiven}
 use Rattle.ftp_control.specs.Channel.{IsSound}
 use Rattle.ftp_session.specs.declared.session.call.Answer.{Answer}
 use Rattle.ftp_session.specs.declared.session.call.Answer.TheVariants.{Fault}
 use Rattle.ftp_session.specs.declared.session.call.Call.{Call}
 use Rattle.ftp_session.specs.declared.session.call.Event.{Event}
+use Rattle.ftp_session.specs.declared.session.call.Event.TheVariants.{Feed}
 use Rattle.ftp_session.specs.declared.session.stage.Stage.{Stage}
 use Rattle.ftp_session.specs.declared.session.stage.Stage.TheVariants.{Begun, Saying, Hearing}
 use Rattle.ftp_session.specs.State.{SessionValue}
@@ -60,6 +63,7 @@ pub record Follows (old : SessionValue) (s : Script) (v : SessionValue) (call : 
   pub sent : s.sent ≡ v.channel.told.sent
   pub untaken : s.untaken ≡ v.channel.kept ++ unread v.channel.told
   pub seen : s.seen ≡ length v.channel.kept
+  pub waits : outcome v.channel.rule s.system v.channel.kept false ≡ More
   pub call_is : s.call ≡ call
   pub answers_are : s.answers ≡ answers
 
@@ -92,6 +96,11 @@ pub record BreaksCall (v w : SessionValue) (result : Option Answer) : Type 0 whe
   pub fault : FtpError
   pub is : result ≡ Some (Fault fault)
   pub breaks : Breaks (Unit {0}) (Fault fault) v w
+
+-- only a Feed may want memory
+pub record IsFeed (event : Event) : Type 0 where
+  pub bytes : List ℕ
+  pub is : event ≡ Feed bytes
 
 -- an event of a script: the session follows it, or the call under way is broken off
 abbrev pub Happens : SessionValue → SessionValue → Option Call → Option Call → Stage → Stage → Event → Option Answer → Type 0

@@ -1,6 +1,6 @@
 -- What a dialogue comes to: its answer, or that it waits. All that the server sends is known at once, and so is
 -- the room for what is said.
-use Rattle.std.specs.Prelude.{ℕ, ◌+◌, Bool, true, false, List, [], ◌∷◌, ◌++◌, length, drop, nat_le, Result, Ok, Err, if◌then◌else◌}
+use Rattle.std.specs.Prelude.{ℕ, Bool, true, List, [], ◌∷◌, ◌++◌, length, nat_le, Result, Ok, Err, if◌then◌else◌}
 use Rattle.ftp_base.specs.declared.status.Status.{Status}
 use Rattle.ftp_base.specs.declared.status.Status.TheVariants.{System}
 use Rattle.ftp_base.specs.Status.{status_of}
@@ -16,7 +16,6 @@ use Rattle.ftp_control.specs.Grammar.{outcome, left_by}
 use Rattle.ftp_control.specs.Answer.{is_among, expected_reply}
 use Rattle.ftp_session.specs.declared.session.ask.Request.{Request}
 use Rattle.ftp_session.specs.declared.session.ask.Outcome.{Outcome as Outcomes}
-use Rattle.ftp_session.specs.declared.session.call.Answer.{Answer}
 use Rattle.ftp_session.specs.declared.session.call.Answer.TheVariants.{Fault}
 use Rattle.ftp_session.specs.declared.session.call.Call.{Call}
 use Rattle.ftp_session.specs.declared.plain.Standing.{Standing}

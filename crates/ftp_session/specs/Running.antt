@@ -12,7 +12,7 @@ use Rattle.ftp_session.specs.declared.session.call.Answer.{Answer}
 use Rattle.ftp_session.specs.declared.session.call.Answer.TheVariants.{Fault}
 use Rattle.ftp_session.specs.declared.session.call.Call.{Call}
 use Rattle.ftp_session.specs.declared.plain.Ran.{Ran}
-use Rattle.ftp_session.specs.declared.plain.Ran.TheVariants.{Finished, Waiting}
+use Rattle.ftp_session.specs.declared.plain.Ran.TheVariants.{Finished}
 use Rattle.ftp_session.specs.State.{SessionValue}
 use Rattle.ftp_session.specs.Run.{run, before, OneView}
 use Rattle.ftp_session.specs.Moving.{standing, Goes, Breaks}

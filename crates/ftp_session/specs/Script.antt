@@ -5,7 +5,6 @@ use Rattle.ftp_control.specs.declared.transport.room.Room.{Room}
 use Rattle.ftp_control.specs.declared.transport.room.Room.TheVariants.{Any, UpTo}
 use Rattle.ftp_control.specs.Told.{Told}
 use Rattle.ftp_control.specs.Memory.{more_room}
-use Rattle.ftp_session.specs.declared.session.settings.State.{State}
 use Rattle.ftp_session.specs.declared.session.call.Answer.{Answer}
 use Rattle.ftp_session.specs.declared.session.call.Call.{Call}
 use Rattle.ftp_session.specs.declared.session.call.Call.TheVariants.{Greet, Noop, Quit, CustomCommand, ReadResponse, ReadResponseIn}
@@ -17,13 +16,17 @@ use Rattle.ftp_session.specs.declared.plain.Wait.TheVariants as wait
 use Rattle.ftp_session.specs.declared.plain.Ran.{Ran}
 use Rattle.ftp_session.specs.declared.plain.Ran.TheVariants.{Finished, Waiting}
 use Rattle.ftp_session.specs.State.{SessionValue}
-use Rattle.ftp_session.specs.Dialogue.{dialogue}
-use Rattle.ftp_session.specs.Run.{run, Resumes}
+use Rattle.ftp_base.specs.declared.status.Status.TheVariants.{System}
+use Rattle.ftp_control.specs.declared.control.outcome.Outcome.TheVariants.{Waits as More}
+use Rattle.ftp_control.specs.Grammar.{outcome}
+use Rattle.ftp_control.specs.Answer.{is_among}
+use Rattle.ftp_session.specs.Dialogue.{codes_of}
+use Rattle.ftp_session.specs.Run.{run}
 use Rattle.ftp_session.specs.Moving.{standing}
 
 -- the calls that are done with their answers; the call under way, and whether it was polled; all bytes that came,
 -- and whether they ended; the room; the bytes that went out; those that are part of no reply, and how many of them
--- a Poll has read
+-- a Poll has read, and whether the list that it read them under holds System
 pub record Script : Type 0 where
   pub items : List Call
   pub answers : List Answer
@@ -35,6 +38,7 @@ pub record Script : Type 0 where
   pub sent : List ℕ
   pub untaken : List ℕ
   pub seen : ℕ
+  pub system : Bool
 
 -- what came on a connection and wasn't read yet
 abbrev pub unread : Told → List ℕ
@@ -48,8 +52,9 @@ is_over t = t.given.closed || t.ended
 abbrev pub start_of : SessionValue → Standing
 start_of v = standing v [] (unread v.channel.told) (is_over v.channel.told) []
 
-abbrev pub script_of : SessionValue → Script
-script_of v = record {
+-- a script begins; what an earlier read left was read under a list that holds System, or not
+abbrev pub script_of : SessionValue → Bool → Script
+script_of v system = record {
   items = [];
   answers = [];
   call = None;
@@ -60,7 +65,12 @@ script_of v = record {
   sent = v.channel.told.sent;
   untaken = v.channel.kept ++ unread v.channel.told;
   seen = length v.channel.kept;
+  system = system;
 }
+
+-- whether the list that a call hears under holds System
+abbrev pub hears_system : Call → Bool
+hears_system call = is_among (codes_of call) System
 
 -- what goes out of what was said
 abbrev pub front : Room → List ℕ → List ℕ
@@ -70,6 +80,11 @@ front (UpTo most) all = take most all
 -- how many of the untaken bytes are read: those of before, unless a reply was taken; or all, where more are awaited
 abbrev pub seen_in : Script → List ℕ → ℕ
 seen_in s left = if length left == length s.untaken then s.seen else 0
+
+abbrev pub system_at : Wait → Call → Script → Bool
+system_at wait.Room call s = s.system
+system_at wait.Bytes call s = hears_system call
+system_at wait.Outcome call s = s.system
 
 abbrev pub seen_at : Wait → Script → List ℕ → ℕ
 seen_at wait.Room s left = seen_in s left
@@ -92,6 +107,7 @@ polled_as (Waiting answers wait t) call s = record s {
   sent = front s.room t.said;
   untaken = t.bytes;
   seen = seen_at wait s t.bytes;
+  system = system_at wait call s;
 }
 
 abbrev pub poll_script : Standing → Option Call → Script → Script
@@ -118,8 +134,9 @@ abbrev pub script : Standing → Script → List Event → Script
 script start s [] = s
 script start s (event ∷ events) = script start (after_event start s event) events
 
--- Lawful lists: a call is dropped before its first Poll, or it is a plain read; and what earlier Polls read of a
--- reply is no whole reply under the list of the call that is polled first with it
+-- Lawful lists: a call is dropped before its first Poll, or it is a plain read; and a reply under way is resumed
+-- under a list that holds System where the one before did, and else doesn't, unless it is no whole reply under
+-- either
 
 abbrev pub is_read : Call → Bool
 is_read Greet = false
@@ -135,7 +152,8 @@ MayCancel (Some call) polled = (polled ≡ false) ⊎ (is_read call ≡ true)
 
 abbrev pub MayPoll : Standing → Option Call → Script → Type 0
 MayPoll start None s = Unit {0}
-MayPoll start (Some call) s = s.polled ≡ false → (state : State) → Resumes start.rule (take s.seen s.untaken) (dialogue Ok call state)
+MayPoll start (Some call) s =
+    s.polled ≡ false → (hears_system call ≡ s.system) ⊎ (outcome start.rule (hears_system call) (take s.seen s.untaken) false ≡ More)
 
 abbrev pub IsLawful : Standing → Script → Event → Type 0
 IsLawful start s (event.Feed more) = Unit {0}

@@ -8,8 +8,8 @@ mod run;
 mod run_polled;
 mod settings;
 mod stage;
-mod step;
 mod state;
+mod step;
 
 pub use call::{Answer, Call, Event};
 pub use settings::{Counts, Owed, Settings, State};

@@ -11,7 +11,7 @@ use super::stage::{Stage, Step};
 use super::step::begin;
 use super::{Answer, Call, Session};
 use ftp_base::types::FtpError;
-use ftp_control::transport::{Conn, NeverWaits, Network, PollConn};
+use ftp_control::transport::{Conn, Network, NeverWaits, PollConn};
 use futures::task::Poll;
 use std::alloc::Global;
 

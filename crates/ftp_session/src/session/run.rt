@@ -24,15 +24,26 @@ where
         ensures count { IfOk result (λ answers. length answers.items ≡ length calls.now) }
         ensures memory { IfErr result (λ fault. fault ≡ FtpError.OutOfMemory) }
         ensures unchanged { OnErr result (self.new ≡ self.old) }
-        ensures sound { IfOk result (λ answers.
-            Sound Tr.Conn.tells self.new.channel self.new.state.counts) }
+        ensures sound { Sound Tr.Conn.tells self.new.channel self.new.state.counts }
+    {
+        let answers = self.make(alloc, calls);
+        self.untaken();
+        answers
+    }
+
+    /// Makes these calls.
+    fn make(&mut self, alloc: Global, calls: &[Call]) -> FtpResult<Vec<Answer>>
+        ensures runs { IfOk result (λ answers.
+            Runs Tr.Conn.tells calls.now self.old self.new answers.items) }
+        ensures count { IfOk result (λ answers. length answers.items ≡ length calls.now) }
+        ensures memory { IfErr result (λ fault. fault ≡ FtpError.OutOfMemory) }
+        ensures unchanged { OnErr result (self.new ≡ self.old) }
     {
         let mut answers = Vec::with_capacity(alloc, calls.len())?;
         for call in calls {
             let answer = self.call(alloc, call);
             answers.push(answer).unwrap();
         }
-        self.untaken();
         Ok(answers)
     }
 }

@@ -1,12 +1,11 @@
 //! Polled runs over memory: lists of events.
 
-ghost use Rattle.std.specs.Prelude.{◌≡◌, ◌<◌, ◌≤◌, ◌++◌, IfOk, IfErr, Ok, option_map, vec_len, vec_capacity};
+ghost use Rattle.std.specs.Prelude.{◌≡◌, ◌<◌, ◌≤◌, ◌++◌, IfOk, IfErr, OnErr, Ok, option_map, vec_len, vec_capacity};
 ghost use Rattle.ftp_control.specs.Channel.{IsSound};
 ghost use Rattle.ftp_control.specs.Memory.{IsGiven};
-ghost use Rattle.ftp_session.specs.Following.{Happens, PollsHere, StageIn, Starts, given_answer};
+ghost use Rattle.ftp_session.specs.Following.{Happens, IsFeed, PollsHere, StageIn, Starts, given_answer};
 ghost use Rattle.ftp_session.specs.Moving.{StageOf};
-ghost use Rattle.ftp_session.specs.Polling.{Polled};
-ghost use Rattle.ftp_session.specs.Script.{Lawful, script_of, start_of};
+ghost use Rattle.ftp_session.specs.Polling.{PollsLawfully, Stops};
 ghost use Rattle.ftp_session.specs.Sound.{Sound, SoundCounts};
 
 use super::stage::Stage;
@@ -26,21 +25,33 @@ impl Session<MemoryTransport> {
     /// and the events before it have happened.
     pub fn run_polled(&mut self, alloc: Global, events: &[Event]) -> FtpResult<Vec<Answer>>
         ensures polled { IfOk result (λ answers.
-            Lawful (start_of self.old) (script_of self.old) events.now →
-            Polled self.old events.now self.new answers.items) }
+            PollsLawfully self.old events.now self.new answers.items) }
         ensures memory { IfErr result (λ fault. fault ≡ FtpError.OutOfMemory) }
-        ensures sound { IfOk result (λ answers.
-            Sound (Unit {0}) self.new.channel self.new.state.counts) }
+        ensures stops { OnErr result (Stops self.old events.now self.new) }
+        ensures sound { Sound (Unit {0}) self.new.channel self.new.state.counts }
+    {
+        self.holds();
+        let answers = self.let_happen(alloc, events);
+        self.holds();
+        answers
+    }
+
+    /// Lets these events happen.
+    fn let_happen(&mut self, alloc: Global, events: &[Event]) -> FtpResult<Vec<Answer>>
+        requires given { IsGiven self.old.channel.told }
+        requires sound { IsSound (Unit {0}) self.old.channel }
+        ensures polled { IfOk result (λ answers.
+            PollsLawfully self.old events.now self.new answers.items) }
+        ensures memory { IfErr result (λ fault. fault ≡ FtpError.OutOfMemory) }
+        ensures stops { OnErr result (Stops self.old events.now self.new) }
     {
         let mut answers = Vec::with_capacity(alloc, events.len())?;
         let mut under_way = None;
         let mut stage = Stage::Begun;
-        self.holds();
         for event in events {
             let answer = self.happen(alloc, event, &mut under_way, &mut stage)?;
             note(&mut answers, answer);
         }
-        self.holds();
         Ok(answers)
     }
 
@@ -53,6 +64,7 @@ impl Session<MemoryTransport> {
         stage: &mut Stage,
     ) -> Result<Option<Answer>, AllocError>
         requires { StageIn (option_map (λ c. c.now) under_way.old) stage.old }
+        ensures unchanged { OnErr result ((self.new ≡ self.old) × IsFeed event.now) }
         ensures stage { StageIn (option_map (λ c. c.now) under_way.new) stage.new }
         ensures happens { IfOk result (λ answer.
             Happens self.old self.new (option_map (λ c. c.now) under_way.old)

@@ -1,6 +1,5 @@
-use Rattle.std.proofs.Common.{◌≡◌, drop, true, arith}
+use Rattle.std.proofs.Common.{drop, arith}
 use Rattle.std.proofs.Math.ListN.{drop_of_length-le}
-use Rattle.ftp_control.specs.Memory.{IsGiven}
 use Rattle.ftp_control.proofs.Memory.{read_and_ahead}
 use Rattle.ftp_control.proofs.transport.memory.MemoryConn.unread.Goals as goal
 

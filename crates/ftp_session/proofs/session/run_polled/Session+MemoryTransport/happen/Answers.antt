@@ -1,4 +1,4 @@
-use Rattle.std.proofs.Common.{◌≡◌, inl, ap, refl, subst, option_map, Option, None}
+use Rattle.std.proofs.Common.{inl, ap, subst, option_map, None}
 use Rattle.ftp_control.specs.Memory.{fed, closed_memory, widened}
 use Rattle.ftp_control.specs.Channel.{Channel}
 use Rattle.ftp_session.specs.declared.session.call.Event.{Event}
@@ -15,37 +15,37 @@ returns-clause-happens c = λ old s answers follows may.
     let held = c.holds.ensures in
     elim c.match-event.branch [
       | in-Feed+in_ok-feed-in-Feed w ↦ (
-        let ok = rw (w.in_ok-feed-in-Feed.was, w.as_slice.ensures) at w.feed.ensures.ok in
-        let F : Channel → Channel = λ x. record x { told = fed w.in-Feed.bytes x.told } in
-        let is = through F v z w.self.inside.channel w.feed.new.self w.self.inside.state w.self.view_is w.self-is ok in
-        let same = ap (λ o. option_map (λ c'. c'.now) o) w.under_way-is in
-        inl (happened old s z c.args.event.now (event.Feed w.in-Feed.bytes) _ _ _ _ answers w.in-Feed.is same w.stage-is (feeds old s v _ _ answers follows w.in-Feed.bytes z is held.given held.sound))
-      )
+          let ok = rw (w.in_ok-feed-in-Feed.was, w.as_slice.ensures) at w.feed.ensures.ok in
+          let F : Channel → Channel = λ x. record x { told = fed w.in-Feed.bytes x.told } in
+          let is = through F v z w.self.inside.channel w.feed.new.self w.self.inside.state w.self.view_is w.self-is ok in
+          let same = ap (λ o. option_map (λ c'. c'.now) o) w.under_way-is in
+          inl (happened old s z c.args.event.now (event.Feed w.in-Feed.bytes) _ _ _ _ answers w.in-Feed.is same w.stage-is (feeds old s v _ _ answers follows w.in-Feed.bytes z is held.given held.sound))
+          )
       | in-End w ↦ (
-        let F : Channel → Channel = λ x. record x { told = closed_memory x.told } in
-        let is = through F v z w.self-in-End.inside.channel w.end_input.new.self w.self-in-End.inside.state w.self-in-End.view_is w.self-is w.end_input.ensures in
-        let same = ap (λ o. option_map (λ c'. c'.now) o) w.under_way-is in
-        inl (happened old s z c.args.event.now event.End _ _ _ _ answers w.in-End.is same w.stage-is (ends old s v _ _ answers follows z is held.given held.sound))
-      )
+          let F : Channel → Channel = λ x. record x { told = closed_memory x.told } in
+          let is = through F v z w.self-in-End.inside.channel w.end_input.new.self w.self-in-End.inside.state w.self-in-End.view_is w.self-is w.end_input.ensures in
+          let same = ap (λ o. option_map (λ c'. c'.now) o) w.under_way-is in
+          inl (happened old s z c.args.event.now event.End _ _ _ _ answers w.in-End.is same w.stage-is (ends old s v _ _ answers follows z is held.given held.sound))
+          )
       | in-Room w ↦ (
-        let F : Channel → Channel = λ x. record x { told = widened w.in-Room.more x.told } in
-        let is = through F v z w.self-in-Room.inside.channel w.allow.new.self w.self-in-Room.inside.state w.self-in-Room.view_is w.self-is w.allow.ensures in
-        let same = ap (λ o. option_map (λ c'. c'.now) o) w.under_way-is in
-        inl (happened old s z c.args.event.now (event.Room w.in-Room.more) _ _ _ _ answers w.in-Room.is same w.stage-is (widens old s v _ _ answers follows w.in-Room.more z is held.given held.sound))
-      )
+          let F : Channel → Channel = λ x. record x { told = widened w.in-Room.more x.told } in
+          let is = through F v z w.self-in-Room.inside.channel w.allow.new.self w.self-in-Room.inside.state w.self-in-Room.view_is w.self-is w.allow.ensures in
+          let same = ap (λ o. option_map (λ c'. c'.now) o) w.under_way-is in
+          inl (happened old s z c.args.event.now (event.Room w.in-Room.more) _ _ _ _ answers w.in-Room.is same w.stage-is (widens old s v _ _ answers follows w.in-Room.more z is held.given held.sound))
+          )
       | in-Start w ↦ (
-        let same = ap (λ o. option_map (λ c'. c'.now) o) w.under_way-is in
-        let begun = starts old s v w.in-Start.call _ _ _ _ answers follows w.start.ensures.starts in
-        inl (happened old s z c.args.event.now (event.Start w.in-Start.call) _ _ _ _ answers w.in-Start.is same w.stage-is (stayed old _ v z _ _ answers w.self-is begun))
-      )
+          let same = ap (λ o. option_map (λ c'. c'.now) o) w.under_way-is in
+          let begun = starts old s v w.in-Start.call _ _ _ _ answers follows w.start.ensures.starts in
+          inl (happened old s z c.args.event.now (event.Start w.in-Start.call) _ _ _ _ answers w.in-Start.is same w.stage-is (stayed old _ v z _ _ answers w.self-is begun))
+          )
       | in-Cancel w ↦ (
-        let L : Event → Type 0 = λ e. IsLawful (start_of old) s e in
-        let none = ap (λ o. option_map (λ c'. c'.now) o) w.under_way-is in
-        let dropped = cancels old s v _ _ c.args.stage.now answers follows (subst L w.in-Cancel.is may) in
-        inl (happened old s z c.args.event.now event.Cancel None _ _ _ answers w.in-Cancel.is none w.stage-is (stayed old _ v z None c.args.stage.now answers w.self-is dropped))
-      )
+          let L : Event → Type 0 = λ e. IsLawful (start_of old) s e in
+          let none = ap (λ o. option_map (λ c'. c'.now) o) w.under_way-is in
+          let dropped = cancels old s v _ _ c.args.stage.now answers follows (subst L w.in-Cancel.is may) in
+          inl (happened old s z c.args.event.now event.Cancel None _ _ _ answers w.in-Cancel.is none w.stage-is (stayed old _ v z None c.args.stage.now answers w.self-is dropped))
+          )
       | in-Leave w ↦ (
-        let same = ap (λ o. option_map (λ c'. c'.now) o) w.under_way-is in
-        inl (happened old s z c.args.event.now event.Leave _ _ _ _ answers w.in-Leave.is same w.stage-is (stayed old _ v z _ _ answers w.self-is follows))
-      )
+          let same = ap (λ o. option_map (λ c'. c'.now) o) w.under_way-is in
+          inl (happened old s z c.args.event.now event.Leave _ _ _ _ answers w.in-Leave.is same w.stage-is (stayed old _ v z _ _ answers w.self-is follows))
+          )
     ]

@@ -1,5 +1,4 @@
 use Rattle.std.proofs.Common.{ap, inl, option_map}
-use Rattle.ftp_session.specs.declared.session.call.Call.{Call}
 use Rattle.ftp_session.proofs.Events.{polled_ready, polled_pending}
 use Rattle.ftp_session.proofs.session.run_polled.Session+MemoryTransport.poll_under_way.Goals as goal
 

@@ -1,4 +1,4 @@
-use Rattle.std.proofs.Common.{◌≡◌, ◌⊎◌, Ok, true, false}
+use Rattle.std.proofs.Common.{◌≡◌, ◌⊎◌, Ok, true}
 use Rattle.ftp_session.specs.declared.session.stage.Stage.TheVariants.{Hearing}
 use Rattle.ftp_control.specs.Told.{EndsAsTold}
 use Rattle.ftp_session.specs.Dialogue.{says}

@@ -1,6 +1,6 @@
 use Rattle.std.proofs.Common.{◌≡◌, ◌≤◌, ◌⊎◌, length, drop, vec_capacity}
 use Rattle.ftp_session.specs.Running.{RanTo, BrokeOff}
-use Rattle.ftp_session.proofs.session.state.Session.run.Given as goal
+use Rattle.ftp_session.proofs.session.state.Session.make.Given as goal
 
 -- the answers so far
 abbrev pub invariant-loop-call : goal.invariant-loop-call

@@ -1,6 +1,6 @@
-use Rattle.std.proofs.Common.{◌≡◌, ◌++◌, ◌∷◌, [], ◌+◌, length, length-append, inl, ap, ◌∙◌, arith}
+use Rattle.std.proofs.Common.{◌≡◌, ◌++◌, ◌∷◌, [], length, length-append, inl, ap, ◌∙◌, arith}
 use Rattle.ftp_session.proofs.Running.{ran_nothing, next_of, all_of}
-use Rattle.ftp_session.proofs.session.state.Session.run.Goals as goal
+use Rattle.ftp_session.proofs.session.state.Session.make.Goals as goal
 
 pub loop-call-init : goal.loop-call-init
 loop-call-init g c =
