@@ -29,12 +29,16 @@ use Rattle.ftp_session.specs.Script.{Script, unread, is_over, start_of, after_ev
 -- the calls that are done come to these answers, and to whatever comes behind them from here
 abbrev pub Stands : SessionValue → List Call → List ℕ → SessionValue → List Answer → Type 0
 Stands old items came v answers =
-    (later : List Call) (room : Room) (more : List ℕ) (ended : Bool) → HasRoomFor room (length v.channel.told.sent) → GoesOn v.channel.ended more ended → run room Ok (items ++ later) (standing old [] (came ++ more) ended []) ≡ before_all answers (run room Ok later (standing v [] more ended []))
+    (later : List Call) (room : Room) (more : List ℕ) (ended : Bool)
+    → HasRoomFor room (length v.channel.told.sent) → GoesOn v.channel.ended more ended
+    → run room Ok (items ++ later) (standing old [] (came ++ more) ended []) ≡ before_all answers (run room Ok later (standing v [] more ended []))
 
 -- the same with a call under way, of which this is left
 abbrev pub Reaches : SessionValue → List Call → List ℕ → SessionValue → List Answer → Call → Tree → Type 0
 Reaches old items came v answers call tree =
-    (later : List Call) (room : Room) (more : List ℕ) (ended : Bool) → HasRoomFor room (length v.channel.told.sent) → GoesOn v.channel.ended more ended → run room Ok (items ++ call ∷ later) (standing old [] (came ++ more) ended []) ≡ before_all answers (and_then (play room tree (standing v [] more ended [])) (λ t. run room Ok later t))
+    (later : List Call) (room : Room) (more : List ℕ) (ended : Bool)
+    → HasRoomFor room (length v.channel.told.sent) → GoesOn v.channel.ended more ended
+    → run room Ok (items ++ call ∷ later) (standing old [] (came ++ more) ended []) ≡ before_all answers (and_then (play room tree (standing v [] more ended [])) (λ t. run room Ok later t))
 
 -- a call that was polled; of a plain read no trace is left where it is dropped
 pub record UnderWay (old : SessionValue) (s : Script) (came : List ℕ) (v : SessionValue) (call : Call) (stage : Stage) : Type 0 where

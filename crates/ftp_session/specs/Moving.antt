@@ -53,6 +53,14 @@ standing v asked more ended outcomes = record {
   outcomes = outcomes;
 }
 
+-- whatever still comes, and whatever room there is, this holds of where a run stood in a session and where it
+-- stands now, where these bytes came between
+abbrev pub However : SessionValue → List ℕ → SessionValue → (Room → Standing → Standing → Type 0) → Type 0
+However old came new Holds =
+    (room : Room) (asked : List Request) (more : List ℕ) (ended : Bool) (outcomes : List Outcome)
+    → HasRoomFor room (length new.channel.told.sent) → GoesOn new.channel.ended more ended
+    → Holds room (standing old asked (came ++ more) ended outcomes) (standing new asked more ended outcomes)
+
 -- bytes came, others may have gone out, and nothing failed
 pub record Goes (tells : Type 0) (came : List ℕ) (old new : SessionValue) : Type 0 where
   pub over : GoesOn old.channel.ended came new.channel.ended
@@ -79,7 +87,7 @@ pub record Moves (tells : Type 0) (tree tree' : Tree) (old new : SessionValue) :
   pub goes : Goes tells came old new
   pub state : new.state ≡ old.state
   pub failed : new.channel.failed ≡ old.channel.failed
-  pub plays : tells → Resumes old.channel.rule old.channel.kept tree → (room : Room) (asked : List Request) (more : List ℕ) (ended : Bool) (outcomes : List Outcome) → HasRoomFor room (length new.channel.told.sent) → GoesOn new.channel.ended more ended → play room tree (standing old asked (came ++ more) ended outcomes) ≡ play room tree' (standing new asked more ended outcomes)
+  pub plays : tells → Resumes old.channel.rule old.channel.kept tree → However old came new (λ room s t. play room tree s ≡ play room tree' t)
   pub resumes : Resumes old.channel.rule old.channel.kept tree → Resumes new.channel.rule new.channel.kept tree'
   pub keeps : Silent tree' → Keeps (Silent tree) came old new
   pub calm : Calm tree' → Keeps (Calm tree) came old new
@@ -88,7 +96,7 @@ pub record Moves (tells : Type 0) (tree tree' : Tree) (old new : SessionValue) :
 pub record Completes (tells : Type 0) (tree : Tree) (answer : Answer) (old new : SessionValue) : Type 0 where
   pub came : List ℕ
   pub goes : Goes tells came old new
-  pub plays : tells → Resumes old.channel.rule old.channel.kept tree → (room : Room) (asked : List Request) (more : List ℕ) (ended : Bool) (outcomes : List Outcome) → HasRoomFor room (length new.channel.told.sent) → GoesOn new.channel.ended more ended → play room tree (standing old asked (came ++ more) ended outcomes) ≡ played.Done answer (standing new asked more ended outcomes)
+  pub plays : tells → Resumes old.channel.rule old.channel.kept tree → However old came new (λ room s t. play room tree s ≡ played.Done answer t)
   pub keeps : Keeps (Silent tree) came old new
   pub calm : Keeps (Calm tree) came old new
 

@@ -1,13 +1,8 @@
 -- What a session does with a list of calls: what their definition says of all that the server sends, until the
 -- connection fails or memory is refused.
-use Rattle.std.specs.Prelude.{◌≡◌, ◌⊎◌, ℕ, Bool, true, false, List, [], ◌∷◌, ◌++◌, length, Ok}
+use Rattle.std.specs.Prelude.{◌≡◌, ◌⊎◌, ℕ, true, false, List, [], ◌∷◌, ◌++◌, Ok}
 use Rattle.ftp_base.specs.declared.types.fault.FtpError.{FtpError}
 use Rattle.ftp_base.specs.declared.types.fault.FtpError.TheVariants.{SessionFailed}
-use Rattle.ftp_control.specs.declared.transport.room.Room.{Room}
-use Rattle.ftp_control.specs.Told.{HasRoomFor}
-use Rattle.ftp_control.specs.Reading.{GoesOn}
-use Rattle.ftp_session.specs.declared.session.ask.Request.{Request}
-use Rattle.ftp_session.specs.declared.session.ask.Outcome.{Outcome}
 use Rattle.ftp_session.specs.declared.session.call.Answer.{Answer}
 use Rattle.ftp_session.specs.declared.session.call.Answer.TheVariants.{Fault}
 use Rattle.ftp_session.specs.declared.session.call.Call.{Call}
@@ -15,7 +10,7 @@ use Rattle.ftp_session.specs.declared.plain.Ran.{Ran}
 use Rattle.ftp_session.specs.declared.plain.Ran.TheVariants.{Finished}
 use Rattle.ftp_session.specs.State.{SessionValue}
 use Rattle.ftp_session.specs.Run.{run, before, OneView}
-use Rattle.ftp_session.specs.Moving.{standing, Goes, Breaks}
+use Rattle.ftp_session.specs.Moving.{However, Goes, Breaks}
 
 -- one view of System: what is kept is no whole reply under the first list that these calls hear under
 abbrev pub Agrees : SessionValue → List Call → Type 0
@@ -30,14 +25,14 @@ before_all (answer ∷ answers) ran = before answer (before_all answers ran)
 pub record RanTo (tells : Type 0) (calls left : List Call) (old new : SessionValue) (answers : List Answer) : Type 0 where
   pub came : List ℕ
   pub goes : Goes tells came old new
-  pub runs : tells → Agrees old calls → (room : Room) (asked : List Request) (more : List ℕ) (ended : Bool) (outcomes : List Outcome) → HasRoomFor room (length new.channel.told.sent) → GoesOn new.channel.ended more ended → run room Ok calls (standing old asked (came ++ more) ended outcomes) ≡ before_all answers (run room Ok left (standing new asked more ended outcomes))
+  pub runs : tells → Agrees old calls → However old came new (λ room s t. run room Ok calls s ≡ before_all answers (run room Ok left t))
   pub agrees : Agrees old calls → Agrees new left
 
 -- a run that came to its end: these are the answers, and here it stands, whatever else the server sends
 pub record RunsTo (tells : Type 0) (calls : List Call) (old new : SessionValue) (answers : List Answer) : Type 0 where
   pub came : List ℕ
   pub goes : Goes tells came old new
-  pub runs : tells → Agrees old calls → (room : Room) (asked : List Request) (more : List ℕ) (ended : Bool) (outcomes : List Outcome) → HasRoomFor room (length new.channel.told.sent) → GoesOn new.channel.ended more ended → run room Ok calls (standing old asked (came ++ more) ended outcomes) ≡ Finished answers (standing new asked more ended outcomes)
+  pub runs : tells → Agrees old calls → However old came new (λ room s t. run room Ok calls s ≡ Finished answers t)
 
 -- each is refused, since the session has failed
 abbrev pub AllRefused : List Answer → Type 0
