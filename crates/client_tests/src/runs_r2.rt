@@ -132,6 +132,7 @@ fn greeted<R: Abort>(rt: &R, alloc: Global, piece: usize) -> FtpResult<Session<M
     events.push(Event::Poll)?;
     let answers = session.run_polled(alloc, events.as_slice())?;
     assert_shown(rt, answers.as_slice(), &[UNIT]);
+    assert_eq!(rt; session.get_welcome_msg().unwrap_or("none"), "220 r");
     Ok(session)
 }
 
@@ -224,7 +225,7 @@ fn a_call_that_is_dropped_before_a_poll_says_nothing(rt: HostRuntime) -> Result<
         sent: b"",
         taken: 0,
     };
-    assert_steps(&rt, rt.alloc(), &[Noop, Cancel], &due)?;
+    assert_steps(&rt, rt.alloc(), &[Noop, Cancel, Poll], &due)?;
     Ok(())
 }
 
