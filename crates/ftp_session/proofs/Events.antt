@@ -63,6 +63,7 @@ module _ (old : SessionValue) (s : Script) (v : SessionValue) (call : Option Cal
         came = f.came;
         place = place_given old s (record s { bytes = s.bytes ++ more; untaken = s.untaken ++ more }) f.came v given call stage refl refl refl f.place;
         rule = f.rule;
+        failures = f.failures;
         given = has;
         sound = sound;
         bytes = ap (λ b. b ++ more) f.bytes ∙ append_assoc (old.channel.kept ++ f.came) (unread t) more ∙ ap (λ u. old.channel.kept ++ f.came ++ u) (sym unread');
@@ -99,6 +100,7 @@ module _ (old : SessionValue) (s : Script) (v : SessionValue) (call : Option Cal
         came = f.came;
         place = place_given old s after f.came v given call stage refl refl refl f.place;
         rule = f.rule;
+        failures = f.failures;
         given = has;
         sound = sound;
         bytes = f.bytes;
@@ -123,6 +125,7 @@ module _ (old : SessionValue) (s : Script) (v : SessionValue) (call : Option Cal
         came = f.came;
         place = place_given old s after f.came v given call stage refl refl refl f.place;
         rule = f.rule;
+        failures = f.failures;
         given = has;
         sound = sound;
         bytes = f.bytes;
@@ -150,6 +153,7 @@ starts old s v next None call' stage stage' answers f is =
       came = f.came;
       place = (refl, f.place);
       rule = f.rule;
+        failures = f.failures;
       given = f.given;
       sound = f.sound;
       bytes = f.bytes;
@@ -174,6 +178,7 @@ cancels old s v call stage stage' answers f may = record {
   came = f.came;
   place = go call stage f.place (let P : Option Call → Type 0 = λ c. MayCancel c s.polled in subst P f.call_is may);
   rule = f.rule;
+        failures = f.failures;
   given = f.given;
   sound = f.sound;
   bytes = f.bytes;
@@ -203,6 +208,7 @@ begins v system stage given sound waits = record {
   came = [];
   place = λ later room more ended fit on. refl;
   rule = refl;
+  failures = refl;
   given = given;
   sound = sound;
   bytes = ap (λ k. k ++ unread v.channel.told) (sym (append-nil v.channel.kept));
@@ -254,3 +260,10 @@ happened old s w event kind call call' stage stage' answers is same stays f =
 -- the session itself stays
 pub stayed : (old : SessionValue) (s : Script) (v w : SessionValue) (call : Option Call) (stage : Stage) (answers : List Answer) → w ≡ v → Follows old s v call stage answers → Follows old s w call stage answers
 stayed old s v w call stage answers same f = let P : SessionValue → Type 0 = λ x. Follows old s x call stage answers in subst P (sym same) f
+
+-- what is fed fails nothing
+pub fed_failures : (more : List ℕ) (t : Told) → (fed more t).failures ≡ t.failures
+fed_failures more t =
+    let P : Bool → Type 0 = λ b. (cond b t (record t { given = record t.given { bytes = t.given.bytes ++ more } })).failures ≡ t.failures in
+    let go : (b : Bool) → P b = λ b. elim b as P [ true ↦ refl | false ↦ refl ] in
+    go (is_over t)

@@ -195,6 +195,7 @@ full_room (UpTo most) sent unsent line fit full some =
 -- what a poll leaves of a connection
 pub record Carried (v w : SessionValue) (came : List ℕ) : Type 0 where
   pub rule : w.channel.rule ≡ v.channel.rule
+  pub failures : w.channel.told.failures ≡ v.channel.told.failures
   pub split : unread v.channel.told ≡ came ++ unread w.channel.told
   pub given : w.channel.told.given ≡ v.channel.told.given
   pub over : is_over w.channel.told ≡ is_over v.channel.told
@@ -204,6 +205,7 @@ pub record Carried (v w : SessionValue) (came : List ℕ) : Type 0 where
 pub carried : (v w : SessionValue) (came : List ℕ) → Goes (Unit {0}) came v w → IsSound (Unit {0}) v.channel → EndsAsTold v.channel.ended w.channel.ended v.channel.told → IsGiven w.channel.told → IsSound (Unit {0}) w.channel → Carried v w came
 carried v w came goes sound end given sound' = record {
   rule = goes.rule;
+  failures = goes.failures tt;
   split = unread_split v.channel.told w.channel.told came given (goes.given tt) (goes.received tt);
   given = goes.given tt;
   over = same_over v.channel.told w.channel.told (goes.given tt) (λ e. sound'.ended tt ∙ goes.over.over (sym (sound.ended tt) ∙ e)) (λ e. go (end (sym (sound'.ended tt) ∙ e)));
@@ -258,6 +260,7 @@ module _ (old : SessionValue) (s : Script) (v w : SessionValue) (call : Call) (s
         came = f.came ++ came;
         place = stands;
         rule = c.rule ∙ f.rule;
+        failures = c.failures ∙ f.failures;
         given = c.has;
         sound = c.sound;
         bytes = fed_bytes;
@@ -287,6 +290,7 @@ module _ (old : SessionValue) (s : Script) (v w : SessionValue) (call : Call) (s
         came = f.came ++ came;
         place = place;
         rule = c.rule ∙ f.rule;
+        failures = c.failures ∙ f.failures;
         given = c.has;
         sound = c.sound;
         bytes = fed_bytes;
@@ -398,7 +402,7 @@ module _ (old : SessionValue) (s : Script) (v w : SessionValue) (call : Call) (s
 -- a session that has failed refuses the call
 refused_poll : (old : SessionValue) (s : Script) (v : SessionValue) (call : Call) (stage stage' : Stage) (answers : List Answer) (f : Follows old s v (Some call) stage answers) → v.channel.failed ≡ true → Stands old s.items f.came v s.answers → Follows old (poll_script (start_of old) (Some call) s) v None stage' (answers ++ Fault SessionFailed ∷ [])
 refused_poll old s v call stage stage' answers f failed stands =
-    finish old s v v call stage answers f [] (record { rule = refl; split = refl; given = refl; over = refl; has = f.given; sound = f.sound }) (Unit {0}) stage' (Fault SessionFailed)
+    finish old s v v call stage answers f [] (record { rule = refl; failures = refl; split = refl; given = refl; over = refl; has = f.given; sound = f.sound }) (Unit {0}) stage' (Fault SessionFailed)
     (stands_refused old v s.items f.came s.answers call failed stands)
     (inr (refl, refl, tt))
 

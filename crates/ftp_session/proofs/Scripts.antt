@@ -1,5 +1,5 @@
 -- Lemmas on lists of events.
-use Rattle.std.proofs.Common.{◌≡◌, Bool, false, ℕ, ◌+◌, ◌<◌, ◌≤◌, Option, Some, None, List, [], ◌∷◌, ◌++◌, length, take, drop, get_or, inl, inr, ◌⊎◌, refl, ap, sym, ◌∙◌, subst, append_assoc, append-nil, arith}
+use Rattle.std.proofs.Common.{◌≡◌, Bool, true, false, ℕ, ◌+◌, ◌<◌, ◌≤◌, Option, Some, None, List, [], ◌∷◌, ◌++◌, length, take, drop, get_or, inl, inr, ◌⊎◌, refl, ap, sym, ◌∙◌, subst, append_assoc, append-nil, arith}
 use Rattle.std.specs.Prelude.{OnErr, Result, Ok, Err}
 use Rattle.std.proofs.lemmas.List.{drop_more, take-append-drop, append_cancel_right}
 use Rattle.std.proofs.Math.ListN.{drop_of_length-le}
@@ -16,7 +16,12 @@ use Rattle.ftp_session.specs.declared.plain.Standing.{Standing}
 use Rattle.ftp_session.specs.State.{SessionValue}
 use Rattle.ftp_session.specs.Script.{Script, script, start_of, script_of, after_event, Lawful}
 use Rattle.ftp_session.specs.Polling.{PollsTo, PollBroke, Polled, Stops, StopsAtFeed}
-use Rattle.ftp_session.specs.Following.{Follows, Happens, BreaksCall, IsFeed, given_answer}
+use Rattle.ftp_session.specs.Following.{Follows, FailedStays, Happens, BreaksCall, IsFeed, given_answer}
+use Rattle.ftp_session.specs.Moving.{Fails, WantsMemory}
+use Rattle.ftp_control.specs.Saying.{HasCounted, IsIoFault}
+use Rattle.ftp_control.specs.Told.{Told}
+use Rattle.ftp_base.specs.declared.types.fault.FtpError.TheVariants.{ConnectionError, OutOfMemory}
+use Rattle.ftp_base.specs.declared.types.fault.ConnectionError.TheVariants.{Io}
 use Rattle.ftp_session.proofs.Events.{begins}
 
 -- the session follows the script of the events that happened
@@ -27,7 +32,7 @@ pub record OnScript (old : SessionValue) (system : Bool) (events left : List Eve
   pub lawful : Lawful (start_of old) (script (start_of old) (script_of old system) done) left
 
 abbrev pub SoFar : SessionValue → Bool → List Event → List Event → SessionValue → Option Call → Stage → List Answer → Type 0
-SoFar old system events left v call stage answers = OnScript old system events left v call stage answers ⊎ PollBroke old system events answers
+SoFar old system events left v call stage answers = OnScript old system events left v call stage answers ⊎ PollBroke old system events v answers
 
 script-snoc : (start : Standing) (s : Script) (events : List Event) (event : Event) → script start s (events ++ event ∷ []) ≡ after_event start (script start s events) event
 script-snoc start s [] event = refl
@@ -36,8 +41,17 @@ script-snoc start s (first ∷ events) event = script-snoc start (after_event st
 pub starts_script : (old : SessionValue) (system : Bool) (events : List Event) (stage : Stage) → IsGiven old.channel.told → IsSound (Unit {0}) old.channel → outcome old.channel.rule system old.channel.kept false ≡ More → Lawful (start_of old) (script_of old system) events → SoFar old system events events old None stage []
 starts_script old system events stage given sound waits lawful = inl (record { done = []; split = refl; follows = begins old system stage given sound waits; lawful = lawful })
 
+-- a failure that was counted
+counted_since : (t u v : Told) → u.failures ≡ t.failures → HasCounted u v → HasCounted t v
+counted_since t u v same (inl grew) = inl (rw (← same) grew)
+counted_since t u v same (inr most) = inr most
+
+counted_still : (t u v : Told) → v.failures ≡ u.failures → HasCounted t u → HasCounted t v
+counted_still t u v same (inl grew) = inl (rw same grew)
+counted_still t u v same (inr most) = inr (same ∙ most)
+
 -- one event more
-module _ (old : SessionValue) (system : Bool) (events later : List Event) (event : Event) (v w : SessionValue) (call call' : Option Call) (stage stage' : Stage) (answers : List Answer) (result : Option Answer) (happens : Happens v w call call' stage stage' event result) where
+module _ (old : SessionValue) (system : Bool) (events later : List Event) (event : Event) (v w : SessionValue) (call call' : Option Call) (stage stage' : Stage) (answers : List Answer) (result : Option Answer) (stays : FailedStays v w) (happens : Happens v w call call' stage stage' event result) where
   on : OnScript old system events (event ∷ later) v call stage answers → SoFar old system events later w call' stage' (answers ++ given_answer result)
   on so_far = go (happens old (script (start_of old) (script_of old system) so_far.done) answers so_far.follows so_far.lawful.0)
     where
@@ -57,13 +71,23 @@ module _ (old : SessionValue) (system : Bool) (events later : List Event) (event
             before = so_far.done;
             later = event ∷ later;
             split = so_far.split;
-            middle = v;
-            after = w;
             fault = breaks.fault;
-            breaks = breaks.breaks;
+            cause = why breaks.breaks.cause;
+            counted = counts breaks.breaks.cause;
             rest = [];
             answers_are = ap (λ r. answers ++ given_answer r) breaks.is ∙ ap (λ a. a ++ Fault breaks.fault ∷ []) (sym so_far.follows.answers_are);
           })
+        where
+          named : breaks.fault ≡ breaks.breaks.fault
+          named = let same : Fault breaks.fault ≡ Fault breaks.breaks.fault = breaks.breaks.is in cc same
+
+          why : Fails (Unit {0}) breaks.breaks.fault v w ⊎ WantsMemory (Unit {0}) breaks.breaks.fault v w → IsIoFault breaks.fault ⊎ (breaks.fault ≡ OutOfMemory)
+          why (inl fails) = inl (record { kind = fails.io.kind; is = named ∙ fails.io.is })
+          why (inr wants) = inr (named ∙ wants.is)
+
+          counts : Fails (Unit {0}) breaks.breaks.fault v w ⊎ WantsMemory (Unit {0}) breaks.breaks.fault v w → IsIoFault breaks.fault → (w.channel.failed ≡ true) × HasCounted old.channel.told w.channel.told
+          counts (inl fails) io = (fails.failed, counted_since old.channel.told v.channel.told w.channel.told so_far.follows.failures (fails.counted tt))
+          counts (inr wants) io = let clash : OutOfMemory ≡ ConnectionError (Io io.kind) = sym (named ∙ wants.is) ∙ io.is in cc
 
   pub one_more : SoFar old system events (event ∷ later) v call stage answers → SoFar old system events later w call' stage' (answers ++ given_answer result)
   one_more (inl so_far) = on so_far
@@ -71,20 +95,19 @@ module _ (old : SessionValue) (system : Bool) (events later : List Event) (event
     before = broke.before;
     later = broke.later;
     split = broke.split;
-    middle = broke.middle;
-    after = broke.after;
     fault = broke.fault;
-    breaks = broke.breaks;
+    cause = broke.cause;
+    counted = λ io. let was = broke.counted io in let is = stays was.0 in (is.0, counted_still old.channel.told v.channel.told w.channel.told is.1 was.1);
     rest = broke.rest ++ given_answer result;
     answers_are = ap (λ a. a ++ given_answer result) broke.answers_are ∙ append_assoc (script (start_of old) (script_of old system) broke.before).answers (Fault broke.fault ∷ broke.rest) (given_answer result);
   })
 
-pub next_event : (old : SessionValue) (system : Bool) (events : List Event) (i : ℕ) (event : Event) (v w : SessionValue) (call call' : Option Call) (stage stage' : Stage) (answers answers' : List Answer) (result : Option Answer) → i < length events → event ≡ get_or events i event → answers' ≡ answers ++ given_answer result → Happens v w call call' stage stage' event result → SoFar old system events (drop i events) v call stage answers → SoFar old system events (drop (i + 1) events) w call' stage' answers'
-next_event old system events i event v w call call' stage stage' answers answers' result inside is pushed happens so_far =
+pub next_event : (old : SessionValue) (system : Bool) (events : List Event) (i : ℕ) (event : Event) (v w : SessionValue) (call call' : Option Call) (stage stage' : Stage) (answers answers' : List Answer) (result : Option Answer) → i < length events → event ≡ get_or events i event → answers' ≡ answers ++ given_answer result → FailedStays v w → Happens v w call call' stage stage' event result → SoFar old system events (drop i events) v call stage answers → SoFar old system events (drop (i + 1) events) w call' stage' answers'
+next_event old system events i event v w call call' stage stage' answers answers' result inside is pushed stays happens so_far =
     let left : drop i events ≡ event ∷ drop (i + 1) events = drop_more events i event inside ∙ ap (λ e. e ∷ drop (i + 1) events) (sym is) in
     let P : List Event → Type 0 = λ l. SoFar old system events l v call stage answers in
     let Q : List Answer → Type 0 = λ a. SoFar old system events (drop (i + 1) events) w call' stage' a in
-    subst Q (sym pushed) (one_more old system events (drop (i + 1) events) event v w call call' stage stage' answers result happens (subst P left so_far))
+    subst Q (sym pushed) (one_more old system events (drop (i + 1) events) event v w call call' stage stage' answers result stays happens (subst P left so_far))
 
 -- no event is left
 pub all_events : (old : SessionValue) (system : Bool) (events : List Event) (i : ℕ) (v : SessionValue) (call : Option Call) (stage : Stage) (answers : List Answer) → length events ≤ i → SoFar old system events (drop i events) v call stage answers → Polled old system events v answers
@@ -113,7 +136,7 @@ stops_at old events i event v w call stage answers inside is same feed so_far =
       polled = λ system waits lawful. go system (so_far system waits lawful);
     }))
   where
-    go : (system : Bool) → SoFar old system events (drop i events) v call stage answers → PollsTo old system (take i events) v answers ⊎ PollBroke old system events answers
+    go : (system : Bool) → SoFar old system events (drop i events) v call stage answers → PollsTo old system (take i events) v answers ⊎ PollBroke old system events v answers
     go system (inl on_script) =
         let done : take i events ≡ on_script.done = append_cancel_right (take i events) on_script.done (drop i events) (take-append-drop i events ∙ on_script.split) in
         let Q : List Event → Type 0 = λ e. PollsTo old system e v answers in

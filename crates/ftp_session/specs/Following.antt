@@ -59,6 +59,7 @@ pub record Follows (old : SessionValue) (s : Script) (v : SessionValue) (call : 
   pub came : List ℕ
   pub place : Place old s came v call stage
   pub rule : v.channel.rule ≡ old.channel.rule
+  pub failures : v.channel.told.failures ≡ old.channel.told.failures
   pub given : IsGiven v.channel.told
   pub sound : IsSound (Unit {0}) v.channel
   pub bytes : s.bytes ≡ old.channel.kept ++ came ++ unread v.channel.told
@@ -100,6 +101,10 @@ pub record BreaksCall (v w : SessionValue) (result : Option Answer) : Type 0 whe
   pub fault : FtpError
   pub is : result ≡ Some (Fault fault)
   pub breaks : Breaks (Unit {0}) (Fault fault) v w
+
+-- a session that has failed fails no more
+abbrev pub FailedStays : SessionValue → SessionValue → Type 0
+FailedStays v w = v.channel.failed ≡ true → (w.channel.failed ≡ true) × (w.channel.told.failures ≡ v.channel.told.failures)
 
 -- only a Feed may want memory
 pub record IsFeed (event : Event) : Type 0 where

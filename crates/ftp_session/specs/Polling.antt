@@ -1,7 +1,9 @@
 -- What a session does with a list of events: what their definition says, until the connection fails or memory is
 -- refused.
-use Rattle.std.specs.Prelude.{◌≡◌, ◌⊎◌, ℕ, Bool, false, List, ◌∷◌, ◌++◌}
+use Rattle.std.specs.Prelude.{◌≡◌, ◌⊎◌, ℕ, Bool, false, List, ◌∷◌, ◌++◌, true}
 use Rattle.ftp_base.specs.declared.types.fault.FtpError.{FtpError}
+use Rattle.ftp_base.specs.declared.types.fault.FtpError.TheVariants.{OutOfMemory}
+use Rattle.ftp_control.specs.Saying.{HasCounted, IsIoFault}
 use Rattle.ftp_session.specs.declared.session.call.Answer.{Answer}
 use Rattle.ftp_session.specs.declared.session.call.Answer.TheVariants.{Fault}
 use Rattle.ftp_session.specs.declared.session.call.Event.{Event}
@@ -9,7 +11,6 @@ use Rattle.ftp_session.specs.declared.session.call.Event.TheVariants.{Feed}
 use Rattle.ftp_control.specs.declared.control.outcome.Outcome.TheVariants.{Waits as More}
 use Rattle.ftp_control.specs.Grammar.{outcome}
 use Rattle.ftp_session.specs.State.{SessionValue}
-use Rattle.ftp_session.specs.Moving.{Breaks}
 use Rattle.ftp_session.specs.Script.{script, script_of, start_of, unread, Lawful}
 
 -- the answers, the bytes that went out and those that are part of no reply are the script's
@@ -18,21 +19,21 @@ pub record PollsTo (old : SessionValue) (system : Bool) (events : List Event) (n
   pub sent : new.channel.told.sent ≡ (script (start_of old) (script_of old system) events).sent
   pub untaken : new.channel.kept ++ unread new.channel.told ≡ (script (start_of old) (script_of old system) events).untaken
 
--- a call was broken off: the answers before are the script's
-pub record PollBroke (old : SessionValue) (system : Bool) (events : List Event) (answers : List Answer) : Type 0 where
+-- a call was broken off: the answers before are the script's; a connection's fault was counted, and the session has
+-- failed
+pub record PollBroke (old : SessionValue) (system : Bool) (events : List Event) (new : SessionValue) (answers : List Answer) : Type 0 where
   pub before : List Event
   pub later : List Event
   pub split : events ≡ before ++ later
-  pub middle : SessionValue
-  pub after : SessionValue
   pub fault : FtpError
-  pub breaks : Breaks (Unit {0}) (Fault fault) middle after
+  pub cause : IsIoFault fault ⊎ (fault ≡ OutOfMemory)
+  pub counted : IsIoFault fault → (new.channel.failed ≡ true) × HasCounted old.channel.told new.channel.told
   pub rest : List Answer
   pub answers_are : answers ≡ (script (start_of old) (script_of old system) before).answers ++ Fault fault ∷ rest
 
 -- a polled run
 abbrev pub Polled : SessionValue → Bool → List Event → SessionValue → List Answer → Type 0
-Polled old system events new answers = PollsTo old system events new answers ⊎ PollBroke old system events answers
+Polled old system events new answers = PollsTo old system events new answers ⊎ PollBroke old system events new answers
 
 -- for every lawful list, from any session; what an earlier read left of a reply says nothing yet under its list
 abbrev pub PollsLawfully : SessionValue → List Event → SessionValue → List Answer → Type 0
@@ -47,7 +48,7 @@ pub record StopsAtFeed (old : SessionValue) (events : List Event) (new : Session
   pub later : List Event
   pub split : events ≡ before ++ Feed bytes ∷ later
   pub answers : List Answer
-  pub polled : (system : Bool) → outcome old.channel.rule system old.channel.kept false ≡ More → Lawful (start_of old) (script_of old system) events → PollsTo old system before new answers ⊎ PollBroke old system events answers
+  pub polled : (system : Bool) → outcome old.channel.rule system old.channel.kept false ≡ More → Lawful (start_of old) (script_of old system) events → PollsTo old system before new answers ⊎ PollBroke old system events new answers
 
 abbrev pub Stops : SessionValue → List Event → SessionValue → Type 0
 Stops old events new = (new ≡ old) ⊎ StopsAtFeed old events new

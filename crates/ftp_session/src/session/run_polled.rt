@@ -3,7 +3,7 @@
 ghost use Rattle.std.specs.Prelude.{◌≡◌, ◌<◌, ◌≤◌, ◌++◌, IfOk, IfErr, OnErr, Ok, option_map, vec_len, vec_capacity};
 ghost use Rattle.ftp_control.specs.Channel.{IsSound};
 ghost use Rattle.ftp_control.specs.Memory.{IsGiven};
-ghost use Rattle.ftp_session.specs.Following.{Happens, IsFeed, PollsHere, StageIn, Starts, given_answer};
+ghost use Rattle.ftp_session.specs.Following.{FailedStays, Happens, IsFeed, PollsHere, StageIn, Starts, given_answer};
 ghost use Rattle.ftp_session.specs.Moving.{StageOf};
 ghost use Rattle.ftp_session.specs.Polling.{PollsLawfully, Stops};
 ghost use Rattle.ftp_session.specs.Sound.{Sound, SoundCounts};
@@ -66,6 +66,7 @@ impl Session<MemoryTransport> {
         requires { StageIn (option_map (λ c. c.now) under_way.old) stage.old }
         ensures unchanged { OnErr result ((self.new ≡ self.old) × IsFeed event.now) }
         ensures stage { StageIn (option_map (λ c. c.now) under_way.new) stage.new }
+        ensures failed { IfOk result (λ answer. FailedStays self.old self.new) }
         ensures happens { IfOk result (λ answer.
             Happens self.old self.new (option_map (λ c. c.now) under_way.old)
             (option_map (λ c. c.now) under_way.new) stage.old stage.new event.now answer) }
@@ -92,6 +93,7 @@ impl Session<MemoryTransport> {
     ) -> Option<Answer>
         requires { StageIn (option_map (λ c. c.now) under_way.old) stage.old }
         ensures stage { StageIn (option_map (λ c. c.now) under_way.new) stage.new }
+        ensures failed { FailedStays self.old self.new }
         ensures happens { Happens self.old self.new (option_map (λ c. c.now) under_way.old)
             (option_map (λ c. c.now) under_way.new) stage.old stage.new Event.Poll result }
     {

@@ -1,10 +1,10 @@
-use Rattle.std.proofs.Common.{inl, ap, subst, option_map, None}
+use Rattle.std.proofs.Common.{inl, ap, subst, option_map, None, ◌∙◌}
 use Rattle.ftp_control.specs.Memory.{fed, closed_memory, widened}
 use Rattle.ftp_control.specs.Channel.{Channel}
 use Rattle.ftp_session.specs.declared.session.call.Event.{Event}
 use Rattle.ftp_session.specs.declared.session.call.Event.TheVariants as event
 use Rattle.ftp_session.specs.Script.{start_of, IsLawful}
-use Rattle.ftp_session.proofs.Events.{through, happened, stayed, feeds, ends, widens, starts, cancels}
+use Rattle.ftp_session.proofs.Events.{through, happened, stayed, feeds, ends, widens, starts, cancels, fed_failures}
 use Rattle.ftp_session.proofs.session.run_polled.Session+MemoryTransport.happen.Goals.{in-Feed+in_ok-feed-in-Feed, in-End, in-Room, in-Start, in-Cancel, in-Leave}
 use Rattle.ftp_session.proofs.session.run_polled.Session+MemoryTransport.happen.Goals as goal
 
@@ -48,4 +48,30 @@ returns-clause-happens c = λ old s answers follows may.
           let same = ap (λ o. option_map (λ c'. c'.now) o) w.under_way-is in
           inl (happened old s z c.args.event.now event.Leave _ _ _ _ answers w.in-Leave.is same w.stage-is (stayed old _ v z _ _ answers w.self-is follows))
           )
+    ]
+
+pub returns-clause-failed : goal.returns-clause-failed
+returns-clause-failed c = λ failed.
+    let v = c.args.self.now in
+    let z = c.match-event.self in
+    elim c.match-event.branch [
+      | in-Feed+in_ok-feed-in-Feed w ↦ (
+        let ok = rw (w.in_ok-feed-in-Feed.was, w.as_slice.ensures) at w.feed.ensures.ok in
+        let F : Channel → Channel = λ x. record x { told = fed w.in-Feed.bytes x.told } in
+        let is = through F v z w.self.inside.channel w.feed.new.self w.self.inside.state w.self.view_is w.self-is ok in
+        (ap (λ x. x.channel.failed) is ∙ failed, ap (λ x. x.channel.told.failures) is ∙ fed_failures w.in-Feed.bytes v.channel.told)
+      )
+      | in-End w ↦ (
+        let F : Channel → Channel = λ x. record x { told = closed_memory x.told } in
+        let is = through F v z w.self-in-End.inside.channel w.end_input.new.self w.self-in-End.inside.state w.self-in-End.view_is w.self-is w.end_input.ensures in
+        (ap (λ x. x.channel.failed) is ∙ failed, ap (λ x. x.channel.told.failures) is)
+      )
+      | in-Room w ↦ (
+        let F : Channel → Channel = λ x. record x { told = widened w.in-Room.more x.told } in
+        let is = through F v z w.self-in-Room.inside.channel w.allow.new.self w.self-in-Room.inside.state w.self-in-Room.view_is w.self-is w.allow.ensures in
+        (ap (λ x. x.channel.failed) is ∙ failed, ap (λ x. x.channel.told.failures) is)
+      )
+      | in-Start w ↦ (ap (λ x. x.channel.failed) w.self-is ∙ failed, ap (λ x. x.channel.told.failures) w.self-is)
+      | in-Cancel w ↦ (ap (λ x. x.channel.failed) w.self-is ∙ failed, ap (λ x. x.channel.told.failures) w.self-is)
+      | in-Leave w ↦ (ap (λ x. x.channel.failed) w.self-is ∙ failed, ap (λ x. x.channel.told.failures) w.self-is)
     ]

@@ -22,7 +22,7 @@ loop-event-preserved c =
       stage = c.happen.ensures.stage;
       count = omega (arith, longer, held.count, at_most_one c.in_ok-answer.answer);
       room = omega (arith, held.room, noted.room);
-      so_far = λ system waits lawful. next_event c.args.self.now system c.args.events.now c.loop-event.event-index c.event-item.result c.loop-event.self c.happen.new.self _ _ c.loop-event.stage c.happen.new.stage c.loop-event.answers.items c.note.new.answers.items c.in_ok-answer.answer c.loop-event-test.true c.event-item.is noted.items c.in_ok-answer.ensures.happens (held.so_far system waits lawful);
+      so_far = λ system waits lawful. next_event c.args.self.now system c.args.events.now c.loop-event.event-index c.event-item.result c.loop-event.self c.happen.new.self _ _ c.loop-event.stage c.happen.new.stage c.loop-event.answers.items c.note.new.answers.items c.in_ok-answer.answer c.loop-event-test.true c.event-item.is noted.items c.in_ok-answer.ensures.failed c.in_ok-answer.ensures.happens (held.so_far system waits lawful);
     }
 
 pub returns-clause-polled : goal.returns-clause-polled
