@@ -73,6 +73,8 @@ module _ (old : SessionValue) (s : Script) (v : SessionValue) (call : Option Cal
         untaken = ap (λ b. b ++ more) f.untaken ∙ append_assoc v.channel.kept (unread t) more ∙ ap (λ u. v.channel.kept ++ u) (sym unread');
         seen = f.seen;
         waits = f.waits;
+        state = f.state;
+        failed = f.failed;
         call_is = f.call_is;
         answers_are = f.answers_are;
       }
@@ -110,6 +112,8 @@ module _ (old : SessionValue) (s : Script) (v : SessionValue) (call : Option Cal
         untaken = f.untaken;
         seen = f.seen;
         waits = f.waits;
+        state = f.state;
+        failed = f.failed;
         call_is = f.call_is;
         answers_are = f.answers_are;
       } in
@@ -135,6 +139,8 @@ module _ (old : SessionValue) (s : Script) (v : SessionValue) (call : Option Cal
         untaken = f.untaken;
         seen = f.seen;
         waits = f.waits;
+        state = f.state;
+        failed = f.failed;
         call_is = f.call_is;
         answers_are = f.answers_are;
       } in
@@ -153,7 +159,7 @@ starts old s v next None call' stage stage' answers f is =
       came = f.came;
       place = (refl, f.place);
       rule = f.rule;
-        failures = f.failures;
+      failures = f.failures;
       given = f.given;
       sound = f.sound;
       bytes = f.bytes;
@@ -163,6 +169,8 @@ starts old s v next None call' stage stage' answers f is =
       untaken = f.untaken;
       seen = f.seen;
       waits = f.waits;
+      state = f.state;
+      failed = f.failed;
       call_is = refl;
       answers_are = f.answers_are;
     })))
@@ -178,7 +186,7 @@ cancels old s v call stage stage' answers f may = record {
   came = f.came;
   place = go call stage f.place (let P : Option Call → Type 0 = λ c. MayCancel c s.polled in subst P f.call_is may);
   rule = f.rule;
-        failures = f.failures;
+  failures = f.failures;
   given = f.given;
   sound = f.sound;
   bytes = f.bytes;
@@ -188,6 +196,8 @@ cancels old s v call stage stage' answers f may = record {
   untaken = f.untaken;
   seen = f.seen;
   waits = f.waits;
+  state = f.state;
+  failed = f.failed;
   call_is = refl;
   answers_are = f.answers_are;
 }
@@ -218,6 +228,8 @@ begins v system stage given sound waits = record {
   untaken = refl;
   seen = refl;
   waits = waits;
+  state = refl;
+  failed = refl;
   call_is = refl;
   answers_are = refl;
 }

@@ -270,14 +270,16 @@ module _ (old : SessionValue) (s : Script) (v w : SessionValue) (call : Call) (s
         untaken = refl;
         seen = seen_kept P s v w came f.seen f.untaken c.split keeps;
         waits = waits_kept P s v w came c.rule f.waits keeps;
+        state = refl;
+        failed = refl;
         call_is = refl;
         answers_are = ap (λ a. a ++ answer ∷ []) f.answers_are;
       } in
       subst Q (sym ran) follows
 
   -- the call waits
-  pub wait_on : (tree : Tree) (stage' : Stage) (wait : Wait) (t : Standing) → Reaches old s.items (f.came ++ came) w s.answers call tree → play s.room tree here ≡ Waits wait t → front s.room t.said ≡ w.channel.told.sent → t.bytes ≡ w.channel.kept ++ unread w.channel.told → seen_at wait s t.bytes ≡ length w.channel.kept → outcome w.channel.rule (system_at wait call s) w.channel.kept false ≡ More → Place old (polled_as (Waiting s.answers wait t) call s) (f.came ++ came) w (Some call) stage' → Follows old (poll_script (start_of old) (Some call) s) w (Some call) stage' answers
-  wait_on tree stage' wait t reaches waits sent bytes seen says_nothing place =
+  pub wait_on : (tree : Tree) (stage' : Stage) (wait : Wait) (t : Standing) → Reaches old s.items (f.came ++ came) w s.answers call tree → play s.room tree here ≡ Waits wait t → front s.room t.said ≡ w.channel.told.sent → t.bytes ≡ w.channel.kept ++ unread w.channel.told → seen_at wait s t.bytes ≡ length w.channel.kept → outcome w.channel.rule (system_at wait call s) w.channel.kept false ≡ More → t.state ≡ w.state → t.failed ≡ w.channel.failed → Place old (polled_as (Waiting s.answers wait t) call s) (f.came ++ came) w (Some call) stage' → Follows old (poll_script (start_of old) (Some call) s) w (Some call) stage' answers
+  wait_on tree stage' wait t reaches waits sent bytes seen says_nothing state failed place =
       let next : Standing → Ran = λ u. run s.room Ok [] u in
       let ran : run s.room Ok (s.items ++ call ∷ []) (record (start_of old) { bytes = s.bytes; ended = s.ended }) ≡ Waiting s.answers wait t =
       from_start (s.items ++ call ∷ [])
@@ -300,6 +302,8 @@ module _ (old : SessionValue) (s : Script) (v w : SessionValue) (call : Call) (s
         untaken = bytes;
         seen = seen;
         waits = says_nothing;
+        state = state;
+        failed = failed;
         call_is = f.call_is;
         answers_are = f.answers_are;
       } in
@@ -379,7 +383,7 @@ module _ (old : SessionValue) (s : Script) (v w : SessionValue) (call : Call) (s
           let seen = seen_kept (Calm (left Ok call v.state stage)) s v w moves.came f.seen f.untaken c.split (calm tt) in
           let waits' = waits_kept (Calm (left Ok call v.state stage)) s v w moves.came c.rule f.waits (calm tt) in
           subst F (sym is)
-          (wait_on old s v w call stage answers f moves.came c (Say (Ok (due line)) (hearing call v.state)) (Saying line) wait.Room t (subst P is reaches') stuck.0 stuck.1 refl seen waits' (subst U is (under_way t wait.Room)))
+          (wait_on old s v w call stage answers f moves.came c (Say (Ok (due line)) (hearing call v.state)) (Saying line) wait.Room t (subst P is reaches') stuck.0 stuck.1 refl seen waits' refl refl (subst U is (under_way t wait.Room)))
       go Hearing is begun calm waits =
           let P : Stage → Type 0 = λ x. Reaches old s.items (f.came ++ moves.came) w s.answers call (left Ok call v.state x) in
           let F : Stage → Type 0 = λ x. Follows old (poll_script (start_of old) (Some call) s) w (Some call) x answers in
@@ -390,7 +394,7 @@ module _ (old : SessionValue) (s : Script) (v w : SessionValue) (call : Call) (s
           let seen : length (w.channel.kept ++ unread w.channel.told) ≡ length w.channel.kept = ap length (ap (λ u. w.channel.kept ++ u) stuck.1 ∙ append-nil w.channel.kept) in
           let sent = front_fits s.room w.channel.told.sent (fits_here old s v w call stage answers f moves.came c) in
           subst F (sym is)
-          (wait_on old s v w call stage answers f moves.came c (hearing call v.state) Hearing wait.Bytes t (subst P is reaches') stuck.0 sent refl seen (subst R is (moves.resumes from.resumes)) (subst U is (under_way t wait.Bytes)))
+          (wait_on old s v w call stage answers f moves.came c (hearing call v.state) Hearing wait.Bytes t (subst P is reaches') stuck.0 sent refl seen (subst R is (moves.resumes from.resumes)) refl refl (subst U is (under_way t wait.Bytes)))
 
   -- a poll that completes the call
   completed : (stage' : Stage) (answer : Answer) (done : Completes (Unit {0}) (left Ok call v.state stage) answer v w) → Carried v w done.came → Follows old (poll_script (start_of old) (Some call) s) w None stage' (answers ++ answer ∷ [])

@@ -115,7 +115,7 @@ all_events old system events i v call stage answers past (inl so_far) =
     let none : drop i events ≡ [] = drop_of_length-le events {i = i} past in
     let all : events ≡ so_far.done = so_far.split ∙ ap (λ l. so_far.done ++ l) none ∙ append-nil so_far.done in
     let P : List Event → Type 0 = λ e. PollsTo old system e v answers in
-    inl (subst P (sym all) (record { answers_are = sym so_far.follows.answers_are; sent = sym so_far.follows.sent; untaken = sym so_far.follows.untaken }))
+    inl (subst P (sym all) (record { answers_are = sym so_far.follows.answers_are; sent = sym so_far.follows.sent; untaken = sym so_far.follows.untaken; state = sym so_far.follows.state; failed = sym so_far.follows.failed }))
 all_events old system events i v call stage answers past (inr broke) = inr broke
 
 pub at_most_one : (answer : Option Answer) → length (given_answer answer) ≤ 1
@@ -140,7 +140,7 @@ stops_at old events i event v w call stage answers inside is same feed so_far =
     go system (inl on_script) =
         let done : take i events ≡ on_script.done = append_cancel_right (take i events) on_script.done (drop i events) (take-append-drop i events ∙ on_script.split) in
         let Q : List Event → Type 0 = λ e. PollsTo old system e v answers in
-        inl (subst Q (sym done) (record { answers_are = sym on_script.follows.answers_are; sent = sym on_script.follows.sent; untaken = sym on_script.follows.untaken }))
+        inl (subst Q (sym done) (record { answers_are = sym on_script.follows.answers_are; sent = sym on_script.follows.sent; untaken = sym on_script.follows.untaken; state = sym on_script.follows.state; failed = sym on_script.follows.failed }))
     go system (inr broke) = inr broke
 
 pub on_err : (T E : Type 0) (result : Result T E) (P : Type 0) → P → OnErr result P

@@ -69,6 +69,8 @@ pub record Follows (old : SessionValue) (s : Script) (v : SessionValue) (call : 
   pub untaken : s.untaken ≡ v.channel.kept ++ unread v.channel.told
   pub seen : s.seen ≡ length v.channel.kept
   pub waits : outcome v.channel.rule s.system v.channel.kept false ≡ More
+  pub state : s.state ≡ v.state
+  pub failed : s.failed ≡ v.channel.failed
   pub call_is : s.call ≡ call
   pub answers_are : s.answers ≡ answers
 

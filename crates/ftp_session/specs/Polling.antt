@@ -13,11 +13,13 @@ use Rattle.ftp_control.specs.Grammar.{outcome}
 use Rattle.ftp_session.specs.State.{SessionValue}
 use Rattle.ftp_session.specs.Script.{script, script_of, start_of, unread, Lawful}
 
--- the answers, the bytes that went out and those that are part of no reply are the script's
+-- the answers, the bytes that went out, those that are part of no reply and the state are the script's
 pub record PollsTo (old : SessionValue) (system : Bool) (events : List Event) (new : SessionValue) (answers : List Answer) : Type 0 where
   pub answers_are : answers ≡ (script (start_of old) (script_of old system) events).answers
   pub sent : new.channel.told.sent ≡ (script (start_of old) (script_of old system) events).sent
   pub untaken : new.channel.kept ++ unread new.channel.told ≡ (script (start_of old) (script_of old system) events).untaken
+  pub state : new.state ≡ (script (start_of old) (script_of old system) events).state
+  pub failed : new.channel.failed ≡ (script (start_of old) (script_of old system) events).failed
 
 -- a call was broken off: the answers before are the script's; a connection's fault was counted, and the session has
 -- failed

@@ -5,6 +5,7 @@ use Rattle.ftp_control.specs.declared.transport.room.Room.{Room}
 use Rattle.ftp_control.specs.declared.transport.room.Room.TheVariants.{Any, UpTo}
 use Rattle.ftp_control.specs.Told.{Told}
 use Rattle.ftp_control.specs.Memory.{more_room}
+use Rattle.ftp_session.specs.declared.session.settings.State.{State}
 use Rattle.ftp_session.specs.declared.session.call.Answer.{Answer}
 use Rattle.ftp_session.specs.declared.session.call.Call.{Call}
 use Rattle.ftp_session.specs.declared.session.call.Call.TheVariants.{Greet, Noop, Quit, CustomCommand, ReadResponse, ReadResponseIn}
@@ -26,7 +27,8 @@ use Rattle.ftp_session.specs.Moving.{standing}
 
 -- the calls that are done with their answers; the call under way, and whether it was polled; all bytes that came,
 -- and whether they ended; the room; the bytes that went out; those that are part of no reply, and how many of them
--- a Poll has read, and whether the list that it read them under holds System
+-- a Poll has read, and whether the list that it read them under holds System; what the session keeps beside its
+-- channel, and whether it has failed
 pub record Script : Type 0 where
   pub items : List Call
   pub answers : List Answer
@@ -39,6 +41,8 @@ pub record Script : Type 0 where
   pub untaken : List ℕ
   pub seen : ℕ
   pub system : Bool
+  pub state : State
+  pub failed : Bool
 
 -- what came on a connection and wasn't read yet
 abbrev pub unread : Told → List ℕ
@@ -66,6 +70,8 @@ script_of v system = record {
   untaken = v.channel.kept ++ unread v.channel.told;
   seen = length v.channel.kept;
   system = system;
+  state = v.state;
+  failed = v.channel.failed;
 }
 
 -- whether the list that a call hears under holds System
@@ -101,6 +107,8 @@ polled_as (Finished answers t) call s = record s {
   sent = front s.room t.said;
   untaken = t.bytes;
   seen = seen_in s t.bytes;
+  state = t.state;
+  failed = t.failed;
 }
 polled_as (Waiting answers wait t) call s = record s {
   polled = true;
@@ -108,6 +116,8 @@ polled_as (Waiting answers wait t) call s = record s {
   untaken = t.bytes;
   seen = seen_at wait s t.bytes;
   system = system_at wait call s;
+  state = t.state;
+  failed = t.failed;
 }
 
 abbrev pub poll_script : Standing → Option Call → Script → Script
