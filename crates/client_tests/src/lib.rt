@@ -25,6 +25,10 @@ mod runs_waiting;
 #[cfg(test)]
 mod scene;
 #[cfg(test)]
+mod scripts;
+#[cfg(test)]
 mod sockets;
 #[cfg(test)]
 mod state;
+#[cfg(test)]
+mod steps;

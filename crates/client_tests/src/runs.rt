@@ -118,7 +118,7 @@ pub fn assert_shown<R: Abort>(rt: &R, answers: &[Answer], due: &[Shown]) {
 }
 
 /// The answers are those, in kind, code and bytes.
-fn assert_same<R: Abort>(rt: &R, answers: &[Answer], due: &[Answer]) {
+pub fn assert_same<R: Abort>(rt: &R, answers: &[Answer], due: &[Answer]) {
     assert_eq!(rt; answers.len(), due.len());
     for (answer, due) in answers.iter().zip(due) {
         assert_eq!(rt; shown(answer), shown(due));

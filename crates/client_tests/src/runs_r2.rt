@@ -3,8 +3,10 @@
 
 use crate::runs::{OK, Row, Shown, UNIT, assert_row, assert_shown, taken, through_session};
 use crate::scene::PIECES;
+use crate::steps::Step::{Allow, Cancel, End, Feed, Leave, Noop, Poll, Quit, Read};
+use crate::steps::{Step, assert_defined, events_of, feed};
 use ftp_base::status::Status;
-use ftp_base::types::{Bytes, FtpResult};
+use ftp_base::types::FtpResult;
 use ftp_control::transport::{MemoryConn, MemoryTransport};
 use ftp_session::session::{Answer, Call, Event, Session};
 use std::alloc::{AllocError, Global};
@@ -13,31 +15,6 @@ use std::test::Fail;
 
 /// What each session is greeted with.
 const GREETING: &[u8] = b"220 r\r\n";
-
-/// An event without what it owns.
-#[derive(Clone, Copy)]
-enum Step {
-    /// The server's bytes come.
-    Feed(&'static [u8]),
-    /// They end.
-    End,
-    /// So many more bytes may be written.
-    Allow(u64),
-    /// A read of a reply of status 200 begins.
-    Read,
-    /// `NOOP` begins.
-    Noop,
-    /// `QUIT` begins.
-    Quit,
-    /// The call under way is polled.
-    Poll,
-    /// The call under way is dropped.
-    Cancel,
-    /// The transfer is left.
-    Leave,
-}
-
-use Step::{Allow, Cancel, End, Feed, Leave, Noop, Poll, Quit, Read};
 
 /// A reply of status 200 in two pieces that were given up, and a third.
 const READ_BEGUN_THREE_TIMES: [Step; 11] = [
@@ -73,45 +50,6 @@ struct Due<'a> {
     taken: usize,
 }
 
-/// Bytes that come in pieces of so many.
-fn feed(
-    alloc: Global,
-    events: &mut Vec<Event>,
-    bytes: &[u8],
-    piece: usize,
-) -> Result<(), AllocError> {
-    for part in bytes.chunks(piece.max(1)) {
-        events.push(Event::Feed(Bytes::from_slice(alloc, part)?))?;
-    }
-    Ok(())
-}
-
-/// A step as events.
-fn add(alloc: Global, events: &mut Vec<Event>, step: Step, piece: usize) -> Result<(), AllocError> {
-    let event = match step {
-        Feed(bytes) => return feed(alloc, events, bytes, piece),
-        End => Event::End,
-        Allow(more) => Event::Room(more),
-        Read => Event::Start(Call::ReadResponse(Status::CommandOk)),
-        Noop => Event::Start(Call::Noop),
-        Quit => Event::Start(Call::Quit),
-        Poll => Event::Poll,
-        Cancel => Event::Cancel,
-        Leave => Event::Leave,
-    };
-    events.push(event)?;
-    Ok(())
-}
-
-/// Steps as events.
-fn events_of(alloc: Global, steps: &[Step], piece: usize) -> Result<Vec<Event>, AllocError> {
-    let mut events = Vec::new(alloc);
-    for step in steps {
-        add(alloc, &mut events, *step, piece)?;
-    }
-    Ok(events)
-}
-
 /// The steps happen to a session.
 fn take_steps(
     alloc: Global,
@@ -123,13 +61,19 @@ fn take_steps(
     session.run_polled(alloc, events.as_slice())
 }
 
-/// A session that took its greeting.
-fn greeted<R: Abort>(rt: &R, alloc: Global, piece: usize) -> FtpResult<Session<MemoryTransport>> {
-    let mut session = Session::new(alloc, MemoryTransport, MemoryConn::new(alloc))?;
+/// The greeting comes in pieces of so many bytes, and is taken.
+fn greeting(alloc: Global, piece: usize) -> Result<Vec<Event>, AllocError> {
     let mut events = Vec::new(alloc);
     feed(alloc, &mut events, GREETING, piece)?;
     events.push(Event::Start(Call::Greet))?;
     events.push(Event::Poll)?;
+    Ok(events)
+}
+
+/// A session that took its greeting.
+fn greeted<R: Abort>(rt: &R, alloc: Global, piece: usize) -> FtpResult<Session<MemoryTransport>> {
+    let mut session = Session::new(alloc, MemoryTransport, MemoryConn::new(alloc))?;
+    let events = greeting(alloc, piece)?;
     let answers = session.run_polled(alloc, events.as_slice())?;
     assert_shown(rt, answers.as_slice(), &[UNIT]);
     assert_eq!(rt; session.get_welcome_msg().unwrap_or("none"), "220 r");
@@ -137,13 +81,26 @@ fn greeted<R: Abort>(rt: &R, alloc: Global, piece: usize) -> FtpResult<Session<M
 }
 
 /// The steps come to this on a greeted session, in whatever pieces the bytes come.
-fn assert_steps<R: Abort>(rt: &R, alloc: Global, steps: &[Step], due: &Due) -> FtpResult<()> {
+fn assert_session<R: Abort>(rt: &R, alloc: Global, steps: &[Step], due: &Due) -> FtpResult<()> {
     for piece in PIECES {
         let mut session = greeted(rt, alloc, piece)?;
         let answers = take_steps(alloc, &mut session, steps, piece)?;
         assert_shown(rt, answers.as_slice(), due.answers);
         assert_eq!(rt; session.get_ref().sent(), due.sent);
         assert_eq!(rt; taken(&session), due.taken.saturating_add(GREETING.len()));
+    }
+    Ok(())
+}
+
+/// The same of lawful steps: behind the greeting they come to what they are defined to come to.
+fn assert_steps<R: Abort>(rt: &R, alloc: Global, steps: &[Step], due: &Due) -> FtpResult<()> {
+    assert_session(rt, alloc, steps, due)?;
+    for piece in PIECES {
+        let mut events = greeting(alloc, piece)?;
+        for event in events_of(alloc, steps, piece)? {
+            events.push(event)?;
+        }
+        assert_defined(rt, alloc, events.as_slice())?;
     }
     Ok(())
 }
@@ -237,7 +194,7 @@ fn a_dropped_lines_rest_goes_out_before_the_next(rt: HostRuntime) -> Result<(), 
         sent: b"NOOP\r\nQUIT\r\n",
         taken: 0,
     };
-    assert_steps(&rt, rt.alloc(), &steps, &due)?;
+    assert_session(&rt, rt.alloc(), &steps, &due)?;
     Ok(())
 }
 

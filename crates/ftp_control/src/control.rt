@@ -2,6 +2,7 @@
 
 mod broken;
 mod channel;
+mod expected;
 mod feeding;
 pub(crate) mod grammar;
 mod line_reader;
@@ -17,6 +18,7 @@ mod wire_line;
 
 pub use broken::Broken;
 pub use channel::ControlChannel;
+pub use expected::{expected_reply, is_among};
 pub use outcome::Outcome;
 pub use reply_buffer::REPLY_LIMIT;
 pub use rule::ReplyRule;

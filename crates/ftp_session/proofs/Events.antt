@@ -15,7 +15,8 @@ use Rattle.ftp_session.specs.declared.session.stage.Stage.TheVariants.{Begun, Sa
 use Rattle.futures.specs.declared.task.Poll.TheVariants.{Ready, Pending}
 use Rattle.ftp_session.specs.declared.session.settings.State.{State}
 use Rattle.ftp_session.specs.State.{SessionValue}
-use Rattle.ftp_session.specs.Script.{Script, unread, is_over, start_of, script_of, after_event, start_script, is_read, MayCancel, MayPoll, poll_script}
+use Rattle.ftp_session.specs.declared.plain.Script.{Script}
+use Rattle.ftp_session.specs.Script.{unread, is_over, start_of, script_of, after_event, start_script, is_read, MayCancel, MayPoll, poll_script}
 use Rattle.ftp_session.specs.Following.{Stands, UnderWay, Place, Follows, Starts, PollsHere, BreaksCall}
 use Rattle.ftp_session.proofs.Following.{unread_is, poll_follows}
 
@@ -70,6 +71,7 @@ module _ (old : SessionValue) (s : Script) (v : SessionValue) (call : Option Cal
         ended = f.ended ∙ ap (λ g. g.closed || t.ended) (sym is);
         room = f.room ∙ ap (λ g. g.room) (sym is);
         sent = f.sent;
+        rest = f.rest;
         untaken = ap (λ b. b ++ more) f.untaken ∙ append_assoc v.channel.kept (unread t) more ∙ ap (λ u. v.channel.kept ++ u) (sym unread');
         seen = f.seen;
         waits = f.waits;
@@ -109,6 +111,7 @@ module _ (old : SessionValue) (s : Script) (v : SessionValue) (call : Option Cal
         ended = refl;
         room = f.room;
         sent = f.sent;
+        rest = f.rest;
         untaken = f.untaken;
         seen = f.seen;
         waits = f.waits;
@@ -136,6 +139,7 @@ module _ (old : SessionValue) (s : Script) (v : SessionValue) (call : Option Cal
         ended = f.ended;
         room = ap (λ x. more_room more (length x) s.room) f.sent ∙ ap (λ r. more_room more (length t.sent) r) f.room;
         sent = f.sent;
+        rest = f.rest;
         untaken = f.untaken;
         seen = f.seen;
         waits = f.waits;
@@ -166,6 +170,7 @@ starts old s v next None call' stage stage' answers f is =
       ended = f.ended;
       room = f.room;
       sent = f.sent;
+      rest = λ may. f.rest tt;
       untaken = f.untaken;
       seen = f.seen;
       waits = f.waits;
@@ -182,9 +187,9 @@ starts old s v next (Some other) call' stage stage' answers f is =
 
 -- the call under way is dropped
 pub cancels : (old : SessionValue) (s : Script) (v : SessionValue) (call : Option Call) (stage stage' : Stage) (answers : List Answer) → Follows old s v call stage answers → MayCancel s.call s.polled → Follows old (after_event (start_of old) s event.Cancel) v None stage' answers
-cancels old s v call stage stage' answers f may = record {
+cancels old s v call stage stage' answers f dropped = record {
   came = f.came;
-  place = go call stage f.place (let P : Option Call → Type 0 = λ c. MayCancel c s.polled in subst P f.call_is may);
+  place = go call stage f.place (let P : Option Call → Type 0 = λ c. MayCancel c s.polled in subst P f.call_is dropped);
   rule = f.rule;
   failures = f.failures;
   given = f.given;
@@ -193,6 +198,7 @@ cancels old s v call stage stage' answers f may = record {
   ended = f.ended;
   room = f.room;
   sent = f.sent;
+  rest = λ may. f.rest (let P : Option Call → Type 0 = λ c. MayCancel c s.polled in subst P f.call_is dropped);
   untaken = f.untaken;
   seen = f.seen;
   waits = f.waits;
@@ -225,6 +231,7 @@ begins v system stage given sound waits = record {
   ended = refl;
   room = refl;
   sent = refl;
+  rest = λ may. refl;
   untaken = refl;
   seen = refl;
   waits = waits;

@@ -43,7 +43,8 @@ use Rattle.ftp_session.specs.Play.{play, fits, heard_then}
 use Rattle.ftp_session.specs.Run.{run, and_then, Resumes, Silent}
 use Rattle.ftp_session.specs.Running.{before_all}
 use Rattle.ftp_session.specs.Moving.{standing, left, Goes, Keeps, Calm, Moves, Completes, Breaks, Polls, Rests, WaitsFor}
-use Rattle.ftp_session.specs.Script.{Script, unread, is_over, start_of, front, seen_in, seen_at, system_at, hears_system, polled_as, poll_script, is_read, MayPoll}
+use Rattle.ftp_session.specs.declared.plain.Script.{Script}
+use Rattle.ftp_session.specs.Script.{unread, is_over, start_of, front, seen_in, seen_at, system_at, hears_system, polled_as, poll_script, is_read, MayCancel, MayPoll}
 use Rattle.ftp_session.specs.Following.{Stands, Reaches, UnderWay, Place, Follows, PollsHere, BreaksCall}
 use Rattle.ftp_session.proofs.Moving.{goes_behind, fitted, play-Say}
 use Rattle.ftp_session.proofs.Hearing.{play-Hear, nothing_says}
@@ -267,6 +268,7 @@ module _ (old : SessionValue) (s : Script) (v w : SessionValue) (call : Call) (s
         ended = over_is;
         room = f.room ∙ ap (λ g. g.room) (sym c.given);
         sent = front_fits s.room w.channel.told.sent fits_here;
+        rest = λ may. refl;
         untaken = refl;
         seen = seen_kept P s v w came f.seen f.untaken c.split keeps;
         waits = waits_kept P s v w came c.rule f.waits keeps;
@@ -278,8 +280,8 @@ module _ (old : SessionValue) (s : Script) (v w : SessionValue) (call : Call) (s
       subst Q (sym ran) follows
 
   -- the call waits
-  pub wait_on : (tree : Tree) (stage' : Stage) (wait : Wait) (t : Standing) → Reaches old s.items (f.came ++ came) w s.answers call tree → play s.room tree here ≡ Waits wait t → front s.room t.said ≡ w.channel.told.sent → t.bytes ≡ w.channel.kept ++ unread w.channel.told → seen_at wait s t.bytes ≡ length w.channel.kept → outcome w.channel.rule (system_at wait call s) w.channel.kept false ≡ More → t.state ≡ w.state → t.failed ≡ w.channel.failed → Place old (polled_as (Waiting s.answers wait t) call s) (f.came ++ came) w (Some call) stage' → Follows old (poll_script (start_of old) (Some call) s) w (Some call) stage' answers
-  wait_on tree stage' wait t reaches waits sent bytes seen says_nothing state failed place =
+  pub wait_on : (tree : Tree) (stage' : Stage) (wait : Wait) (t : Standing) → Reaches old s.items (f.came ++ came) w s.answers call tree → play s.room tree here ≡ Waits wait t → front s.room t.said ≡ w.channel.told.sent → t.bytes ≡ w.channel.kept ++ unread w.channel.told → seen_at wait s t.bytes ≡ length w.channel.kept → outcome w.channel.rule (system_at wait call s) w.channel.kept false ≡ More → t.state ≡ w.state → t.failed ≡ w.channel.failed → (MayCancel (Some call) true → s.rest ≡ w.channel.unsent) → Place old (polled_as (Waiting s.answers wait t) call s) (f.came ++ came) w (Some call) stage' → Follows old (poll_script (start_of old) (Some call) s) w (Some call) stage' answers
+  wait_on tree stage' wait t reaches waits sent bytes seen says_nothing state failed rest place =
       let next : Standing → Ran = λ u. run s.room Ok [] u in
       let ran : run s.room Ok (s.items ++ call ∷ []) (record (start_of old) { bytes = s.bytes; ended = s.ended }) ≡ Waiting s.answers wait t =
       from_start (s.items ++ call ∷ [])
@@ -299,6 +301,7 @@ module _ (old : SessionValue) (s : Script) (v w : SessionValue) (call : Call) (s
         ended = over_is;
         room = f.room ∙ ap (λ g. g.room) (sym c.given);
         sent = sent;
+        rest = rest;
         untaken = bytes;
         seen = seen;
         waits = says_nothing;
@@ -363,6 +366,10 @@ module _ (old : SessionValue) (s : Script) (v w : SessionValue) (call : Call) (s
           let P : List ℕ → Type 0 = λ x. Stands old s.items (f.came ++ x) w s.answers in
           subst P same (stands_rests old v w s.items f.came s.answers (from.read is) rest)
 
+      rest' : MayCancel (Some call) true → s.rest ≡ w.channel.unsent
+      rest' (inl new) = let clash : true ≡ false = new in cc
+      rest' (inr read) = f.rest (inr read) ∙ ap (λ t. t.rest) ((rests (read_says call read)).stays tt [] [] false [])
+
       under_way : (t : Standing) (wait : Wait) → UnderWay old (polled_as (Waiting s.answers wait t) call s) (f.came ++ moves.came) w call stage'
       under_way t wait = record {
         polled = refl;
@@ -383,7 +390,7 @@ module _ (old : SessionValue) (s : Script) (v w : SessionValue) (call : Call) (s
           let seen = seen_kept (Calm (left Ok call v.state stage)) s v w moves.came f.seen f.untaken c.split (calm tt) in
           let waits' = waits_kept (Calm (left Ok call v.state stage)) s v w moves.came c.rule f.waits (calm tt) in
           subst F (sym is)
-          (wait_on old s v w call stage answers f moves.came c (Say (Ok (due line)) (hearing call v.state)) (Saying line) wait.Room t (subst P is reaches') stuck.0 stuck.1 refl seen waits' refl refl (subst U is (under_way t wait.Room)))
+          (wait_on old s v w call stage answers f moves.came c (Say (Ok (due line)) (hearing call v.state)) (Saying line) wait.Room t (subst P is reaches') stuck.0 stuck.1 refl seen waits' refl refl rest' (subst U is (under_way t wait.Room)))
       go Hearing is begun calm waits =
           let P : Stage → Type 0 = λ x. Reaches old s.items (f.came ++ moves.came) w s.answers call (left Ok call v.state x) in
           let F : Stage → Type 0 = λ x. Follows old (poll_script (start_of old) (Some call) s) w (Some call) x answers in
@@ -394,7 +401,7 @@ module _ (old : SessionValue) (s : Script) (v w : SessionValue) (call : Call) (s
           let seen : length (w.channel.kept ++ unread w.channel.told) ≡ length w.channel.kept = ap length (ap (λ u. w.channel.kept ++ u) stuck.1 ∙ append-nil w.channel.kept) in
           let sent = front_fits s.room w.channel.told.sent (fits_here old s v w call stage answers f moves.came c) in
           subst F (sym is)
-          (wait_on old s v w call stage answers f moves.came c (hearing call v.state) Hearing wait.Bytes t (subst P is reaches') stuck.0 sent refl seen (subst R is (moves.resumes from.resumes)) refl refl (subst U is (under_way t wait.Bytes)))
+          (wait_on old s v w call stage answers f moves.came c (hearing call v.state) Hearing wait.Bytes t (subst P is reaches') stuck.0 sent refl seen (subst R is (moves.resumes from.resumes)) refl refl rest' (subst U is (under_way t wait.Bytes)))
 
   -- a poll that completes the call
   completed : (stage' : Stage) (answer : Answer) (done : Completes (Unit {0}) (left Ok call v.state stage) answer v w) → Carried v w done.came → Follows old (poll_script (start_of old) (Some call) s) w None stage' (answers ++ answer ∷ [])

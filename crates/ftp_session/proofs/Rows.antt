@@ -14,7 +14,8 @@ use Rattle.ftp_session.specs.declared.session.call.Event.TheVariants.{Feed, End,
 use Rattle.ftp_session.specs.State.{SessionValue}
 use Rattle.ftp_session.specs.Play.{play}
 use Rattle.ftp_session.specs.Run.{run}
-use Rattle.ftp_session.specs.Script.{Script, script, script_of, start_of}
+use Rattle.ftp_session.specs.declared.plain.Script.{Script}
+use Rattle.ftp_session.specs.Script.{script, script_of, start_of}
 
 -- a session on which nothing came and nothing was said
 abbrev idle : State → SessionValue

@@ -3,6 +3,7 @@ use Rattle.std.proofs.Common.{◌≡◌, Bool, true, false, ℕ, ◌+◌, ◌<�
 use Rattle.std.specs.Prelude.{OnErr, Result, Ok, Err}
 use Rattle.std.proofs.lemmas.List.{drop_more, take-append-drop, append_cancel_right}
 use Rattle.std.proofs.Math.ListN.{drop_of_length-le}
+use Rattle.std.proofs.Math.Seq.{take-append_seam}
 use Rattle.ftp_control.specs.declared.control.outcome.Outcome.TheVariants.{Waits as More}
 use Rattle.ftp_control.specs.Grammar.{outcome}
 use Rattle.ftp_control.specs.Memory.{IsGiven}
@@ -14,8 +15,10 @@ use Rattle.ftp_session.specs.declared.session.call.Event.{Event}
 use Rattle.ftp_session.specs.declared.session.stage.Stage.{Stage}
 use Rattle.ftp_session.specs.declared.plain.Standing.{Standing}
 use Rattle.ftp_session.specs.State.{SessionValue}
-use Rattle.ftp_session.specs.Script.{Script, script, start_of, script_of, after_event, Lawful}
-use Rattle.ftp_session.specs.Polling.{PollsTo, PollBroke, Polled, Stops, StopsAtFeed}
+use Rattle.ftp_session.specs.declared.plain.Script.{Script}
+use Rattle.ftp_session.specs.Script.{script, start_of, script_of, after_event, Lawful, MayCancel}
+use Rattle.ftp_session.specs.Running.{AllRefused}
+use Rattle.ftp_session.specs.Polling.{PollsTo, StandsAt, PollBroke, Polled, Stops, StopsAtFeed}
 use Rattle.ftp_session.specs.Following.{Follows, FailedStays, Happens, BreaksCall, IsFeed, given_answer}
 use Rattle.ftp_session.specs.Moving.{Fails, WantsMemory}
 use Rattle.ftp_control.specs.Saying.{HasCounted, IsIoFault}
@@ -34,6 +37,10 @@ pub record OnScript (old : SessionValue) (system : Bool) (events left : List Eve
 abbrev pub SoFar : SessionValue → Bool → List Event → List Event → SessionValue → Option Call → Stage → List Answer → Type 0
 SoFar old system events left v call stage answers = OnScript old system events left v call stage answers ⊎ PollBroke old system events v answers
 
+-- what is put behind a list goes again
+pub take_front : (calls : List Call) (call : Call) → take (length calls) (calls ++ call ∷ []) ≡ calls
+take_front calls call = take-append_seam calls (call ∷ [])
+
 script-snoc : (start : Standing) (s : Script) (events : List Event) (event : Event) → script start s (events ++ event ∷ []) ≡ after_event start (script start s events) event
 script-snoc start s [] event = refl
 script-snoc start s (first ∷ events) event = script-snoc start (after_event start s first) events event
@@ -50,8 +57,28 @@ counted_still : (t u v : Told) → v.failures ≡ u.failures → HasCounted t u 
 counted_still t u v same (inl grew) = inl (rw same grew)
 counted_still t u v same (inr most) = inr (same ∙ most)
 
+-- the session stands where its script does
+stands_at : (old : SessionValue) (s : Script) (v : SessionValue) (call : Option Call) (stage : Stage) (answers : List Answer) → Follows old s v call stage answers → StandsAt s v answers
+stands_at old s v call stage answers f = record {
+  answers_are = sym f.answers_are;
+  sent = sym f.sent;
+  untaken = sym f.untaken;
+  seen = sym f.seen;
+  waits = f.waits;
+  ended = sym f.ended;
+  room = sym f.room;
+  rest = λ may. sym (f.rest (let P : Option Call → Type 0 = λ c. MayCancel c s.polled in subst P f.call_is may));
+  state = sym f.state;
+  failed = sym f.failed;
+}
+
+-- each is refused, and so is the next
+refused_more : (first second : List Answer) → AllRefused first → AllRefused second → AllRefused (first ++ second)
+refused_more [] second one two = two
+refused_more (answer ∷ first) second one two = (one.0, refused_more first second one.1 two)
+
 -- one event more
-module _ (old : SessionValue) (system : Bool) (events later : List Event) (event : Event) (v w : SessionValue) (call call' : Option Call) (stage stage' : Stage) (answers : List Answer) (result : Option Answer) (stays : FailedStays v w) (happens : Happens v w call call' stage stage' event result) where
+module _ (old : SessionValue) (system : Bool) (events later : List Event) (event : Event) (v w : SessionValue) (call call' : Option Call) (stage stage' : Stage) (answers : List Answer) (result : Option Answer) (stays : FailedStays v w result) (happens : Happens v w call call' stage stage' event result) where
   on : OnScript old system events (event ∷ later) v call stage answers → SoFar old system events later w call' stage' (answers ++ given_answer result)
   on so_far = go (happens old (script (start_of old) (script_of old system) so_far.done) answers so_far.follows so_far.lawful.0)
     where
@@ -85,8 +112,8 @@ module _ (old : SessionValue) (system : Bool) (events later : List Event) (event
           why (inl fails) = inl (record { kind = fails.io.kind; is = named ∙ fails.io.is })
           why (inr wants) = inr (named ∙ wants.is)
 
-          counts : Fails (Unit {0}) breaks.breaks.fault v w ⊎ WantsMemory (Unit {0}) breaks.breaks.fault v w → IsIoFault breaks.fault → (w.channel.failed ≡ true) × HasCounted old.channel.told w.channel.told
-          counts (inl fails) io = (fails.failed, counted_since old.channel.told v.channel.told w.channel.told so_far.follows.failures (fails.counted tt))
+          counts : Fails (Unit {0}) breaks.breaks.fault v w ⊎ WantsMemory (Unit {0}) breaks.breaks.fault v w → IsIoFault breaks.fault → (w.channel.failed ≡ true) × HasCounted old.channel.told w.channel.told × AllRefused []
+          counts (inl fails) io = (fails.failed, counted_since old.channel.told v.channel.told w.channel.told so_far.follows.failures (fails.counted tt), tt)
           counts (inr wants) io = let clash : OutOfMemory ≡ ConnectionError (Io io.kind) = sym (named ∙ wants.is) ∙ io.is in cc
 
   pub one_more : SoFar old system events (event ∷ later) v call stage answers → SoFar old system events later w call' stage' (answers ++ given_answer result)
@@ -97,12 +124,12 @@ module _ (old : SessionValue) (system : Bool) (events later : List Event) (event
     split = broke.split;
     fault = broke.fault;
     cause = broke.cause;
-    counted = λ io. let was = broke.counted io in let is = stays was.0 in (is.0, counted_still old.channel.told v.channel.told w.channel.told is.1 was.1);
+    counted = λ io. let was = broke.counted io in let is = stays was.0 in (is.0, counted_still old.channel.told v.channel.told w.channel.told is.1 was.1, refused_more broke.rest (given_answer result) was.2 is.2);
     rest = broke.rest ++ given_answer result;
     answers_are = ap (λ a. a ++ given_answer result) broke.answers_are ∙ append_assoc (script (start_of old) (script_of old system) broke.before).answers (Fault broke.fault ∷ broke.rest) (given_answer result);
   })
 
-pub next_event : (old : SessionValue) (system : Bool) (events : List Event) (i : ℕ) (event : Event) (v w : SessionValue) (call call' : Option Call) (stage stage' : Stage) (answers answers' : List Answer) (result : Option Answer) → i < length events → event ≡ get_or events i event → answers' ≡ answers ++ given_answer result → FailedStays v w → Happens v w call call' stage stage' event result → SoFar old system events (drop i events) v call stage answers → SoFar old system events (drop (i + 1) events) w call' stage' answers'
+pub next_event : (old : SessionValue) (system : Bool) (events : List Event) (i : ℕ) (event : Event) (v w : SessionValue) (call call' : Option Call) (stage stage' : Stage) (answers answers' : List Answer) (result : Option Answer) → i < length events → event ≡ get_or events i event → answers' ≡ answers ++ given_answer result → FailedStays v w result → Happens v w call call' stage stage' event result → SoFar old system events (drop i events) v call stage answers → SoFar old system events (drop (i + 1) events) w call' stage' answers'
 next_event old system events i event v w call call' stage stage' answers answers' result inside is pushed stays happens so_far =
     let left : drop i events ≡ event ∷ drop (i + 1) events = drop_more events i event inside ∙ ap (λ e. e ∷ drop (i + 1) events) (sym is) in
     let P : List Event → Type 0 = λ l. SoFar old system events l v call stage answers in
@@ -115,7 +142,7 @@ all_events old system events i v call stage answers past (inl so_far) =
     let none : drop i events ≡ [] = drop_of_length-le events {i = i} past in
     let all : events ≡ so_far.done = so_far.split ∙ ap (λ l. so_far.done ++ l) none ∙ append-nil so_far.done in
     let P : List Event → Type 0 = λ e. PollsTo old system e v answers in
-    inl (subst P (sym all) (record { answers_are = sym so_far.follows.answers_are; sent = sym so_far.follows.sent; untaken = sym so_far.follows.untaken; state = sym so_far.follows.state; failed = sym so_far.follows.failed }))
+    inl (subst P (sym all) (record { at = stands_at old (script (start_of old) (script_of old system) so_far.done) v call stage answers so_far.follows; rule = so_far.follows.rule }))
 all_events old system events i v call stage answers past (inr broke) = inr broke
 
 pub at_most_one : (answer : Option Answer) → length (given_answer answer) ≤ 1
@@ -140,7 +167,7 @@ stops_at old events i event v w call stage answers inside is same feed so_far =
     go system (inl on_script) =
         let done : take i events ≡ on_script.done = append_cancel_right (take i events) on_script.done (drop i events) (take-append-drop i events ∙ on_script.split) in
         let Q : List Event → Type 0 = λ e. PollsTo old system e v answers in
-        inl (subst Q (sym done) (record { answers_are = sym on_script.follows.answers_are; sent = sym on_script.follows.sent; untaken = sym on_script.follows.untaken; state = sym on_script.follows.state; failed = sym on_script.follows.failed }))
+        inl (subst Q (sym done) (record { at = stands_at old (script (start_of old) (script_of old system) on_script.done) v call stage answers on_script.follows; rule = on_script.follows.rule }))
     go system (inr broke) = inr broke
 
 pub on_err : (T E : Type 0) (result : Result T E) (P : Type 0) → P → OnErr result P

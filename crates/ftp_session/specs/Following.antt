@@ -22,9 +22,10 @@ use Rattle.ftp_session.specs.State.{SessionValue}
 use Rattle.ftp_session.specs.Dialogue.{Tree, says}
 use Rattle.ftp_session.specs.Play.{play}
 use Rattle.ftp_session.specs.Run.{run, and_then, Resumes}
-use Rattle.ftp_session.specs.Running.{before_all}
+use Rattle.ftp_session.specs.Running.{before_all, AllRefused}
 use Rattle.ftp_session.specs.Moving.{standing, left, StageOf, Breaks, Polls, Rests}
-use Rattle.ftp_session.specs.Script.{Script, unread, is_over, start_of, after_event, is_read, IsLawful}
+use Rattle.ftp_session.specs.declared.plain.Script.{Script}
+use Rattle.ftp_session.specs.Script.{unread, is_over, start_of, after_event, is_read, IsLawful, MayCancel}
 
 -- the calls that are done come to these answers, and to whatever comes behind them from here
 abbrev pub Stands : SessionValue → List Call → List ℕ → SessionValue → List Answer → Type 0
@@ -66,6 +67,7 @@ pub record Follows (old : SessionValue) (s : Script) (v : SessionValue) (call : 
   pub ended : s.ended ≡ is_over v.channel.told
   pub room : s.room ≡ v.channel.told.given.room
   pub sent : s.sent ≡ v.channel.told.sent
+  pub rest : MayCancel call s.polled → s.rest ≡ v.channel.unsent
   pub untaken : s.untaken ≡ v.channel.kept ++ unread v.channel.told
   pub seen : s.seen ≡ length v.channel.kept
   pub waits : outcome v.channel.rule s.system v.channel.kept false ≡ More
@@ -104,9 +106,9 @@ pub record BreaksCall (v w : SessionValue) (result : Option Answer) : Type 0 whe
   pub is : result ≡ Some (Fault fault)
   pub breaks : Breaks (Unit {0}) (Fault fault) v w
 
--- a session that has failed fails no more
-abbrev pub FailedStays : SessionValue → SessionValue → Type 0
-FailedStays v w = v.channel.failed ≡ true → (w.channel.failed ≡ true) × (w.channel.told.failures ≡ v.channel.told.failures)
+-- a session that has failed fails no more, and refuses what it answers
+abbrev pub FailedStays : SessionValue → SessionValue → Option Answer → Type 0
+FailedStays v w answer = v.channel.failed ≡ true → (w.channel.failed ≡ true) × (w.channel.told.failures ≡ v.channel.told.failures) × AllRefused (given_answer answer)
 
 -- only a Feed may want memory
 pub record IsFeed (event : Event) : Type 0 where

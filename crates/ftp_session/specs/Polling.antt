@@ -1,6 +1,6 @@
 -- What a session does with a list of events: what their definition says, until the connection fails or memory is
 -- refused.
-use Rattle.std.specs.Prelude.{◌≡◌, ◌⊎◌, ℕ, Bool, false, List, ◌∷◌, ◌++◌, true}
+use Rattle.std.specs.Prelude.{◌≡◌, ◌⊎◌, ℕ, Bool, false, List, ◌∷◌, ◌++◌, length, true}
 use Rattle.ftp_base.specs.declared.types.fault.FtpError.{FtpError}
 use Rattle.ftp_base.specs.declared.types.fault.FtpError.TheVariants.{OutOfMemory}
 use Rattle.ftp_control.specs.Saying.{HasCounted, IsIoFault}
@@ -11,27 +11,39 @@ use Rattle.ftp_session.specs.declared.session.call.Event.TheVariants.{Feed}
 use Rattle.ftp_control.specs.declared.control.outcome.Outcome.TheVariants.{Waits as More}
 use Rattle.ftp_control.specs.Grammar.{outcome}
 use Rattle.ftp_session.specs.State.{SessionValue}
-use Rattle.ftp_session.specs.Script.{script, script_of, start_of, unread, Lawful}
+use Rattle.ftp_session.specs.declared.plain.Script.{Script}
+use Rattle.ftp_session.specs.Running.{AllRefused}
+use Rattle.ftp_session.specs.Script.{script, script_of, start_of, unread, is_over, Lawful, MayCancel}
 
--- the answers, the bytes that went out, those that are part of no reply and the state are the script's
+-- the session stands where the script does, with these answers
+pub record StandsAt (s : Script) (new : SessionValue) (answers : List Answer) : Type 0 where
+  pub answers_are : answers ≡ s.answers
+  pub sent : new.channel.told.sent ≡ s.sent
+  pub untaken : new.channel.kept ++ unread new.channel.told ≡ s.untaken
+  pub seen : length new.channel.kept ≡ s.seen
+  pub waits : outcome new.channel.rule s.system new.channel.kept false ≡ More
+  pub ended : is_over new.channel.told ≡ s.ended
+  pub room : new.channel.told.given.room ≡ s.room
+  pub rest : MayCancel s.call s.polled → new.channel.unsent ≡ s.rest
+  pub state : new.state ≡ s.state
+  pub failed : new.channel.failed ≡ s.failed
+
+-- the events come to their script; which lines open and end a reply stays
 pub record PollsTo (old : SessionValue) (system : Bool) (events : List Event) (new : SessionValue) (answers : List Answer) : Type 0 where
-  pub answers_are : answers ≡ (script (start_of old) (script_of old system) events).answers
-  pub sent : new.channel.told.sent ≡ (script (start_of old) (script_of old system) events).sent
-  pub untaken : new.channel.kept ++ unread new.channel.told ≡ (script (start_of old) (script_of old system) events).untaken
-  pub state : new.state ≡ (script (start_of old) (script_of old system) events).state
-  pub failed : new.channel.failed ≡ (script (start_of old) (script_of old system) events).failed
+  pub at : StandsAt (script (start_of old) (script_of old system) events) new answers
+  pub rule : new.channel.rule ≡ old.channel.rule
 
--- a call was broken off: the answers before are the script's; a connection's fault was counted, and the session has
--- failed
+-- a call was broken off: the answers before are the script's; a connection's fault was counted, the session has
+-- failed, and each later call is refused
 pub record PollBroke (old : SessionValue) (system : Bool) (events : List Event) (new : SessionValue) (answers : List Answer) : Type 0 where
   pub before : List Event
   pub later : List Event
   pub split : events ≡ before ++ later
   pub fault : FtpError
   pub cause : IsIoFault fault ⊎ (fault ≡ OutOfMemory)
-  pub counted : IsIoFault fault → (new.channel.failed ≡ true) × HasCounted old.channel.told new.channel.told
   pub rest : List Answer
   pub answers_are : answers ≡ (script (start_of old) (script_of old system) before).answers ++ Fault fault ∷ rest
+  pub counted : IsIoFault fault → (new.channel.failed ≡ true) × HasCounted old.channel.told new.channel.told × AllRefused rest
 
 -- a polled run
 abbrev pub Polled : SessionValue → Bool → List Event → SessionValue → List Answer → Type 0

@@ -11,6 +11,7 @@ use Rattle.ftp_session.specs.declared.session.call.Call.{Call}
 use Rattle.ftp_session.specs.declared.session.call.Call.TheVariants.{Greet, Noop, Quit, CustomCommand, ReadResponse, ReadResponseIn}
 use Rattle.ftp_session.specs.declared.session.call.Event.{Event}
 use Rattle.ftp_session.specs.declared.session.call.Event.TheVariants as event
+use Rattle.ftp_session.specs.declared.plain.Script.{Script}
 use Rattle.ftp_session.specs.declared.plain.Standing.{Standing}
 use Rattle.ftp_session.specs.declared.plain.Wait.{Wait}
 use Rattle.ftp_session.specs.declared.plain.Wait.TheVariants as wait
@@ -24,25 +25,6 @@ use Rattle.ftp_control.specs.Answer.{is_among}
 use Rattle.ftp_session.specs.Dialogue.{codes_of}
 use Rattle.ftp_session.specs.Run.{run}
 use Rattle.ftp_session.specs.Moving.{standing}
-
--- the calls that are done with their answers; the call under way, and whether it was polled; all bytes that came,
--- and whether they ended; the room; the bytes that went out; those that are part of no reply, and how many of them
--- a Poll has read, and whether the list that it read them under holds System; what the session keeps beside its
--- channel, and whether it has failed
-pub record Script : Type 0 where
-  pub items : List Call
-  pub answers : List Answer
-  pub call : Option Call
-  pub polled : Bool
-  pub bytes : List ℕ
-  pub ended : Bool
-  pub room : Room
-  pub sent : List ℕ
-  pub untaken : List ℕ
-  pub seen : ℕ
-  pub system : Bool
-  pub state : State
-  pub failed : Bool
 
 -- what came on a connection and wasn't read yet
 abbrev pub unread : Told → List ℕ
@@ -67,6 +49,7 @@ script_of v system = record {
   ended = is_over v.channel.told;
   room = v.channel.told.given.room;
   sent = v.channel.told.sent;
+  rest = v.channel.unsent;
   untaken = v.channel.kept ++ unread v.channel.told;
   seen = length v.channel.kept;
   system = system;
@@ -105,6 +88,7 @@ polled_as (Finished answers t) call s = record s {
   call = None;
   polled = false;
   sent = front s.room t.said;
+  rest = t.rest;
   untaken = t.bytes;
   seen = seen_in s t.bytes;
   state = t.state;
@@ -130,9 +114,13 @@ abbrev pub start_script : Call → Option Call → Script → Script
 start_script call None s = record s { call = Some call; polled = false }
 start_script call (Some other) s = s
 
+-- bytes come, unless the input has ended
+abbrev pub fed : List ℕ → Script → Script
+fed more s = if s.ended then s else record s { bytes = s.bytes ++ more; untaken = s.untaken ++ more }
+
 -- what an event makes of it
 abbrev pub after_event : Standing → Script → Event → Script
-after_event start s (event.Feed more) = if s.ended then s else record s { bytes = s.bytes ++ more; untaken = s.untaken ++ more }
+after_event start s (event.Feed more) = fed more s
 after_event start s event.End = record s { ended = true }
 after_event start s (event.Room more) = record s { room = more_room more (length s.sent) s.room }
 after_event start s (event.Start call) = start_script call s.call s

@@ -4,10 +4,12 @@ ghost use Rattle.std.specs.Prelude.{◌≡◌, ◌∷◌, IfOk, Ok};
 ghost use Rattle.ftp_session.specs.Run.{before, run};
 
 mod dialogue;
+mod events;
 mod play;
 
 use crate::session::ask::{Outcome, Request};
 use crate::session::{Answer, Call, State};
+pub use events::run_polled;
 use ftp_base::types::{Bytes, Items};
 use ftp_control::control::ReplyRule;
 use ftp_control::transport::Room;
@@ -15,7 +17,7 @@ pub use play::play_call;
 use std::alloc::{AllocError, Global};
 
 /// Where a run stands.
-#[derive(Drop)]
+#[derive(Clone, Drop)]
 pub struct Standing {
     /// What the session keeps beside its channel.
     pub state: State,
@@ -64,6 +66,39 @@ pub enum Ran {
     Finished(Items<Answer>, Standing),
     /// The answers of those before the one that waits for this, here.
     Waiting(Items<Answer>, Wait, Standing),
+}
+
+/// What events have made of a session.
+#[derive(Drop)]
+pub struct Script {
+    /// The calls that are done.
+    pub items: Items<Call>,
+    /// Their answers.
+    pub answers: Items<Answer>,
+    /// The call under way.
+    pub call: Option<Call>,
+    /// Whether it was polled.
+    pub polled: bool,
+    /// All bytes that came.
+    pub bytes: Bytes,
+    /// Whether they ended.
+    pub ended: bool,
+    /// How much may be written.
+    pub room: Room,
+    /// The bytes that went out.
+    pub sent: Bytes,
+    /// The rest of a line that was begun before.
+    pub rest: Bytes,
+    /// The bytes that are part of no reply.
+    pub untaken: Bytes,
+    /// How many of these a Poll has read.
+    pub seen: usize,
+    /// Whether the list that it read them under holds System.
+    pub system: bool,
+    /// What the session keeps beside its channel.
+    pub state: State,
+    /// Whether it has failed.
+    pub failed: bool,
 }
 
 /// The calls in turn.

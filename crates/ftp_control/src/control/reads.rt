@@ -5,6 +5,7 @@ ghost use Rattle.futures.specs.declared.task.Poll.TheVariants as poll;
 ghost use Rattle.ftp_control.specs.Told.{EndsAsTold};
 ghost use Rattle.ftp_control.specs.Answer.{AnswersRead, answer_of, is_among, expected_reply};
 
+use super::expected::{expected_reply, is_among};
 use super::{Broken, ControlChannel, Outcome};
 use crate::transport::{Conn, NeverWaits, PollConn, Tells};
 use ftp_base::status::Status;
@@ -122,23 +123,4 @@ fn answer(expected: &[Status], heard: Result<Outcome, Broken>) -> Poll<FtpResult
         Err(Broken::Connection(kind)) => Err(ConnectionError::Io(kind).into()),
         Err(Broken::OutOfMemory) => Err(FtpError::OutOfMemory),
     })
-}
-
-/// A reply whose status is expected, or the refusal of another.
-fn expected_reply(expected: &[Status], reply: Response) -> FtpResult<Response>
-    ensures { result ≡ expected_reply expected.now reply }
-{
-    if is_among(expected, reply.status) {
-        Ok(reply)
-    } else {
-        Err(FtpError::UnexpectedResponse(reply))
-    }
-}
-
-/// Whether a status is among these.
-fn is_among(statuses: &[Status], status: Status) -> bool
-    ensures { result ≡ is_among statuses.now status }
-{
-    let code = status.code();
-    statuses.iter().any(|one| one.code() == code)
 }

@@ -14,7 +14,7 @@ use ftp_base::command::Command;
 use ftp_base::encoding::Utf8Encoding;
 use ftp_base::status::Status;
 use ftp_base::types::{Bytes, ConnectionError, FtpError, FtpResult, Response};
-use ftp_control::control::{Outcome, REPLY_LIMIT, WireLine};
+use ftp_control::control::{Outcome, REPLY_LIMIT, WireLine, expected_reply, is_among};
 use ftp_control::plain::outcome;
 use ftp_control::transport::Room;
 use std::alloc::{AllocError, Global};
@@ -148,25 +148,6 @@ fn faulted(fault: FtpError, standing: Standing) -> Played
     ensures { result ≡ Played.Done (Answer.Fault fault) standing }
 {
     Played::Done(Answer::Fault(fault), standing)
-}
-
-/// A reply whose status is expected, or the refusal of another.
-fn expected_reply(expected: &[Status], reply: Response) -> FtpResult<Response>
-    ensures { result ≡ expected_reply expected.now reply }
-{
-    if is_among(expected, reply.status) {
-        Ok(reply)
-    } else {
-        Err(FtpError::UnexpectedResponse(reply))
-    }
-}
-
-/// Whether a status is among these.
-fn is_among(statuses: &[Status], status: Status) -> bool
-    ensures { result ≡ is_among statuses.now status }
-{
-    let code = status.code();
-    statuses.iter().any(|one| one.code() == code)
 }
 
 /// Whether so much is within the room.

@@ -4,7 +4,7 @@ use ftp_base::types::ConnectionError;
 use std::net::SocketAddr;
 
 /// What is asked for a data connection.
-#[derive(Debug, Drop)]
+#[derive(Clone, Copy, Debug)]
 pub enum Request {
     /// The address of the control connection at this end.
     LocalAddress,
@@ -19,7 +19,7 @@ pub enum Request {
 }
 
 /// What was answered to a request.
-#[derive(Debug, Drop)]
+#[derive(Clone, Copy, Debug)]
 pub enum Outcome {
     /// It was done.
     Done,

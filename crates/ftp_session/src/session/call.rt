@@ -4,7 +4,7 @@ use ftp_base::status::Status;
 use ftp_base::types::{Bytes, FtpError, Items, Response, Text};
 
 /// A call of a session, with what it takes.
-#[derive(Debug, Drop)]
+#[derive(Clone, Debug, Drop)]
 pub enum Call {
     /// The greeting is read (220).
     Greet,

@@ -66,7 +66,7 @@ impl Session<MemoryTransport> {
         requires { StageIn (option_map (λ c. c.now) under_way.old) stage.old }
         ensures unchanged { OnErr result ((self.new ≡ self.old) × IsFeed event.now) }
         ensures stage { StageIn (option_map (λ c. c.now) under_way.new) stage.new }
-        ensures failed { IfOk result (λ answer. FailedStays self.old self.new) }
+        ensures failed { IfOk result (λ answer. FailedStays self.old self.new answer) }
         ensures happens { IfOk result (λ answer.
             Happens self.old self.new (option_map (λ c. c.now) under_way.old)
             (option_map (λ c. c.now) under_way.new) stage.old stage.new event.now answer) }
@@ -93,7 +93,7 @@ impl Session<MemoryTransport> {
     ) -> Option<Answer>
         requires { StageIn (option_map (λ c. c.now) under_way.old) stage.old }
         ensures stage { StageIn (option_map (λ c. c.now) under_way.new) stage.new }
-        ensures failed { FailedStays self.old self.new }
+        ensures failed { FailedStays self.old self.new result }
         ensures happens { Happens self.old self.new (option_map (λ c. c.now) under_way.old)
             (option_map (λ c. c.now) under_way.new) stage.old stage.new Event.Poll result }
     {

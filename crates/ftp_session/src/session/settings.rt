@@ -13,7 +13,7 @@ use std::time::Duration;
 pub const ACTIVE_DEADLINE_SECONDS: u64 = 60;
 
 /// What a session was told to do.
-#[derive(Drop)]
+#[derive(Clone, Drop)]
 pub struct Settings {
     /// Who opens data connections.
     pub mode: Mode,
@@ -43,7 +43,7 @@ pub enum Owed {
 }
 
 /// How many transfers were opened, and how they came to their end.
-#[derive(Drop)]
+#[derive(Clone, Drop)]
 pub struct Counts {
     opened: u64,
     finished: u64,
@@ -98,7 +98,7 @@ impl Counts {
 }
 
 /// What a session keeps beside its control channel.
-#[derive(Drop)]
+#[derive(Clone, Drop)]
 pub struct State {
     /// What it was told to do.
     pub settings: Settings,

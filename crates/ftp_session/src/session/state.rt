@@ -77,6 +77,15 @@ impl<Tr: Network> Session<Tr> {
         self.channel.untaken()
     }
 
+    /// Whether the session has failed: a read or a write of the control connection did, the input ended or went
+    /// beyond a reply's limit where a reply was due, or memory was refused inside a dialogue. Each later command
+    /// is refused by `SessionFailed`.
+    pub fn failed(&self) -> bool
+        ensures { result ≡ self.now.channel.failed }
+    {
+        self.channel.failed()
+    }
+
     /// The text that the server greeted with, once the greeting was taken.
     pub fn get_welcome_msg(&self) -> Option<&str>
         ensures { option_map (λ text. text.now) result ≡

@@ -59,19 +59,19 @@ returns-clause-failed c = λ failed.
           let ok = rw (w.in_ok-feed-in-Feed.was, w.as_slice.ensures) at w.feed.ensures.ok in
           let F : Channel → Channel = λ x. record x { told = fed w.in-Feed.bytes x.told } in
           let is = through F v z w.self.inside.channel w.feed.new.self w.self.inside.state w.self.view_is w.self-is ok in
-          (ap (λ x. x.channel.failed) is ∙ failed, ap (λ x. x.channel.told.failures) is ∙ fed_failures w.in-Feed.bytes v.channel.told)
+          (ap (λ x. x.channel.failed) is ∙ failed, ap (λ x. x.channel.told.failures) is ∙ fed_failures w.in-Feed.bytes v.channel.told, tt)
           )
       | in-End w ↦ (
           let F : Channel → Channel = λ x. record x { told = closed_memory x.told } in
           let is = through F v z w.self-in-End.inside.channel w.end_input.new.self w.self-in-End.inside.state w.self-in-End.view_is w.self-is w.end_input.ensures in
-          (ap (λ x. x.channel.failed) is ∙ failed, ap (λ x. x.channel.told.failures) is)
+          (ap (λ x. x.channel.failed) is ∙ failed, ap (λ x. x.channel.told.failures) is, tt)
           )
       | in-Room w ↦ (
           let F : Channel → Channel = λ x. record x { told = widened w.in-Room.more x.told } in
           let is = through F v z w.self-in-Room.inside.channel w.allow.new.self w.self-in-Room.inside.state w.self-in-Room.view_is w.self-is w.allow.ensures in
-          (ap (λ x. x.channel.failed) is ∙ failed, ap (λ x. x.channel.told.failures) is)
+          (ap (λ x. x.channel.failed) is ∙ failed, ap (λ x. x.channel.told.failures) is, tt)
           )
-      | in-Start w ↦ (ap (λ x. x.channel.failed) w.self-is ∙ failed, ap (λ x. x.channel.told.failures) w.self-is)
-      | in-Cancel w ↦ (ap (λ x. x.channel.failed) w.self-is ∙ failed, ap (λ x. x.channel.told.failures) w.self-is)
-      | in-Leave w ↦ (ap (λ x. x.channel.failed) w.self-is ∙ failed, ap (λ x. x.channel.told.failures) w.self-is)
+      | in-Start w ↦ (ap (λ x. x.channel.failed) w.self-is ∙ failed, ap (λ x. x.channel.told.failures) w.self-is, tt)
+      | in-Cancel w ↦ (ap (λ x. x.channel.failed) w.self-is ∙ failed, ap (λ x. x.channel.told.failures) w.self-is, tt)
+      | in-Leave w ↦ (ap (λ x. x.channel.failed) w.self-is ∙ failed, ap (λ x. x.channel.told.failures) w.self-is, tt)
     ]
