@@ -260,6 +260,11 @@ polled_pending old s v w under_way call stage stage' answers is f may here =
     let named : s.call ≡ Some call = f.call_is ∙ is in
     subst R (sym named) (subst U (sym is) (subst A (sym (append-nil answers)) (poll_follows old s v w call stage stage' answers Pending (subst F is f) (subst M named may) here)))
 
+-- a call that is broken off by a poll is under way no more
+pub at_poll : (F : Type 0) (v w : SessionValue) (result : Option Answer) (call : Option Call) → call ≡ None → F ⊎ BreaksCall v w result → F ⊎ (BreaksCall v w result × (call ≡ None) × (event.Poll ≡ event.Poll))
+at_poll F v w result call none (inl follows) = inl follows
+at_poll F v w result call none (inr breaks) = inr (breaks, none, refl)
+
 -- what happens to the channel alone
 pub through : (F : Channel → Channel) (v w : SessionValue) (a b : Channel) (state : State) → record { channel = a; state = state } ≡ v → w ≡ record { channel = b; state = state } → b ≡ F a → w ≡ record v { channel = F v.channel }
 through F v w a b state before after is =

@@ -479,5 +479,5 @@ poll_follows old s v w call stage stage' answers result f may here =
     go (Ready answer) going (inl done) begun rests = inl (completed old s v w call stage answers f going (from going) stage' answer done (carry done.came done.goes))
     go (Ready answer) going (inr breaks) begun rests =
         let P : Answer → Type 0 = λ a. Breaks (Unit {0}) a v w in
-        inr (record { fault = breaks.fault; is = ap Some breaks.is; breaks = subst P breaks.is breaks })
+        inr (record { fault = breaks.fault; is = ap Some breaks.is; breaks = subst P breaks.is breaks; given = here.given; sound = here.sound })
     go Pending going polls begun rests = pending old s v w call stage answers f going (from going) stage' (begun refl) polls.0 polls.1 (rests refl) (carry polls.0.came polls.0.goes)

@@ -19,7 +19,7 @@ use Rattle.ftp_session.specs.Dialogue.{dialogue}
 use Rattle.ftp_session.specs.Play.{play, play_call}
 use Rattle.ftp_session.specs.Run.{run, before, and_then, OneView, Silent}
 use Rattle.ftp_session.specs.Moving.{standing, Keeps, Completes, Breaks, Plays, IsRefused}
-use Rattle.ftp_session.specs.Running.{AllRefused, before_all, RanTo, RunsTo, BrokeOff, Runs}
+use Rattle.ftp_session.specs.Running.{AllRefused, before_all, Makes, RanTo, RunsTo, BrokeOff, Runs}
 use Rattle.ftp_session.proofs.Hearing.{nothing_resumes}
 use Rattle.ftp_session.proofs.Moving.{nothing_goes, joined_goes, goes_behind, fitted}
 
@@ -108,11 +108,11 @@ module _ (tells : Type 0) (calls later : List Call) (call : Call) (old mid new :
         agrees = λ agrees going. let clash : true ≡ false = sym refused.failed ∙ going in cc;
       }))
 
-  breaks_next : mid.channel.failed ≡ false → Breaks tells answer mid new → BrokeOff tells calls old new (answers ++ answer ∷ [])
+  breaks_next : mid.channel.failed ≡ false → Breaks tells answer mid new → BrokeOff tells calls later old new (answers ++ answer ∷ [])
   breaks_next going breaks = record {
     first = answers;
     call = call;
-    later = later;
+    made = [];
     middle = mid;
     ran = ran;
     going = going;
@@ -121,14 +121,15 @@ module _ (tells : Type 0) (calls later : List Call) (call : Call) (old mid new :
     breaks = let P : Answer → Type 0 = λ a. Breaks tells a mid new in subst P breaks.is breaks;
     rest = [];
     answers_are = ap (λ a. answers ++ a ∷ []) breaks.is;
+    makes = (refl, refl);
     failed = λ failed. (refl, tt);
   }
 
-  pub next_answer : Plays tells call mid new answer → RanTo tells calls later old new (answers ++ answer ∷ []) ⊎ BrokeOff tells calls old new (answers ++ answer ∷ [])
+  pub next_answer : Plays tells call mid new answer → RanTo tells calls later old new (answers ++ answer ∷ []) ⊎ BrokeOff tells calls later old new (answers ++ answer ∷ [])
   next_answer (inl refused) = inl (refuses_next refused)
   next_answer (inr played) = go played.plays
     where
-      go : Completes tells (dialogue Ok call mid.state) answer mid new ⊎ Breaks tells answer mid new → RanTo tells calls later old new (answers ++ answer ∷ []) ⊎ BrokeOff tells calls old new (answers ++ answer ∷ [])
+      go : Completes tells (dialogue Ok call mid.state) answer mid new ⊎ Breaks tells answer mid new → RanTo tells calls later old new (answers ++ answer ∷ []) ⊎ BrokeOff tells calls later old new (answers ++ answer ∷ [])
       go (inl done) = inl (completes_next played.going done)
       go (inr breaks) = inr (breaks_next played.going breaks)
 
@@ -136,20 +137,29 @@ all_snoc : (rest : List Answer) (answer : Answer) → AllRefused rest → answer
 all_snoc [] answer all is = (is, tt)
 all_snoc (first ∷ rest) answer all is = (all.0, all_snoc rest answer all.1 is)
 
+-- one call more is made
+makes_more : (tells : Type 0) (made : List Call) (call : Call) (old mid new : SessionValue) (answers : List Answer) (answer : Answer) → Makes tells made old mid answers → Plays tells call mid new answer → Makes tells (made ++ call ∷ []) old new (answers ++ answer ∷ [])
+makes_more tells [] call old mid new answers answer so_far plays =
+    let P : SessionValue → Type 0 = λ v. Plays tells call v new answer in
+    (new, answer, [], ap (λ a. a ++ answer ∷ []) so_far.1, subst P so_far.0 plays, (refl, refl))
+makes_more tells (first ∷ made) call old mid new answers answer so_far plays =
+    (so_far.0, so_far.1, so_far.2 ++ answer ∷ [], ap (λ a. a ++ answer ∷ []) so_far.3, so_far.4, makes_more tells made call so_far.0 mid new so_far.2 answer so_far.5 plays)
+
 -- a call behind one that broke off
-pub broke_more : (tells : Type 0) (calls : List Call) (call : Call) (old mid new : SessionValue) (answers : List Answer) (answer : Answer) → BrokeOff tells calls old mid answers → Plays tells call mid new answer → BrokeOff tells calls old new (answers ++ answer ∷ [])
-broke_more tells calls call old mid new answers answer broke plays = record {
+pub broke_more : (tells : Type 0) (calls left : List Call) (call : Call) (old mid new : SessionValue) (answers : List Answer) (answer : Answer) → BrokeOff tells calls (call ∷ left) old mid answers → Plays tells call mid new answer → BrokeOff tells calls left old new (answers ++ answer ∷ [])
+broke_more tells calls left call old mid new answers answer broke plays = record {
   first = broke.first;
   call = broke.call;
-  later = broke.later;
+  made = broke.made ++ call ∷ [];
   middle = broke.middle;
-  ran = broke.ran;
+  ran = let P : List Call → Type 0 = λ l. RanTo tells calls (broke.call ∷ l) old broke.middle broke.first in subst P (sym (append_assoc broke.made (call ∷ []) left)) broke.ran;
   going = broke.going;
   fault = broke.fault;
   after = broke.after;
   breaks = broke.breaks;
   rest = broke.rest ++ answer ∷ [];
   answers_are = ap (λ a. a ++ answer ∷ []) broke.answers_are ∙ append_assoc broke.first (Fault broke.fault ∷ broke.rest) (answer ∷ []);
+  makes = makes_more tells broke.made call broke.after mid new broke.rest answer broke.makes plays;
   failed = λ failed. go plays failed (broke.failed failed);
 }
   where
@@ -171,20 +181,28 @@ ran_all tells calls old new answers ran = record {
       ∙ ap (λ a. Finished a (standing new asked more ended outcomes)) (append-nil answers);
 }
 
+-- a run so far, where these are left
+abbrev pub RunsSoFar : Type 0 → List Call → List Call → SessionValue → SessionValue → List Answer → Type 0
+RunsSoFar tells calls left old new answers = RanTo tells calls left old new answers ⊎ BrokeOff tells calls left old new answers
+
 -- the next of the calls
-pub next_of : (tells : Type 0) (calls : List Call) (i : ℕ) (call : Call) (old mid new : SessionValue) (answers answers' : List Answer) (answer : Answer) → i < length calls → call ≡ get_or calls i call → answers' ≡ answers ++ answer ∷ [] → RanTo tells calls (drop i calls) old mid answers ⊎ BrokeOff tells calls old mid answers → Plays tells call mid new answer → RanTo tells calls (drop (i + 1) calls) old new answers' ⊎ BrokeOff tells calls old new answers'
+pub next_of : (tells : Type 0) (calls : List Call) (i : ℕ) (call : Call) (old mid new : SessionValue) (answers answers' : List Answer) (answer : Answer) → i < length calls → call ≡ get_or calls i call → answers' ≡ answers ++ answer ∷ [] → RunsSoFar tells calls (drop i calls) old mid answers → Plays tells call mid new answer → RunsSoFar tells calls (drop (i + 1) calls) old new answers'
 next_of tells calls i call old mid new answers answers' answer inside is pushed so_far plays =
-    let P : List Answer → Type 0 = λ a. RanTo tells calls (drop (i + 1) calls) old new a ⊎ BrokeOff tells calls old new a in
+    let P : List Answer → Type 0 = λ a. RunsSoFar tells calls (drop (i + 1) calls) old new a in
+    let Q : List Call → Type 0 = λ l. RunsSoFar tells calls l old mid answers in
     let left : drop i calls ≡ call ∷ drop (i + 1) calls = drop_more calls i call inside ∙ ap (λ c. c ∷ drop (i + 1) calls) (sym is) in
-    subst P (sym pushed) (go left so_far)
+    subst P (sym pushed) (go (subst Q left so_far))
   where
-    go : drop i calls ≡ call ∷ drop (i + 1) calls → RanTo tells calls (drop i calls) old mid answers ⊎ BrokeOff tells calls old mid answers → RanTo tells calls (drop (i + 1) calls) old new (answers ++ answer ∷ []) ⊎ BrokeOff tells calls old new (answers ++ answer ∷ [])
-    go left (inl ran) = let Q : List Call → Type 0 = λ l. RanTo tells calls l old mid answers in next_answer tells calls (drop (i + 1) calls) call old mid new answers answer (subst Q left ran) plays
-    go left (inr broke) = inr (broke_more tells calls call old mid new answers answer broke plays)
+    go : RunsSoFar tells calls (call ∷ drop (i + 1) calls) old mid answers → RunsSoFar tells calls (drop (i + 1) calls) old new (answers ++ answer ∷ [])
+    go (inl ran) = next_answer tells calls (drop (i + 1) calls) call old mid new answers answer ran plays
+    go (inr broke) = inr (broke_more tells calls (drop (i + 1) calls) call old mid new answers answer broke plays)
 
 -- no call is left, or one broke off
-pub all_of : (tells : Type 0) (calls : List Call) (i : ℕ) (old new : SessionValue) (answers : List Answer) → length calls ≤ i → RanTo tells calls (drop i calls) old new answers ⊎ BrokeOff tells calls old new answers → Runs tells calls old new answers
-all_of tells calls i old new answers past (inl ran) =
-    let P : List Call → Type 0 = λ l. RanTo tells calls l old new answers in
-    inl (ran_all tells calls old new answers (subst P (drop_of_length-le calls {i = i} past) ran))
-all_of tells calls i old new answers past (inr broke) = inr broke
+pub all_of : (tells : Type 0) (calls : List Call) (i : ℕ) (old new : SessionValue) (answers : List Answer) → length calls ≤ i → RunsSoFar tells calls (drop i calls) old new answers → Runs tells calls old new answers
+all_of tells calls i old new answers past so_far =
+    let P : List Call → Type 0 = λ l. RunsSoFar tells calls l old new answers in
+    go (subst P (drop_of_length-le calls {i = i} past) so_far)
+  where
+    go : RunsSoFar tells calls [] old new answers → Runs tells calls old new answers
+    go (inl ran) = inl (ran_all tells calls old new answers ran)
+    go (inr broke) = inr broke

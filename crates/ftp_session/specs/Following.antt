@@ -15,7 +15,7 @@ use Rattle.ftp_session.specs.declared.session.call.Answer.{Answer}
 use Rattle.ftp_session.specs.declared.session.call.Answer.TheVariants.{Fault}
 use Rattle.ftp_session.specs.declared.session.call.Call.{Call}
 use Rattle.ftp_session.specs.declared.session.call.Event.{Event}
-use Rattle.ftp_session.specs.declared.session.call.Event.TheVariants.{Feed}
+use Rattle.ftp_session.specs.declared.session.call.Event.TheVariants.{Feed, Poll as Polling}
 use Rattle.ftp_session.specs.declared.session.stage.Stage.{Stage}
 use Rattle.ftp_session.specs.declared.session.stage.Stage.TheVariants.{Begun, Saying, Hearing}
 use Rattle.ftp_session.specs.State.{SessionValue}
@@ -105,6 +105,8 @@ pub record BreaksCall (v w : SessionValue) (result : Option Answer) : Type 0 whe
   pub fault : FtpError
   pub is : result ≡ Some (Fault fault)
   pub breaks : Breaks (Unit {0}) (Fault fault) v w
+  pub given : IsGiven w.channel.told
+  pub sound : IsSound (Unit {0}) w.channel
 
 -- a session that has failed fails no more, and refuses what it answers
 abbrev pub FailedStays : SessionValue → SessionValue → Option Answer → Type 0
@@ -118,4 +120,4 @@ pub record IsFeed (event : Event) : Type 0 where
 -- an event of a script: the session follows it, or the call under way is broken off
 abbrev pub Happens : SessionValue → SessionValue → Option Call → Option Call → Stage → Stage → Event → Option Answer → Type 0
 Happens v w call call' stage stage' event result =
-    (old : SessionValue) (s : Script) (answers : List Answer) → Follows old s v call stage answers → IsLawful (start_of old) s event → Follows old (after_event (start_of old) s event) w call' stage' (answers ++ given_answer result) ⊎ BreaksCall v w result
+    (old : SessionValue) (s : Script) (answers : List Answer) → Follows old s v call stage answers → IsLawful (start_of old) s event → Follows old (after_event (start_of old) s event) w call' stage' (answers ++ given_answer result) ⊎ (BreaksCall v w result × (call' ≡ None) × (event ≡ Polling))

@@ -1,17 +1,16 @@
 -- What a session does with a list of events: what their definition says, until the connection fails or memory is
 -- refused.
-use Rattle.std.specs.Prelude.{◌≡◌, ◌⊎◌, ℕ, Bool, false, List, ◌∷◌, ◌++◌, length, true}
+use Rattle.std.specs.Prelude.{◌≡◌, ◌⊎◌, ℕ, zero, suc, Bool, false, List, ◌∷◌, ◌++◌, length, true}
 use Rattle.ftp_base.specs.declared.types.fault.FtpError.{FtpError}
-use Rattle.ftp_base.specs.declared.types.fault.FtpError.TheVariants.{OutOfMemory}
-use Rattle.ftp_control.specs.Saying.{HasCounted, IsIoFault}
 use Rattle.ftp_session.specs.declared.session.call.Answer.{Answer}
 use Rattle.ftp_session.specs.declared.session.call.Answer.TheVariants.{Fault}
 use Rattle.ftp_session.specs.declared.session.call.Event.{Event}
-use Rattle.ftp_session.specs.declared.session.call.Event.TheVariants.{Feed}
+use Rattle.ftp_session.specs.declared.session.call.Event.TheVariants.{Feed, Poll}
 use Rattle.ftp_control.specs.declared.control.outcome.Outcome.TheVariants.{Waits as More}
 use Rattle.ftp_control.specs.Grammar.{outcome}
 use Rattle.ftp_session.specs.State.{SessionValue}
 use Rattle.ftp_session.specs.declared.plain.Script.{Script}
+use Rattle.ftp_session.specs.Moving.{Breaks}
 use Rattle.ftp_session.specs.Running.{AllRefused}
 use Rattle.ftp_session.specs.Script.{script, script_of, start_of, unread, is_over, Lawful, MayCancel}
 
@@ -33,26 +32,34 @@ pub record PollsTo (old : SessionValue) (system : Bool) (events : List Event) (n
   pub at : StandsAt (script (start_of old) (script_of old system) events) new answers
   pub rule : new.channel.rule ≡ old.channel.rule
 
--- a call was broken off: the answers before are the script's; a connection's fault was counted, the session has
--- failed, and each later call is refused
-pub record PollBroke (old : SessionValue) (system : Bool) (events : List Event) (new : SessionValue) (answers : List Answer) : Type 0 where
+-- a call was broken off at a Poll, in a session that stood where the script does; the later events find no call
+-- under way, and come to `Later`
+pub record PollBroke (Later : SessionValue → List Event → List Answer → Type 0) (old : SessionValue) (system : Bool) (events : List Event) (new : SessionValue) (answers : List Answer) : Type 0 where
   pub before : List Event
   pub later : List Event
-  pub split : events ≡ before ++ later
+  pub split : events ≡ before ++ Poll ∷ later
+  pub first : List Answer
+  pub middle : SessionValue
+  pub at : StandsAt (script (start_of old) (script_of old system) before) middle first
   pub fault : FtpError
-  pub cause : IsIoFault fault ⊎ (fault ≡ OutOfMemory)
+  pub after : SessionValue
+  pub breaks : Breaks (Unit {0}) (Fault fault) middle after
   pub rest : List Answer
-  pub answers_are : answers ≡ (script (start_of old) (script_of old system) before).answers ++ Fault fault ∷ rest
-  pub counted : IsIoFault fault → (new.channel.failed ≡ true) × HasCounted old.channel.told new.channel.told × AllRefused rest
+  pub answers_are : answers ≡ first ++ Fault fault ∷ rest
+  pub goes_on : Later after later rest
+  pub failed : after.channel.failed ≡ true → (new.channel.failed ≡ true) × AllRefused rest
 
--- a polled run
-abbrev pub Polled : SessionValue → Bool → List Event → SessionValue → List Answer → Type 0
-Polled old system events new answers = PollsTo old system events new answers ⊎ PollBroke old system events new answers
+-- for every lawful list, from any session, where what an earlier read left of a reply says nothing yet under its
+-- list: the events come to their script, or a call is broken off and the later ones are such a list again; that is
+-- said of so many calls that are broken off
+abbrev pub PollsDown : ℕ → SessionValue → List Event → SessionValue → List Answer → Type 0
+PollsDown zero old events new answers = Unit {0}
+PollsDown (suc depth) old events new answers =
+    (system : Bool) → outcome old.channel.rule system old.channel.kept false ≡ More → Lawful (start_of old) (script_of old system) events → PollsTo old system events new answers ⊎ PollBroke (λ after later rest. PollsDown depth after later new rest) old system events new answers
 
--- for every lawful list, from any session; what an earlier read left of a reply says nothing yet under its list
+-- that is said of however many
 abbrev pub PollsLawfully : SessionValue → List Event → SessionValue → List Answer → Type 0
-PollsLawfully old events new answers =
-    (system : Bool) → outcome old.channel.rule system old.channel.kept false ≡ More → Lawful (start_of old) (script_of old system) events → Polled old system events new answers
+PollsLawfully old events new answers = (depth : ℕ) → PollsDown depth old events new answers
 
 -- memory was refused: for the answers, and nothing changed; or for the bytes of a Feed, and the events before it
 -- have happened
@@ -62,7 +69,7 @@ pub record StopsAtFeed (old : SessionValue) (events : List Event) (new : Session
   pub later : List Event
   pub split : events ≡ before ++ Feed bytes ∷ later
   pub answers : List Answer
-  pub polled : (system : Bool) → outcome old.channel.rule system old.channel.kept false ≡ More → Lawful (start_of old) (script_of old system) events → PollsTo old system before new answers ⊎ PollBroke old system events new answers
+  pub polls : PollsLawfully old before new answers
 
 abbrev pub Stops : SessionValue → List Event → SessionValue → Type 0
 Stops old events new = (new ≡ old) ⊎ StopsAtFeed old events new

@@ -1,12 +1,12 @@
-use Rattle.std.proofs.Common.{ap, inl, option_map}
-use Rattle.ftp_session.proofs.Events.{polled_ready, polled_pending}
+use Rattle.std.proofs.Common.{ap, inl, refl, option_map}
+use Rattle.ftp_session.proofs.Events.{at_poll, polled_ready, polled_pending}
 use Rattle.ftp_session.proofs.session.run_polled.Session+MemoryTransport.poll_under_way.Goals as goal
 
 pub returns-in-Ready-clause-happens : goal.returns-in-Ready-clause-happens
 returns-in-Ready-clause-happens c = λ old s answers follows may.
     let polled = rw c.in-Ready.is at c.poll_here.ensures.polled in
     let call = ap (λ o. option_map (λ c'. c'.now) o) c.in-Some.is in
-    polled_ready old s c.args.self.now c.poll_here.new.self (option_map (λ c'. c'.now) c.args.under_way.now) c.in-Some.call.now c.args.stage.now c.poll_here.new.stage answers c.in-Ready.answer call follows may polled
+    at_poll _ _ _ _ _ refl (polled_ready old s c.args.self.now c.poll_here.new.self (option_map (λ c'. c'.now) c.args.under_way.now) c.in-Some.call.now c.args.stage.now c.poll_here.new.stage answers c.in-Ready.answer call follows may polled)
 
 pub returns-in-Pending-clause-happens : goal.returns-in-Pending-clause-happens
 returns-in-Pending-clause-happens c = λ old s answers follows may.

@@ -1,12 +1,12 @@
-use Rattle.std.proofs.Common.{◌≡◌, ◌≤◌, ◌⊎◌, length, drop, vec_capacity}
-use Rattle.ftp_session.specs.Running.{RanTo, BrokeOff}
+use Rattle.std.proofs.Common.{◌≡◌, ◌≤◌, length, drop, vec_capacity}
+use Rattle.ftp_session.proofs.Running.{RunsSoFar}
 use Rattle.ftp_session.proofs.session.state.Session.make.Given as goal
 
 -- the answers so far
 abbrev pub invariant-loop-call : goal.invariant-loop-call
 invariant-loop-call g l =
     record {
-      so_far : RanTo g.Tr.Conn.Tells.tells l.calls (drop l.call-index l.calls) l.fn.self l.self l.answers.items ⊎ BrokeOff g.Tr.Conn.Tells.tells l.calls l.fn.self l.self l.answers.items;
+      so_far : RunsSoFar g.Tr.Conn.Tells.tells l.calls (drop l.call-index l.calls) l.fn.self l.self l.answers.items;
       count : length l.answers.items ≡ l.call-index;
       room : length l.calls ≤ vec_capacity l.answers;
     }
