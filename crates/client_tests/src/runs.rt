@@ -6,8 +6,9 @@ use crate::scene::{PIECES, conn_with};
 use ftp_base::types::{Bytes, ConnectionError, FtpError, FtpResult, Items};
 use ftp_control::control::ReplyRule;
 use ftp_control::transport::{MemoryTransport, Room};
-use ftp_session::plain::{Ran, Standing, run};
+use ftp_session::plain::{Ran, Standing};
 use ftp_session::session::{Answer, Call, Session, State};
+use session_plain::run;
 use std::alloc::{AllocError, Global};
 use std::process::Abort;
 

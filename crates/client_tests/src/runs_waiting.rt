@@ -3,8 +3,9 @@
 use crate::runs::{OK, assert_shown, first_standing};
 use ftp_base::status::Status;
 use ftp_control::transport::Room;
-use ftp_session::plain::{Ran, Standing, Wait, run};
+use ftp_session::plain::{Ran, Standing, Wait};
 use ftp_session::session::Call;
+use session_plain::run;
 use std::alloc::Global;
 use std::test::Fail;
 

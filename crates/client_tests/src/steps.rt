@@ -4,8 +4,9 @@ use crate::runs::{assert_same, first_standing};
 use ftp_base::status::Status;
 use ftp_base::types::{Bytes, FtpResult, Items};
 use ftp_control::transport::{MemoryConn, MemoryTransport, Room};
-use ftp_session::plain::{Script, run_polled};
-use ftp_session::session::{Answer, Call, Event, Session, State};
+use ftp_session::plain::Script;
+use ftp_session::session::{Call, Event, Session, State};
+use session_plain::run_polled;
 use std::alloc::{AllocError, Global};
 use std::process::Abort;
 

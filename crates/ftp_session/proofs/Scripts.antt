@@ -2,7 +2,6 @@
 use Rattle.std.proofs.Common.{◌≡◌, Bool, false, ℕ, zero, suc, ◌+◌, ◌<◌, ◌≤◌, Option, Some, None, List, [], ◌∷◌, ◌++◌, length, take, drop, get_or, inl, inr, ◌⊎◌, refl, ap, sym, ◌∙◌, subst, append_assoc, arith}
 use Rattle.std.specs.Prelude.{OnErr, Result, Ok, Err}
 use Rattle.std.proofs.lemmas.List.{drop_more, take_more, take_all, take-append-drop}
-use Rattle.std.proofs.Math.Seq.{take-append_seam}
 use Rattle.ftp_control.specs.declared.control.outcome.Outcome.TheVariants.{Waits as More}
 use Rattle.ftp_control.specs.Grammar.{outcome}
 use Rattle.ftp_control.specs.Memory.{IsGiven}
@@ -21,10 +20,6 @@ use Rattle.ftp_session.specs.Running.{AllRefused}
 use Rattle.ftp_session.specs.Polling.{PollsTo, StandsAt, PollBroke, PollsDown, PollsLawfully, Stops, StopsAtFeed}
 use Rattle.ftp_session.specs.Following.{Follows, FailedStays, Happens, BreaksCall, IsFeed, given_answer}
 use Rattle.ftp_session.proofs.Events.{begins}
-
--- what is put behind a list goes again
-pub take_front : (calls : List Call) (call : Call) → take (length calls) (calls ++ call ∷ []) ≡ calls
-take_front calls call = take-append_seam calls (call ∷ [])
 
 script-snoc : (start : Standing) (s : Script) (events : List Event) (event : Event) → script start s (events ++ event ∷ []) ≡ after_event start (script start s events) event
 script-snoc start s [] event = refl

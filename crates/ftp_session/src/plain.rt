@@ -1,20 +1,11 @@
-//! Runs computed as they are defined, slowly, over all bytes at once. The tests compare the session with them.
-
-ghost use Rattle.std.specs.Prelude.{◌≡◌, ◌∷◌, IfOk, Ok};
-ghost use Rattle.ftp_session.specs.Run.{before, run};
-
-mod dialogue;
-mod events;
-mod play;
+//! What the definitions of runs speak of: where a run stands, what a call and a run come to, and what events made of
+//! a session.
 
 use crate::session::ask::{Outcome, Request};
 use crate::session::{Answer, Call, State};
-pub use events::run_polled;
 use ftp_base::types::{Bytes, Items};
 use ftp_control::control::ReplyRule;
 use ftp_control::transport::Room;
-pub use play::play_call;
-use std::alloc::{AllocError, Global};
 
 /// Where a run stands.
 #[derive(Clone, Drop)]
@@ -99,41 +90,4 @@ pub struct Script {
     pub state: State,
     /// Whether it has failed.
     pub failed: bool,
-}
-
-/// The calls in turn.
-#[tactic(auto, unfolding(crate::specs::Run::run))]
-pub fn run(alloc: Global, room: Room, calls: &[Call], standing: Standing) -> Result<Ran, AllocError>
-    ensures { IfOk result (λ ran. ran ≡ run room Ok calls.now standing) }
-{
-    let Some((call, others)) = calls.split_first() else {
-        return Ok(Ran::Finished(Items::from_vec(Vec::new(alloc)), standing));
-    };
-    match play_call(alloc, room, call, standing)? {
-        Played::Done(answer, here) => before(answer, run(alloc, room, others, here)?),
-        Played::Waits(wait, here) => {
-            Ok(Ran::Waiting(Items::from_vec(Vec::new(alloc)), wait, here))
-        }
-    }
-}
-
-/// An answer before those of later calls.
-fn before(answer: Answer, ran: Ran) -> Result<Ran, AllocError>
-    ensures { IfOk result (λ all. all ≡ before answer ran) }
-{
-    match ran {
-        Ran::Finished(answers, here) => Ok(Ran::Finished(prefixed(answer, answers)?, here)),
-        Ran::Waiting(answers, wait, here) => {
-            Ok(Ran::Waiting(prefixed(answer, answers)?, wait, here))
-        }
-    }
-}
-
-/// An answer before these.
-fn prefixed(answer: Answer, answers: Items<Answer>) -> Result<Items<Answer>, AllocError>
-    ensures { IfOk result (λ all. all ≡ answer ∷ answers) }
-{
-    let mut all = answers.into_vec();
-    all.insert(0, answer)?;
-    Ok(Items::from_vec(all))
 }

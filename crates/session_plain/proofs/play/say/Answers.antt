@@ -1,6 +1,6 @@
 use Rattle.std.proofs.Common.{sym}
 use Rattle.ftp_session.specs.Play.{play}
-use Rattle.ftp_session.proofs.plain.play.say.Goals as goal
+use Rattle.session_plain.proofs.play.say.Goals as goal
 
 -- the line goes out
 pub returns-in-Ok : goal.returns-in-Ok

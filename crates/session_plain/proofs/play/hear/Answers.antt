@@ -4,7 +4,7 @@ use Rattle.ftp_control.specs.Grammar.{outcome}
 use Rattle.ftp_control.specs.Answer.{is_among}
 use Rattle.ftp_session.specs.Dialogue.{codes_of}
 use Rattle.ftp_session.specs.Play.{play}
-use Rattle.ftp_session.proofs.plain.play.hear.Goals as goal
+use Rattle.session_plain.proofs.play.hear.Goals as goal
 
 -- what is heard is what the bytes say under the call's statuses
 pub returns : goal.returns

@@ -1,7 +1,7 @@
 use Rattle.std.proofs.Common.{◌≡◌, Option, Some, IfOk, sym, subst, ◌∙◌}
 use Rattle.ftp_session.specs.declared.session.call.Call.{Call}
 use Rattle.ftp_session.specs.Script.{poll_script}
-use Rattle.ftp_session.proofs.plain.events.after_event.Goals as goal
+use Rattle.session_plain.proofs.events.after_event.Goals as goal
 
 -- the call under way is played, and stays under way until it has its answer
 pub returns-in-Some : goal.returns-in-Some

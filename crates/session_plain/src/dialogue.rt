@@ -3,16 +3,16 @@
 ghost use Rattle.std.specs.Prelude.{◌≡◌, IfOk};
 ghost use Rattle.ftp_session.specs.Dialogue.{Leaf, accepted, codes_of, command_of, utf8_welcome};
 
-use crate::session::{Answer, Call, State};
 use ftp_base::command::Command;
 use ftp_base::encoding::{Utf8Encoding, WelcomeMessage};
 use ftp_base::status::Status;
 use ftp_base::types::{Bytes, Response, Text};
+use ftp_session::session::{Answer, Call, State};
 use std::alloc::{AllocError, Global};
 use std::slice;
 
 /// What a call says, if anything.
-pub(super) fn command_of(alloc: Global, call: &Call) -> Result<Option<Command>, AllocError>
+pub(crate) fn command_of(alloc: Global, call: &Call) -> Result<Option<Command>, AllocError>
     ensures { IfOk result (λ command. command ≡ command_of call.now) }
 {
     match call {
@@ -27,7 +27,7 @@ pub(super) fn command_of(alloc: Global, call: &Call) -> Result<Option<Command>, 
 }
 
 /// The statuses that its reply may have.
-pub(super) fn codes_of(call: &Call) -> &[Status]
+pub(crate) fn codes_of(call: &Call) -> &[Status]
     ensures { result.now ≡ codes_of call.now }
 {
     match call {
@@ -40,7 +40,7 @@ pub(super) fn codes_of(call: &Call) -> &[Status]
 }
 
 /// What such a reply comes to: an answer and a state.
-pub(super) fn accepted(
+pub(crate) fn accepted(
     alloc: Global,
     call: &Call,
     mut state: State,

@@ -1,5 +1,5 @@
 use Rattle.std.proofs.Common.{length}
-use Rattle.ftp_session.proofs.plain.+run.Given as goal
+use Rattle.session_plain.proofs.runs.+run.Given as goal
 
 abbrev pub decreases-run : goal.decreases-run
 decreases-run l = length l.calls.now

@@ -7,9 +7,7 @@ ghost use Rattle.ftp_control.specs.Answer.{is_among, expected_reply};
 ghost use Rattle.ftp_session.specs.Dialogue.{accepted, codes_of, hearing, saying};
 ghost use Rattle.ftp_session.specs.Play.{answered_then, fits, heard_then, play, play_call, said_then, taken};
 
-use super::dialogue::{accepted, codes_of, command_of};
-use super::{Played, Standing, Wait};
-use crate::session::{Answer, Call};
+use crate::dialogue::{accepted, codes_of, command_of};
 use ftp_base::command::Command;
 use ftp_base::encoding::Utf8Encoding;
 use ftp_base::status::Status;
@@ -17,6 +15,8 @@ use ftp_base::types::{Bytes, ConnectionError, FtpError, FtpResult, Response};
 use ftp_control::control::{Outcome, REPLY_LIMIT, WireLine, expected_reply, is_among};
 use ftp_control::plain::outcome;
 use ftp_control::transport::Room;
+use ftp_session::plain::{Played, Standing, Wait};
+use ftp_session::session::{Answer, Call};
 use std::alloc::{AllocError, Global};
 
 /// What a call comes to; once the session has failed it says and hears nothing.
@@ -38,7 +38,7 @@ pub fn play_call(
 }
 
 /// A command is said, unless it has no line, and one reply is heard.
-#[tactic(auto, unfolding(crate::specs::Play::play))]
+#[tactic(auto, unfolding(ftp_session::specs::Play::play))]
 fn say(
     alloc: Global,
     room: Room,
@@ -76,7 +76,7 @@ fn said_then(
 }
 
 /// One reply is heard.
-#[tactic(auto, unfolding(crate::specs::Play::play))]
+#[tactic(auto, unfolding(ftp_session::specs::Play::play))]
 fn hear(alloc: Global, call: &Call, standing: Standing) -> Result<Played, AllocError>
     ensures { IfOk result (λ played. (room : Room) →
         played ≡ play room (hearing call.now standing.state) standing) }
@@ -113,7 +113,7 @@ fn heard_then(
 }
 
 /// A reply that is expected goes on, another is the answer.
-#[tactic(auto, unfolding(crate::specs::Play::play))]
+#[tactic(auto, unfolding(ftp_session::specs::Play::play))]
 fn answered_then(
     alloc: Global,
     call: &Call,

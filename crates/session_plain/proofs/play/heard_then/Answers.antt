@@ -7,7 +7,7 @@ use Rattle.ftp_control.specs.Grammar.{left_by}
 use Rattle.ftp_session.specs.declared.plain.Standing.{Standing}
 use Rattle.ftp_session.specs.Dialogue.{accepted, codes_of}
 use Rattle.ftp_session.specs.Play.{answered_then, play, taken}
-use Rattle.ftp_session.proofs.plain.play.heard_then.Goals as goal
+use Rattle.session_plain.proofs.play.heard_then.Goals as goal
 
 -- the reply was taken from the bytes, and answers if it is expected
 pub returns-in-Whole : goal.returns-in-Whole

@@ -4,13 +4,14 @@ ghost use Rattle.std.specs.Prelude.{◌≡◌, ℕ, List, [], ◌∷◌, ◌++�
 ghost use Rattle.ftp_session.specs.Script.{after_event, fed, front, hears_system, poll_script, script, seen_at, seen_in, start_script, system_at};
 ghost use Rattle.ftp_control.specs.Memory.{more_room};
 
-use super::dialogue::codes_of;
-use super::{Ran, Script, Standing, Wait, run};
-use crate::session::{Call, Event};
+use crate::dialogue::codes_of;
+use crate::runs::run;
 use ftp_base::status::Status;
 use ftp_base::types::{Bytes, Items};
 use ftp_control::control::is_among;
 use ftp_control::transport::Room;
+use ftp_session::plain::{Ran, Script, Standing, Wait};
+use ftp_session::session::{Call, Event};
 use std::alloc::{AllocError, Global};
 use std::mem;
 
@@ -101,7 +102,7 @@ fn started(call: &Call, mut here: Script) -> Result<Script, AllocError>
 }
 
 /// The call under way is played behind those that are done.
-#[tactic(auto, using(crate::proofs::Scripts::take_front))]
+#[tactic(auto, using(crate::proofs::Lists::take_front))]
 fn polled(
     alloc: Global,
     first: &Standing,
