@@ -17,7 +17,7 @@ use Rattle.ftp_session.specs.State.{SessionValue}
 use Rattle.ftp_session.specs.declared.plain.Script.{Script}
 use Rattle.ftp_session.specs.Script.{script, start_of, script_of, after_event, Lawful, IsLawful, MayCancel}
 use Rattle.ftp_session.specs.Running.{AllRefused}
-use Rattle.ftp_session.specs.Polling.{PollsTo, StandsAt, PollBroke, PollsDown, PollsLawfully, Stops, StopsAtFeed}
+use Rattle.ftp_session.specs.Polling.{PollsTo, PollBroke, PollsDown, PollsLawfully, Stops, StopsAtFeed}
 use Rattle.ftp_session.specs.Following.{Follows, FailedStays, Happens, BreaksCall, IsFeed, given_answer}
 use Rattle.ftp_session.proofs.Events.{begins}
 
@@ -44,19 +44,25 @@ starts_script (suc depth) old call stage none given sound = λ system waits lawf
     inl (subst P (sym none) (begins old system stage given sound waits))
 
 -- the session stands where its script does
-stands_at : (old : SessionValue) (s : Script) (v : SessionValue) (call : Option Call) (stage : Stage) (answers : List Answer) → Follows old s v call stage answers → StandsAt s v answers
-stands_at old s v call stage answers f = record {
-  answers_are = sym f.answers_are;
-  sent = sym f.sent;
-  untaken = sym f.untaken;
-  seen = sym f.seen;
-  waits = f.waits;
-  ended = sym f.ended;
-  room = sym f.room;
-  rest = λ may. sym (f.rest (let P : Option Call → Type 0 = λ c. MayCancel c s.polled in subst P f.call_is may));
-  state = sym f.state;
-  failed = sym f.failed;
-}
+polls_to : (old : SessionValue) (system : Bool) (done : List Event) (v : SessionValue) (call : Option Call) (stage : Stage) (answers : List Answer) → Follows old (script (start_of old) (script_of old system) done) v call stage answers → PollsTo old system done v answers
+polls_to old system done v call stage answers f =
+    let s = script (start_of old) (script_of old system) done in
+    record {
+      at = record {
+        answers_are = sym f.answers_are;
+        sent = sym f.sent;
+        untaken = sym f.untaken;
+        seen = sym f.seen;
+        waits = f.waits;
+        ended = sym f.ended;
+        room = sym f.room;
+        rest = λ may. sym (f.rest (let P : Option Call → Type 0 = λ c. MayCancel c s.polled in subst P f.call_is may));
+        state = sym f.state;
+        failed = sym f.failed;
+      };
+      rule = f.rule;
+      failures = f.failures;
+    }
 
 -- each is refused, and so is the next
 refused_more : (first second : List Answer) → AllRefused first → AllRefused second → AllRefused (first ++ second)
@@ -73,7 +79,7 @@ module _ (event : Event) (v w : SessionValue) (call call' : Option Call) (stage 
     split = ap (λ e. done ++ e ∷ []) polled;
     first = answers;
     middle = v;
-    at = stands_at old (script (start_of old) (script_of old system) done) v call stage answers follows;
+    at = polls_to old system done v call stage answers follows;
     fault = breaks.fault;
     after = w;
     breaks = breaks.breaks;
@@ -130,7 +136,7 @@ happened_polls zero old done v call stage answers so_far = tt
 happened_polls (suc depth) old done v call stage answers so_far = λ system waits lawful. go (λ later done' rest. happened_polls depth later done' v call stage rest) system (so_far system waits lawful)
   where
     go : ((later : SessionValue) (done' : List Event) (rest : List Answer) → Happened depth later done' v call stage rest → PollsDown depth later done' v rest) → (system : Bool) → Follows old (script (start_of old) (script_of old system) done) v call stage answers ⊎ PollBroke (λ after later rest. Happened depth after later v call stage rest) old system done v answers → PollsTo old system done v answers ⊎ PollBroke (λ after later rest. PollsDown depth after later v rest) old system done v answers
-    go again system (inl follows) = inl (record { at = stands_at old (script (start_of old) (script_of old system) done) v call stage answers follows; rule = follows.rule })
+    go again system (inl follows) = inl (polls_to old system done v call stage answers follows)
     go again system (inr broke) = inr (record {
       before = broke.before;
       later = broke.later;

@@ -27,12 +27,13 @@ pub record StandsAt (s : Script) (new : SessionValue) (answers : List Answer) : 
   pub state : new.state ≡ s.state
   pub failed : new.channel.failed ≡ s.failed
 
--- the events come to their script; which lines open and end a reply stays
+-- the events come to their script; nothing fails, and which lines open and end a reply stays
 pub record PollsTo (old : SessionValue) (system : Bool) (events : List Event) (new : SessionValue) (answers : List Answer) : Type 0 where
   pub at : StandsAt (script (start_of old) (script_of old system) events) new answers
   pub rule : new.channel.rule ≡ old.channel.rule
+  pub failures : new.channel.told.failures ≡ old.channel.told.failures
 
--- a call was broken off at a Poll, in a session that stood where the script does; the later events find no call
+-- a call was broken off at a Poll, in a session that the events before had come to; the later events find no call
 -- under way, and come to `Later`
 pub record PollBroke (Later : SessionValue → List Event → List Answer → Type 0) (old : SessionValue) (system : Bool) (events : List Event) (new : SessionValue) (answers : List Answer) : Type 0 where
   pub before : List Event
@@ -40,7 +41,7 @@ pub record PollBroke (Later : SessionValue → List Event → List Answer → Ty
   pub split : events ≡ before ++ Poll ∷ later
   pub first : List Answer
   pub middle : SessionValue
-  pub at : StandsAt (script (start_of old) (script_of old system) before) middle first
+  pub at : PollsTo old system before middle first
   pub fault : FtpError
   pub after : SessionValue
   pub breaks : Breaks (Unit {0}) (Fault fault) middle after
