@@ -1,17 +1,4 @@
-//! Tests of the base crate, and the plain functions that its real ones are compared with.
+//! Laws of the base crate, which hold for all values. What is tested of it are the rows of `base_rows`.
 #![tactic(auto)]
 
-#[cfg(test)]
-mod commands;
-#[cfg(test)]
-mod features;
 pub mod laws;
-#[cfg(test)]
-mod peers;
-pub mod plain;
-#[cfg(test)]
-mod replies;
-#[cfg(test)]
-mod scans;
-#[cfg(test)]
-mod uploads;

@@ -2,33 +2,19 @@
 #![tactic(auto)]
 
 #[cfg(test)]
-mod encodings;
+mod channel_reads;
 pub mod first_use;
 #[cfg(test)]
 mod grammar;
+#[cfg(test)]
+mod long_replies;
 #[cfg(test)]
 mod memory;
 #[cfg(test)]
 mod reads;
 #[cfg(test)]
-mod rows_r1;
-#[cfg(test)]
-mod rows_r2;
-#[cfg(test)]
-mod runs;
-#[cfg(test)]
-mod runs_r1;
-#[cfg(test)]
-mod runs_r2;
-#[cfg(test)]
-mod runs_waiting;
-#[cfg(test)]
 mod scene;
-#[cfg(test)]
-mod scripts;
 #[cfg(test)]
 mod sockets;
 #[cfg(test)]
 mod state;
-#[cfg(test)]
-mod steps;

@@ -32,7 +32,11 @@ fn a_blocking_write_without_room_fails_the_session(rt: HostRuntime) -> Result<()
     for (room, sent) in [(0, b"".as_slice()), (2, b"NO")] {
         let mut conn = conn_with(alloc, b"220 r\r\n200 ok\r\n", 1)?;
         conn.allow(room);
-        let mut session = Session::connect_with_stream(alloc, MemoryTransport, conn)?;
+        let mut session: Session<MemoryTransport> = Session::connect_with_stream(
+            alloc,
+            MemoryTransport,
+            conn,
+        )?;
         assert!(rt; would_block(&session.noop(alloc)), "room for {room}");
         assert_eq!(rt; session.get_ref().sent(), sent);
         assert_eq!(rt; refusal(&session.noop(alloc)), 14, "room for {room}");
@@ -47,7 +51,11 @@ fn a_blocking_write_within_the_room_goes_out(rt: HostRuntime) -> Result<(), Fail
     let alloc = rt.alloc();
     let mut conn = conn_with(alloc, b"220 r\r\n200 ok\r\n", 1)?;
     conn.allow(6);
-    let mut session = Session::connect_with_stream(alloc, MemoryTransport, conn)?;
+    let mut session: Session<MemoryTransport> = Session::connect_with_stream(
+        alloc,
+        MemoryTransport,
+        conn,
+    )?;
     session.noop(alloc)?;
     assert_eq!(rt; session.get_ref().sent(), b"NOOP\r\n".as_slice());
     Ok(())

@@ -1,7 +1,7 @@
 //! Servers on loopback sockets that break off.
 
 use crate::scene::refusal;
-use ftp_base::types::FtpError;
+use ftp_base::types::{FtpError, FtpResult};
 use ftp_control::transport::{TcpConn, TcpTransport};
 use ftp_session::session::Session;
 use std::io::Write;
@@ -15,7 +15,12 @@ fn a_server_that_closes_early(rt: HostRuntime) -> Result<(), Fail> {
     let (mut server, _peer) = listener.accept()?;
     server.write_all(b"220-re")?;
     drop(server);
-    let answer = Session::connect_with_stream(rt.alloc(), TcpTransport, TcpConn::new(client));
+    let conn = TcpConn::new(client);
+    let answer: FtpResult<Session<TcpTransport>> = Session::connect_with_stream(
+        rt.alloc(),
+        TcpTransport,
+        conn,
+    );
     assert_eq!(rt; refusal(&answer), 2);
     Ok(())
 }
@@ -26,7 +31,12 @@ fn a_server_that_sends_no_digits(rt: HostRuntime) -> Result<(), Fail> {
     let client = TcpStream::connect(&rt, listener.local_addr()?)?;
     let (mut server, _peer) = listener.accept()?;
     server.write_all(b"hello\r\n")?;
-    let answer = Session::connect_with_stream(rt.alloc(), TcpTransport, TcpConn::new(client));
+    let conn = TcpConn::new(client);
+    let answer: FtpResult<Session<TcpTransport>> = Session::connect_with_stream(
+        rt.alloc(),
+        TcpTransport,
+        conn,
+    );
     assert_eq!(rt; refusal(&answer), 11);
     Ok(())
 }

@@ -10,7 +10,11 @@ use std::time::Duration;
 #[test]
 fn a_session_begins_passive_and_of_text(rt: HostRuntime) -> Result<(), Fail> {
     let alloc = rt.alloc();
-    let session = Session::new(alloc, MemoryTransport, MemoryConn::new(alloc))?;
+    let session: Session<MemoryTransport> = Session::new(
+        alloc,
+        MemoryTransport,
+        MemoryConn::new(alloc),
+    )?;
     let settings = &session.state().settings;
     assert_eq!(rt; settings.mode, Mode::Passive);
     assert!(rt; !settings.passive_nat_workaround);

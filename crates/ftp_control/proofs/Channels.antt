@@ -1,6 +1,5 @@
 -- The sound channel goes on.
-use Rattle.std.proofs.Common.{◌≡◌, ℕ, ◌+◌, Bool, true, false, List, [], ◌++◌, length, take, drop, Result, Ok, Err, refl, ap, sym, ◌∙◌, subst, append_assoc, append-nil, arith}
-use Rattle.std.proofs.lemmas.List.{take-append-drop}
+use Rattle.std.proofs.Common.{◌≡◌, ℕ, Bool, true, false, List, [], ◌++◌, length, drop, Result, Ok, Err, refl, ap, sym, ◌∙◌, subst, append_assoc, append-nil, arith}
 use Rattle.ftp_control.specs.declared.control.rule.ReplyRule.{ReplyRule}
 use Rattle.ftp_control.specs.declared.transport.room.Room.{Room}
 use Rattle.ftp_control.specs.declared.transport.room.Room.TheVariants.{Any, UpTo}
@@ -8,17 +7,17 @@ use Rattle.ftp_control.specs.declared.control.broken.Broken.{Broken}
 use Rattle.ftp_control.specs.declared.control.broken.Broken.TheVariants.{Connection, OutOfMemory}
 use Rattle.ftp_control.specs.declared.control.outcome.Outcome.{Outcome}
 use Rattle.ftp_control.specs.declared.control.outcome.Outcome.TheVariants.{Whole, Bad, TooLarge, Ended, Waits}
-use Rattle.ftp_control.specs.Grammar.{reply_limit}
 use Rattle.ftp_control.specs.Told.{Told, HasRoomFor, IsFresh}
 use Rattle.ftp_control.proofs.Outcomes.{nothing_under_way}
 use Rattle.ftp_control.proofs.WireLines.{line_behind}
-use Rattle.ftp_control.specs.UnderWay.{IsUnderWay}
-use Rattle.ftp_control.specs.Reading.{Hears, HearTells, kept_after}
+use Rattle.ftp_control.specs.Inside.UnderWay.{IsUnderWay}
+use Rattle.ftp_control.specs.Reading.{HearTells}
+use Rattle.ftp_control.specs.Inside.ReadLoop.{Hears, TakesAll}
 use Rattle.ftp_control.specs.Sending.{IsLines, is_wire_line}
 use Rattle.ftp_control.specs.Channel.{IsEndOf}
-use Rattle.ftp_control.specs.Held.{Holds}
+use Rattle.ftp_control.specs.Inside.Held.{Holds}
 
--- a read gives bytes and sends none
+-- a read receives bytes and sends none
 pub record OnlyReads (came : List ℕ) (t u : Told) : Type 0 where
   pub received : u.received ≡ t.received ++ came
   pub sent : u.sent ≡ t.sent
@@ -33,23 +32,27 @@ only_reads (Ok Waits) came ended t u told = record { received = ap (λ x. x.rece
 only_reads (Err OutOfMemory) came ended t u told = record { received = ap (λ x. x.received) told; sent = ap (λ x. x.sent) told; room = ap (λ x. x.given.room) told }
 only_reads (Err (Connection kind)) came ended t u told = record { received = ap (λ x. x.received) told.same; sent = ap (λ x. x.sent) told.same; room = ap (λ x. x.given.room) told.same }
 
-dropped_end : (n : ℕ) (bytes : List ℕ) → IsEndOf (drop n bytes) bytes
-dropped_end n bytes = record { front = take n bytes; is = sym (take-append-drop n bytes) }
+none_end : (bytes kept : List ℕ) → kept ≡ [] → IsEndOf kept bytes
+none_end bytes kept none = record { front = bytes; is = rw none (sym (append-nil bytes)) }
 
--- what is left is an end of what there was
-left_end : (result : Result Outcome Broken) (bytes : List ℕ) → IsEndOf (kept_after result bytes) bytes
-left_end (Ok (Whole reply code)) bytes = dropped_end _ bytes
-left_end (Ok (Bad line)) bytes = dropped_end _ bytes
-left_end (Ok TooLarge) bytes = dropped_end (reply_limit + 1) bytes
-left_end (Ok Ended) bytes = record { front = bytes; is = sym (append-nil bytes) }
-left_end (Ok Waits) bytes = record { front = []; is = refl }
-left_end (Err broken) bytes = record { front = []; is = refl }
+-- what is kept is an end of what there was
+kept_end : (result : Result Outcome Broken) (bytes kept : List ℕ) → TakesAll result bytes kept → IsEndOf kept bytes
+kept_end (Ok (Whole reply code)) bytes kept all = none_end bytes kept all.1
+kept_end (Ok (Bad line)) bytes kept all = none_end bytes kept all.1
+kept_end (Ok TooLarge) bytes kept all = none_end bytes kept all.1
+kept_end (Ok Ended) bytes kept all = none_end bytes kept all
+kept_end (Ok Waits) bytes kept all = record { front = []; is = sym all }
+kept_end (Err broken) bytes kept all = record { front = []; is = sym all }
 
 end_of_end : (part middle whole : List ℕ) → IsEndOf part middle → IsEndOf middle whole → IsEndOf part whole
 end_of_end part middle whole a b = record { front = b.front ++ a.front; is = b.is ∙ ap (λ m. b.front ++ m) a.is ∙ sym (append_assoc b.front a.front part) }
 
 end_with_more : (part whole more : List ℕ) → IsEndOf part whole → IsEndOf (part ++ more) (whole ++ more)
 end_with_more part whole more a = record { front = a.front; is = ap (λ w. w ++ more) a.is ∙ append_assoc a.front part more }
+
+-- nothing lies ahead
+nothing_ahead : (kept whole : List ℕ) → IsEndOf kept whole → IsEndOf (kept ++ []) whole
+nothing_ahead kept whole a = let P : List ℕ → Type 0 = λ k. IsEndOf k whole in subst P (sym (append-nil kept)) a
 
 -- after a read
 pub read_holds : (tells : Type 0) (t u : Told) (kept kept' : List ℕ) (start start' : ℕ) (line : List ℕ) (sent : ℕ) (ended ended' failed failed' : Bool) (rule : ReplyRule) (says : List ℕ → Bool → Outcome) (result : Result Outcome Broken) → Holds tells t kept start line sent ended failed rule → IsUnderWay rule kept' start' → (tells → u.ended ≡ ended') → Hears tells says kept kept' ended ended' t u result → Holds tells u kept' start' line sent ended' failed' rule
@@ -60,9 +63,9 @@ read_holds tells t u kept kept' start start' line sent ended ended' failed faile
     waits = under.waits;
     kept = λ h.
         let reads = only_reads result heard.came ended' t u (heard.told h) in
-        let all : IsEndOf (kept ++ heard.came) u.received = let P : List ℕ → Type 0 = IsEndOf (kept ++ heard.came) in subst P (sym reads.received) (end_with_more kept t.received heard.came (held.sound.kept h)) in
-        let left : IsEndOf kept' (kept ++ heard.came) = let P : List ℕ → Type 0 = λ k. IsEndOf k (kept ++ heard.came) in subst P (sym heard.left) (left_end result (kept ++ heard.came)) in
-        end_of_end kept' (kept ++ heard.came) u.received left all;
+        let before : IsEndOf kept t.received = let P : List ℕ → Type 0 = λ k. IsEndOf k t.received in subst P (append-nil kept) (held.sound.kept h) in
+        let all : IsEndOf (kept ++ heard.came) u.received = let P : List ℕ → Type 0 = IsEndOf (kept ++ heard.came) in subst P (sym reads.received) (end_with_more kept t.received heard.came before) in
+        nothing_ahead kept' u.received (end_of_end kept' (kept ++ heard.came) u.received (kept_end result (kept ++ heard.came) kept' heard.all) all);
     lines = λ h.
         let reads = only_reads result heard.came ended' t u (heard.told h) in
         let P : List ℕ → Type 0 = λ s. IsLines (s ++ drop sent line) (drop sent line) in subst P (sym reads.sent) (held.sound.lines h);

@@ -1,11 +1,11 @@
 -- What is settled stays, however the input goes on.
-use Rattle.std.proofs.Common.{◌≡◌, ℕ, ◌+◌, ◌≤◌, ◌<◌, Bool, true, false, cond, List, [], ◌∷◌, ◌++◌, length, Result, Ok, Err, refl, ap, sym, ◌∙◌, subst, arith, length-append, append-nil, leb, ltb}
+use Rattle.std.proofs.Common.{◌≡◌, ℕ, ◌+◌, ◌≤◌, ◌<◌, Bool, true, false, cond, List, [], ◌∷◌, ◌++◌, length, Result, Ok, refl, ap, sym, ◌∙◌, subst, arith, length-append, append-nil, leb, ltb}
 use Rattle.std.proofs.lemmas.Bool.{lt-leb, lt-ltb, ltb-true}
 use Rattle.ftp_control.specs.declared.control.rule.ReplyRule.{ReplyRule}
 use Rattle.ftp_control.specs.declared.control.outcome.Outcome.{Outcome}
 use Rattle.ftp_control.specs.declared.control.outcome.Outcome.TheVariants.{Whole, Bad, TooLarge, Ended, Waits}
 use Rattle.ftp_control.specs.declared.control.broken.Broken.{Broken}
-use Rattle.ftp_control.specs.Reading.{AnswersOutcome, GoesOn, Stays}
+use Rattle.ftp_control.specs.Reading.{AnswersOutcome, GoesOn}
 use Rattle.ftp_control.specs.declared.plain.Found.{Found}
 use Rattle.ftp_control.specs.declared.plain.Found.TheVariants.{Reply, NoReply, Unfinished}
 use Rattle.ftp_control.specs.Grammar.{whole_lines, rest, lines, joined, opens, ends, code_at_start, after_line, to_end, reply_in, reply_limit, within, outcome}
@@ -135,14 +135,6 @@ answer_stays rule system bytes false heard settled is more e on =
     go TooLarge other e = tt
     go Ended other e = never_ended rule system bytes (sym e)
     go Waits other e = other refl
-
-pub stays : (rule : ReplyRule) (system : Bool) (bytes : List ℕ) (ended : Bool) (result : Result Outcome Broken) → AnswersOutcome result (outcome rule system bytes ended) → Stays result (outcome rule system) bytes ended
-stays rule system bytes ended (Ok (Whole reply code)) is = answer_stays rule system bytes ended (Whole reply code) (λ e. let clash : Whole reply code ≡ Waits = e in cc) is
-stays rule system bytes ended (Ok (Bad line)) is = answer_stays rule system bytes ended (Bad line) (λ e. let clash : Bad line ≡ Waits = e in cc) is
-stays rule system bytes ended (Ok TooLarge) is = answer_stays rule system bytes ended TooLarge (λ e. let clash : TooLarge ≡ Waits = e in cc) is
-stays rule system bytes ended (Ok Ended) is = answer_stays rule system bytes ended Ended (λ e. let clash : Ended ≡ Waits = e in cc) is
-stays rule system bytes ended (Ok Waits) is = tt
-stays rule system bytes ended (Err broken) is = tt
 
 -- a reply is cut off by the end of the input alone
 pub ended_last : (rule : ReplyRule) (system : Bool) (bytes : List ℕ) (ended : Bool) (result : Result Outcome Broken) → AnswersOutcome result (outcome rule system bytes ended) → result ≡ Ok Ended → ended ≡ true

@@ -1,9 +1,11 @@
+pub mod Asking
 pub mod Channels
 pub mod Law
 pub mod Lines
 pub mod Memory
 pub mod Outcomes
 pub mod Reading
+pub mod ReadLoop
 pub mod Replies
 pub mod Sending
 pub mod WireLines

@@ -1,19 +1,20 @@
 -- Lemmas on outcomes: one byte more, and the end of the input.
-use Rattle.std.proofs.Common.{◌≡◌, ◌≢◌, ℕ, ◌+◌, ◌≤◌, ◌<◌, Bool, true, false, cond, not, ◌&&◌, ◌||◌, List, [], ◌∷◌, ◌++◌, length, take, drop, nat_eq, refl, ap, sym, ◌∙◌, append_assoc, arith, length-append, append-nil, add-zero, leb, ltb, nat_le, slice_index}
+use Rattle.std.proofs.Common.{◌≡◌, ◌≢◌, ℕ, ◌+◌, ◌≤◌, ◌<◌, Bool, true, false, cond, not, ◌&&◌, ◌||◌, List, [], ◌∷◌, ◌++◌, length, take, drop, nat_eq, Ok, refl, ap, sym, ◌∙◌, append_assoc, arith, length-append, append-nil, add-zero, leb, ltb, nat_le, slice_index}
 use Rattle.std.specs.Cmp.Lexicographic.{pointwise}
 use Rattle.std.proofs.lemmas.Bool.{le-leb, lt-leb, leb-true, lt-ltb, le-ltb, ltb-false, eqb-true, ne_eqb}
-use Rattle.ftp_control.specs.UnderWay.{IsUnderWay}
+use Rattle.ftp_control.specs.Inside.UnderWay.{IsUnderWay}
 use Rattle.std.proofs.lemmas.List.{take-append-le, drop-append-le}
-use Rattle.std.proofs.Math.Seq.{drop-append_seam, drop-length}
+use Rattle.std.proofs.Math.Seq.{drop-append_seam}
 use Rattle.ftp_control.specs.declared.control.rule.ReplyRule.{ReplyRule}
 use Rattle.ftp_control.specs.declared.control.rule.ReplyRule.TheVariants.{Lenient}
 use Rattle.ftp_control.specs.declared.control.outcome.Outcome.TheVariants.{Whole, Bad, TooLarge, Ended, Waits}
 use Rattle.ftp_control.specs.declared.control.grammar.Verdict.{Verdict}
 use Rattle.ftp_control.specs.declared.control.grammar.Verdict.TheVariants.{Refused, Ends, GoesOn}
-use Rattle.ftp_control.specs.Grammar.{is_line_feed, whole_lines, rest, last_line, lines, joined, begins_with_digits, opens, ends, code_at_start, to_end, reply_in, reply_limit, within, outcome, line_outcome, left_by}
+use Rattle.ftp_control.specs.Grammar.{is_line_feed, whole_lines, rest, last_line, lines, joined, begins_with_digits, opens, ends, code_at_start, to_end, reply_in, reply_limit, within, outcome, line_outcome}
 use Rattle.ftp_control.specs.declared.plain.Found.{Found}
 use Rattle.ftp_control.specs.declared.plain.Found.TheVariants.{Reply, NoReply, Unfinished}
-use Rattle.ftp_control.specs.Verdict.{verdict, outcome_by}
+use Rattle.ftp_control.specs.Inside.ReadLoop.{TakesAll}
+use Rattle.ftp_control.specs.Inside.Verdict.{verdict, outcome_by}
 use Rattle.ftp_control.proofs.Lines.{joined-whole_lines, whole_lines-line_feed, rest-closed, whole_lines-other, rest-other, first_nonempty}
 use Rattle.ftp_control.proofs.Replies.{after_lines, after_lines-Reply, after_lines-Unfinished, found_after, reply_in-append}
 
@@ -63,7 +64,7 @@ waits_on rule system bytes b waits other fits =
     (rw (whole_lines-other bytes b other) held.unfinished)
     (rw (length-append bytes (b ∷ [])) (omega (arith, fits)))
 
--- what a verdict on a line comes to, behind lines that hold too little
+-- what is found by a verdict on a line, after lines that hold too little
 abbrev pub found_by : Verdict → List ℕ → Found
 found_by Refused line = NoReply line
 found_by (Ends code) line = Reply line code
@@ -189,7 +190,7 @@ byte_too_many rule system bytes b waits full =
     over : (c : ℕ) → reply_limit < length (bytes ++ c ∷ [])
     over c = rw (length-append bytes (c ∷ [])) (omega (arith, full))
 
--- the input ends behind a whole line
+-- the input ends after a whole line
 pub ends_empty : (rule : ReplyRule) (system : Bool) (bytes : List ℕ) → outcome rule system bytes false ≡ Waits → rest bytes ≡ [] → outcome rule system bytes true ≡ Ended
 unfolding outcome
 ends_empty rule system bytes waits empty =
@@ -260,13 +261,13 @@ goes_on_without_system rule true first reply line is =
         cases true false g = refl
 
 -- a line more leaves a reply under way, or none
-pub line_leaves : (rule : ReplyRule) (system : Bool) (bytes : List ℕ) (start : ℕ) (v : Verdict) → IsUnderWay rule bytes start → length bytes < reply_limit → verdict rule system (is_first_of (whole_lines bytes)) (bytes ++ 10 ∷ []) (rest bytes ++ 10 ∷ []) ≡ v → (left : List ℕ) → left ≡ left_by (outcome_by false v (bytes ++ 10 ∷ [])) (bytes ++ 10 ∷ []) → IsUnderWay rule left (length left)
-line_leaves rule system bytes start Refused under below is left e = let none : left ≡ [] = e ∙ drop-length (bytes ++ 10 ∷ []) in rw none (nothing_under_way rule)
-line_leaves rule system bytes start (Ends code) under below is left e = let none : left ≡ [] = e ∙ drop-length (bytes ++ 10 ∷ []) in rw none (nothing_under_way rule)
-line_leaves rule system bytes start GoesOn under below is left e =
+pub line_leaves : (rule : ReplyRule) (system : Bool) (bytes : List ℕ) (start : ℕ) (v : Verdict) → IsUnderWay rule bytes start → length bytes < reply_limit → verdict rule system (is_first_of (whole_lines bytes)) (bytes ++ 10 ∷ []) (rest bytes ++ 10 ∷ []) ≡ v → (kept : List ℕ) → TakesAll (Ok (outcome_by false v (bytes ++ 10 ∷ []))) (bytes ++ 10 ∷ []) kept → IsUnderWay rule kept (length kept)
+line_leaves rule system bytes start Refused under below is kept all = rw all.1 (nothing_under_way rule)
+line_leaves rule system bytes start (Ends code) under below is kept all = rw all.1 (nothing_under_way rule)
+line_leaves rule system bytes start GoesOn under below is kept all =
     let goes_on : verdict rule false (is_first_of (whole_lines bytes)) (bytes ++ 10 ∷ []) (rest bytes ++ 10 ∷ []) ≡ GoesOn = goes_on_without_system rule system _ _ _ is in
     let waits : outcome rule false (bytes ++ 10 ∷ []) false ≡ Waits = line_more rule false bytes under.waits below ∙ ap (λ v. outcome_by false v (bytes ++ 10 ∷ [])) goes_on in
-    rw e (record { split = rw (rest-closed bytes) (add-zero _); waits = waits })
+    rw all (record { split = rw (rest-closed bytes) (add-zero _); waits = waits })
 
 -- a byte that closes no line leaves the reply under way
 pub byte_leaves : (rule : ReplyRule) (bytes : List ℕ) (start b : ℕ) → IsUnderWay rule bytes start → is_line_feed b ≡ false → length bytes < reply_limit → IsUnderWay rule (bytes ++ b ∷ []) start
@@ -287,10 +288,10 @@ pub judged_end : (rule : ReplyRule) (system : Bool) (bytes : List ℕ) (start : 
 judged_end rule system bytes start under = rw (start_of_line bytes start under.split, first_starts bytes start under.split)
 
 -- the end of the input leaves nothing
-pub end_leaves : (v : Verdict) (bytes : List ℕ) → left_by (outcome_by true v bytes) bytes ≡ []
-end_leaves Refused bytes = drop-length bytes
-end_leaves (Ends code) bytes = drop-length bytes
-end_leaves GoesOn bytes = refl
+pub end_leaves : (v : Verdict) (bytes kept : List ℕ) → TakesAll (Ok (outcome_by true v bytes)) bytes kept → kept ≡ []
+end_leaves Refused bytes kept all = all.1
+end_leaves (Ends code) bytes kept all = all.1
+end_leaves GoesOn bytes kept all = all
 
 pub empty_rest : (bytes : List ℕ) (start : ℕ) → start + length (rest bytes) ≡ length bytes → start ≡ length bytes → rest bytes ≡ []
 empty_rest bytes start split all = go (rest bytes) (omega (arith, split, all))
@@ -311,6 +312,11 @@ end_settled GoesOn bytes is = let clash : Ended ≡ Waits = is in cc
 
 rest_all : (bytes : List ℕ) → whole_lines bytes ≡ [] → rest bytes ≡ bytes
 rest_all bytes none = rw none at (joined-whole_lines bytes)
+
+-- bytes of a reply under way that hold no whole line say nothing of a line either
+pub line_waits_on : (rule : ReplyRule) (bytes : List ℕ) → outcome rule false bytes false ≡ Waits → whole_lines bytes ≡ [] → line_outcome bytes false ≡ Waits
+unfolding line_outcome
+line_waits_on rule bytes waits none = rw (lines-open bytes, none, le-ltb _ _ (too_little rule false bytes waits).fits)
 
 -- a byte that closes no line
 pub line_waits : (bytes : List ℕ) (b : ℕ) → whole_lines bytes ≡ [] → is_line_feed b ≡ false → length bytes < reply_limit → line_outcome (bytes ++ b ∷ []) false ≡ Waits

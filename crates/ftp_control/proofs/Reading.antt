@@ -1,116 +1,96 @@
--- Lemmas on a read of a reply: byte by byte, with whatever else was read before.
-use Rattle.std.proofs.Common.{◌≡◌, ℕ, Bool, true, false, List, [], ◌∷◌, ◌++◌, Ok, Err, refl, ap, sym, ◌∙◌, append_assoc, append-nil, subst}
-use Rattle.std.specs.declared.io.ErrorKind.{ErrorKind}
-use Rattle.ftp_control.specs.declared.control.broken.Broken.TheVariants.{Connection, OutOfMemory}
+-- A run of the read loop is a read of the channel, and leaves what its contract says.
+use Rattle.std.proofs.Common.{◌≡◌, ℕ, ◌+◌, ◌≤◌, Bool, true, false, ◌||◌, List, [], ◌++◌, length, drop, Result, Ok, Err, refl, ap, sym, ◌∙◌, subst, append-nil, arith}
+use Rattle.std.proofs.Math.Seq.{drop-append_seam, drop-length}
+use Rattle.ftp_control.specs.declared.control.rule.ReplyRule.{ReplyRule}
+use Rattle.ftp_control.specs.declared.control.broken.Broken.{Broken}
 use Rattle.ftp_control.specs.declared.control.outcome.Outcome.{Outcome}
 use Rattle.ftp_control.specs.declared.control.outcome.Outcome.TheVariants.{Whole, Bad, TooLarge, Ended, Waits}
-use Rattle.ftp_control.specs.Grammar.{left_by}
-use Rattle.ftp_control.specs.Told.{Told, IsDry, HasFailed, after_read, after_end}
-use Rattle.ftp_control.specs.Reading.{after_input, GoesOn, IsAll, HearTells, Hears}
+use Rattle.ftp_control.specs.Grammar.{outcome, line_outcome, whole_lines, reply_limit}
+use Rattle.ftp_control.specs.Reading.{AnswersOutcome}
+use Rattle.ftp_control.specs.Inside.ReadLoop.{TakesAll, Hears}
+use Rattle.ftp_control.specs.Channel.{Channel, untaken, fails_by, LeavesBytes, StaysSettled, ReadsReply, ReadsLine}
+use Rattle.ftp_control.proofs.Law.{answer_stays, ended_last}
+use Rattle.ftp_control.proofs.Outcomes.{line_waits_on}
 
--- what was read so far, where it says nothing yet
-pub record SoFar (tells : Type 0) (says : List ℕ → Bool → Outcome) (kept kept' : List ℕ) (first ended : Bool) (t u : Told) : Type 0 where
-  pub came : List ℕ
-  pub over : GoesOn first came ended
-  pub grown : kept' ≡ kept ++ came
-  pub waits : says kept false ≡ Waits → says kept' false ≡ Waits
-  pub told : tells → u ≡ after_input came ended t
+-- nothing lies ahead: what is untaken is what is kept
+untaken_kept : (c : Channel) → c.ahead ≡ [] → untaken c ≡ c.kept
+untaken_kept c none = ap (λ a. c.kept ++ a) none ∙ append-nil c.kept
 
-pub nothing_so_far : (tells : Type 0) (says : List ℕ → Bool → Outcome) (kept : List ℕ) (ended : Bool) (t : Told) → (tells → t.ended ≡ ended) → SoFar tells says kept kept ended ended t t
-nothing_so_far tells says kept ended t known = record {
-  came = [];
-  over = record { nothing = λ e. refl; over = λ e. e };
-  grown = sym (append-nil kept);
-  waits = λ w. w;
-  told = λ h. rw (append-nil t.received, ← known h);
-}
+-- what takes all leaves nothing
+dropped_all : (count : ℕ) (bytes : List ℕ) → count ≡ length bytes → drop count bytes ≡ []
+dropped_all count bytes is = ap (λ n. drop n bytes) is ∙ drop-length bytes
 
--- where the input hadn't ended, anything may come
-goes_on : (first : Bool) (came more : List ℕ) (later : Bool) → GoesOn first came false → GoesOn first more later
-goes_on first came more later so_far = record {
-  nothing = λ e. let clash : false ≡ true = so_far.over e in cc;
-  over = λ e. let clash : false ≡ true = so_far.over e in cc;
-}
+leaves_bytes : (result : Result Outcome Broken) (bytes : List ℕ) (new : Channel) → new.ahead ≡ [] → TakesAll result bytes new.kept → LeavesBytes result bytes new
+leaves_bytes (Ok (Whole reply code)) bytes new none all = (all.1, none ∙ sym (dropped_all (length reply) bytes (ap length all.0)))
+leaves_bytes (Ok (Bad line)) bytes new none all = (all.1, none ∙ sym (dropped_all (length line) bytes (ap length all.0)))
+leaves_bytes (Ok TooLarge) bytes new none all = (all.1, none ∙ sym (dropped_all (reply_limit + 1) bytes (sym all.0)))
+leaves_bytes (Ok Ended) bytes new none all = (all, none)
+leaves_bytes (Ok Waits) bytes new none all = (all, none)
+leaves_bytes (Err broken) bytes new none all = untaken_kept new none ∙ all
 
-module _ (tells : Type 0) (says : List ℕ → Bool → Outcome) (kept now : List ℕ) (first : Bool) (t u : Told) (so_far : SoFar tells says kept now first false t u) where
-  -- one byte more, which says nothing yet
-  pub one_more : (later : List ℕ) (byte : ℕ) (v : Told) → later ≡ now ++ byte ∷ [] → (says now false ≡ Waits → Waits ≡ says (now ++ byte ∷ []) false) → (tells → v ≡ after_read (byte ∷ []) u) → SoFar tells says kept later first false t v
-  one_more later byte v is waits told = record {
-    came = so_far.came ++ byte ∷ [];
-    over = goes_on first so_far.came (so_far.came ++ byte ∷ []) false so_far.over;
-    grown = is ∙ ap (λ bs. bs ++ byte ∷ []) so_far.grown ∙ append_assoc kept so_far.came (byte ∷ []);
-    waits = λ w. rw is (sym (waits (so_far.waits w)));
-    told = λ h. told h ∙ rw (so_far.told h, append_assoc);
-  }
+-- what takes all leaves what comes later
+later_left : (count : ℕ) (bytes left more : List ℕ) → count ≡ length bytes → left ≡ [] → drop count (bytes ++ more) ≡ left ++ more
+later_left count bytes left more is none = ap (λ n. drop n (bytes ++ more)) is ∙ drop-append_seam bytes more ∙ sym (ap (λ l. l ++ more) none)
 
-  -- the end, where nothing was said before
-  pub at_end : (v : Told) → (tells → v ≡ after_end u) → SoFar tells says kept now first true t v
-  at_end v told = record { came = so_far.came; over = goes_on first so_far.came so_far.came true so_far.over; grown = so_far.grown; waits = so_far.waits; told = λ h. told h ∙ rw (so_far.told h) }
+stays_settled : (rule : ReplyRule) (system : Bool) (bytes left : List ℕ) (ended : Bool) (result : Result Outcome Broken) (kept : List ℕ) → (kept ≡ [] → left ≡ []) → TakesAll result bytes kept → AnswersOutcome result (outcome rule system bytes ended) → StaysSettled result (outcome rule system) bytes left ended
+stays_settled rule system bytes left ended (Ok (Whole reply code)) kept none all is = λ more e on. (
+  answer_stays rule system bytes ended (Whole reply code) (λ w. let clash : Whole reply code ≡ Waits = w in cc) is more e on,
+  later_left (length reply) bytes left more (ap length all.0) (none all.1),
+)
+stays_settled rule system bytes left ended (Ok (Bad line)) kept none all is = λ more e on. (
+  answer_stays rule system bytes ended (Bad line) (λ w. let clash : Bad line ≡ Waits = w in cc) is more e on,
+  later_left (length line) bytes left more (ap length all.0) (none all.1),
+)
+stays_settled rule system bytes left ended (Ok TooLarge) kept none all is = λ more e on. (
+  answer_stays rule system bytes ended TooLarge (λ w. let clash : TooLarge ≡ Waits = w in cc) is more e on,
+  later_left (reply_limit + 1) bytes left more (sym all.0) (none all.1),
+)
+stays_settled rule system bytes left ended (Ok Ended) kept none all is = λ more e on.
+    let last : ended ≡ true = ended_last rule system bytes ended (Ok Ended) is refl in (
+      answer_stays rule system bytes ended Ended (λ w. let clash : Ended ≡ Waits = w in cc) is more e on,
+      rw (none all, on.nothing last),
+    )
+stays_settled rule system bytes left ended (Ok Waits) kept none all is = tt
+stays_settled rule system bytes left ended (Err broken) kept none all is = tt
 
-  -- one byte more settles it
-  pub byte_settles : (later : List ℕ) (byte : ℕ) (heard : Outcome) (v : Told) → (heard ≡ Waits → ⊥) → (says now false ≡ Waits → heard ≡ says (now ++ byte ∷ []) false) → later ≡ left_by heard (now ++ byte ∷ []) → IsAll (Ok heard) (now ++ byte ∷ []) later → (tells → v ≡ after_read (byte ∷ []) u) → Hears tells says kept later first false t v (Ok heard)
-  byte_settles later byte heard v settled is left whole told =
-      let all : now ++ byte ∷ [] ≡ kept ++ (so_far.came ++ byte ∷ []) = ap (λ bs. bs ++ byte ∷ []) so_far.grown ∙ append_assoc kept so_far.came (byte ∷ []) in
+module _ (tells : Type 0) (old new : Channel) (result : Result Outcome Broken) (before : old.ahead ≡ []) (after : new.ahead ≡ []) (same : new ≡ record old { told = new.told; kept = new.kept; ahead = new.ahead; ended = new.ended; failed = old.failed || fails_by result }) where
+  -- a read of a reply
+  pub reads_reply : (system : Bool) → Hears tells (outcome old.rule system) old.kept new.kept old.ended new.ended old.told new.told result → ReadsReply tells system old new result
+  reads_reply system heard =
       record {
-        came = so_far.came ++ byte ∷ [];
-        over = goes_on first so_far.came (so_far.came ++ byte ∷ []) false so_far.over;
-        unended = λ w. refl;
-        all = let P : List ℕ → Type 0 = λ bs. IsAll (Ok heard) bs later in subst P all whole;
-        answer = λ w. is (so_far.waits w) ∙ rw all;
-        left = left ∙ rw all;
-        told = λ h. go heard settled (told h ∙ rw (so_far.told h, append_assoc));
+        came = heard.came;
+        over = heard.over;
+        unended = heard.unended;
+        leaves = leaves_bytes result (untaken old ++ heard.came) new after all;
+        past = let P : List ℕ → Type 0 = λ a. length a ≤ length old.ahead + length heard.came in subst P (sym after) (omega arith);
+        answer = answer;
+        stays = λ w. stays_settled old.rule system (untaken old ++ heard.came) (untaken new) new.ended result new.kept (λ none. untaken_kept new after ∙ none) all (answer w);
+        last = λ w. ended_last old.rule system (untaken old ++ heard.came) new.ended result (answer w);
+        told = heard.told;
+        same = same;
       }
     where
-      go : (o : Outcome) → (o ≡ Waits → ⊥) → v ≡ after_input (so_far.came ++ byte ∷ []) false t → HearTells (Ok o) (so_far.came ++ byte ∷ []) false t v
-      go (Whole bytes code) other e = e
-      go (Bad line) other e = e
-      go TooLarge other e = e
-      go Ended other e = e
-      go Waits other e = absurd (other refl)
+      bytes : old.kept ++ heard.came ≡ untaken old ++ heard.came
+      bytes = ap (λ k. k ++ heard.came) (sym (untaken_kept old before))
 
-  -- the connection waits
-  pub waits_hears : (v : Told) → (tells → (v ≡ u) × IsDry v) → Hears tells says kept now first false t v (Ok Waits)
-  waits_hears v told = record {
-    came = so_far.came;
-    over = so_far.over;
-    unended = λ w. refl;
-    all = so_far.grown;
-    answer = λ w. sym (so_far.waits w) ∙ rw so_far.grown;
-    left = so_far.grown;
-    told = λ h. ((told h).0 ∙ so_far.told h, (told h).1);
-  }
+      all : TakesAll result (untaken old ++ heard.came) new.kept
+      all = let P : List ℕ → Type 0 = λ bs. TakesAll result bs new.kept in subst P bytes heard.all
 
--- the read breaks off, and nothing is lost
-module _ (tells : Type 0) (says : List ℕ → Bool → Outcome) (first ended : Bool) (kept now : List ℕ) (t u : Told) (so_far : SoFar tells says kept now first ended t u) where
-  pub fails_hears : (kind : ErrorKind) (v : Told) → (tells → HasFailed u v) → Hears tells says kept now first ended t v (Err (Connection kind))
-  fails_hears kind v told = record {
-    came = so_far.came;
-    over = so_far.over;
-    unended = λ w. let clash : Err (Connection kind) ≡ Ok Waits = w in cc;
-    all = so_far.grown;
-    answer = λ w. tt;
-    left = so_far.grown;
-    told = λ h. let P : Told → Type 0 = λ x. HasFailed x v in subst P (so_far.told h) (told h);
-  }
+      answer : outcome old.rule system old.kept false ≡ Waits → AnswersOutcome result (outcome old.rule system (untaken old ++ heard.came) new.ended)
+      answer w = let P : List ℕ → Type 0 = λ bs. AnswersOutcome result (outcome old.rule system bs new.ended) in subst P bytes (heard.answer w)
 
-  pub memory_hears : Hears tells says kept now first ended t u (Err OutOfMemory)
-  memory_hears = record { came = so_far.came; over = so_far.over; unended = λ w. (let clash : Err OutOfMemory ≡ Ok Waits = w in cc); all = so_far.grown; answer = λ w. tt; left = so_far.grown; told = so_far.told }
-
--- the end settles it
-pub end_settles : (tells : Type 0) (says : List ℕ → Bool → Outcome) (kept now : List ℕ) (first : Bool) (t u : Told) → SoFar tells says kept now first true t u → (later : List ℕ) (heard : Outcome) → (heard ≡ Waits → ⊥) → (says now false ≡ Waits → heard ≡ says now true) → later ≡ left_by heard now → IsAll (Ok heard) now later → Hears tells says kept later first true t u (Ok heard)
-end_settles tells says kept now first t u so_far later heard settled is left whole = record {
-  came = so_far.came;
-  over = so_far.over;
-  unended = λ w. absurd (settled (let same : Ok heard ≡ Ok Waits = w in cc same));
-  all = let P : List ℕ → Type 0 = λ bs. IsAll (Ok heard) bs later in subst P so_far.grown whole;
-  answer = λ w. is (so_far.waits w) ∙ rw so_far.grown;
-  left = left ∙ rw so_far.grown;
-  told = λ h. go heard settled (so_far.told h);
-}
-  where
-    go : (o : Outcome) → (o ≡ Waits → ⊥) → u ≡ after_input so_far.came true t → HearTells (Ok o) so_far.came true t u
-    go (Whole bytes code) other e = e
-    go (Bad line) other e = e
-    go TooLarge other e = e
-    go Ended other e = e
-    go Waits other e = absurd (other refl)
+  -- a read of one line
+  pub reads_line : outcome old.rule false old.kept false ≡ Waits → whole_lines old.kept ≡ [] → Hears tells line_outcome old.kept new.kept old.ended new.ended old.told new.told result → ReadsLine tells old new result
+  reads_line waits none heard =
+      record {
+        came = heard.came;
+        over = heard.over;
+        unended = heard.unended;
+        leaves = leaves_bytes result (untaken old ++ heard.came) new after (let P : List ℕ → Type 0 = λ bs. TakesAll result bs new.kept in subst P bytes heard.all);
+        answer = let P : List ℕ → Type 0 = λ bs. AnswersOutcome result (line_outcome bs new.ended) in subst P bytes (heard.answer (line_waits_on old.rule old.kept waits none));
+        told = heard.told;
+        same = same;
+      }
+    where
+      bytes : old.kept ++ heard.came ≡ untaken old ++ heard.came
+      bytes = ap (λ k. k ++ heard.came) (sym (untaken_kept old before))

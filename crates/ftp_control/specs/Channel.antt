@@ -1,5 +1,5 @@
 -- The control channel as one value, and what always holds of it.
-use Rattle.std.specs.Prelude.{◌≡◌, ℕ, Bool, true, false, ◌||◌, List, [], ◌++◌, Result, Ok, Err}
+use Rattle.std.specs.Prelude.{◌≡◌, ℕ, ◌+◌, ◌≤◌, length, Bool, true, false, ◌||◌, List, [], ◌++◌, Result, Ok, Err}
 use Rattle.std.specs.declared.io.ErrorKind.{ErrorKind}
 use Rattle.futures.specs.declared.task.Poll.{Poll}
 use Rattle.ftp_control.specs.declared.control.rule.ReplyRule.{ReplyRule}
@@ -7,31 +7,37 @@ use Rattle.ftp_control.specs.declared.control.broken.Broken.{Broken}
 use Rattle.ftp_control.specs.declared.control.broken.Broken.TheVariants.{Connection, OutOfMemory}
 use Rattle.ftp_control.specs.declared.control.outcome.Outcome.{Outcome}
 use Rattle.ftp_control.specs.declared.control.outcome.Outcome.TheVariants.{Whole, Bad, TooLarge, Ended, Waits}
-use Rattle.ftp_control.specs.Grammar.{outcome, line_outcome}
+use Rattle.ftp_control.specs.Grammar.{outcome, line_outcome, left_by}
 use Rattle.ftp_control.specs.Told.{Told, Fits}
-use Rattle.ftp_control.specs.Reading.{Hears, Stays}
+use Rattle.ftp_control.specs.Reading.{AnswersOutcome, HearTells, GoesOn}
 use Rattle.ftp_control.specs.Sending.{IsLines, Flushes}
 
--- what its connection tells, the bytes of the reply under way, the rest of the line that goes out, whether the
--- end of the input was met, whether the channel failed, and the rule of replies
+-- what its connection records; the bytes of the reply under way; received bytes that come after those and that no
+-- read has looked at yet; the unsent tail of the line that goes out; whether the end of the input was met, whether
+-- the channel failed, and the rule of replies
 pub record Channel : Type 0 where
   pub told : Told
   pub kept : List ℕ
+  pub ahead : List ℕ
   pub unsent : List ℕ
   pub ended : Bool
   pub failed : Bool
   pub rule : ReplyRule
+
+-- all received bytes that no reply has taken
+abbrev pub untaken : Channel → List ℕ
+untaken c = c.kept ++ c.ahead
 
 -- a part that the whole ends with
 pub record IsEndOf (part whole : List ℕ) : Type 0 where
   pub front : List ℕ
   pub is : whole ≡ front ++ part
 
--- the sound channel: what is kept says nothing yet and ends what was received; what went out is within the room,
--- and with what is unsent it is whole wire lines
+-- the sound channel: what is kept says nothing yet, and what is untaken ends what was received; what went out is
+-- within the room, and with what is unsent it is whole wire lines
 pub record IsSound (tells : Type 0) (c : Channel) : Type 0 where
   pub waits : outcome c.rule false c.kept false ≡ Waits
-  pub kept : tells → IsEndOf c.kept c.told.received
+  pub kept : tells → IsEndOf (untaken c) c.told.received
   pub lines : tells → IsLines (c.told.sent ++ c.unsent) c.unsent
   pub ended : tells → c.told.ended ≡ c.ended
   pub fits : tells → Fits c.told
@@ -39,6 +45,7 @@ pub record IsSound (tells : Type 0) (c : Channel) : Type 0 where
 -- nothing was read or sent yet
 pub record IsIdle (c : Channel) : Type 0 where
   pub kept : c.kept ≡ []
+  pub ahead : c.ahead ≡ []
   pub unsent : c.unsent ≡ []
   pub ended : c.ended ≡ false
   pub failed : c.failed ≡ false
@@ -53,24 +60,47 @@ fails_by (Ok Waits) = false
 fails_by (Err (Connection kind)) = true
 fails_by (Err OutOfMemory) = false
 
+-- what a read leaves: all bytes where it waits or fails; where the outcome is settled, what lies after its bytes
+abbrev pub LeavesBytes : Result Outcome Broken → List ℕ → Channel → Type 0
+LeavesBytes (Ok Waits) bytes new = (new.kept ≡ bytes) × (new.ahead ≡ [])
+LeavesBytes (Err broken) bytes new = untaken new ≡ bytes
+LeavesBytes (Ok heard) bytes new = (new.kept ≡ []) × (new.ahead ≡ left_by heard bytes)
+
+-- what is settled stays, and so does what it leaves, however the input goes on
+abbrev pub StaysSettled : Result Outcome Broken → (List ℕ → Bool → Outcome) → List ℕ → List ℕ → Bool → Type 0
+StaysSettled (Ok Waits) says bytes left ended = Unit {0}
+StaysSettled (Err broken) says bytes left ended = Unit {0}
+StaysSettled (Ok heard) says bytes left ended = (more : List ℕ) (e : Bool) → GoesOn ended more e → (says (bytes ++ more) e ≡ heard) × (left_by heard (bytes ++ more) ≡ left ++ more)
+
 -- a read of a reply
 pub record ReadsReply (tells : Type 0) (system : Bool) (old new : Channel) (result : Result Outcome Broken) : Type 0 where
-  pub heard : Hears tells (outcome old.rule system) old.kept new.kept old.ended new.ended old.told new.told result
-  pub stays : outcome old.rule system old.kept false ≡ Waits → Stays result (outcome old.rule system) (old.kept ++ heard.came) new.ended
+  pub came : List ℕ
+  pub over : GoesOn old.ended came new.ended
+  pub unended : result ≡ Ok Waits → new.ended ≡ false
+  pub leaves : LeavesBytes result (untaken old ++ came) new
+  pub past : length new.ahead ≤ length old.ahead + length came
+  pub answer : outcome old.rule system old.kept false ≡ Waits → AnswersOutcome result (outcome old.rule system (untaken old ++ came) new.ended)
+  pub stays : outcome old.rule system old.kept false ≡ Waits → StaysSettled result (outcome old.rule system) (untaken old ++ came) (untaken new) new.ended
   pub last : outcome old.rule system old.kept false ≡ Waits → result ≡ Ok Ended → new.ended ≡ true
-  pub same : new ≡ record old { told = new.told; kept = new.kept; ended = new.ended; failed = old.failed || fails_by result }
+  pub told : tells → HearTells result came new.ended old.told new.told
+  pub same : new ≡ record old { told = new.told; kept = new.kept; ahead = new.ahead; ended = new.ended; failed = old.failed || fails_by result }
 
 -- a read of one line, where no whole line is kept
 pub record ReadsLine (tells : Type 0) (old new : Channel) (result : Result Outcome Broken) : Type 0 where
-  pub heard : Hears tells line_outcome old.kept new.kept old.ended new.ended old.told new.told result
-  pub same : new ≡ record old { told = new.told; kept = new.kept; ended = new.ended; failed = old.failed || fails_by result }
+  pub came : List ℕ
+  pub over : GoesOn old.ended came new.ended
+  pub unended : result ≡ Ok Waits → new.ended ≡ false
+  pub leaves : LeavesBytes result (untaken old ++ came) new
+  pub answer : AnswersOutcome result (line_outcome (untaken old ++ came) new.ended)
+  pub told : tells → HearTells result came new.ended old.told new.told
+  pub same : new ≡ record old { told = new.told; kept = new.kept; ahead = new.ahead; ended = new.ended; failed = old.failed || fails_by result }
 
 -- a flush fails where the connection does
 abbrev pub breaks : Result (Poll (Unit {0})) ErrorKind → Bool
 breaks (Ok done) = false
 breaks (Err kind) = true
 
--- a flush of the rest
-pub record FlushesRest (tells : Type 0) (old new : Channel) (result : Result (Poll (Unit {0})) ErrorKind) : Type 0 where
+-- a flush of the unsent tail
+pub record FlushesTail (tells : Type 0) (old new : Channel) (result : Result (Poll (Unit {0})) ErrorKind) : Type 0 where
   pub flushed : Flushes tells old.unsent new.unsent old.told new.told result
   pub same : new ≡ record old { told = new.told; unsent = new.unsent; failed = old.failed || breaks result }

@@ -1,7 +1,8 @@
 pub mod Answer
+pub mod Asking
 pub mod Channel
 pub mod Grammar
-pub mod Held
+pub mod Inside
 pub mod Law
 pub mod LineAnswer
 pub mod Memory
@@ -11,5 +12,3 @@ pub mod Refusal
 pub mod Saying
 pub mod Sending
 pub mod Told
-pub mod UnderWay
-pub mod Verdict

@@ -1,5 +1,5 @@
-//! The grammar of replies computed as it is defined, slowly, over all bytes at once. The tests compare the reader
-//! with it.
+//! The grammar of replies computed as it is defined, slowly, over all bytes at once. The tests compare the read
+//! loop with it.
 
 ghost use Rattle.std.specs.Prelude.{◌≡◌, ◌∷◌, [], ◌++◌, IfOk};
 ghost use Rattle.ftp_control.specs.Law.{SettledStays};
@@ -56,7 +56,7 @@ pub fn rest(bytes: &[u8]) -> &[u8]
     }
 }
 
-/// The lines of the bytes that came; a rest is one where the input has ended.
+/// The lines of the received bytes; what follows the last LF is one where the input has ended.
 pub fn lines(alloc: Global, bytes: &[u8], ended: bool) -> Result<Vec<Bytes>, AllocError>
     ensures { IfOk result (λ found. found.items ≡ lines bytes.now ended) }
 {
@@ -87,7 +87,7 @@ pub fn reply_in(
     }
 }
 
-/// What a read says of all bytes that came since the reply began.
+/// The outcome of all bytes received since the reply began.
 #[tactic(auto, unfolding(crate::specs::Grammar::outcome))]
 pub fn outcome(
     alloc: Global,
@@ -155,7 +155,7 @@ fn to_end(
     after_line(alloc, line, later)
 }
 
-/// A line before what is found behind it.
+/// A line before what is found after it.
 fn after_line(alloc: Global, line: &Bytes, found: Found) -> Result<Found, AllocError>
     ensures { IfOk result (λ all. all ≡ after_line line.now found) }
 {

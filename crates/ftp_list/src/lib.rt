@@ -15,8 +15,7 @@ mod numbers;
 mod parser;
 mod pex;
 mod places;
-#[cfg(test)]
-mod plain;
+pub mod plain;
 mod posix;
 mod reach;
 mod rows;

@@ -1,15 +1,15 @@
-//! The greatest split by trying every length of the first part, the longest first: plain and slow.
-//! Tests compare the quick one with it.
+//! The greatest split by trying every length of the first part, the longest first: plain and slow. The tests
+//! compare `greatest_split` with it.
+
 ghost use Rattle.std.specs.Prelude.{IfOk, MatchOption, ◌≡◌, [], ◌∷◌};
 ghost use Rattle.ftp_list.specs.Shapes.{is_shape};
 ghost use Rattle.ftp_list.specs.Split.{IsGreatestSplit, HasNoSplit};
 
-use crate::class::Class;
+pub use crate::class::Class;
 use crate::places::{front, rest};
-use crate::shape::{Form, Shape};
-use crate::split::greatest_split;
+pub use crate::shape::{Form, Shape};
+pub use crate::split::greatest_split;
 use std::alloc::{AllocError, Global};
-use std::test::Fail;
 
 fn has_shape(shape: Shape, text: &[char]) -> bool
     ensures { result ≡ is_shape shape text.now }
@@ -21,7 +21,8 @@ fn has_shape(shape: Shape, text: &[char]) -> bool
     }
 }
 
-fn plain_split(
+/// The lengths of the greatest split, or `None` where the text has no split.
+pub fn plain_split(
     alloc: Global,
     shapes: &[Shape],
     text: &[char],
@@ -64,38 +65,4 @@ fn with_first(alloc: Global, first: usize, others: &[usize]) -> Result<Vec<usize
     all.push(first)?;
     all.extend_from_slice(others)?;
     Ok(all)
-}
-
-const SHAPES: [Shape; 5] = [
-    Shape::OneOrMore(Class::NotSpace),
-    Shape::AnyNumber(Class::Blank),
-    Shape::Short(Form::Between(Class::Digit, 1, 2)),
-    Shape::OneOrMore(Class::DigitOrComma),
-    Shape::OneOrMore(Class::NotLineFeed),
-];
-
-const LETTERS: [char; 3] = [' ', '1', 'a'];
-
-// The text of that number, a letter for each digit to the base of three.
-fn nth_text(alloc: Global, number: usize, length: usize) -> Result<Vec<char>, AllocError> {
-    let mut text = Vec::new(alloc);
-    let mut left = number;
-    for _ in 0..length {
-        text.push(LETTERS[left % 3])?;
-        left /= 3;
-    }
-    Ok(text)
-}
-
-#[test]
-fn the_greatest_split_is_the_plain_one(rt: HostRuntime) -> Result<(), Fail> {
-    for length in 0..8 {
-        for number in 0..2187 {
-            let text = nth_text(rt.alloc(), number, length)?;
-            let quick = greatest_split(rt.alloc(), &SHAPES, &text)?;
-            let plain = plain_split(rt.alloc(), &SHAPES, &text)?;
-            assert!(rt; quick == plain, "at {text:?}");
-        }
-    }
-    Ok(())
 }

@@ -3,291 +3,288 @@ use Rattle.std.proofs.Common.{◌≡◌, ℕ, Bool, true, false, cond, ◌||◌,
 use Rattle.std.proofs.Math.Seq.{drop-append_seam}
 use Rattle.ftp_control.specs.Told.{Told, Given}
 use Rattle.ftp_control.specs.Memory.{IsGiven, fed, closed_memory, widened, more_room}
-use Rattle.ftp_control.specs.declared.control.outcome.Outcome.TheVariants.{Waits as More}
+use Rattle.ftp_control.specs.declared.control.outcome.Outcome.TheVariants.{Waits}
+use Rattle.ftp_control.specs.declared.transport.request.Asked.{Asked}
 use Rattle.ftp_control.specs.Grammar.{outcome}
-use Rattle.ftp_control.specs.Channel.{Channel, IsSound}
+use Rattle.ftp_control.specs.Channel.{Channel, IsSound, untaken}
 use Rattle.ftp_session.specs.declared.session.call.Answer.{Answer}
 use Rattle.ftp_session.specs.declared.session.call.Call.{Call}
 use Rattle.ftp_session.specs.declared.session.call.Event.{Event}
 use Rattle.ftp_session.specs.declared.session.call.Event.TheVariants as event
 use Rattle.ftp_session.specs.declared.session.stage.Stage.{Stage}
-use Rattle.ftp_session.specs.declared.session.stage.Stage.TheVariants.{Begun, Saying, Hearing}
 use Rattle.futures.specs.declared.task.Poll.TheVariants.{Ready, Pending}
-use Rattle.ftp_session.specs.declared.session.settings.State.{State}
+use Rattle.ftp_session.specs.declared.session.state.State.{State}
+use Rattle.ftp_session.specs.declared.model.Script.{Script}
 use Rattle.ftp_session.specs.State.{SessionValue}
-use Rattle.ftp_session.specs.declared.plain.Script.{Script}
-use Rattle.ftp_session.specs.Script.{unread, is_over, start_of, script_of, after_event, start_script, is_read, MayCancel, MayPoll, poll_script}
-use Rattle.ftp_session.specs.Following.{Stands, UnderWay, Place, Follows, Starts, PollsHere, BreaksCall}
+use Rattle.ftp_session.specs.Coding.{Coding}
+use Rattle.ftp_session.specs.Exchanges.{is_read}
+use Rattle.ftp_session.specs.Script.{unread, is_over, start_of, script_of, after_event, start_script, MayCancel, MayPoll, poll_script}
+use Rattle.ftp_session.specs.Steps.Following.{Stands, UnderWay, Started, Place, Follows, Starts, PollsHere, AbortsCall}
 use Rattle.ftp_session.proofs.Following.{unread_is, poll_follows}
 
--- what is given to a connection
-abbrev pub with_given : SessionValue → Given → SessionValue
-with_given v given = record v { channel = record v.channel { told = record v.channel.told { given = given } } }
+module _ (coding : Coding) where
+  -- what is given to a connection
+  abbrev pub with_given : SessionValue → Given → SessionValue
+  with_given v given = record v { channel = record v.channel { told = record v.channel.told { given = given } } }
 
--- a place doesn't change with what is given, nor with what is fed of a script
-place_given : (old : SessionValue) (s t : Script) (came : List ℕ) (v : SessionValue) (given : Given) (call : Option Call) (stage : Stage) → t.items ≡ s.items → t.answers ≡ s.answers → t.polled ≡ s.polled → Place old s came v call stage → Place old t came (with_given v given) call stage
-place_given old s t came v given call stage items answers polled place =
-    let same : Place old s came (with_given v given) call stage = go call stage place in
-    let P : List Call → List Answer → Bool → Type 0 = λ i a p. Place old (record s { items = i; answers = a; polled = p }) came (with_given v given) call stage in
-    let Q : List Call → Type 0 = λ i. P i t.answers t.polled in
-    let R : List Answer → Type 0 = λ a. P s.items a t.polled in
-    let S : Bool → Type 0 = λ p. P s.items s.answers p in
-    back call stage (subst Q (sym items) (subst R (sym answers) (subst S (sym polled) same)))
-  where
-    go : (call : Option Call) (stage : Stage) → Place old s came v call stage → Place old s came (with_given v given) call stage
-    go None stage place = place
-    go (Some call) Begun place = place
-    go (Some call) (Saying line) place = record { polled = place.polled; going = place.going; reaches = place.reaches; resumes = place.resumes; read = place.read }
-    go (Some call) Hearing place = record { polled = place.polled; going = place.going; reaches = place.reaches; resumes = place.resumes; read = place.read }
+  -- a place doesn't change with what is given, nor with what is fed of a script
+  place_given : (old : SessionValue) (s t : Script) (came : List ℕ) (v : SessionValue) (given : Given) (call : Option Call) (stage : Stage) → t.items ≡ s.items → t.answers ≡ s.answers → t.polled ≡ s.polled → Place coding old s came v call stage → Place coding old t came (with_given v given) call stage
+  place_given old s t came v given call stage items answers polled place =
+      let same : Place coding old s came (with_given v given) call stage = go call stage place in
+      let P : List Call → List Answer → Bool → Type 0 = λ i a p. Place coding old (record s { items = i; answers = a; polled = p }) came (with_given v given) call stage in
+      let Q : List Call → Type 0 = λ i. P i t.answers t.polled in
+      let R : List Answer → Type 0 = λ a. P s.items a t.polled in
+      let S : Bool → Type 0 = λ p. P s.items s.answers p in
+      back call stage (subst Q (sym items) (subst R (sym answers) (subst S (sym polled) same)))
+    where
+      go : (call : Option Call) (stage : Stage) → Place coding old s came v call stage → Place coding old s came (with_given v given) call stage
+      go None stage place = place
+      go (Some call) stage (inl place) = inl (record { at = place.at; unpolled = place.unpolled; stands = place.stands })
+      go (Some call) stage (inr place) = inr (record { polled = place.polled; going = place.going; reaches = place.reaches; resumes = place.resumes; read = place.read })
 
-    back : (call : Option Call) (stage : Stage) → Place old (record s { items = t.items; answers = t.answers; polled = t.polled }) came (with_given v given) call stage → Place old t came (with_given v given) call stage
-    back None stage place = place
-    back (Some call) Begun place = place
-    back (Some call) (Saying line) place = record { polled = place.polled; going = place.going; reaches = place.reaches; resumes = place.resumes; read = place.read }
-    back (Some call) Hearing place = record { polled = place.polled; going = place.going; reaches = place.reaches; resumes = place.resumes; read = place.read }
+      back : (call : Option Call) (stage : Stage) → Place coding old (record s { items = t.items; answers = t.answers; polled = t.polled }) came (with_given v given) call stage → Place coding old t came (with_given v given) call stage
+      back None stage place = place
+      back (Some call) stage (inl place) = inl (record { at = place.at; unpolled = place.unpolled; stands = place.stands })
+      back (Some call) stage (inr place) = inr (record { polled = place.polled; going = place.going; reaches = place.reaches; resumes = place.resumes; read = place.read })
 
--- what is fed is unread
-fed_unread : (t : Told) (more : List ℕ) → IsGiven t → drop (length t.received) (t.given.bytes ++ more) ≡ unread t ++ more
-fed_unread t more given =
-    ap (λ b. drop (length t.received) (b ++ more)) given.front
-    ∙ ap (drop (length t.received)) (append_assoc t.received given.ahead more)
-    ∙ drop-append_seam t.received (given.ahead ++ more)
-    ∙ ap (λ u. u ++ more) (sym (unread_is t given))
+  -- what is fed is unread
+  fed_unread : (t : Told) (more : List ℕ) → IsGiven t → drop (length t.received) (t.given.bytes ++ more) ≡ unread t ++ more
+  fed_unread t more given =
+      ap (λ b. drop (length t.received) (b ++ more)) given.front
+      ∙ ap (drop (length t.received)) (append_assoc t.received given.ahead more)
+      ∙ drop-append_seam t.received (given.ahead ++ more)
+      ∙ ap (λ u. u ++ more) (sym (unread_is t given))
 
-module _ (old : SessionValue) (s : Script) (v : SessionValue) (call : Option Call) (stage : Stage) (answers : List Answer) (f : Follows old s v call stage answers) where
-  -- bytes come, where the end hadn't
-  fed_open : (more : List ℕ) → is_over v.channel.told ≡ false → (given : Given) → given ≡ record v.channel.told.given { bytes = v.channel.told.given.bytes ++ more } → IsGiven (with_given v given).channel.told → IsSound (Unit {0}) (with_given v given).channel → Follows old (record s { bytes = s.bytes ++ more; untaken = s.untaken ++ more }) (with_given v given) call stage answers
-  fed_open more on given is has sound =
-      let t = v.channel.told in
-      let unread' : drop (length t.received) given.bytes ≡ unread t ++ more = ap (λ g. drop (length t.received) g.bytes) is ∙ fed_unread t more f.given in
-      record {
+  module _ (old : SessionValue) (s : Script) (v : SessionValue) (call : Option Call) (stage : Stage) (answers : List Answer) (f : Follows coding old s v call stage answers) where
+    -- bytes come, where the end hadn't
+    fed_open : (more : List ℕ) → is_over v.channel.told ≡ false → (given : Given) → given ≡ record v.channel.told.given { bytes = v.channel.told.given.bytes ++ more } → IsGiven (with_given v given).channel.told → IsSound (Unit {0}) (with_given v given).channel → Follows coding old (record s { bytes = s.bytes ++ more; untaken = s.untaken ++ more }) (with_given v given) call stage answers
+    fed_open more on given is has sound =
+        let t = v.channel.told in
+        let unread' : drop (length t.received) given.bytes ≡ unread t ++ more = ap (λ g. drop (length t.received) g.bytes) is ∙ fed_unread t more f.given in
+        record {
+          came = f.came;
+          place = place_given old s (record s { bytes = s.bytes ++ more; untaken = s.untaken ++ more }) f.came v given call stage refl refl refl f.place;
+          rule = f.rule;
+          failures = f.failures;
+          given = has;
+          sound = sound;
+          bytes = ap (λ b. b ++ more) f.bytes ∙ append_assoc (untaken old.channel ++ f.came) (unread t) more ∙ ap (λ u. untaken old.channel ++ f.came ++ u) (sym unread');
+          ended = f.ended ∙ ap (λ g. g.closed || t.ended) (sym is);
+          room = f.room ∙ ap (λ g. g.room) (sym is);
+          sent = f.sent;
+          unsent = f.unsent;
+          untaken = ap (λ b. b ++ more) f.untaken ∙ append_assoc (untaken v.channel) (unread t) more ∙ ap (λ u. untaken v.channel ++ u) (sym unread');
+          seen = f.seen;
+          waits = f.waits;
+          state = f.state;
+          failed = f.failed;
+          call_is = f.call_is;
+          answers_are = f.answers_are;
+        }
+
+    pub feeds : (more : List ℕ) (w : SessionValue) → w ≡ record v { channel = record v.channel { told = fed more v.channel.told } } → IsGiven w.channel.told → IsSound (Unit {0}) w.channel → Follows coding old (after_event coding (start_of old) s (event.Feed more)) w call stage answers
+    feeds more w is has sound =
+        let t = v.channel.told in
+        let given : Given = record t.given { bytes = t.given.bytes ++ more } in
+        let later : Script = record s { bytes = s.bytes ++ more; untaken = s.untaken ++ more } in
+        let P : SessionValue → Type 0 = λ x. IsGiven x.channel.told → IsSound (Unit {0}) x.channel → Follows coding old (after_event coding (start_of old) s (event.Feed more)) x call stage answers in
+        let Q : Bool → Bool → Type 0 = λ a b. IsGiven (cond b t (record t { given = given })) → IsSound (Unit {0}) (record v.channel { told = cond b t (record t { given = given }) }) → Follows coding old (cond a s later) (record v { channel = record v.channel { told = cond b t (record t { given = given }) } }) call stage answers in
+        let R : Bool → Type 0 = λ a. Q a (is_over t) in
+        let go : (over : Bool) → is_over t ≡ over → Q over over = λ over. elim over as (λ o. is_over t ≡ o → Q o o) [
+          | true ↦ λ on has sound. f
+          | false ↦ λ on has sound. fed_open more on given refl has sound
+        ] in
+        subst P (sym is) (subst R (sym f.ended) (go (is_over t) refl)) has sound
+
+    pub ends : (w : SessionValue) → w ≡ record v { channel = record v.channel { told = closed_memory v.channel.told } } → IsGiven w.channel.told → IsSound (Unit {0}) w.channel → Follows coding old (after_event coding (start_of old) s event.End) w call stage answers
+    ends w is has sound =
+        let P : SessionValue → Type 0 = λ x. IsGiven x.channel.told → IsSound (Unit {0}) x.channel → Follows coding old (after_event coding (start_of old) s event.End) x call stage answers in
+        let given : Given = record v.channel.told.given { closed = true } in
+        let after : Script = record s { ended = true } in
+        let ended : IsGiven (with_given v given).channel.told → IsSound (Unit {0}) (with_given v given).channel → Follows coding old after (with_given v given) call stage answers = λ has sound. record {
+          came = f.came;
+          place = place_given old s after f.came v given call stage refl refl refl f.place;
+          rule = f.rule;
+          failures = f.failures;
+          given = has;
+          sound = sound;
+          bytes = f.bytes;
+          ended = refl;
+          room = f.room;
+          sent = f.sent;
+          unsent = f.unsent;
+          untaken = f.untaken;
+          seen = f.seen;
+          waits = f.waits;
+          state = f.state;
+          failed = f.failed;
+          call_is = f.call_is;
+          answers_are = f.answers_are;
+        } in
+        subst P (sym is) ended has sound
+
+    pub widens : (more : ℕ) (w : SessionValue) → w ≡ record v { channel = record v.channel { told = widened more v.channel.told } } → IsGiven w.channel.told → IsSound (Unit {0}) w.channel → Follows coding old (after_event coding (start_of old) s (event.Room more)) w call stage answers
+    widens more w is has sound =
+        let P : SessionValue → Type 0 = λ x. IsGiven x.channel.told → IsSound (Unit {0}) x.channel → Follows coding old (after_event coding (start_of old) s (event.Room more)) x call stage answers in
+        let t = v.channel.told in
+        let given : Given = record t.given { room = more_room more (length t.sent) t.given.room } in
+        let after : Script = record s { room = more_room more (length s.sent) s.room } in
+        let wide : IsGiven (with_given v given).channel.told → IsSound (Unit {0}) (with_given v given).channel → Follows coding old after (with_given v given) call stage answers = λ has sound. record {
+          came = f.came;
+          place = place_given old s after f.came v given call stage refl refl refl f.place;
+          rule = f.rule;
+          failures = f.failures;
+          given = has;
+          sound = sound;
+          bytes = f.bytes;
+          ended = f.ended;
+          room = ap (λ x. more_room more (length x) s.room) f.sent ∙ ap (λ r. more_room more (length t.sent) r) f.room;
+          sent = f.sent;
+          unsent = f.unsent;
+          untaken = f.untaken;
+          seen = f.seen;
+          waits = f.waits;
+          state = f.state;
+          failed = f.failed;
+          call_is = f.call_is;
+          answers_are = f.answers_are;
+        } in
+        subst P (sym is) wide has sound
+
+  -- a call begins, where none is under way
+  pub starts : (old : SessionValue) (s : Script) (v : SessionValue) (next : Call) (call call' : Option Call) (stage stage' : Stage) (answers : List Answer) → Follows coding old s v call stage answers → Starts next call call' stage stage' → Follows coding old (after_event coding (start_of old) s (event.Start next)) v call' stage' answers
+  starts old s v next None call' stage stage' answers f is =
+      let P : Option Call → Type 0 = λ c. Follows coding old (start_script next c s) v call' stage' answers in
+      let Q : Option Call → Type 0 = λ c. Follows coding old (record s { call = Some next; polled = false }) v c stage' answers in
+      let R : Stage → Type 0 = λ x. Follows coding old (record s { call = Some next; polled = false }) v (Some next) x answers in
+      subst P (sym f.call_is)
+      (subst Q (sym is.0)
+      (subst R (sym is.1)
+      (record {
         came = f.came;
-        place = place_given old s (record s { bytes = s.bytes ++ more; untaken = s.untaken ++ more }) f.came v given call stage refl refl refl f.place;
+        place = inl (record { at = refl; unpolled = refl; stands = f.place });
         rule = f.rule;
         failures = f.failures;
-        given = has;
-        sound = sound;
-        bytes = ap (λ b. b ++ more) f.bytes ∙ append_assoc (old.channel.kept ++ f.came) (unread t) more ∙ ap (λ u. old.channel.kept ++ f.came ++ u) (sym unread');
-        ended = f.ended ∙ ap (λ g. g.closed || t.ended) (sym is);
-        room = f.room ∙ ap (λ g. g.room) (sym is);
-        sent = f.sent;
-        rest = f.rest;
-        untaken = ap (λ b. b ++ more) f.untaken ∙ append_assoc v.channel.kept (unread t) more ∙ ap (λ u. v.channel.kept ++ u) (sym unread');
-        seen = f.seen;
-        waits = f.waits;
-        state = f.state;
-        failed = f.failed;
-        call_is = f.call_is;
-        answers_are = f.answers_are;
-      }
-
-  pub feeds : (more : List ℕ) (w : SessionValue) → w ≡ record v { channel = record v.channel { told = fed more v.channel.told } } → IsGiven w.channel.told → IsSound (Unit {0}) w.channel → Follows old (after_event (start_of old) s (event.Feed more)) w call stage answers
-  feeds more w is has sound =
-      let t = v.channel.told in
-      let given : Given = record t.given { bytes = t.given.bytes ++ more } in
-      let later : Script = record s { bytes = s.bytes ++ more; untaken = s.untaken ++ more } in
-      let P : SessionValue → Type 0 = λ x. IsGiven x.channel.told → IsSound (Unit {0}) x.channel → Follows old (after_event (start_of old) s (event.Feed more)) x call stage answers in
-      let Q : Bool → Bool → Type 0 = λ a b. IsGiven (cond b t (record t { given = given })) → IsSound (Unit {0}) (record v.channel { told = cond b t (record t { given = given }) }) → Follows old (cond a s later) (record v { channel = record v.channel { told = cond b t (record t { given = given }) } }) call stage answers in
-      let R : Bool → Type 0 = λ a. Q a (is_over t) in
-      let go : (over : Bool) → is_over t ≡ over → Q over over = λ over. elim over as (λ o. is_over t ≡ o → Q o o) [
-        | true ↦ λ on has sound. f
-        | false ↦ λ on has sound. fed_open more on given refl has sound
-      ] in
-      subst P (sym is) (subst R (sym f.ended) (go (is_over t) refl)) has sound
-
-  pub ends : (w : SessionValue) → w ≡ record v { channel = record v.channel { told = closed_memory v.channel.told } } → IsGiven w.channel.told → IsSound (Unit {0}) w.channel → Follows old (after_event (start_of old) s event.End) w call stage answers
-  ends w is has sound =
-      let P : SessionValue → Type 0 = λ x. IsGiven x.channel.told → IsSound (Unit {0}) x.channel → Follows old (after_event (start_of old) s event.End) x call stage answers in
-      let given : Given = record v.channel.told.given { closed = true } in
-      let after : Script = record s { ended = true } in
-      let ended : IsGiven (with_given v given).channel.told → IsSound (Unit {0}) (with_given v given).channel → Follows old after (with_given v given) call stage answers = λ has sound. record {
-        came = f.came;
-        place = place_given old s after f.came v given call stage refl refl refl f.place;
-        rule = f.rule;
-        failures = f.failures;
-        given = has;
-        sound = sound;
-        bytes = f.bytes;
-        ended = refl;
-        room = f.room;
-        sent = f.sent;
-        rest = f.rest;
-        untaken = f.untaken;
-        seen = f.seen;
-        waits = f.waits;
-        state = f.state;
-        failed = f.failed;
-        call_is = f.call_is;
-        answers_are = f.answers_are;
-      } in
-      subst P (sym is) ended has sound
-
-  pub widens : (more : ℕ) (w : SessionValue) → w ≡ record v { channel = record v.channel { told = widened more v.channel.told } } → IsGiven w.channel.told → IsSound (Unit {0}) w.channel → Follows old (after_event (start_of old) s (event.Room more)) w call stage answers
-  widens more w is has sound =
-      let P : SessionValue → Type 0 = λ x. IsGiven x.channel.told → IsSound (Unit {0}) x.channel → Follows old (after_event (start_of old) s (event.Room more)) x call stage answers in
-      let t = v.channel.told in
-      let given : Given = record t.given { room = more_room more (length t.sent) t.given.room } in
-      let after : Script = record s { room = more_room more (length s.sent) s.room } in
-      let wide : IsGiven (with_given v given).channel.told → IsSound (Unit {0}) (with_given v given).channel → Follows old after (with_given v given) call stage answers = λ has sound. record {
-        came = f.came;
-        place = place_given old s after f.came v given call stage refl refl refl f.place;
-        rule = f.rule;
-        failures = f.failures;
-        given = has;
-        sound = sound;
+        given = f.given;
+        sound = f.sound;
         bytes = f.bytes;
         ended = f.ended;
-        room = ap (λ x. more_room more (length x) s.room) f.sent ∙ ap (λ r. more_room more (length t.sent) r) f.room;
+        room = f.room;
         sent = f.sent;
-        rest = f.rest;
+        unsent = λ may. f.unsent tt;
         untaken = f.untaken;
         seen = f.seen;
         waits = f.waits;
         state = f.state;
         failed = f.failed;
-        call_is = f.call_is;
+        call_is = refl;
         answers_are = f.answers_are;
-      } in
-      subst P (sym is) wide has sound
+      })))
+  starts old s v next (Some other) call' stage stage' answers f is =
+      let P : Option Call → Type 0 = λ c. Follows coding old (start_script next c s) v call' stage' answers in
+      let Q : Option Call → Type 0 = λ c. Follows coding old s v c stage' answers in
+      let R : Stage → Type 0 = λ x. Follows coding old s v (Some other) x answers in
+      subst P (sym f.call_is) (subst Q (sym is.0) (subst R (sym is.1) f))
 
--- a call begins, where none is under way
-pub starts : (old : SessionValue) (s : Script) (v : SessionValue) (next : Call) (call call' : Option Call) (stage stage' : Stage) (answers : List Answer) → Follows old s v call stage answers → Starts next call call' stage stage' → Follows old (after_event (start_of old) s (event.Start next)) v call' stage' answers
-starts old s v next None call' stage stage' answers f is =
-    let P : Option Call → Type 0 = λ c. Follows old (start_script next c s) v call' stage' answers in
-    let Q : Option Call → Type 0 = λ c. Follows old (record s { call = Some next; polled = false }) v c stage' answers in
-    let R : Stage → Type 0 = λ x. Follows old (record s { call = Some next; polled = false }) v (Some next) x answers in
-    subst P (sym f.call_is)
-    (subst Q (sym is.0)
-    (subst R (sym is.1)
-    (record {
-      came = f.came;
-      place = (refl, f.place);
-      rule = f.rule;
-      failures = f.failures;
-      given = f.given;
-      sound = f.sound;
-      bytes = f.bytes;
-      ended = f.ended;
-      room = f.room;
-      sent = f.sent;
-      rest = λ may. f.rest tt;
-      untaken = f.untaken;
-      seen = f.seen;
-      waits = f.waits;
-      state = f.state;
-      failed = f.failed;
-      call_is = refl;
-      answers_are = f.answers_are;
-    })))
-starts old s v next (Some other) call' stage stage' answers f is =
-    let P : Option Call → Type 0 = λ c. Follows old (start_script next c s) v call' stage' answers in
-    let Q : Option Call → Type 0 = λ c. Follows old s v c stage' answers in
-    let R : Stage → Type 0 = λ x. Follows old s v (Some other) x answers in
-    subst P (sym f.call_is) (subst Q (sym is.0) (subst R (sym is.1) f))
+  -- the call under way is dropped
+  pub cancels : (old : SessionValue) (s : Script) (v : SessionValue) (call : Option Call) (stage stage' : Stage) (answers : List Answer) → Follows coding old s v call stage answers → MayCancel s.call s.polled → Follows coding old (after_event coding (start_of old) s event.Cancel) v None stage' answers
+  cancels old s v call stage stage' answers f dropped = record {
+    came = f.came;
+    place = go call stage f.place (let P : Option Call → Type 0 = λ c. MayCancel c s.polled in subst P f.call_is dropped);
+    rule = f.rule;
+    failures = f.failures;
+    given = f.given;
+    sound = f.sound;
+    bytes = f.bytes;
+    ended = f.ended;
+    room = f.room;
+    sent = f.sent;
+    unsent = λ may. f.unsent (let P : Option Call → Type 0 = λ c. MayCancel c s.polled in subst P f.call_is dropped);
+    untaken = f.untaken;
+    seen = f.seen;
+    waits = f.waits;
+    state = f.state;
+    failed = f.failed;
+    call_is = refl;
+    answers_are = f.answers_are;
+  }
+    where
+      go : (call : Option Call) (stage : Stage) → Place coding old s f.came v call stage → MayCancel call s.polled → Stands coding old s.items f.came v s.answers
+      go None stage place may = place
+      go (Some call) stage (inl place) may = place.stands
+      go (Some call) stage (inr place) (inl new) = let clash : true ≡ false = sym place.polled ∙ new in cc
+      go (Some call) stage (inr place) (inr read) = place.read read
 
--- the call under way is dropped
-pub cancels : (old : SessionValue) (s : Script) (v : SessionValue) (call : Option Call) (stage stage' : Stage) (answers : List Answer) → Follows old s v call stage answers → MayCancel s.call s.polled → Follows old (after_event (start_of old) s event.Cancel) v None stage' answers
-cancels old s v call stage stage' answers f dropped = record {
-  came = f.came;
-  place = go call stage f.place (let P : Option Call → Type 0 = λ c. MayCancel c s.polled in subst P f.call_is dropped);
-  rule = f.rule;
-  failures = f.failures;
-  given = f.given;
-  sound = f.sound;
-  bytes = f.bytes;
-  ended = f.ended;
-  room = f.room;
-  sent = f.sent;
-  rest = λ may. f.rest (let P : Option Call → Type 0 = λ c. MayCancel c s.polled in subst P f.call_is dropped);
-  untaken = f.untaken;
-  seen = f.seen;
-  waits = f.waits;
-  state = f.state;
-  failed = f.failed;
-  call_is = refl;
-  answers_are = f.answers_are;
-}
-  where
-    under : (call : Call) (stage : Stage) → UnderWay old s f.came v call stage → (s.polled ≡ false) ⊎ (is_read call ≡ true) → Stands old s.items f.came v s.answers
-    under call stage u (inl new) = let clash : true ≡ false = sym u.polled ∙ new in cc
-    under call stage u (inr read) = u.read read
+  -- a script begins
+  pub begins : (v : SessionValue) (system : Bool) (stage : Stage) → IsGiven v.channel.told → IsSound (Unit {0}) v.channel → outcome v.channel.rule system v.channel.kept false ≡ Waits → Follows coding v (script_of v system) v None stage []
+  begins v system stage given sound waits = record {
+    came = [];
+    place = λ later room more ended fit on. refl;
+    rule = refl;
+    failures = refl;
+    given = given;
+    sound = sound;
+    bytes = ap (λ k. k ++ unread v.channel.told) (sym (append-nil (untaken v.channel)));
+    ended = refl;
+    room = refl;
+    sent = refl;
+    unsent = λ may. refl;
+    untaken = refl;
+    seen = refl;
+    waits = waits;
+    state = refl;
+    failed = refl;
+    call_is = refl;
+    answers_are = refl;
+  }
 
-    go : (call : Option Call) (stage : Stage) → Place old s f.came v call stage → MayCancel call s.polled → Stands old s.items f.came v s.answers
-    go None stage place may = place
-    go (Some call) Begun place may = place.1
-    go (Some call) (Saying line) place may = under call (Saying line) place may
-    go (Some call) Hearing place may = under call Hearing place may
+  -- a poll of the call under way
+  pub polled_ready : (old : SessionValue) (s : Script) (v w : SessionValue) (under_way : Option Call) (call : Call) (stage stage' : Stage) (answers : List Answer) (answer : Answer) → under_way ≡ Some call → Follows coding old s v under_way stage answers → MayPoll (start_of old) s.call s → PollsHere coding call stage stage' v w (Ready answer) → Follows coding old (poll_script coding (start_of old) s.call s) w None stage' (answers ++ answer ∷ []) ⊎ AbortsCall coding call stage v w (Some answer)
+  polled_ready old s v w under_way call stage stage' answers answer is f may here =
+      let F : Option Call → Type 0 = λ c. Follows coding old s v c stage answers in
+      let M : Option Call → Type 0 = λ c. MayPoll (start_of old) c s in
+      let R : Option Call → Type 0 = λ c. Follows coding old (poll_script coding (start_of old) c s) w None stage' (answers ++ answer ∷ []) ⊎ AbortsCall coding call stage v w (Some answer) in
+      let named : s.call ≡ Some call = f.call_is ∙ is in
+      subst R (sym named) (poll_follows coding old s v w call stage stage' answers (Ready answer) (subst F is f) (subst M named may) here)
 
--- a script begins
-pub begins : (v : SessionValue) (system : Bool) (stage : Stage) → IsGiven v.channel.told → IsSound (Unit {0}) v.channel → outcome v.channel.rule system v.channel.kept false ≡ More → Follows v (script_of v system) v None stage []
-begins v system stage given sound waits = record {
-  came = [];
-  place = λ later room more ended fit on. refl;
-  rule = refl;
-  failures = refl;
-  given = given;
-  sound = sound;
-  bytes = ap (λ k. k ++ unread v.channel.told) (sym (append-nil v.channel.kept));
-  ended = refl;
-  room = refl;
-  sent = refl;
-  rest = λ may. refl;
-  untaken = refl;
-  seen = refl;
-  waits = waits;
-  state = refl;
-  failed = refl;
-  call_is = refl;
-  answers_are = refl;
-}
+  pub polled_pending : (old : SessionValue) (s : Script) (v w : SessionValue) (under_way : Option Call) (call : Call) (stage stage' : Stage) (answers : List Answer) → under_way ≡ Some call → Follows coding old s v under_way stage answers → MayPoll (start_of old) s.call s → PollsHere coding call stage stage' v w Pending → Follows coding old (poll_script coding (start_of old) s.call s) w under_way stage' (answers ++ [])
+  polled_pending old s v w under_way call stage stage' answers is f may here =
+      let F : Option Call → Type 0 = λ c. Follows coding old s v c stage answers in
+      let M : Option Call → Type 0 = λ c. MayPoll (start_of old) c s in
+      let R : Option Call → Type 0 = λ c. Follows coding old (poll_script coding (start_of old) c s) w under_way stage' (answers ++ []) in
+      let U : Option Call → Type 0 = λ c. Follows coding old (poll_script coding (start_of old) (Some call) s) w c stage' (answers ++ []) in
+      let A : List Answer → Type 0 = λ a. Follows coding old (poll_script coding (start_of old) (Some call) s) w (Some call) stage' a in
+      let named : s.call ≡ Some call = f.call_is ∙ is in
+      subst R (sym named) (subst U (sym is) (subst A (sym (append-nil answers)) (poll_follows coding old s v w call stage stage' answers Pending (subst F is f) (subst M named may) here)))
 
--- a poll of the call under way
-pub polled_ready : (old : SessionValue) (s : Script) (v w : SessionValue) (under_way : Option Call) (call : Call) (stage stage' : Stage) (answers : List Answer) (answer : Answer) → under_way ≡ Some call → Follows old s v under_way stage answers → MayPoll (start_of old) s.call s → PollsHere call stage stage' v w (Ready answer) → Follows old (poll_script (start_of old) s.call s) w None stage' (answers ++ answer ∷ []) ⊎ BreaksCall v w (Some answer)
-polled_ready old s v w under_way call stage stage' answers answer is f may here =
-    let F : Option Call → Type 0 = λ c. Follows old s v c stage answers in
-    let M : Option Call → Type 0 = λ c. MayPoll (start_of old) c s in
-    let R : Option Call → Type 0 = λ c. Follows old (poll_script (start_of old) c s) w None stage' (answers ++ answer ∷ []) ⊎ BreaksCall v w (Some answer) in
-    let named : s.call ≡ Some call = f.call_is ∙ is in
-    subst R (sym named) (poll_follows old s v w call stage stage' answers (Ready answer) (subst F is f) (subst M named may) here)
+  -- a call that is aborted by a poll is under way no more
+  pub at_poll : (F : Type 0) (v w : SessionValue) (result : Option Answer) (under_way : Call) (stage : Stage) (call call' : Option Call) → call ≡ Some under_way → call' ≡ None → F ⊎ AbortsCall coding under_way stage v w result → F ⊎ (((c : Call) × (call ≡ Some c) × AbortsCall coding c stage v w result) × (call' ≡ None) × (event.Poll ≡ event.Poll))
+  at_poll F v w result under_way stage call call' is none (inl follows) = inl follows
+  at_poll F v w result under_way stage call call' is none (inr aborts) = inr ((under_way, is, aborts), none, refl)
 
-pub polled_pending : (old : SessionValue) (s : Script) (v w : SessionValue) (under_way : Option Call) (call : Call) (stage stage' : Stage) (answers : List Answer) → under_way ≡ Some call → Follows old s v under_way stage answers → MayPoll (start_of old) s.call s → PollsHere call stage stage' v w Pending → Follows old (poll_script (start_of old) s.call s) w under_way stage' (answers ++ [])
-polled_pending old s v w under_way call stage stage' answers is f may here =
-    let F : Option Call → Type 0 = λ c. Follows old s v c stage answers in
-    let M : Option Call → Type 0 = λ c. MayPoll (start_of old) c s in
-    let R : Option Call → Type 0 = λ c. Follows old (poll_script (start_of old) c s) w under_way stage' (answers ++ []) in
-    let U : Option Call → Type 0 = λ c. Follows old (poll_script (start_of old) (Some call) s) w c stage' (answers ++ []) in
-    let A : List Answer → Type 0 = λ a. Follows old (poll_script (start_of old) (Some call) s) w (Some call) stage' a in
-    let named : s.call ≡ Some call = f.call_is ∙ is in
-    subst R (sym named) (subst U (sym is) (subst A (sym (append-nil answers)) (poll_follows old s v w call stage stage' answers Pending (subst F is f) (subst M named may) here)))
+  -- what happens to the channel alone
+  pub through : (F : Channel → Channel) (v w : SessionValue) (a b : Channel) (state : State) (asked : List Asked) → record { channel = a; state = state; asked = asked } ≡ v → w ≡ record { channel = b; state = state; asked = asked } → b ≡ F a → w ≡ record v { channel = F v.channel }
+  through F v w a b state asked before after is =
+      let P : SessionValue → Type 0 = λ x. w ≡ record x { channel = F x.channel } in
+      let Q : Channel → SessionValue = λ c. record { channel = c; state = state; asked = asked } in
+      subst P before (after ∙ ap Q is)
 
--- a call that is broken off by a poll is under way no more
-pub at_poll : (F : Type 0) (v w : SessionValue) (result : Option Answer) (call : Option Call) → call ≡ None → F ⊎ BreaksCall v w result → F ⊎ (BreaksCall v w result × (call ≡ None) × (event.Poll ≡ event.Poll))
-at_poll F v w result call none (inl follows) = inl follows
-at_poll F v w result call none (inr breaks) = inr (breaks, none, refl)
+  -- an event without an answer
+  pub happened : (old : SessionValue) (s : Script) (w : SessionValue) (event kind : Event) (call call' : Option Call) (stage stage' : Stage) (answers : List Answer) → event ≡ kind → call' ≡ call → stage' ≡ stage → Follows coding old (after_event coding (start_of old) s kind) w call stage answers → Follows coding old (after_event coding (start_of old) s event) w call' stage' (answers ++ [])
+  happened old s w event kind call call' stage stage' answers is same stays f =
+      let E : Event → Type 0 = λ e. Follows coding old (after_event coding (start_of old) s e) w call' stage' (answers ++ []) in
+      let C : Option Call → Type 0 = λ c. Follows coding old (after_event coding (start_of old) s kind) w c stage' (answers ++ []) in
+      let S : Stage → Type 0 = λ x. Follows coding old (after_event coding (start_of old) s kind) w call x (answers ++ []) in
+      let A : List Answer → Type 0 = λ a. Follows coding old (after_event coding (start_of old) s kind) w call stage a in
+      subst E (sym is) (subst C (sym same) (subst S (sym stays) (subst A (sym (append-nil answers)) f)))
 
--- what happens to the channel alone
-pub through : (F : Channel → Channel) (v w : SessionValue) (a b : Channel) (state : State) → record { channel = a; state = state } ≡ v → w ≡ record { channel = b; state = state } → b ≡ F a → w ≡ record v { channel = F v.channel }
-through F v w a b state before after is =
-    let P : SessionValue → Type 0 = λ x. w ≡ record x { channel = F x.channel } in
-    let Q : Channel → SessionValue = λ c. record { channel = c; state = state } in
-    subst P before (after ∙ ap Q is)
+  -- the session itself stays
+  pub stayed : (old : SessionValue) (s : Script) (v w : SessionValue) (call : Option Call) (stage : Stage) (answers : List Answer) → w ≡ v → Follows coding old s v call stage answers → Follows coding old s w call stage answers
+  stayed old s v w call stage answers same f = let P : SessionValue → Type 0 = λ x. Follows coding old s x call stage answers in subst P (sym same) f
 
--- an event without an answer
-pub happened : (old : SessionValue) (s : Script) (w : SessionValue) (event kind : Event) (call call' : Option Call) (stage stage' : Stage) (answers : List Answer) → event ≡ kind → call' ≡ call → stage' ≡ stage → Follows old (after_event (start_of old) s kind) w call stage answers → Follows old (after_event (start_of old) s event) w call' stage' (answers ++ [])
-happened old s w event kind call call' stage stage' answers is same stays f =
-    let E : Event → Type 0 = λ e. Follows old (after_event (start_of old) s e) w call' stage' (answers ++ []) in
-    let C : Option Call → Type 0 = λ c. Follows old (after_event (start_of old) s kind) w c stage' (answers ++ []) in
-    let S : Stage → Type 0 = λ x. Follows old (after_event (start_of old) s kind) w call x (answers ++ []) in
-    let A : List Answer → Type 0 = λ a. Follows old (after_event (start_of old) s kind) w call stage a in
-    subst E (sym is) (subst C (sym same) (subst S (sym stays) (subst A (sym (append-nil answers)) f)))
-
--- the session itself stays
-pub stayed : (old : SessionValue) (s : Script) (v w : SessionValue) (call : Option Call) (stage : Stage) (answers : List Answer) → w ≡ v → Follows old s v call stage answers → Follows old s w call stage answers
-stayed old s v w call stage answers same f = let P : SessionValue → Type 0 = λ x. Follows old s x call stage answers in subst P (sym same) f
-
--- what is fed fails nothing
-pub fed_failures : (more : List ℕ) (t : Told) → (fed more t).failures ≡ t.failures
-fed_failures more t =
-    let P : Bool → Type 0 = λ b. (cond b t (record t { given = record t.given { bytes = t.given.bytes ++ more } })).failures ≡ t.failures in
-    let go : (b : Bool) → P b = λ b. elim b as P [ true ↦ refl | false ↦ refl ] in
-    go (is_over t)
+  -- what is fed fails nothing
+  pub fed_failures : (more : List ℕ) (t : Told) → (fed more t).failures ≡ t.failures
+  fed_failures more t =
+      let P : Bool → Type 0 = λ b. (cond b t (record t { given = record t.given { bytes = t.given.bytes ++ more } })).failures ≡ t.failures in
+      let go : (b : Bool) → P b = λ b. elim b as P [ true ↦ refl | false ↦ refl ] in
+      go (is_over t)

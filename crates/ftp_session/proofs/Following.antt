@@ -1,52 +1,58 @@
--- Lemmas on scripts: what a Poll makes of one, and what the other events do.
-use Rattle.std.proofs.Common.{◌≡◌, ℕ, ◌+◌, ◌<◌, Bool, true, false, cond, ◌||◌, eqb, Option, Some, None, List, [], ◌∷◌, ◌++◌, length, take, drop, Result, Ok, Err, inl, inr, ◌⊎◌, refl, ap, sym, ◌∙◌, subst, append_assoc, append-nil, length-append, arith, eq-eqb}
+-- Lemmas on scripts: what a Poll makes of one.
+use Rattle.std.proofs.Common.{◌≡◌, ℕ, ◌+◌, ◌<◌, ◌≤◌, Bool, true, false, cond, ◌||◌, eqb, Option, Some, None, List, [], ◌∷◌, ◌++◌, length, take, drop, Result, Ok, Err, inl, inr, ◌⊎◌, refl, ap, sym, ◌∙◌, subst, append_assoc, append-nil, length-append, arith, eq-eqb}
 use Rattle.std.proofs.lemmas.Bool.{lt-leb, eqb-true}
 use Rattle.std.proofs.lemmas.List.{append_cancel_left, take_all}
 use Rattle.std.proofs.Math.Seq.{drop-append_seam, take-append_seam, drop-length}
 use Rattle.futures.specs.declared.task.Poll.{Poll}
 use Rattle.futures.specs.declared.task.Poll.TheVariants.{Ready, Pending}
+use Rattle.ftp_base.specs.declared.types.fault.FtpError.{FtpError}
 use Rattle.ftp_base.specs.declared.types.fault.FtpError.TheVariants.{SessionFailed}
+use Rattle.ftp_base.specs.declared.types.fault.ConnectionError.{ConnectionError as Cause}
+use Rattle.ftp_base.specs.declared.types.reply.Response.{Response}
+use Rattle.ftp_base.specs.declared.status.Status.{Status}
+use Rattle.ftp_base.specs.declared.status.Status.TheVariants.{System}
+use Rattle.ftp_base.specs.declared.command.Command.{Command}
+use Rattle.ftp_base.specs.Command.{text_of}
+use Rattle.ftp_base.specs.Wire.{wire}
 use Rattle.ftp_control.specs.declared.control.rule.ReplyRule.{ReplyRule}
 use Rattle.ftp_control.specs.declared.transport.room.Room.{Room}
 use Rattle.ftp_control.specs.declared.transport.room.Room.TheVariants.{Any, UpTo}
+use Rattle.ftp_control.specs.declared.transport.request.Asked.{Asked}
+use Rattle.ftp_control.specs.Asking.{outcomes_of}
 use Rattle.ftp_control.specs.Told.{Told, HasRoomFor, HasNoRoom, IsDry, IsFull, EndsAsTold}
 use Rattle.ftp_control.specs.Memory.{IsGiven}
 use Rattle.ftp_control.specs.Reading.{GoesOn}
-use Rattle.ftp_control.specs.Channel.{IsSound}
+use Rattle.ftp_control.specs.Channel.{IsSound, untaken}
+use Rattle.ftp_control.specs.declared.control.outcome.Outcome.TheVariants.{Waits}
+use Rattle.ftp_control.specs.Grammar.{outcome}
+use Rattle.ftp_control.specs.Answer.{is_among}
+use Rattle.ftp_session.specs.declared.session.state.State.{State}
 use Rattle.ftp_session.specs.declared.session.call.Answer.{Answer}
 use Rattle.ftp_session.specs.declared.session.call.Answer.TheVariants.{Fault}
 use Rattle.ftp_session.specs.declared.session.call.Call.{Call}
+use Rattle.ftp_session.specs.declared.session.exchange.Turn.TheVariants.{First}
 use Rattle.ftp_session.specs.declared.session.stage.Stage.{Stage}
-use Rattle.ftp_session.specs.declared.session.stage.Stage.TheVariants.{Begun, Saying, Hearing}
-use Rattle.ftp_session.specs.declared.plain.Standing.{Standing}
-use Rattle.ftp_session.specs.declared.plain.Wait.{Wait}
-use Rattle.ftp_session.specs.declared.plain.Wait.TheVariants as wait
-use Rattle.ftp_session.specs.declared.plain.Played.TheVariants.{Done, Waits}
-use Rattle.ftp_session.specs.declared.plain.Ran.{Ran}
-use Rattle.ftp_session.specs.declared.plain.Ran.TheVariants.{Finished, Waiting}
+use Rattle.ftp_session.specs.declared.session.stage.Stage.TheVariants.{At}
+use Rattle.ftp_session.specs.declared.model.Standing.{Standing}
+use Rattle.ftp_session.specs.declared.model.Wait.{Wait}
+use Rattle.ftp_session.specs.declared.model.Wait.TheVariants as wait
+use Rattle.ftp_session.specs.declared.model.Played.TheVariants as played
+use Rattle.ftp_session.specs.declared.model.Ran.{Ran}
+use Rattle.ftp_session.specs.declared.model.Ran.TheVariants.{Finished, Waiting}
+use Rattle.ftp_session.specs.declared.model.Script.{Script}
 use Rattle.ftp_session.specs.State.{SessionValue}
-use Rattle.ftp_base.specs.declared.status.Status.{Status}
-use Rattle.ftp_base.specs.declared.status.Status.TheVariants.{System}
-use Rattle.ftp_base.specs.declared.types.reply.Response.{Response}
-use Rattle.ftp_control.specs.declared.control.outcome.Outcome.TheVariants.{Waits as More}
-use Rattle.ftp_control.specs.Grammar.{outcome}
-use Rattle.ftp_control.specs.Answer.{is_among}
-use Rattle.ftp_control.specs.Saying.{due}
-use Rattle.ftp_session.specs.declared.session.settings.State.{State}
-use Rattle.ftp_session.specs.declared.session.call.Call.TheVariants.{Greet, Noop, Quit, CustomCommand, ReadResponse, ReadResponseIn}
-use Rattle.ftp_session.specs.Dialogue.{Tree, Say, Hear, command_of, codes_of, accepted, dialogue, hearing, saying, says}
-use Rattle.ftp_base.specs.declared.command.Command.{Command}
-use Rattle.ftp_base.specs.declared.types.fault.ConnectionError.{ConnectionError as Cause}
-use Rattle.ftp_base.specs.Command.{text_of}
-use Rattle.ftp_base.specs.Wire.{wire}
+use Rattle.ftp_session.specs.Coding.{Coding}
+use Rattle.ftp_session.specs.Exchanges.{exchange_of, statuses, is_read}
+use Rattle.ftp_session.specs.Dialogue.{Tree, Say, Hear, saying, awaiting, later, dialogue}
 use Rattle.ftp_session.specs.Play.{play, fits, heard_then}
 use Rattle.ftp_session.specs.Run.{run, and_then, Resumes, Silent}
-use Rattle.ftp_session.specs.Running.{before_all}
-use Rattle.ftp_session.specs.Moving.{standing, left, Goes, Keeps, Calm, Moves, Completes, Breaks, Polls, Rests, WaitsFor}
-use Rattle.ftp_session.specs.declared.plain.Script.{Script}
-use Rattle.ftp_session.specs.Script.{unread, is_over, start_of, front, seen_in, seen_at, system_at, hears_system, polled_as, poll_script, is_read, MayCancel, MayPoll}
-use Rattle.ftp_session.specs.Following.{Stands, Reaches, UnderWay, Place, Follows, PollsHere, BreaksCall}
-use Rattle.ftp_session.proofs.Moving.{goes_behind, fitted, play-Say}
+use Rattle.ftp_session.specs.Promises.{standing, before_all, Goes, Leads, Rests, Aborts}
+use Rattle.ftp_session.specs.Script.{unread, is_over, start_of, front, seen_in, seen_at, system_at, hears_system, polled_as, poll_script, MayCancel, MayPoll}
+use Rattle.ftp_session.specs.Scripted.{Reaches, LeftOf}
+use Rattle.ftp_session.specs.Steps.Stages.{remaining, begun_at}
+use Rattle.ftp_session.specs.Steps.Moving.{Keeps, Shrinks, Calm, Moves, Advances, Ends, PollSteps, WaitsFor, WaitsToSay, WaitsToHear}
+use Rattle.ftp_session.specs.Steps.Following.{Stands, UnderWay, Started, Place, Follows, PollsHere, AbortsCall}
+use Rattle.ftp_session.proofs.Moving.{goes_after, fitted, play-Say}
 use Rattle.ftp_session.proofs.Hearing.{play-Hear, nothing_says}
 use Rattle.ftp_session.proofs.Running.{run-nil, run-cons, before_all-snoc, before_all-Finished, before_all-Waiting, refuses_on}
 
@@ -92,57 +98,30 @@ same_over t u same grows told =
         clash (inr e) = cc e
     go false false false grows told = refl
 
--- Runs
+-- nothing was asked
+none_answered : (asked answered : List Asked) → asked ≡ asked ++ answered → answered ≡ []
+none_answered asked answered is = append_cancel_left asked answered [] (sym is ∙ sym (append-nil asked))
 
--- the next call under way
-pub stands_reaches : (old v : SessionValue) (items : List Call) (came : List ℕ) (answers : List Answer) (call : Call) → v.channel.failed ≡ false → Stands old items came v answers → Reaches old items came v answers call (dialogue Ok call v.state)
-stands_reaches old v items came answers call going stands = λ later room more ended fit on.
-    let s : Standing = standing v [] more ended [] in
-    let next : Standing → Ran = λ t. run room Ok later t in
-    let P : Bool → Type 0 = λ failed. cond failed (Done (Fault SessionFailed) s) (play room (dialogue Ok call s.state) s) ≡ play room (dialogue Ok call s.state) s in
-    stands (call ∷ later) room more ended fit on
-    ∙ ap (before_all answers) (run-cons room call later s ∙ ap (λ p. and_then p next) (subst P (sym going) refl))
+module _ (v w : SessionValue) (same : w.asked ≡ v.asked) where
+  plain_ends : (tree : Tree) (answer : Answer) (ends : Ends (Unit {0}) tree answer v w) → Resumes v.channel.rule v.channel.kept tree → (room : Room) (more : List ℕ) (ended : Bool) → HasRoomFor room (length w.channel.told.sent) → GoesOn w.channel.ended more ended → play room tree (standing v (ends.completes.came ++ more) ended []) ≡ played.Done answer (standing w more ended [])
+  plain_ends tree answer ends resumes room more ended fit on =
+      let done = ends.completes in
+      let none : done.answered ≡ [] = none_answered v.asked done.answered (sym same ∙ done.goes.asked tt) in
+      let P : List Asked → Type 0 = λ a. play room tree (standing v (done.came ++ more) ended (outcomes_of a ++ [])) ≡ played.Done answer (standing w more ended []) in
+      subst P none (done.plays tt resumes room more ended [] fit on)
 
-module _ (old v w : SessionValue) (items : List Call) (came : List ℕ) (answers : List Answer) (call : Call) where
-  -- the call has its answer
-  pub reaches_stands : (tree : Tree) (answer : Answer) → Reaches old items came v answers call tree → (done : Completes (Unit {0}) tree answer v w) → Resumes v.channel.rule v.channel.kept tree → Stands old (items ++ call ∷ []) (came ++ done.came) w (answers ++ answer ∷ [])
-  reaches_stands tree answer reaches done resumes = λ later room more ended fit on.
-      let next : Standing → Ran = λ t. run room Ok later t in
-      let first = reaches later room (done.came ++ more) ended (fitted room _ _ (done.goes.sent tt) fit) (goes_behind v.channel.ended done.came more w.channel.ended ended done.goes.over on) in
-      rw (append_assoc items (call ∷ []) later, append_assoc came done.came more)
-      (first
-      ∙ ap (λ p. before_all answers (and_then p next)) (done.plays tt resumes room [] more ended [] fit on)
-      ∙ sym (before_all-snoc answers answer (run room Ok later (standing w [] more ended []))))
-
-  -- more of it is left
-  pub reaches_on : (tree tree' : Tree) → Reaches old items came v answers call tree → (moves : Moves (Unit {0}) tree tree' v w) → Resumes v.channel.rule v.channel.kept tree → Reaches old items (came ++ moves.came) w answers call tree'
-  reaches_on tree tree' reaches moves resumes = λ later room more ended fit on.
-      let next : Standing → Ran = λ t. run room Ok later t in
-      let first = reaches later room (moves.came ++ more) ended (fitted room _ _ (moves.goes.sent tt) fit) (goes_behind v.channel.ended moves.came more w.channel.ended ended moves.goes.over on) in
-      rw (append_assoc came moves.came more)
-      (first ∙ ap (λ p. before_all answers (and_then p next)) (moves.plays tt resumes room [] more ended [] fit on))
-
--- the session has failed
-pub stands_refused : (old v : SessionValue) (items : List Call) (came : List ℕ) (answers : List Answer) (call : Call) → v.channel.failed ≡ true → Stands old items came v answers → Stands old (items ++ call ∷ []) (came ++ []) v (answers ++ Fault SessionFailed ∷ [])
-stands_refused old v items came answers call failed stands = λ later room more ended fit on.
-    rw (append_assoc items (call ∷ []) later, append-nil came)
-    (stands (call ∷ later) room more ended fit on
-    ∙ ap (before_all answers) (refuses_on room call later (standing v [] more ended []) failed)
-    ∙ sym (before_all-snoc answers (Fault SessionFailed) (run room Ok later (standing v [] more ended []))))
-
--- a plain read that waits leaves no trace
-pub stands_rests : (old v w : SessionValue) (items : List Call) (came : List ℕ) (answers : List Answer) → Stands old items came v answers → (rests : Rests (Unit {0}) v w) → Stands old items (came ++ rests.came) w answers
-stands_rests old v w items came answers stands rests = λ later room more ended fit on.
-    let first = stands later room (rests.came ++ more) ended (fitted room _ _ (rests.goes.sent tt) fit) (goes_behind v.channel.ended rests.came more w.channel.ended ended rests.goes.over on) in
-    rw (append_assoc came rests.came more)
-    (first ∙ ap (λ s. before_all answers (run room Ok later s)) (rests.stays tt [] more ended []))
+  plain_leads : (tree tree' : Tree) (leads : Leads (Unit {0}) tree tree' v w) → Resumes v.channel.rule v.channel.kept tree → (room : Room) (more : List ℕ) (ended : Bool) → HasRoomFor room (length w.channel.told.sent) → GoesOn w.channel.ended more ended → play room tree (standing v (leads.came ++ more) ended []) ≡ play room tree' (standing w more ended [])
+  plain_leads tree tree' leads resumes room more ended fit on =
+      let none : leads.answered ≡ [] = none_answered v.asked leads.answered (sym same ∙ leads.goes.asked tt) in
+      let P : List Asked → Type 0 = λ a. play room tree (standing v (leads.came ++ more) ended (outcomes_of a ++ [])) ≡ play room tree' (standing w more ended []) in
+      subst P none (leads.plays tt resumes room more ended [] fit on)
 
 -- What is read
 
-seen_none : (s : Script) (left : List ℕ) (kept came : ℕ) → s.seen ≡ kept → length s.untaken ≡ kept + (came + length left) → seen_in s left ≡ 0
-seen_none s left kept came seen untaken =
+seen_none : (s : Script) (left : List ℕ) (kept : ℕ) → s.seen ≡ kept → kept + length left ≤ length s.untaken → seen_in s left ≡ 0
+seen_none s left kept seen fewer =
     elim (eqb (length left) (length s.untaken)) as (λ t. eqb (length left) (length s.untaken) ≡ t → cond t s.seen 0 ≡ 0) [
-      | true ↦ λ t. omega (arith, seen, untaken, eqb-true _ _ t)
+      | true ↦ λ t. omega (arith, seen, fewer, eqb-true _ _ t)
       | false ↦ λ t. refl
     ] refl
 
@@ -152,32 +131,22 @@ seen_same s left same =
     rw test
 
 -- how many of the untaken bytes a poll has read
-pub seen_kept : (P : Type 0) (s : Script) (v w : SessionValue) (came : List ℕ) → s.seen ≡ length v.channel.kept → s.untaken ≡ v.channel.kept ++ unread v.channel.told → unread v.channel.told ≡ came ++ unread w.channel.told → Keeps P came v w → seen_in s (w.channel.kept ++ unread w.channel.told) ≡ length w.channel.kept
-seen_kept P s v w came seen untaken split (inl none) =
-    let count : length s.untaken ≡ length v.channel.kept + (length came + length (unread w.channel.told)) =
-    ap length (untaken ∙ ap (λ u. v.channel.kept ++ u) split) ∙ length-append v.channel.kept (came ++ unread w.channel.told) ∙ ap (λ n. length v.channel.kept + n) (length-append came (unread w.channel.told)) in
-    rw none (seen_none s (unread w.channel.told) (length v.channel.kept) (length came) seen count)
-seen_kept P s v w came seen untaken split (inr same) =
-    let left : w.channel.kept ++ unread w.channel.told ≡ s.untaken =
-    ap (λ k. k ++ unread w.channel.told) same.0 ∙ ap (λ u. v.channel.kept ++ u) (sym (split ∙ ap (λ c. c ++ unread w.channel.told) same.1)) ∙ sym untaken in
-    seen_same s (w.channel.kept ++ unread w.channel.told) left ∙ seen ∙ ap length (sym same.0)
+pub seen_kept : (P : Type 0) (s : Script) (v w : SessionValue) (came : List ℕ) → s.seen ≡ length v.channel.kept → s.untaken ≡ untaken v.channel ++ unread v.channel.told → unread v.channel.told ≡ came ++ unread w.channel.told → Shrinks came v w → Keeps P came v w → seen_in s (untaken w.channel ++ unread w.channel.told) ≡ length w.channel.kept
+seen_kept P s v w came seen untaken_is split shrinks (inl none) =
+    let count : length s.untaken ≡ (length v.channel.kept + length v.channel.ahead) + (length came + length (unread w.channel.told)) =
+    ap length (untaken_is ∙ ap (λ u. untaken v.channel ++ u) split) ∙ length-append (untaken v.channel) (came ++ unread w.channel.told) ∙ ap (λ n. n + length (came ++ unread w.channel.told)) (length-append v.channel.kept v.channel.ahead) ∙ ap (λ n. (length v.channel.kept + length v.channel.ahead) + n) (length-append came (unread w.channel.told)) in
+    let left : length (untaken w.channel ++ unread w.channel.told) ≡ length w.channel.ahead + length (unread w.channel.told) =
+    length-append (untaken w.channel) (unread w.channel.told) ∙ ap (λ k. length (k ++ w.channel.ahead) + length (unread w.channel.told)) none in
+    seen_none s (untaken w.channel ++ unread w.channel.told) (length v.channel.kept) seen (omega (arith, count, left, shrinks)) ∙ sym (ap length none)
+seen_kept P s v w came seen untaken_is split shrinks (inr same) =
+    let left : untaken w.channel ++ unread w.channel.told ≡ s.untaken =
+    ap (λ k. (k ++ w.channel.ahead) ++ unread w.channel.told) same.0 ∙ ap (λ a. (v.channel.kept ++ a) ++ unread w.channel.told) same.1 ∙ ap (λ u. untaken v.channel ++ u) (sym (split ∙ ap (λ c. c ++ unread w.channel.told) same.2)) ∙ sym untaken_is in
+    seen_same s (untaken w.channel ++ unread w.channel.told) left ∙ seen ∙ ap length (sym same.0)
 
 -- what is kept says nothing yet under the list that it was read under
-pub waits_kept : (P : Type 0) (s : Script) (v w : SessionValue) (came : List ℕ) → w.channel.rule ≡ v.channel.rule → outcome v.channel.rule s.system v.channel.kept false ≡ More → Keeps P came v w → outcome w.channel.rule s.system w.channel.kept false ≡ More
+pub waits_kept : (P : Type 0) (s : Script) (v w : SessionValue) (came : List ℕ) → w.channel.rule ≡ v.channel.rule → outcome v.channel.rule s.system v.channel.kept false ≡ Waits → Keeps P came v w → outcome w.channel.rule s.system w.channel.kept false ≡ Waits
 waits_kept P s v w came rule waits (inl none) = rw none (nothing_says w.channel.rule s.system)
 waits_kept P s v w came rule waits (inr same) = rw (same.0, rule) waits
-
--- a reply that says nothing yet under a call's list is resumed by the call
-resumes_dialogue : (rule : ReplyRule) (kept : List ℕ) (call : Call) (state : State) → outcome rule (hears_system call) kept false ≡ More → Resumes rule kept (dialogue Ok call state)
-resumes_dialogue rule kept call state waits = go (command_of call)
-  where
-    line : (l : Result (List ℕ) Cause) → Resumes rule kept (Say l (hearing call state))
-    line (Ok bytes) = waits
-    line (Err cause) = tt
-
-    go : (command : Option Command) → Resumes rule kept (saying Ok command (hearing call state))
-    go None = waits
-    go (Some command) = line (wire Ok (text_of command))
 
 positive : (l : List ℕ) → (l ≡ [] → ⊥) → 0 < length l
 positive [] some = absurd (some refl)
@@ -191,8 +160,6 @@ full_room (UpTo most) sent unsent line fit full some =
     let same : most ≡ length sent = omega (arith, fit, full) in
     (lt-leb _ _ (omega (arith, count, positive unsent some, fit, full)), rw (same, append_assoc sent unsent line) (take-append_seam sent (unsent ++ line)))
 
--- A Poll
-
 -- what a poll leaves of a connection
 pub record Carried (v w : SessionValue) (came : List ℕ) : Type 0 where
   pub rule : w.channel.rule ≡ v.channel.rule
@@ -203,8 +170,8 @@ pub record Carried (v w : SessionValue) (came : List ℕ) : Type 0 where
   pub has : IsGiven w.channel.told
   pub sound : IsSound (Unit {0}) w.channel
 
-pub carried : (v w : SessionValue) (came : List ℕ) → Goes (Unit {0}) came v w → IsSound (Unit {0}) v.channel → EndsAsTold v.channel.ended w.channel.ended v.channel.told → IsGiven w.channel.told → IsSound (Unit {0}) w.channel → Carried v w came
-carried v w came goes sound end given sound' = record {
+pub carried : (v w : SessionValue) (came : List ℕ) (answered : List Asked) → Goes (Unit {0}) came answered v w → IsSound (Unit {0}) v.channel → EndsAsTold v.channel.ended w.channel.ended v.channel.told → IsGiven w.channel.told → IsSound (Unit {0}) w.channel → Carried v w came
+carried v w came answered goes sound end given sound' = record {
   rule = goes.rule;
   failures = goes.failures tt;
   split = unread_split v.channel.told w.channel.told came given (goes.given tt) (goes.received tt);
@@ -218,266 +185,346 @@ carried v w came goes sound end given sound' = record {
     go (inl e) = inl (sound.ended tt ∙ e)
     go (inr e) = inr e
 
--- what was fed, seen from behind a poll
-module _ (old : SessionValue) (s : Script) (v w : SessionValue) (call : Call) (stage : Stage) (answers : List Answer) (f : Follows old s v (Some call) stage answers) (came : List ℕ) (c : Carried v w came) where
-  fed_bytes : s.bytes ≡ old.channel.kept ++ (f.came ++ came) ++ unread w.channel.told
-  fed_bytes =
-      f.bytes
-      ∙ ap (λ u. old.channel.kept ++ f.came ++ u) c.split
-      ∙ sym (append_assoc (old.channel.kept ++ f.came) came (unread w.channel.told))
-      ∙ ap (λ k. k ++ unread w.channel.told) (append_assoc old.channel.kept f.came came)
-
-  abbrev here : Standing
-  here = standing w [] (unread w.channel.told) (is_over w.channel.told) []
-
-  fits_here : HasRoomFor s.room (length w.channel.told.sent)
-  fits_here = let P : Room → Type 0 = λ room. HasRoomFor room (length w.channel.told.sent) in subst P (sym (f.room ∙ ap (λ g. g.room) (sym c.given))) (c.sound.fits tt)
-
-  over_is : s.ended ≡ is_over w.channel.told
-  over_is = f.ended ∙ sym c.over
-
-  -- the run from the script's beginning is the one that the session has made
-  from_start : (calls : List Call) → run s.room Ok calls (record (start_of old) { bytes = s.bytes; ended = s.ended }) ≡ run s.room Ok calls (standing old [] ((f.came ++ came) ++ unread w.channel.told) (is_over w.channel.told) [])
-  from_start calls =
-      let bytes : s.bytes ≡ old.channel.kept ++ ((f.came ++ came) ++ unread w.channel.told) = fed_bytes ∙ append_assoc old.channel.kept (f.came ++ came) (unread w.channel.told) in
-      rw (bytes, over_is)
-
-  going_on : GoesOn w.channel.ended (unread w.channel.told) (is_over w.channel.told)
-  going_on = over_at_end w c.has c.sound
-
-  -- the call is done
-  pub finish : (P : Type 0) (stage' : Stage) (answer : Answer) → Stands old (s.items ++ call ∷ []) (f.came ++ came) w (s.answers ++ answer ∷ []) → Keeps P came v w → Follows old (poll_script (start_of old) (Some call) s) w None stage' (answers ++ answer ∷ [])
-  finish P stage' answer stands keeps =
-      let ran : run s.room Ok (s.items ++ call ∷ []) (record (start_of old) { bytes = s.bytes; ended = s.ended }) ≡ Finished (s.answers ++ answer ∷ []) here =
-      from_start (s.items ++ call ∷ [])
-      ∙ ap (λ items. run s.room Ok items (standing old [] ((f.came ++ came) ++ unread w.channel.told) (is_over w.channel.told) [])) (sym (append-nil (s.items ++ call ∷ [])))
-      ∙ stands [] s.room (unread w.channel.told) (is_over w.channel.told) fits_here going_on
-      ∙ ap (before_all (s.answers ++ answer ∷ [])) (run-nil s.room here)
-      ∙ before_all-Finished (s.answers ++ answer ∷ []) [] here
-      ∙ ap (λ a. Finished a here) (append-nil (s.answers ++ answer ∷ [])) in
-      let after : Script = polled_as (Finished (s.answers ++ answer ∷ []) here) call s in
-      let Q : Ran → Type 0 = λ r. Follows old (polled_as r call s) w None stage' (answers ++ answer ∷ []) in
-      let follows : Follows old after w None stage' (answers ++ answer ∷ []) = record {
-        came = f.came ++ came;
-        place = stands;
-        rule = c.rule ∙ f.rule;
-        failures = c.failures ∙ f.failures;
-        given = c.has;
-        sound = c.sound;
-        bytes = fed_bytes;
-        ended = over_is;
-        room = f.room ∙ ap (λ g. g.room) (sym c.given);
-        sent = front_fits s.room w.channel.told.sent fits_here;
-        rest = λ may. refl;
-        untaken = refl;
-        seen = seen_kept P s v w came f.seen f.untaken c.split keeps;
-        waits = waits_kept P s v w came c.rule f.waits keeps;
-        state = refl;
-        failed = refl;
-        call_is = refl;
-        answers_are = ap (λ a. a ++ answer ∷ []) f.answers_are;
-      } in
-      subst Q (sym ran) follows
-
-  -- the call waits
-  pub wait_on : (tree : Tree) (stage' : Stage) (wait : Wait) (t : Standing) → Reaches old s.items (f.came ++ came) w s.answers call tree → play s.room tree here ≡ Waits wait t → front s.room t.said ≡ w.channel.told.sent → t.bytes ≡ w.channel.kept ++ unread w.channel.told → seen_at wait s t.bytes ≡ length w.channel.kept → outcome w.channel.rule (system_at wait call s) w.channel.kept false ≡ More → t.state ≡ w.state → t.failed ≡ w.channel.failed → (MayCancel (Some call) true → s.rest ≡ w.channel.unsent) → Place old (polled_as (Waiting s.answers wait t) call s) (f.came ++ came) w (Some call) stage' → Follows old (poll_script (start_of old) (Some call) s) w (Some call) stage' answers
-  wait_on tree stage' wait t reaches waits sent bytes seen says_nothing state failed rest place =
-      let next : Standing → Ran = λ u. run s.room Ok [] u in
-      let ran : run s.room Ok (s.items ++ call ∷ []) (record (start_of old) { bytes = s.bytes; ended = s.ended }) ≡ Waiting s.answers wait t =
-      from_start (s.items ++ call ∷ [])
-      ∙ reaches [] s.room (unread w.channel.told) (is_over w.channel.told) fits_here going_on
-      ∙ ap (λ p. before_all s.answers (and_then p next)) waits
-      ∙ before_all-Waiting s.answers [] wait t
-      ∙ ap (λ a. Waiting a wait t) (append-nil s.answers) in
-      let Q : Ran → Type 0 = λ r. Follows old (polled_as r call s) w (Some call) stage' answers in
-      let follows : Follows old (polled_as (Waiting s.answers wait t) call s) w (Some call) stage' answers = record {
-        came = f.came ++ came;
-        place = place;
-        rule = c.rule ∙ f.rule;
-        failures = c.failures ∙ f.failures;
-        given = c.has;
-        sound = c.sound;
-        bytes = fed_bytes;
-        ended = over_is;
-        room = f.room ∙ ap (λ g. g.room) (sym c.given);
-        sent = sent;
-        rest = rest;
-        untaken = bytes;
-        seen = seen;
-        waits = says_nothing;
-        state = state;
-        failed = failed;
-        call_is = f.call_is;
-        answers_are = f.answers_are;
-      } in
-      subst Q (sym ran) follows
-
-  -- it waits for room
-  say_waits : (line : List ℕ) (next : Tree) → (w.channel.unsent ≡ [] → ⊥) → IsFull w.channel.told → (play s.room (Say (Ok line) next) here ≡ Waits wait.Room (record here { said = w.channel.told.sent ++ w.channel.unsent ++ line; rest = [] })) × (front s.room (w.channel.told.sent ++ w.channel.unsent ++ line) ≡ w.channel.told.sent)
-  say_waits line next some full =
-      let P : Room → Type 0 = λ room. HasNoRoom room (length w.channel.told.sent) in
-      let none : HasNoRoom s.room (length w.channel.told.sent) = subst P (sym (f.room ∙ ap (λ g. g.room) (sym c.given))) full in
-      let stuck = full_room s.room w.channel.told.sent w.channel.unsent line fits_here none some in
-      (play-Say s.room line next here ∙ rw stuck.0, stuck.1)
-
-  -- it waits for bytes
-  hear_waits : (codes : List Status) (next : Response → Tree) → IsDry w.channel.told → w.channel.ended ≡ false → Resumes w.channel.rule w.channel.kept (Hear codes next) → (play s.room (Hear codes next) here ≡ Waits wait.Bytes here) × (unread w.channel.told ≡ [])
-  hear_waits codes next dry unended resumes =
-      let t = w.channel.told in
-      let none : unread t ≡ [] = ap (λ r. drop (length r) t.given.bytes) dry.all ∙ drop-length t.given.bytes in
-      let on : is_over t ≡ false = ap (λ b. b || t.ended) dry.open_end ∙ c.sound.ended tt ∙ unended in
-      let system = is_among codes System in
-      let more : outcome w.channel.rule system (w.channel.kept ++ unread t) (is_over t) ≡ More =
-      ap (λ u. outcome w.channel.rule system (w.channel.kept ++ u) (is_over t)) none
-      ∙ ap (λ k. outcome w.channel.rule system k (is_over t)) (append-nil w.channel.kept)
-      ∙ ap (λ o. outcome w.channel.rule system w.channel.kept o) on
-      ∙ resumes in
-      (play-Hear s.room codes next here ∙ ap (λ h. heard_then h codes here (λ reply u. play s.room (next reply) u)) more, none)
-
-read_says : (call : Call) → is_read call ≡ true → says call ≡ false
-read_says Greet is = refl
-read_says Noop is = let clash : false ≡ true = is in cc
-read_says Quit is = let clash : false ≡ true = is in cc
-read_says (CustomCommand line codes) is = let clash : false ≡ true = is in cc
-read_says (ReadResponse status) is = refl
-read_says (ReadResponseIn codes) is = refl
-
--- where a poll begins
-pub record Resumed (old : SessionValue) (s : Script) (came : List ℕ) (v : SessionValue) (call : Call) (stage : Stage) : Type 0 where
-  pub reaches : Reaches old s.items came v s.answers call (left Ok call v.state stage)
-  pub resumes : Resumes v.channel.rule v.channel.kept (left Ok call v.state stage)
-  pub read : is_read call ≡ true → Stands old s.items came v s.answers
-
-module _ (old : SessionValue) (s : Script) (v w : SessionValue) (call : Call) (stage : Stage) (answers : List Answer) (f : Follows old s v (Some call) stage answers) (going : v.channel.failed ≡ false) (from : Resumed old s f.came v call stage) where
-  -- a poll that waits
-  pending : (stage' : Stage) → (stage' ≡ Begun → ⊥) → (moves : Moves (Unit {0}) (left Ok call v.state stage) (left Ok call v.state stage') v w) → WaitsFor (Unit {0}) (left Ok call v.state stage') w → (says call ≡ false → Rests (Unit {0}) v w) → Carried v w moves.came → Follows old (poll_script (start_of old) (Some call) s) w (Some call) stage' answers
-  pending stage' begun moves waits rests c = go stage' refl begun moves.calm waits
-    where
-      came' : List ℕ
-      came' = f.came ++ moves.came
-
-      reaches' : Reaches old s.items (f.came ++ moves.came) w s.answers call (left Ok call v.state stage')
-      reaches' = reaches_on old v w s.items f.came s.answers call (left Ok call v.state stage) (left Ok call v.state stage') from.reaches moves from.resumes
-
-      read' : is_read call ≡ true → Stands old s.items (f.came ++ moves.came) w s.answers
-      read' is =
-          let rest = rests (read_says call is) in
-          let same : rest.came ≡ moves.came = append_cancel_left v.channel.told.received rest.came moves.came (sym (rest.goes.received tt) ∙ moves.goes.received tt) in
-          let P : List ℕ → Type 0 = λ x. Stands old s.items (f.came ++ x) w s.answers in
-          subst P same (stands_rests old v w s.items f.came s.answers (from.read is) rest)
-
-      rest' : MayCancel (Some call) true → s.rest ≡ w.channel.unsent
-      rest' (inl new) = let clash : true ≡ false = new in cc
-      rest' (inr read) = f.rest (inr read) ∙ ap (λ t. t.rest) ((rests (read_says call read)).stays tt [] [] false [])
-
-      under_way : (t : Standing) (wait : Wait) → UnderWay old (polled_as (Waiting s.answers wait t) call s) (f.came ++ moves.came) w call stage'
-      under_way t wait = record {
-        polled = refl;
-        going = moves.failed ∙ going;
-        reaches = let P : State → Type 0 = λ state. Reaches old s.items (f.came ++ moves.came) w s.answers call (left Ok call state stage') in subst P (sym moves.state) reaches';
-        resumes = let P : State → Type 0 = λ state. Resumes w.channel.rule w.channel.kept (left Ok call state stage') in subst P (sym moves.state) (moves.resumes from.resumes);
-        read = read';
-      }
-
-      go : (x : Stage) → stage' ≡ x → (x ≡ Begun → ⊥) → (Calm (left Ok call v.state x) → Keeps (Calm (left Ok call v.state stage)) moves.came v w) → WaitsFor (Unit {0}) (left Ok call v.state x) w → Follows old (poll_script (start_of old) (Some call) s) w (Some call) stage' answers
-      go Begun is begun calm waits = absurd (begun refl)
-      go (Saying line) is begun calm waits =
-          let P : Stage → Type 0 = λ x. Reaches old s.items (f.came ++ moves.came) w s.answers call (left Ok call v.state x) in
-          let F : Stage → Type 0 = λ x. Follows old (poll_script (start_of old) (Some call) s) w (Some call) x answers in
-          let t : Standing = record (here old s v w call stage answers f moves.came c) { said = w.channel.told.sent ++ w.channel.unsent ++ due line; rest = [] } in
-          let U : Stage → Type 0 = λ x. UnderWay old (polled_as (Waiting s.answers wait.Room t) call s) (f.came ++ moves.came) w call x in
-          let stuck = say_waits old s v w call stage answers f moves.came c (due line) (hearing call v.state) waits.0 (waits.1 tt) in
-          let seen = seen_kept (Calm (left Ok call v.state stage)) s v w moves.came f.seen f.untaken c.split (calm tt) in
-          let waits' = waits_kept (Calm (left Ok call v.state stage)) s v w moves.came c.rule f.waits (calm tt) in
-          subst F (sym is)
-          (wait_on old s v w call stage answers f moves.came c (Say (Ok (due line)) (hearing call v.state)) (Saying line) wait.Room t (subst P is reaches') stuck.0 stuck.1 refl seen waits' refl refl rest' (subst U is (under_way t wait.Room)))
-      go Hearing is begun calm waits =
-          let P : Stage → Type 0 = λ x. Reaches old s.items (f.came ++ moves.came) w s.answers call (left Ok call v.state x) in
-          let F : Stage → Type 0 = λ x. Follows old (poll_script (start_of old) (Some call) s) w (Some call) x answers in
-          let R : Stage → Type 0 = λ x. Resumes w.channel.rule w.channel.kept (left Ok call v.state x) in
-          let t : Standing = here old s v w call stage answers f moves.came c in
-          let U : Stage → Type 0 = λ x. UnderWay old (polled_as (Waiting s.answers wait.Bytes t) call s) (f.came ++ moves.came) w call x in
-          let stuck = hear_waits old s v w call stage answers f moves.came c (codes_of call) (accepted call v.state) (waits.1 tt) waits.0 (subst R is (moves.resumes from.resumes)) in
-          let seen : length (w.channel.kept ++ unread w.channel.told) ≡ length w.channel.kept = ap length (ap (λ u. w.channel.kept ++ u) stuck.1 ∙ append-nil w.channel.kept) in
-          let sent = front_fits s.room w.channel.told.sent (fits_here old s v w call stage answers f moves.came c) in
-          subst F (sym is)
-          (wait_on old s v w call stage answers f moves.came c (hearing call v.state) Hearing wait.Bytes t (subst P is reaches') stuck.0 sent refl seen (subst R is (moves.resumes from.resumes)) refl refl rest' (subst U is (under_way t wait.Bytes)))
-
-  -- a poll that completes the call
-  completed : (stage' : Stage) (answer : Answer) (done : Completes (Unit {0}) (left Ok call v.state stage) answer v w) → Carried v w done.came → Follows old (poll_script (start_of old) (Some call) s) w None stage' (answers ++ answer ∷ [])
-  completed stage' answer done c =
-      finish old s v w call stage answers f done.came c (Silent (left Ok call v.state stage)) stage' answer
-      (reaches_stands old v w s.items f.came s.answers call (left Ok call v.state stage) answer from.reaches done from.resumes)
-      done.keeps
-
--- a session that has failed refuses the call
-refused_poll : (old : SessionValue) (s : Script) (v : SessionValue) (call : Call) (stage stage' : Stage) (answers : List Answer) (f : Follows old s v (Some call) stage answers) → v.channel.failed ≡ true → Stands old s.items f.came v s.answers → Follows old (poll_script (start_of old) (Some call) s) v None stage' (answers ++ Fault SessionFailed ∷ [])
-refused_poll old s v call stage stage' answers f failed stands =
-    finish old s v v call stage answers f [] (record { rule = refl; failures = refl; split = refl; given = refl; over = refl; has = f.given; sound = f.sound }) (Unit {0}) stage' (Fault SessionFailed)
-    (stands_refused old v s.items f.came s.answers call failed stands)
-    (inr (refl, refl, tt))
-
--- where a poll of the call under way begins
-placed : (old : SessionValue) (s : Script) (v : SessionValue) (call : Call) (stage : Stage) (answers : List Answer) (f : Follows old s v (Some call) stage answers) → MayPoll (start_of old) (Some call) s → (v.channel.failed ≡ false → Resumed old s f.came v call stage) × (v.channel.failed ≡ true → Stands old s.items f.came v s.answers)
-placed old s v call stage answers f may = go stage f.place
-  where
-    kept : take s.seen s.untaken ≡ v.channel.kept
-    kept = ap (λ n. take n s.untaken) f.seen ∙ ap (λ u. take (length v.channel.kept) u) f.untaken ∙ take-append_seam v.channel.kept (unread v.channel.told)
-
-    resumes : s.polled ≡ false → Resumes v.channel.rule v.channel.kept (dialogue Ok call v.state)
-    resumes new = resumes_dialogue v.channel.rule v.channel.kept call v.state (pick (may new))
-      where
-        pick : (hears_system call ≡ s.system) ⊎ (outcome old.channel.rule (hears_system call) (take s.seen s.untaken) false ≡ More) → outcome v.channel.rule (hears_system call) v.channel.kept false ≡ More
-        pick (inl same) = ap (λ b. outcome v.channel.rule b v.channel.kept false) same ∙ f.waits
-        pick (inr waits) = ap (λ r. outcome r (hears_system call) v.channel.kept false) f.rule ∙ ap (λ k. outcome old.channel.rule (hears_system call) k false) (sym kept) ∙ waits
-
-    under : (x : Stage) → UnderWay old s f.came v call x → (v.channel.failed ≡ false → Resumed old s f.came v call x) × (v.channel.failed ≡ true → Stands old s.items f.came v s.answers)
-    under x u = (
-      λ going. record { reaches = u.reaches; resumes = u.resumes; read = u.read },
-      λ failed. let clash : true ≡ false = sym failed ∙ u.going in cc,
-    )
-
-    go : (x : Stage) → Place old s f.came v (Some call) x → (v.channel.failed ≡ false → Resumed old s f.came v call x) × (v.channel.failed ≡ true → Stands old s.items f.came v s.answers)
-    go Begun place = (
-      λ going. record {
-        reaches = stands_reaches old v s.items f.came s.answers call going place.1;
-        resumes = resumes place.0;
-        read = λ is. place.1;
-      },
-      λ failed. place.1,
-    )
-    go (Saying line) place = under (Saying line) place
-    go Hearing place = under Hearing place
-
 -- what a poll comes to
-abbrev pub PollFollows : SessionValue → Script → SessionValue → SessionValue → Call → Stage → List Answer → Poll Answer → Type 0
-PollFollows old s v w call stage' answers (Ready answer) =
-    Follows old (poll_script (start_of old) (Some call) s) w None stage' (answers ++ answer ∷ []) ⊎ BreaksCall v w (Some answer)
-PollFollows old s v w call stage' answers Pending = Follows old (poll_script (start_of old) (Some call) s) w (Some call) stage' answers
+abbrev pub PollFollows : Coding → SessionValue → Script → SessionValue → SessionValue → Call → Stage → Stage → List Answer → Poll Answer → Type 0
+PollFollows coding old s v w call stage stage' answers (Ready answer) =
+    Follows coding old (poll_script coding (start_of old) (Some call) s) w None stage' (answers ++ answer ∷ []) ⊎ AbortsCall coding call stage v w (Some answer)
+PollFollows coding old s v w call stage stage' answers Pending = Follows coding old (poll_script coding (start_of old) (Some call) s) w (Some call) stage' answers
 
-pub poll_follows : (old : SessionValue) (s : Script) (v w : SessionValue) (call : Call) (stage stage' : Stage) (answers : List Answer) (result : Poll Answer) → Follows old s v (Some call) stage answers → MayPoll (start_of old) (Some call) s → PollsHere call stage stage' v w result → PollFollows old s v w call stage' answers result
-poll_follows old s v w call stage stage' answers result f may here =
-    elim v.channel.failed as (λ t. v.channel.failed ≡ t → PollFollows old s v w call stage' answers result) [
-      | true ↦ λ failed. refused failed
-      | false ↦ λ going. go result going (here.polls going) here.begun here.rests
-    ] refl
-  where
-    refused : v.channel.failed ≡ true → PollFollows old s v w call stage' answers result
-    refused failed =
-        let is = here.refused failed in
-        let P : Poll Answer → Type 0 = λ r. PollFollows old s v w call stage' answers r in
-        let Q : SessionValue → Type 0 = λ x. Follows old (poll_script (start_of old) (Some call) s) x None stage' (answers ++ Fault SessionFailed ∷ []) in
-        subst P (sym is.0) (inl (subst Q (sym is.1) (refused_poll old s v call stage stage' answers f failed ((placed old s v call stage answers f may).1 failed))))
+module _ (coding : Coding) where
+  -- Runs
 
-    from : v.channel.failed ≡ false → Resumed old s f.came v call stage
-    from going = (placed old s v call stage answers f may).0 going
+  -- the next call under way
+  stands_reaches : (old v : SessionValue) (items : List Call) (came : List ℕ) (answers : List Answer) (call : Call) → v.channel.failed ≡ false → Stands coding old items came v answers → Reaches coding old items came v answers call (dialogue coding call v.state)
+  stands_reaches old v items came answers call going stands = λ later room more ended fit on.
+      let s : Standing = standing v more ended [] in
+      let next : Standing → Ran = λ t. run room coding later t in
+      let P : Bool → Type 0 = λ failed. cond failed (played.Done (Fault SessionFailed) s) (play room (dialogue coding call s.state) s) ≡ play room (dialogue coding call s.state) s in
+      stands (call ∷ later) room more ended fit on
+      ∙ ap (before_all answers) (run-cons coding room call later s ∙ ap (λ p. and_then p next) (subst P (sym going) refl))
 
-    carry : (came : List ℕ) → Goes (Unit {0}) came v w → Carried v w came
-    carry came goes = carried v w came goes f.sound here.end here.given here.sound
+  module _ (old v w : SessionValue) (same : w.asked ≡ v.asked) (items : List Call) (came : List ℕ) (answers : List Answer) (call : Call) where
+    -- the call has its answer
+    reaches_stands : (tree : Tree) (answer : Answer) → Reaches coding old items came v answers call tree → (ends : Ends (Unit {0}) tree answer v w) → Resumes v.channel.rule v.channel.kept tree → Stands coding old (items ++ call ∷ []) (came ++ ends.completes.came) w (answers ++ answer ∷ [])
+    reaches_stands tree answer reaches ends resumes = λ later room more ended fit on.
+        let done = ends.completes in
+        let next : Standing → Ran = λ t. run room coding later t in
+        let first = reaches later room (done.came ++ more) ended (fitted room _ _ (done.goes.sent tt) fit) (goes_after v.channel.ended done.came more w.channel.ended ended done.goes.over on) in
+        rw (append_assoc items (call ∷ []) later, append_assoc came done.came more)
+        (first
+        ∙ ap (λ p. before_all answers (and_then p next)) (plain_ends v w same tree answer ends resumes room more ended fit on)
+        ∙ sym (before_all-snoc answers answer (run room coding later (standing w more ended []))))
 
-    go : (r : Poll Answer) → v.channel.failed ≡ false → Polls (Unit {0}) (left Ok call v.state stage) (left Ok call v.state stage') v w r → (r ≡ Pending → stage' ≡ Begun → ⊥) → (r ≡ Pending → says call ≡ false → Rests (Unit {0}) v w) → PollFollows old s v w call stage' answers r
-    go (Ready answer) going (inl done) begun rests = inl (completed old s v w call stage answers f going (from going) stage' answer done (carry done.came done.goes))
-    go (Ready answer) going (inr breaks) begun rests =
-        let P : Answer → Type 0 = λ a. Breaks (Unit {0}) a v w in
-        inr (record { fault = breaks.fault; is = ap Some breaks.is; breaks = subst P breaks.is breaks; given = here.given; sound = here.sound })
-    go Pending going polls begun rests = pending old s v w call stage answers f going (from going) stage' (begun refl) polls.0 polls.1 (rests refl) (carry polls.0.came polls.0.goes)
+    -- more of it is left
+    reaches_on : (tree tree' : Tree) → Reaches coding old items came v answers call tree → (leads : Leads (Unit {0}) tree tree' v w) → Resumes v.channel.rule v.channel.kept tree → Reaches coding old items (came ++ leads.came) w answers call tree'
+    reaches_on tree tree' reaches leads resumes = λ later room more ended fit on.
+        let next : Standing → Ran = λ t. run room coding later t in
+        let first = reaches later room (leads.came ++ more) ended (fitted room _ _ (leads.goes.sent tt) fit) (goes_after v.channel.ended leads.came more w.channel.ended ended leads.goes.over on) in
+        rw (append_assoc came leads.came more)
+        (first ∙ ap (λ p. before_all answers (and_then p next)) (plain_leads v w same tree tree' leads resumes room more ended fit on))
+
+  -- the session has failed
+  stands_refused : (old v : SessionValue) (items : List Call) (came : List ℕ) (answers : List Answer) (call : Call) → v.channel.failed ≡ true → Stands coding old items came v answers → Stands coding old (items ++ call ∷ []) (came ++ []) v (answers ++ Fault SessionFailed ∷ [])
+  stands_refused old v items came answers call failed stands = λ later room more ended fit on.
+      rw (append_assoc items (call ∷ []) later, append-nil came)
+      (stands (call ∷ later) room more ended fit on
+      ∙ ap (before_all answers) (refuses_on coding room call later (standing v more ended []) failed)
+      ∙ sym (before_all-snoc answers (Fault SessionFailed) (run room coding later (standing v more ended []))))
+
+  -- a plain read that waits leaves no trace
+  stands_rests : (old v w : SessionValue) (items : List Call) (came : List ℕ) (answers : List Answer) → Stands coding old items came v answers → (rests : Rests (Unit {0}) v w) → Stands coding old items (came ++ rests.came) w answers
+  stands_rests old v w items came answers stands rests = λ later room more ended fit on.
+      let first = stands later room (rests.came ++ more) ended (fitted room _ _ (rests.goes.sent tt) fit) (goes_after v.channel.ended rests.came more w.channel.ended ended rests.goes.over on) in
+      rw (append_assoc came rests.came more)
+      (first ∙ ap (λ s. before_all answers (run room coding later s)) (rests.stays tt more ended []))
+
+  -- a reply that says nothing yet under a call's list is resumed by the call
+  resumes_dialogue : (rule : ReplyRule) (kept : List ℕ) (call : Call) (state : State) → outcome rule (hears_system call) kept false ≡ Waits → Resumes rule kept (dialogue coding call state)
+  resumes_dialogue rule kept call state waits = go (exchange_of call First).says
+    where
+      next : Tree
+      next = awaiting coding (statuses (exchange_of call First).hears) (exchange_of call First).ending state (later coding call First)
+
+      line : (l : Result (List ℕ) Cause) → Resumes rule kept (Say l (awaiting coding (statuses (exchange_of call First).hears) (exchange_of call First).ending state (later coding call First)))
+      line (Ok bytes) = waits
+      line (Err cause) = tt
+
+      go : (command : Option Command) → Resumes rule kept (saying coding command (awaiting coding (statuses (exchange_of call First).hears) (exchange_of call First).ending state (later coding call First)))
+      go None = waits
+      go (Some command) = line (wire coding.encode (text_of command))
+
+  -- what was fed, seen from after a poll
+  module _ (old : SessionValue) (s : Script) (v w : SessionValue) (call : Call) (stage : Stage) (answers : List Answer) (f : Follows coding old s v (Some call) stage answers) (came : List ℕ) (c : Carried v w came) where
+    fed_bytes : s.bytes ≡ untaken old.channel ++ (f.came ++ came) ++ unread w.channel.told
+    fed_bytes =
+        f.bytes
+        ∙ ap (λ u. untaken old.channel ++ f.came ++ u) c.split
+        ∙ sym (append_assoc (untaken old.channel ++ f.came) came (unread w.channel.told))
+        ∙ ap (λ k. k ++ unread w.channel.told) (append_assoc (untaken old.channel) f.came came)
+
+    abbrev here : Standing
+    here = standing w (unread w.channel.told) (is_over w.channel.told) []
+
+    fits_here : HasRoomFor s.room (length w.channel.told.sent)
+    fits_here = let P : Room → Type 0 = λ room. HasRoomFor room (length w.channel.told.sent) in subst P (sym (f.room ∙ ap (λ g. g.room) (sym c.given))) (c.sound.fits tt)
+
+    over_is : s.ended ≡ is_over w.channel.told
+    over_is = f.ended ∙ sym c.over
+
+    -- the run from the script's beginning is the one that the session has made
+    from_start : (calls : List Call) → run s.room coding calls (record (start_of old) { bytes = s.bytes; ended = s.ended }) ≡ run s.room coding calls (standing old ((f.came ++ came) ++ unread w.channel.told) (is_over w.channel.told) [])
+    from_start calls =
+        let bytes : s.bytes ≡ untaken old.channel ++ ((f.came ++ came) ++ unread w.channel.told) = fed_bytes ∙ append_assoc (untaken old.channel) (f.came ++ came) (unread w.channel.told) in
+        rw (bytes, over_is)
+
+    going_on : GoesOn w.channel.ended (unread w.channel.told) (is_over w.channel.told)
+    going_on = over_at_end w c.has c.sound
+
+    -- the call is done
+    finish : (P : Type 0) (stage' : Stage) (answer : Answer) → Stands coding old (s.items ++ call ∷ []) (f.came ++ came) w (s.answers ++ answer ∷ []) → Shrinks came v w → Keeps P came v w → Follows coding old (poll_script coding (start_of old) (Some call) s) w None stage' (answers ++ answer ∷ [])
+    finish P stage' answer stands shrinks keeps =
+        let ran : run s.room coding (s.items ++ call ∷ []) (record (start_of old) { bytes = s.bytes; ended = s.ended }) ≡ Finished (s.answers ++ answer ∷ []) here =
+        from_start (s.items ++ call ∷ [])
+        ∙ ap (λ items. run s.room coding items (standing old ((f.came ++ came) ++ unread w.channel.told) (is_over w.channel.told) [])) (sym (append-nil (s.items ++ call ∷ [])))
+        ∙ stands [] s.room (unread w.channel.told) (is_over w.channel.told) fits_here going_on
+        ∙ ap (before_all (s.answers ++ answer ∷ [])) (run-nil coding s.room here)
+        ∙ before_all-Finished (s.answers ++ answer ∷ []) [] here
+        ∙ ap (λ a. Finished a here) (append-nil (s.answers ++ answer ∷ [])) in
+        let after : Script = polled_as (Finished (s.answers ++ answer ∷ []) here) call s in
+        let Q : Ran → Type 0 = λ r. Follows coding old (polled_as r call s) w None stage' (answers ++ answer ∷ []) in
+        let follows : Follows coding old after w None stage' (answers ++ answer ∷ []) = record {
+          came = f.came ++ came;
+          place = stands;
+          rule = c.rule ∙ f.rule;
+          failures = c.failures ∙ f.failures;
+          given = c.has;
+          sound = c.sound;
+          bytes = fed_bytes;
+          ended = over_is;
+          room = f.room ∙ ap (λ g. g.room) (sym c.given);
+          sent = front_fits s.room w.channel.told.sent fits_here;
+          unsent = λ may. refl;
+          untaken = refl;
+          seen = seen_kept P s v w came f.seen f.untaken c.split shrinks keeps;
+          waits = waits_kept P s v w came c.rule f.waits keeps;
+          state = refl;
+          failed = refl;
+          call_is = refl;
+          answers_are = ap (λ a. a ++ answer ∷ []) f.answers_are;
+        } in
+        subst Q (sym ran) follows
+
+    -- the call waits
+    wait_on : (tree : Tree) (stage' : Stage) (wait : Wait) (t : Standing) → Reaches coding old s.items (f.came ++ came) w s.answers call tree → play s.room tree here ≡ played.Pending wait t → front s.room t.said ≡ w.channel.told.sent → t.bytes ≡ untaken w.channel ++ unread w.channel.told → seen_at wait s t.bytes ≡ length w.channel.kept → outcome w.channel.rule (system_at wait s) w.channel.kept false ≡ Waits → t.state ≡ w.state → t.failed ≡ w.channel.failed → (MayCancel (Some call) true → s.unsent ≡ w.channel.unsent) → Place coding old (polled_as (Waiting s.answers wait t) call s) (f.came ++ came) w (Some call) stage' → Follows coding old (poll_script coding (start_of old) (Some call) s) w (Some call) stage' answers
+    wait_on tree stage' wait t reaches waits sent bytes seen says_nothing state failed unsent place =
+        let next : Standing → Ran = λ u. run s.room coding [] u in
+        let ran : run s.room coding (s.items ++ call ∷ []) (record (start_of old) { bytes = s.bytes; ended = s.ended }) ≡ Waiting s.answers wait t =
+        from_start (s.items ++ call ∷ [])
+        ∙ reaches [] s.room (unread w.channel.told) (is_over w.channel.told) fits_here going_on
+        ∙ ap (λ p. before_all s.answers (and_then p next)) waits
+        ∙ before_all-Waiting s.answers [] wait t
+        ∙ ap (λ a. Waiting a wait t) (append-nil s.answers) in
+        let Q : Ran → Type 0 = λ r. Follows coding old (polled_as r call s) w (Some call) stage' answers in
+        let follows : Follows coding old (polled_as (Waiting s.answers wait t) call s) w (Some call) stage' answers = record {
+          came = f.came ++ came;
+          place = place;
+          rule = c.rule ∙ f.rule;
+          failures = c.failures ∙ f.failures;
+          given = c.has;
+          sound = c.sound;
+          bytes = fed_bytes;
+          ended = over_is;
+          room = f.room ∙ ap (λ g. g.room) (sym c.given);
+          sent = sent;
+          unsent = unsent;
+          untaken = bytes;
+          seen = seen;
+          waits = says_nothing;
+          state = state;
+          failed = failed;
+          call_is = f.call_is;
+          answers_are = f.answers_are;
+        } in
+        subst Q (sym ran) follows
+
+    -- it waits for room
+    say_waits : (line : List ℕ) (next : Tree) → (w.channel.unsent ≡ [] → ⊥) → IsFull w.channel.told → (play s.room (Say (Ok line) next) here ≡ played.Pending wait.Room (record here { said = w.channel.told.sent ++ w.channel.unsent ++ line; unsent = [] })) × (front s.room (w.channel.told.sent ++ w.channel.unsent ++ line) ≡ w.channel.told.sent)
+    say_waits line next some full =
+        let P : Room → Type 0 = λ room. HasNoRoom room (length w.channel.told.sent) in
+        let none : HasNoRoom s.room (length w.channel.told.sent) = subst P (sym (f.room ∙ ap (λ g. g.room) (sym c.given))) full in
+        let stuck = full_room s.room w.channel.told.sent w.channel.unsent line fits_here none some in
+        (play-Say s.room line next here ∙ rw stuck.0, stuck.1)
+
+    -- it waits for bytes: all were read
+    all_read : w.channel.ahead ≡ [] → IsDry w.channel.told → untaken w.channel ++ unread w.channel.told ≡ w.channel.kept
+    all_read none_ahead dry =
+        let t = w.channel.told in
+        let none : unread t ≡ [] = ap (λ r. drop (length r) t.given.bytes) dry.all ∙ drop-length t.given.bytes in
+        ap (λ u. untaken w.channel ++ u) none ∙ append-nil (untaken w.channel) ∙ ap (λ a. w.channel.kept ++ a) none_ahead ∙ append-nil w.channel.kept
+
+    hear_waits : (codes : List Status) (next : Result Response FtpError → Tree) → IsDry w.channel.told → w.channel.ahead ≡ [] → w.channel.ended ≡ false → Resumes w.channel.rule w.channel.kept (Hear codes next) → play s.room (Hear codes next) here ≡ played.Pending (wait.Bytes (is_among codes System)) here
+    hear_waits codes next dry none_ahead unended resumes =
+        let t = w.channel.told in
+        let on : is_over t ≡ false = ap (λ b. b || t.ended) dry.open_end ∙ c.sound.ended tt ∙ unended in
+        let system = is_among codes System in
+        let more : outcome w.channel.rule system (untaken w.channel ++ unread t) (is_over t) ≡ Waits =
+        ap (λ k. outcome w.channel.rule system k (is_over t)) (all_read none_ahead dry)
+        ∙ ap (λ o. outcome w.channel.rule system w.channel.kept o) on
+        ∙ resumes in
+        play-Hear s.room codes next here ∙ ap (λ h. heard_then h codes here (λ heard u. play s.room (next heard) u)) more
+
+  -- where a poll begins
+  pub record Resumed (old : SessionValue) (s : Script) (came : List ℕ) (v : SessionValue) (call : Call) (stage : Stage) : Type 0 where
+    pub reaches : Reaches coding old s.items came v s.answers call (remaining coding call v.state stage)
+    pub resumes : Resumes v.channel.rule v.channel.kept (remaining coding call v.state stage)
+    pub read : is_read call ≡ true → Stands coding old s.items came v s.answers
+
+  module _ (old : SessionValue) (s : Script) (v w : SessionValue) (same : w.asked ≡ v.asked) (call : Call) (stage : Stage) (answers : List Answer) (f : Follows coding old s v (Some call) stage answers) (going : v.channel.failed ≡ false) (from : Resumed old s f.came v call stage) where
+    -- a poll that waits
+    pending : (stage' : Stage) (moves : Advances (Unit {0}) (remaining coding call v.state stage) (remaining coding call v.state stage') v w) → WaitsFor (Unit {0}) (remaining coding call v.state stage') w → (is_read call ≡ true → Rests (Unit {0}) v w) → Carried v w moves.moves.leads.came → Follows coding old (poll_script coding (start_of old) (Some call) s) w (Some call) stage' answers
+    pending stage' advances waits rests c = go waits
+      where
+        tree' : Tree
+        tree' = remaining coding call v.state stage'
+
+        reaches' : Reaches coding old s.items (f.came ++ advances.moves.leads.came) w s.answers call (remaining coding call v.state stage')
+        reaches' = reaches_on old v w same s.items f.came s.answers call (remaining coding call v.state stage) (remaining coding call v.state stage') from.reaches advances.moves.leads from.resumes
+
+        resumes' : Resumes w.channel.rule w.channel.kept (remaining coding call v.state stage')
+        resumes' = advances.moves.resumes from.resumes
+
+        read' : is_read call ≡ true → Stands coding old s.items (f.came ++ advances.moves.leads.came) w s.answers
+        read' is =
+            let rest = rests is in
+            let came : rest.came ≡ advances.moves.leads.came = append_cancel_left v.channel.told.received rest.came advances.moves.leads.came (sym (rest.goes.received tt) ∙ advances.moves.leads.goes.received tt) in
+            let P : List ℕ → Type 0 = λ x. Stands coding old s.items (f.came ++ x) w s.answers in
+            subst P came (stands_rests old v w s.items f.came s.answers (from.read is) rest)
+
+        unsent' : MayCancel (Some call) true → s.unsent ≡ w.channel.unsent
+        unsent' (inl new) = let clash : true ≡ false = new in cc
+        unsent' (inr read) = f.unsent (inr read) ∙ ap (λ t. t.unsent) ((rests read).stays tt [] false [])
+
+        under_way : (t : Standing) (wait : Wait) → UnderWay coding old (polled_as (Waiting s.answers wait t) call s) (f.came ++ advances.moves.leads.came) w call stage'
+        under_way t wait = record {
+          polled = refl;
+          going = advances.failed ∙ going;
+          reaches = let P : State → Type 0 = λ state. Reaches coding old s.items (f.came ++ advances.moves.leads.came) w s.answers call (remaining coding call state stage') in subst P (sym advances.moves.state) reaches';
+          resumes = let P : State → Type 0 = λ state. Resumes w.channel.rule w.channel.kept (remaining coding call state stage') in subst P (sym advances.moves.state) resumes';
+          read = read';
+        }
+
+        go : WaitsFor (Unit {0}) (remaining coding call v.state stage') w → Follows coding old (poll_script coding (start_of old) (Some call) s) w (Some call) stage' answers
+        go (inl says) =
+            let moves = advances.moves in
+            let P : Tree → Type 0 = λ x. Reaches coding old s.items (f.came ++ moves.leads.came) w s.answers call x in
+            let C : Tree → Type 0 = Calm in
+            let t : Standing = record (here old s v w call stage answers f moves.leads.came c) { said = w.channel.told.sent ++ w.channel.unsent ++ says.line; unsent = [] } in
+            let stuck = say_waits old s v w call stage answers f moves.leads.came c says.line says.next says.some (says.full tt) in
+            let calm = moves.calm (subst C (sym says.is) tt) in
+            let seen = seen_kept (Calm (remaining coding call v.state stage)) s v w moves.leads.came f.seen f.untaken c.split moves.shrinks calm in
+            let says_nothing = waits_kept (Calm (remaining coding call v.state stage)) s v w moves.leads.came c.rule f.waits calm in
+            wait_on old s v w call stage answers f moves.leads.came c (Say (Ok says.line) says.next) stage' wait.Room t (subst P says.is reaches') stuck.0 stuck.1 refl seen says_nothing refl refl unsent' (inr (under_way t wait.Room))
+        go (inr hears) =
+            let moves = advances.moves in
+            let P : Tree → Type 0 = λ x. Reaches coding old s.items (f.came ++ moves.leads.came) w s.answers call x in
+            let R : Tree → Type 0 = λ x. Resumes w.channel.rule w.channel.kept x in
+            let t : Standing = here old s v w call stage answers f moves.leads.came c in
+            let resumed = subst R hears.is resumes' in
+            let stuck = hear_waits old s v w call stage answers f moves.leads.came c hears.codes hears.next (hears.dry tt) hears.none_ahead hears.unended resumed in
+            let seen : length (untaken w.channel ++ unread w.channel.told) ≡ length w.channel.kept = ap length (all_read old s v w call stage answers f moves.leads.came c hears.none_ahead (hears.dry tt)) in
+            let sent = front_fits s.room w.channel.told.sent (fits_here old s v w call stage answers f moves.leads.came c) in
+            let b : Wait = wait.Bytes (is_among hears.codes System) in
+            wait_on old s v w call stage answers f moves.leads.came c (Hear hears.codes hears.next) stage' b t (subst P hears.is reaches') stuck sent refl seen resumed refl refl unsent' (inr (under_way t b))
+
+    -- a poll that completes the call
+    completed : (stage' : Stage) (answer : Answer) (ends : Ends (Unit {0}) (remaining coding call v.state stage) answer v w) → Carried v w ends.completes.came → Follows coding old (poll_script coding (start_of old) (Some call) s) w None stage' (answers ++ answer ∷ [])
+    completed stage' answer ends c =
+        finish old s v w call stage answers f ends.completes.came c (Silent (remaining coding call v.state stage)) stage' answer
+        (reaches_stands old v w same s.items f.came s.answers call (remaining coding call v.state stage) answer from.reaches ends from.resumes)
+        ends.shrinks ends.keeps
+
+  -- a session that has failed refuses the call
+  refused_poll : (old : SessionValue) (s : Script) (v : SessionValue) (call : Call) (stage stage' : Stage) (answers : List Answer) (f : Follows coding old s v (Some call) stage answers) → v.channel.failed ≡ true → Stands coding old s.items f.came v s.answers → Follows coding old (poll_script coding (start_of old) (Some call) s) v None stage' (answers ++ Fault SessionFailed ∷ [])
+  refused_poll old s v call stage stage' answers f failed stands =
+      finish old s v v call stage answers f [] (record { rule = refl; failures = refl; split = refl; given = refl; over = refl; has = f.given; sound = f.sound }) (Unit {0}) stage' (Fault SessionFailed)
+      (stands_refused old v s.items f.came s.answers call failed stands)
+      (omega arith)
+      (inr (refl, refl, refl, tt))
+
+  -- where a poll of the call under way begins
+  placed : (old : SessionValue) (s : Script) (v : SessionValue) (call : Call) (stage : Stage) (answers : List Answer) (f : Follows coding old s v (Some call) stage answers) → MayPoll (start_of old) (Some call) s → (v.channel.failed ≡ false → Resumed old s f.came v call stage) × (v.channel.failed ≡ true → Stands coding old s.items f.came v s.answers)
+  placed old s v call stage answers f may = go f.place
+    where
+      kept : take s.seen s.untaken ≡ v.channel.kept
+      kept = ap (λ n. take n s.untaken) f.seen ∙ ap (λ u. take (length v.channel.kept) u) (f.untaken ∙ append_assoc v.channel.kept v.channel.ahead (unread v.channel.told)) ∙ take-append_seam v.channel.kept (v.channel.ahead ++ unread v.channel.told)
+
+      resumes : s.polled ≡ false → Resumes v.channel.rule v.channel.kept (dialogue coding call v.state)
+      resumes new = resumes_dialogue v.channel.rule v.channel.kept call v.state (pick (may new))
+        where
+          pick : (hears_system call ≡ s.system) ⊎ (outcome old.channel.rule (hears_system call) (take s.seen s.untaken) false ≡ Waits) → outcome v.channel.rule (hears_system call) v.channel.kept false ≡ Waits
+          pick (inl same) = ap (λ b. outcome v.channel.rule b v.channel.kept false) same ∙ f.waits
+          pick (inr waits) = ap (λ r. outcome r (hears_system call) v.channel.kept false) f.rule ∙ ap (λ k. outcome old.channel.rule (hears_system call) k false) (sym kept) ∙ waits
+
+      go : Place coding old s f.came v (Some call) stage → (v.channel.failed ≡ false → Resumed old s f.came v call stage) × (v.channel.failed ≡ true → Stands coding old s.items f.came v s.answers)
+      go (inl started) = (
+        λ going.
+            let P : Stage → Type 0 = λ x. Resumed old s f.came v call x in
+            subst P (sym started.at) (record {
+              reaches = stands_reaches old v s.items f.came s.answers call going started.stands;
+              resumes = resumes started.unpolled;
+              read = λ is. started.stands;
+            }),
+        λ failed. started.stands,
+      )
+      go (inr u) = (
+        λ going. record { reaches = u.reaches; resumes = u.resumes; read = u.read },
+        λ failed. let clash : true ≡ false = sym failed ∙ u.going in cc,
+      )
+
+  pub poll_follows : (old : SessionValue) (s : Script) (v w : SessionValue) (call : Call) (stage stage' : Stage) (answers : List Answer) (result : Poll Answer) → Follows coding old s v (Some call) stage answers → MayPoll (start_of old) (Some call) s → PollsHere coding call stage stage' v w result → PollFollows coding old s v w call stage stage' answers result
+  poll_follows old s v w call stage stage' answers result f may here =
+      elim v.channel.failed as (λ t. v.channel.failed ≡ t → PollFollows coding old s v w call stage stage' answers result) [
+        | true ↦ λ failed. refused failed
+        | false ↦ λ going. go result going (here.polls going) here.rests
+      ] refl
+    where
+      refused : v.channel.failed ≡ true → PollFollows coding old s v w call stage stage' answers result
+      refused failed =
+          let is = here.refused failed in
+          let P : Poll Answer → Type 0 = λ r. PollFollows coding old s v w call stage stage' answers r in
+          let Q : SessionValue → Type 0 = λ x. Follows coding old (poll_script coding (start_of old) (Some call) s) x None stage' (answers ++ Fault SessionFailed ∷ []) in
+          subst P (sym is.0) (inl (subst Q (sym is.1) (refused_poll old s v call stage stage' answers f failed ((placed old s v call stage answers f may).1 failed))))
+
+      from : v.channel.failed ≡ false → Resumed old s f.came v call stage
+      from going = (placed old s v call stage answers f may).0 going
+
+      carry : (came : List ℕ) (answered : List Asked) → Goes (Unit {0}) came answered v w → Carried v w came
+      carry came answered goes = carried v w came answered goes f.sound here.end here.given here.sound
+
+      go : (r : Poll Answer) → v.channel.failed ≡ false → PollSteps (Unit {0}) (begun_at stage) (remaining coding call v.state stage) (remaining coding call v.state stage') v w r → (r ≡ Pending → is_read call ≡ true → Rests (Unit {0}) v w) → PollFollows coding old s v w call stage stage' answers r
+      go (Ready answer) going (inl ends) rests = inl (completed old s v w here.asked call stage answers f going (from going) stage' answer ends (carry ends.completes.came ends.completes.answered ends.completes.goes))
+      go (Ready answer) going (inr aborts) rests =
+          let P : Answer → Type 0 = λ a. Aborts (Unit {0}) (begun_at stage) (remaining coding call v.state stage) a v w in
+          inr (record { fault = aborts.fault; is = ap Some aborts.is; going = going; aborts = subst P aborts.is aborts; given = here.given; sound = here.sound })
+      go Pending going polls rests = pending old s v w here.asked call stage answers f going (from going) stage' polls.0 polls.1 (rests refl) (carry polls.0.moves.leads.came polls.0.moves.leads.answered polls.0.moves.leads.goes)
+
+  -- what is left of the call under way
+  pub left_of : (old : SessionValue) (s : Script) (v : SessionValue) (call : Call) (stage : Stage) (answers : List Answer) → (f : Follows coding old s v (Some call) stage answers) → v.channel.failed ≡ false → LeftOf coding old s v call (begun_at stage) (remaining coding call v.state stage)
+  left_of old s v call stage answers f going = record {
+    call_is = f.call_is;
+    going = going;
+    came = f.came;
+    bytes = f.bytes;
+    reaches = reaches f.place;
+    fresh = fresh f.place;
+  }
+    where
+      reaches : Place coding old s f.came v (Some call) stage → Reaches coding old s.items f.came v s.answers call (remaining coding call v.state stage)
+      reaches (inl started) =
+          let P : Stage → Type 0 = λ x. Reaches coding old s.items f.came v s.answers call (remaining coding call v.state x) in
+          subst P (sym started.at) (stands_reaches old v s.items f.came s.answers call going started.stands)
+      reaches (inr u) = u.reaches
+
+      fresh : Place coding old s f.came v (Some call) stage → s.polled ≡ false → begun_at stage ≡ false
+      fresh (inl started) new = ap begun_at started.at
+      fresh (inr u) new = let clash : true ≡ false = sym u.polled ∙ new in cc

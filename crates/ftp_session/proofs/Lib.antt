@@ -1,8 +1,10 @@
+pub mod Copies
 pub mod Events
 pub mod Following
 pub mod Hearing
 pub mod Moving
-pub mod Polling
-pub mod Rows
 pub mod Running
 pub mod Scripts
+pub mod Stages
+pub mod Transitions
+pub mod Wired

@@ -1,42 +1,46 @@
 -- Lemmas on the steps of a dialogue.
-use Rattle.std.proofs.Common.{◌≡◌, ℕ, ◌≤◌, Bool, true, false, cond, List, [], ◌++◌, length, Option, Some, None, Result, Ok, Err, inl, inr, ◌⊎◌, refl, ap, sym, ◌∙◌, subst, append_assoc, append-nil, arith}
+use Rattle.std.proofs.Common.{◌≡◌, ℕ, ◌+◌, ◌≤◌, Bool, true, false, cond, List, [], ◌++◌, length, length-append, Option, Some, None, Result, Ok, Err, inl, inr, ◌⊎◌, refl, ap, sym, ◌∙◌, subst, append_assoc, append-nil, arith}
 use Rattle.std.proofs.lemmas.Bool.{le-leb}
 use Rattle.ftp_base.specs.declared.types.fault.FtpError.{FtpError}
+use Rattle.ftp_base.specs.declared.types.fault.FtpError.TheVariants.{ConnectionError, SecureError, UnexpectedResponse, BadResponse, InvalidAddress, DataConnectionAlreadyOpen, OutOfMemory, SessionFailed}
+use Rattle.ftp_base.specs.declared.types.fault.ConnectionError.{ConnectionError as Cause}
+use Rattle.ftp_base.specs.declared.types.reply.Response.{Response}
 use Rattle.ftp_control.specs.declared.transport.room.Room.{Room}
 use Rattle.ftp_control.specs.declared.transport.room.Room.TheVariants.{Any, UpTo}
+use Rattle.ftp_control.specs.declared.transport.request.RequestOutcome.{RequestOutcome}
+use Rattle.ftp_control.specs.declared.transport.request.Asked.{Asked}
+use Rattle.ftp_control.specs.Asking.{outcomes_of}
+use Rattle.ftp_control.proofs.Asking.{outcomes-append}
 use Rattle.futures.specs.declared.task.Poll.{Poll}
-use Rattle.futures.specs.declared.task.Poll.TheVariants.{Ready, Pending}
+use Rattle.futures.specs.declared.task.Poll.TheVariants as poll
 use Rattle.ftp_control.specs.Told.{Told, HasRoomFor}
 use Rattle.ftp_control.specs.Reading.{GoesOn}
-use Rattle.ftp_control.specs.Channel.{Channel}
+use Rattle.ftp_control.specs.Channel.{Channel, untaken}
 use Rattle.ftp_control.specs.Saying.{SaysLine, due}
-use Rattle.ftp_session.specs.declared.session.ask.Request.{Request}
-use Rattle.ftp_session.specs.declared.session.ask.Outcome.{Outcome}
-use Rattle.ftp_session.specs.declared.session.settings.State.{State}
+use Rattle.ftp_session.specs.declared.session.state.State.{State}
 use Rattle.ftp_session.specs.declared.session.call.Answer.{Answer}
 use Rattle.ftp_session.specs.declared.session.call.Answer.TheVariants.{Fault}
-use Rattle.ftp_session.specs.declared.plain.Standing.{Standing}
-use Rattle.ftp_session.specs.declared.plain.Played.TheVariants.{Done}
-use Rattle.ftp_session.specs.declared.session.call.Call.{Call}
-use Rattle.ftp_base.specs.declared.status.Status.{Status}
-use Rattle.ftp_base.specs.declared.types.reply.Response.{Response}
-use Rattle.ftp_base.specs.declared.types.fault.FtpError.TheVariants.{ConnectionError, SecureError, UnexpectedResponse, BadResponse, InvalidAddress, DataConnectionAlreadyOpen, OutOfMemory, SessionFailed}
+use Rattle.ftp_session.specs.declared.session.stage.Step.TheVariants.{Next, Pending, Done}
+use Rattle.ftp_session.specs.declared.model.Standing.{Standing}
+use Rattle.ftp_session.specs.declared.model.Played.TheVariants as played
 use Rattle.ftp_session.specs.State.{SessionValue}
-use Rattle.ftp_session.specs.Dialogue.{Tree, Say, Hear, Leaf, command_of, accepted, hearing, saying, dialogue, says}
-use Rattle.ftp_base.specs.declared.command.Command.{Command}
-use Rattle.ftp_base.specs.declared.types.fault.ConnectionError.{ConnectionError as Cause}
-use Rattle.ftp_control.specs.Refusal.{IsRefusalOf}
+use Rattle.ftp_session.specs.Dialogue.{Tree, Say, Hear, Leaf}
 use Rattle.ftp_session.specs.Play.{play, fits, said_then}
 use Rattle.ftp_session.specs.Run.{Resumes, Silent}
-use Rattle.ftp_session.specs.Moving.{standing, Goes, Keeps, Calm, Moves, Completes, Breaks, Fails, WantsMemory, LacksMemory, Accepts, AcceptsNot, WaitsFor, Steps, HearsStep, after_line, step_of, line_of, wants_memory, failed_from, after_fault}
+use Rattle.ftp_session.specs.Promises.{standing, Goes, Leads, Completes, Fails, Untouched, LacksMemory, Aborts, failed_from}
+use Rattle.ftp_session.specs.Steps.Moving.{Keeps, Shrinks, Calm, Moves, Advances, Ends, WaitsFor, Steps, after_line, step_of}
 
 pub play-Say : (room : Room) (line : List ℕ) (next : Tree) (s : Standing) → play room (Say (Ok line) next) s ≡ said_then room line s (λ t. play room next t)
 unfolding play
 play-Say room line next s = refl
 
-pub play-Leaf : (room : Room) (answer : Answer) (state : State) (s : Standing) → play room (Leaf answer state) s ≡ Done answer (record s { state = state })
+pub play-Leaf : (room : Room) (answer : Answer) (state : State) (s : Standing) → play room (Leaf answer state) s ≡ played.Done answer (record s { state = state })
 unfolding play
 play-Leaf room answer state s = refl
+
+pub play-Refused : (room : Room) (cause : Cause) (next : Tree) (s : Standing) → play room (Say (Err cause) next) s ≡ played.Done (Fault (ConnectionError cause)) s
+unfolding play
+play-Refused room cause next s = refl
 
 pub room_fits : (room : Room) (all : List ℕ) → HasRoomFor room (length all) → fits room all ≡ true
 room_fits Any all has = refl
@@ -47,195 +51,223 @@ joined_whole sent sent' unsent unsent' line line' none nothing is =
     let whole : (sent' ++ []) ++ [] ≡ (sent ++ unsent) ++ line = rw (none, nothing) at is in
     sym (append-nil sent') ∙ sym (append-nil (sent' ++ [])) ∙ whole
 
-pub play-Refused : (room : Room) (cause : Cause) (next : Tree) (s : Standing) → play room (Say (Err cause) next) s ≡ Done (Fault (ConnectionError cause)) s
-unfolding play
-play-Refused room cause next s = refl
-
-pub nothing_goes : (tells : Type 0) (v : SessionValue) → Goes tells [] v v
+-- nothing happens
+pub nothing_goes : (tells : Type 0) (v : SessionValue) → Goes tells [] [] v v
 nothing_goes tells v = record {
   over = record { nothing = λ e. refl; over = λ e. e };
   received = λ h. sym (append-nil v.channel.told.received);
   given = λ h. refl;
   failures = λ h. refl;
   sent = λ h. omega arith;
+  asked = λ h. sym (append-nil v.asked);
   rule = refl;
 }
 
--- what a line leaves as it was
-said_goes : (tells : Type 0) (state : State) (a : Channel) (told : Told) (unsent : List ℕ) (failed : Bool) → (tells → told ≡ record a.told { sent = told.sent; failures = told.failures }) → (tells → told.failures ≡ a.told.failures) → (tells → length a.told.sent ≤ length told.sent) → Goes tells [] (record { channel = a; state = state }) (record { channel = record a { told = told; unsent = unsent; failed = failed }; state = state })
-said_goes tells state a told unsent failed nothing counted sends = record {
-  over = record { nothing = λ e. refl; over = λ e. e };
-  received = λ h. ap (λ t. t.received) (nothing h) ∙ sym (append-nil a.told.received);
-  given = λ h. ap (λ t. t.given) (nothing h);
-  failures = counted;
-  sent = sends;
-  rule = refl;
+pub nothing_shrinks : (n : ℕ) → n ≤ n + 0
+nothing_shrinks n = omega arith
+
+pub nothing_leads : (tells : Type 0) (tree : Tree) (v : SessionValue) → Leads tells tree tree v v
+nothing_leads tells tree v = record {
+  came = [];
+  answered = [];
+  goes = nothing_goes tells v;
+  plays = λ h resumes room more ended outcomes fit on. refl;
 }
-
-module _ (tells : Type 0) (state : State) (a : Channel) (told : Told) (unsent : List ℕ) (failed : Bool) (line line' : Option (List ℕ)) (next : Tree) where
-  abbrev after : Channel
-  after = record a { told = told; unsent = unsent; failed = failed }
-
-  -- all of it went out
-  said_whole : SaysLine tells a after line line' (Ready (Ok tt)) → Moves tells (Say (Ok (due line)) next) next (record { channel = a; state = state }) (record { channel = after; state = state })
-  said_whole says = record {
-    came = [];
-    goes = said_goes tells state a told unsent failed says.hears_nothing says.leaves.3 says.sends;
-    state = refl;
-    failed = says.leaves.2;
-    plays = λ h resumes room asked more ended outcomes fit on.
-        let all : told.sent ≡ a.told.sent ++ a.unsent ++ due line = joined_whole a.told.sent told.sent a.unsent unsent (due line) (due line') says.leaves.0 (ap due says.leaves.1) (says.said h) in
-        let room_for = room_fits room told.sent fit in
-        play-Say room (due line) next _ ∙ rw (← all, room_for, says.leaves.0, says.leaves.2);
-    resumes = λ r. r;
-    keeps = λ silent. inr (refl, refl, silent);
-    calm = λ calm. inr (refl, refl, tt);
-  }
-
-  -- the connection waits for room
-  said_waits : SaysLine tells a after line line' Pending → Moves tells (Say (Ok (due line)) next) (Say (Ok (due line')) next) (record { channel = a; state = state }) (record { channel = after; state = state }) × WaitsFor tells (Say (Ok (due line')) next) (record { channel = after; state = state })
-  said_waits says = (
-    record {
-      came = [];
-      goes = said_goes tells state a told unsent failed says.hears_nothing says.leaves.3 says.sends;
-      state = refl;
-      failed = says.leaves.2;
-      plays = λ h resumes room asked more ended outcomes fit on.
-          let all = says.said h in
-          play-Say room (due line) next _ ∙ rw (← all, says.leaves.2) (sym (play-Say room (due line') next _));
-      resumes = λ r. r;
-      keeps = λ silent. inr (refl, refl, silent);
-      calm = λ calm. inr (refl, refl, tt);
-    },
-    (says.leaves.0, says.leaves.1),
-  )
-
-  -- the connection failed
-  said_breaks : (fault : FtpError) → SaysLine tells a after line line' (Ready (Err fault)) → Breaks tells (Fault fault) (record { channel = a; state = state }) (record { channel = after; state = state })
-  said_breaks fault says = record {
-    fault = fault;
-    is = refl;
-    state = refl;
-    cause = inl (record { io = says.leaves.0; failed = says.leaves.1; counted = says.leaves.2 });
-  }
-
-  said_step : (answer : Poll (Result (Unit {0}) FtpError)) → SaysLine tells a after line line' answer → Steps tells (Say (Ok (due line)) next) (after_line (step_of answer) line' next) (record { channel = a; state = state }) (record { channel = after; state = state }) (step_of answer)
-  said_step (Ready (Ok done)) says = said_whole says
-  said_step (Ready (Err fault)) says = inr (said_breaks fault says)
-  said_step Pending says = said_waits says
-
--- a line is said
-pub line_said : (tells : Type 0) (state : State) (a b : Channel) (line line' : Option (List ℕ)) (answer : Poll (Result (Unit {0}) FtpError)) → SaysLine tells a b line line' answer → (next : Tree) → Steps tells (Say (Ok (due line)) next) (after_line (step_of answer) line' next) (record { channel = a; state = state }) (record { channel = b; state = state }) (step_of answer)
-line_said tells state a b line line' answer says next =
-    let P : Channel → Type 0 = λ c. SaysLine tells a c line line' answer → Steps tells (Say (Ok (due line)) next) (after_line (step_of answer) line' next) (record { channel = a; state = state }) (record { channel = c; state = state }) (step_of answer) in
-    subst P (sym says.same) (said_step tells state a b.told b.unsent b.failed line line' next answer) says
-
--- an accepted reply ends the dialogue
-pub accepted_completes : (tells : Type 0) (tree : Tree) (call : Call) (reply : Response) (answer : Answer) (old mid new : SessionValue) → Moves tells tree (accepted call old.state reply) old mid → Accepts call reply mid new answer → Completes tells tree answer old new
-accepted_completes tells tree call reply answer old mid new moves accepts =
-    let leaf : accepted call old.state reply ≡ Leaf answer new.state = ap (λ s. accepted call s reply) (sym moves.state) ∙ accepts.leaf in
-    let same : new ≡ record mid { state = new.state } = let P : Channel → SessionValue = λ c. record { channel = c; state = new.state } in ap P accepts.channel in
-    let P : SessionValue → Type 0 = λ v. Completes tells tree answer old v in
-    subst P (sym same) (record {
-      came = moves.came;
-      goes = record { over = moves.goes.over; received = moves.goes.received; given = moves.goes.given; failures = moves.goes.failures; sent = moves.goes.sent; rule = moves.goes.rule };
-      plays = λ h resumes room asked more ended outcomes fit on.
-          moves.plays h resumes room asked more ended outcomes fit on ∙ rw leaf (play-Leaf room answer new.state _);
-      keeps = moves.keeps (let Q : Tree → Type 0 = Silent in subst Q (sym leaf) tt);
-      calm = moves.calm (let Q : Tree → Type 0 = Calm in subst Q (sym leaf) tt);
-    })
-
-pub accepted_breaks : (tells : Type 0) (tree tree' : Tree) (answer : Answer) (old mid new : SessionValue) → Moves tells tree tree' old mid → AcceptsNot mid new answer → Breaks tells answer old new
-accepted_breaks tells tree tree' answer old mid new moves accepts = record {
-  fault = OutOfMemory;
-  is = accepts.is;
-  state = rw accepts.new_is moves.state;
-  cause = inr (record { is = refl; leaves = inl (rw accepts.new_is refl) });
-}
-
-not_memory : (fault : FtpError) → (fault ≡ OutOfMemory → ⊥) → wants_memory fault ≡ false
-not_memory (ConnectionError cause) other = refl
-not_memory (SecureError text) other = refl
-not_memory (UnexpectedResponse reply) other = refl
-not_memory BadResponse other = refl
-not_memory InvalidAddress other = refl
-not_memory DataConnectionAlreadyOpen other = refl
-not_memory OutOfMemory other = absurd (other refl)
-not_memory SessionFailed other = refl
-
--- a read that ends with a fault
-pub fault_ends : (tells : Type 0) (codes : List Status) (next : Response → Tree) (call : Call) (fault : FtpError) (old mid : SessionValue) → HearsStep tells codes next old mid (Ready (Err fault)) → Completes tells (Hear codes next) (Fault fault) old (after_fault call fault mid) ⊎ Breaks tells (Fault fault) old (after_fault call fault mid)
-fault_ends tells codes next call fault old mid (inl (completes, other)) = rw (not_memory fault other) (inl completes)
-fault_ends tells codes next call fault old mid (inr breaks) = inr (go breaks.cause)
-  where
-    go : Fails tells fault old mid ⊎ LacksMemory tells fault old mid → Breaks tells (Fault fault) old (after_fault call fault mid)
-    go (inl fails) =
-        let io : wants_memory fault ≡ false = ap wants_memory fails.io.is in
-        rw io (record { fault = fault; is = refl; state = breaks.state; cause = inl fails })
-    go (inr lacks) =
-        let memory : wants_memory fault ≡ true = ap wants_memory lacks.is in
-        rw memory
-        (elim (says call) as (λ s. Breaks tells (Fault fault) old (cond s (failed_from mid) mid)) [
-          | true ↦ record { fault = fault; is = refl; state = breaks.state; cause = inr (record { is = lacks.is; leaves = inl refl }) }
-          | false ↦ record { fault = fault; is = refl; state = breaks.state; cause = inr (record { is = lacks.is; leaves = inr lacks.nothing }) }
-        ])
 
 -- nothing happens, and the same is left
-pub stays_put : (tells : Type 0) (tree tree' : Tree) (v : SessionValue) → tree' ≡ tree → Moves tells tree tree' v v
+pub stays_put : (tells : Type 0) (tree tree' : Tree) (v : SessionValue) → tree' ≡ tree → Advances tells tree tree' v v
+unfolding nothing_leads
 stays_put tells tree tree' v same =
-    let P : Tree → Type 0 = λ t. Moves tells tree t v v in
+    let P : Tree → Type 0 = λ t. Advances tells tree t v v in
     subst P (sym same) (record {
-      came = [];
-      goes = nothing_goes tells v;
-      state = refl;
+      moves = record {
+        leads = nothing_leads tells tree v;
+        state = refl;
+        resumes = λ r. r;
+        keeps = λ silent. inr (refl, refl, refl, silent);
+        calm = λ calm. inr (refl, refl, refl, calm);
+        shrinks = nothing_shrinks (length v.channel.ahead);
+      };
       failed = refl;
-      plays = λ h resumes room asked more ended outcomes fit on. refl;
-      resumes = λ r. r;
-      keeps = λ silent. inr (refl, refl, silent);
-      calm = λ calm. inr (refl, refl, calm);
+    })
+
+-- A line is said
+
+module _ (tells : Type 0) (state : State) (asked : List Asked) (a : Channel) (told : Told) (unsent : List ℕ) (failed : Bool) where
+  abbrev before : SessionValue
+  before = record { channel = a; state = state; asked = asked }
+
+  abbrev after : SessionValue
+  after = record { channel = record a { told = told; unsent = unsent; failed = failed }; state = state; asked = asked }
+
+  -- what a line leaves as it was
+  said_goes : (tells → told ≡ record a.told { sent = told.sent; failures = told.failures }) → (tells → told.failures ≡ a.told.failures) → (tells → length a.told.sent ≤ length told.sent) → Goes tells [] [] before after
+  said_goes nothing counted sends = record {
+    over = record { nothing = λ e. refl; over = λ e. e };
+    received = λ h. ap (λ t. t.received) (nothing h) ∙ sym (append-nil a.told.received);
+    given = λ h. ap (λ t. t.given) (nothing h);
+    failures = counted;
+    sent = sends;
+    asked = λ h. sym (append-nil asked);
+    rule = refl;
+  }
+
+  module _ (line line' : Option (List ℕ)) (next : Tree) where
+    -- all of it went out
+    said_whole : SaysLine tells a after.channel line line' (poll.Ready (Ok tt)) → Advances tells (Say (Ok (due line)) next) next before after
+    said_whole says = record {
+      moves = record {
+        leads = record {
+          came = [];
+          answered = [];
+          goes = said_goes says.hears_nothing says.leaves.3 says.sends;
+          plays = λ h resumes room more ended outcomes fit on.
+              let all : told.sent ≡ a.told.sent ++ a.unsent ++ due line = joined_whole a.told.sent told.sent a.unsent unsent (due line) (due line') says.leaves.0 (ap due says.leaves.1) (says.said h) in
+              let room_for = room_fits room told.sent fit in
+              play-Say room (due line) next _ ∙ rw (← all, room_for, says.leaves.0, says.leaves.2);
+        };
+        state = refl;
+        resumes = λ r. r;
+        keeps = λ silent. inr (refl, refl, refl, silent);
+        calm = λ calm. inr (refl, refl, refl, tt);
+        shrinks = nothing_shrinks (length a.ahead);
+      };
+      failed = says.leaves.2;
+    }
+
+    -- a front of it went out
+    said_part : failed ≡ a.failed → (tells → told.sent ++ unsent ++ due line' ≡ a.told.sent ++ a.unsent ++ due line) → Goes tells [] [] before after → Leads tells (Say (Ok (due line)) next) (Say (Ok (due line')) next) before after
+    said_part going said goes = record {
+      came = [];
+      answered = [];
+      goes = goes;
+      plays = λ h resumes room more ended outcomes fit on.
+          let all = said h in
+          play-Say room (due line) next _ ∙ rw (← all, going) (sym (play-Say room (due line') next _));
+    }
+
+    -- the connection waits for room
+    said_waits : SaysLine tells a after.channel line line' poll.Pending → Advances tells (Say (Ok (due line)) next) (Say (Ok (due line')) next) before after × WaitsFor tells (Say (Ok (due line')) next) after
+    unfolding said_part
+    said_waits says = (
+      record {
+        moves = record {
+          leads = said_part says.leaves.2 says.said (said_goes says.hears_nothing says.leaves.3 says.sends);
+          state = refl;
+          resumes = λ r. r;
+          keeps = λ silent. inr (refl, refl, refl, silent);
+          calm = λ calm. inr (refl, refl, refl, tt);
+          shrinks = nothing_shrinks (length a.ahead);
+        };
+        failed = says.leaves.2;
+      },
+      inl (record { line = due line'; next = next; is = refl; some = says.leaves.0; full = says.leaves.1 }),
+    )
+
+-- the connection failed
+said_aborts : (tells : Type 0) (state : State) (asked : List Asked) (a : Channel) (told : Told) (unsent : List ℕ) (failed : Bool) (line line' : Option (List ℕ)) (begun : Bool) (next : Tree) (fault : FtpError) → a.failed ≡ false → SaysLine tells a (record a { told = told; unsent = unsent; failed = failed }) line line' (poll.Ready (Err fault)) → Aborts tells begun (Say (Ok (due line)) next) (Fault fault) (record { channel = a; state = state; asked = asked }) (record { channel = record a { told = told; unsent = unsent; failed = failed }; state = state; asked = asked })
+said_aborts tells state asked a told unsent failed line line' begun next fault going says =
+    let now : Told = record told { failures = a.told.failures } in
+    let at : SessionValue = record { channel = record a { told = now; unsent = unsent }; state = state; asked = asked } in
+    let P : Bool → SessionValue = λ f. record { channel = record a { told = told; unsent = unsent; failed = f }; state = state; asked = asked } in
+    record {
+      place = Say (Ok (due line')) next;
+      at = at;
+      leads = said_part tells state asked a now unsent a.failed line line' next refl says.said
+          (said_goes tells state asked a now unsent a.failed (λ h. let F : Told → Told = λ t. record t { failures = a.told.failures } in ap F (says.hears_nothing h)) (λ h. refl) says.sends);
+      state = refl;
+      going = going;
+      fault = fault;
+      is = refl;
+      cause = inl (record {
+        kind = says.leaves.0.kind;
+        is = says.leaves.0.is;
+        same = ap P says.leaves.1;
+        failed = λ h. record { same = refl; counted = says.leaves.2 h };
+      });
+    }
+
+said_step : (tells : Type 0) (state : State) (asked : List Asked) (a : Channel) (told : Told) (unsent : List ℕ) (failed : Bool) (line line' : Option (List ℕ)) (begun : Bool) (next : Tree) → a.failed ≡ false → (answer : Poll (Result (Unit {0}) FtpError)) → SaysLine tells a (record a { told = told; unsent = unsent; failed = failed }) line line' answer → Steps tells begun (Say (Ok (due line)) next) (after_line (step_of answer) line' next) (record { channel = a; state = state; asked = asked }) (record { channel = record a { told = told; unsent = unsent; failed = failed }; state = state; asked = asked }) (step_of answer)
+said_step tells state asked a told unsent failed line line' begun next going (poll.Ready (Ok done)) says = said_whole tells state asked a told unsent failed line line' next says
+said_step tells state asked a told unsent failed line line' begun next going (poll.Ready (Err fault)) says = inr (said_aborts tells state asked a told unsent failed line line' begun next fault going says)
+said_step tells state asked a told unsent failed line line' begun next going poll.Pending says = said_waits tells state asked a told unsent failed line line' next says
+
+-- a line is said
+pub line_said : (tells : Type 0) (state : State) (asked : List Asked) (a b : Channel) (line line' : Option (List ℕ)) (answer : Poll (Result (Unit {0}) FtpError)) → a.failed ≡ false → SaysLine tells a b line line' answer → (begun : Bool) (next : Tree) → Steps tells begun (Say (Ok (due line)) next) (after_line (step_of answer) line' next) (record { channel = a; state = state; asked = asked }) (record { channel = b; state = state; asked = asked }) (step_of answer)
+line_said tells state asked a b line line' answer going says begun next =
+    let P : Channel → Type 0 = λ c. SaysLine tells a c line line' answer → Steps tells begun (Say (Ok (due line)) next) (after_line (step_of answer) line' next) (record { channel = a; state = state; asked = asked }) (record { channel = c; state = state; asked = asked }) (step_of answer) in
+    subst P (sym says.same) (said_step tells state asked a b.told b.unsent b.failed line line' begun next going answer) says
+
+-- A dialogue ends
+
+-- a leaf was reached, and only the state changes
+pub leaf_ends : (tells : Type 0) (tree : Tree) (answer : Answer) (old mid new : SessionValue) → Moves tells tree (Leaf answer new.state) old mid → new.channel ≡ mid.channel → new.asked ≡ mid.asked → Ends tells tree answer old new
+leaf_ends tells tree answer old mid new moves channel asked =
+    let F : Channel → List Asked → SessionValue = λ c a. record { channel = c; state = new.state; asked = a } in
+    let same : new ≡ record mid { state = new.state } = ap (λ c. F c new.asked) channel ∙ ap (λ a. F mid.channel a) asked in
+    let P : SessionValue → Type 0 = λ v. Ends tells tree answer old v in
+    subst P (sym same) (record {
+      completes = record {
+        came = moves.leads.came;
+        answered = moves.leads.answered;
+        goes = record { over = moves.leads.goes.over; received = moves.leads.goes.received; given = moves.leads.goes.given; failures = moves.leads.goes.failures; sent = moves.leads.goes.sent; asked = moves.leads.goes.asked; rule = moves.leads.goes.rule };
+        plays = λ h resumes room more ended outcomes fit on.
+            moves.leads.plays h resumes room more ended outcomes fit on ∙ play-Leaf room answer new.state (standing mid more ended outcomes);
+      };
+      keeps = moves.keeps tt;
+      calm = moves.calm tt;
+      shrinks = moves.shrinks;
     })
 
 -- a command that has no line is the answer
-refused_line : (tells : Type 0) (cause : Cause) (next : Tree) (v : SessionValue) → Completes tells (Say (Err cause) next) (Fault (ConnectionError cause)) v v
+pub refused_line : (tells : Type 0) (cause : Cause) (next : Tree) (v : SessionValue) → Ends tells (Say (Err cause) next) (Fault (ConnectionError cause)) v v
 refused_line tells cause next v = record {
-  came = [];
-  goes = nothing_goes tells v;
-  plays = λ h resumes room asked more ended outcomes fit on. play-Refused room cause next _;
-  keeps = inr (refl, refl, tt);
-  calm = inr (refl, refl, tt);
+  completes = record {
+    came = [];
+    answered = [];
+    goes = nothing_goes tells v;
+    plays = λ h resumes room more ended outcomes fit on. play-Refused room cause next _;
+  };
+  keeps = inr (refl, refl, refl, tt);
+  calm = inr (refl, refl, refl, tt);
+  shrinks = nothing_shrinks (length v.channel.ahead);
 }
 
-pub no_memory_yet : (tells : Type 0) (v : SessionValue) → Breaks tells (Fault OutOfMemory) v v
-no_memory_yet tells v = record {
+nothing_touched : (tells : Type 0) (v : SessionValue) → Untouched tells [] v v
+nothing_touched tells v = record { said = λ h. refl; untaken = sym (append-nil (untaken v.channel)) }
+
+-- memory ran out before anything happened
+pub lacks_memory_first : (tells : Type 0) (tree : Tree) (v : SessionValue) → v.channel.failed ≡ false → Aborts tells false tree (Fault OutOfMemory) v v
+unfolding nothing_leads
+lacks_memory_first tells tree v going = record {
+  place = tree;
+  at = v;
+  leads = nothing_leads tells tree v;
+  state = refl;
+  going = going;
   fault = OutOfMemory;
   is = refl;
-  state = refl;
-  cause = inr (record {
-    is = refl;
-    leaves = inr (record { came = []; received = λ h. sym (append-nil v.channel.told.received); kept = sym (append-nil v.channel.kept); said = λ h. refl });
-  });
+  cause = inr (record { is = refl; leaves = inl (refl, refl, nothing_touched tells v) });
 }
 
--- a call that doesn't begin
-pub refused_ends : (tells : Type 0) (call : Call) (fault : FtpError) (v : SessionValue) → IsRefusalOf (line_of Ok (command_of call)) fault → Completes tells (dialogue Ok call v.state) (Fault fault) v v ⊎ Breaks tells (Fault fault) v v
-refused_ends tells call (ConnectionError cause) v is = inl (go (command_of call) is)
-  where
-    go : (command : Option Command) → line_of Ok command ≡ Err cause → Completes tells (saying Ok command (hearing call v.state)) (Fault (ConnectionError cause)) v v
-    go None e = let clash : Ok [] ≡ Err cause = e in cc
-    go (Some command) e =
-        let P : Result (List ℕ) Cause → Type 0 = λ line. Completes tells (Say line (hearing call v.state)) (Fault (ConnectionError cause)) v v in
-        subst P (sym e) (refused_line tells cause (hearing call v.state) v)
-refused_ends tells call (SecureError text) v is = absurd is
-refused_ends tells call (UnexpectedResponse reply) v is = absurd is
-refused_ends tells call BadResponse v is = absurd is
-refused_ends tells call InvalidAddress v is = absurd is
-refused_ends tells call DataConnectionAlreadyOpen v is = absurd is
-refused_ends tells call OutOfMemory v is = inr (no_memory_yet tells v)
-refused_ends tells call SessionFailed v is = absurd is
+-- memory ran out at some place, and the session has failed
+pub lacks_memory_at : (tells : Type 0) (begun : Bool) (tree tree' : Tree) (old mid : SessionValue) → Moves tells tree tree' old mid → mid.channel.failed ≡ false → Aborts tells begun tree (Fault OutOfMemory) old (failed_from mid)
+lacks_memory_at tells begun tree tree' old mid moves going = record {
+  place = tree';
+  at = mid;
+  leads = moves.leads;
+  state = moves.state;
+  going = going;
+  fault = OutOfMemory;
+  is = refl;
+  cause = inr (record { is = refl; leaves = inr refl });
+}
+
+-- One after another
 
 -- bytes that came after others
-pub joined_goes : (tells : Type 0) (one two : List ℕ) (a b c : SessionValue) → Goes tells one a b → Goes tells two b c → Goes tells (one ++ two) a c
-joined_goes tells one two a b c first second = record {
+pub joined_goes : (tells : Type 0) (one two : List ℕ) (asked more : List Asked) (a b c : SessionValue) → Goes tells one asked a b → Goes tells two more b c → Goes tells (one ++ two) (asked ++ more) a c
+joined_goes tells one two asked more a b c first second = record {
   over = record {
     nothing = λ e. rw (first.over.nothing e) (second.over.nothing (first.over.over e));
     over = λ e. second.over.over (first.over.over e);
@@ -244,23 +276,27 @@ joined_goes tells one two a b c first second = record {
   given = λ h. second.given h ∙ first.given h;
   failures = λ h. second.failures h ∙ first.failures h;
   sent = λ h. omega (arith, first.sent h, second.sent h);
+  asked = λ h. second.asked h ∙ ap (λ r. r ++ more) (first.asked h) ∙ append_assoc a.asked asked more;
   rule = second.rule ∙ first.rule;
 }
 
--- what came first, and what comes behind it
-pub goes_behind : (first : Bool) (two more : List ℕ) (last ended : Bool) → GoesOn first two last → GoesOn last more ended → GoesOn first (two ++ more) ended
-goes_behind first two more last ended a b = record {
+-- what came first, and what comes after it
+pub goes_after : (first : Bool) (two more : List ℕ) (last ended : Bool) → GoesOn first two last → GoesOn last more ended → GoesOn first (two ++ more) ended
+goes_after first two more last ended a b = record {
   nothing = λ e. rw (a.nothing e) (b.nothing (a.over e));
   over = λ e. b.over (a.over e);
 }
 
-keeps_behind : (P Q : Type 0) (one two : List ℕ) (a b c : SessionValue) → (Q → Keeps P one a b) → Keeps Q two b c → Keeps P (one ++ two) a c
-keeps_behind P Q one two a b c first (inl none) = inl none
-keeps_behind P Q one two a b c first (inr same) = go (first same.2)
+keeps_after : (P Q : Type 0) (one two : List ℕ) (a b c : SessionValue) → (Q → Keeps P one a b) → Keeps Q two b c → Keeps P (one ++ two) a c
+keeps_after P Q one two a b c first (inl none) = inl none
+keeps_after P Q one two a b c first (inr same) = go (first same.3)
   where
     go : Keeps P one a b → Keeps P (one ++ two) a c
     go (inl none) = inl (same.0 ∙ none)
-    go (inr before) = inr (same.0 ∙ before.0, rw (before.1, same.1), before.2)
+    go (inr before) = inr (same.0 ∙ before.0, same.1 ∙ before.1, rw (before.2, same.2), before.3)
+
+shrinks_after : (one two : List ℕ) (a b c : SessionValue) → Shrinks one a b → Shrinks two b c → Shrinks (one ++ two) a c
+shrinks_after one two a b c first second = omega (arith, first, second, length-append one two)
 
 -- what fits at last has fitted all along
 pub fitted : (room : Room) (m n : ℕ) → m ≤ n → HasRoomFor room n → HasRoomFor room m
@@ -269,48 +305,78 @@ fitted (UpTo most) m n less fit = omega (arith, less, fit)
 
 module _ (tells : Type 0) (tree tree' : Tree) (a b c : SessionValue) (first : Moves tells tree tree' a b) where
   -- the first part of two
-  first_plays : (two : List ℕ) → Goes tells two b c → tells → Resumes a.channel.rule a.channel.kept tree → (room : Room) (asked : List Request) (more : List ℕ) (ended : Bool) (outcomes : List Outcome) → HasRoomFor room (length c.channel.told.sent) → GoesOn c.channel.ended more ended → play room tree (standing a asked ((first.came ++ two) ++ more) ended outcomes) ≡ play room tree' (standing b asked (two ++ more) ended outcomes)
-  first_plays two goes h resumes room asked more ended outcomes fit on =
-      rw (append_assoc first.came two more)
-      (first.plays h resumes room asked (two ++ more) ended outcomes (fitted room _ _ (goes.sent h) fit) (goes_behind b.channel.ended two more c.channel.ended ended goes.over on))
+  first_plays : (two : List ℕ) (asked : List Asked) → Goes tells two asked b c → tells → Resumes a.channel.rule a.channel.kept tree → (room : Room) (more : List ℕ) (ended : Bool) (outcomes : List RequestOutcome) → HasRoomFor room (length c.channel.told.sent) → GoesOn c.channel.ended more ended → play room tree (standing a ((first.leads.came ++ two) ++ more) ended (outcomes_of (first.leads.answered ++ asked) ++ outcomes)) ≡ play room tree' (standing b (two ++ more) ended (outcomes_of asked ++ outcomes))
+  first_plays two asked goes h resumes room more ended outcomes fit on =
+      rw (append_assoc first.leads.came two more, outcomes-append first.leads.answered asked, append_assoc (outcomes_of first.leads.answered) (outcomes_of asked) outcomes)
+      (first.leads.plays h resumes room (two ++ more) ended (outcomes_of asked ++ outcomes) (fitted room _ _ (goes.sent h) fit) (goes_after b.channel.ended two more c.channel.ended ended goes.over on))
 
-  -- a step behind others
+  -- a lead after a step
+  pub leads_on : (last : Tree) → Leads tells tree' last b c → Leads tells tree last a c
+  leads_on last second = record {
+    came = first.leads.came ++ second.came;
+    answered = first.leads.answered ++ second.answered;
+    goes = joined_goes tells first.leads.came second.came first.leads.answered second.answered a b c first.leads.goes second.goes;
+    plays = λ h resumes room more ended outcomes fit on.
+        first_plays second.came second.answered second.goes h resumes room more ended outcomes fit on
+        ∙ second.plays h (first.resumes resumes) room more ended outcomes fit on;
+  }
+
+  -- a step after others
   pub moves_on : (last : Tree) → Moves tells tree' last b c → Moves tells tree last a c
+  unfolding leads_on
   moves_on last second = record {
-    came = first.came ++ second.came;
-    goes = joined_goes tells first.came second.came a b c first.goes second.goes;
+    leads = leads_on last second.leads;
     state = second.state ∙ first.state;
-    failed = second.failed ∙ first.failed;
-    plays = λ h resumes room asked more ended outcomes fit on.
-        first_plays second.came second.goes h resumes room asked more ended outcomes fit on
-        ∙ second.plays h (first.resumes resumes) room asked more ended outcomes fit on;
     resumes = λ r. second.resumes (first.resumes r);
-    keeps = λ silent. keeps_behind (Silent tree) (Silent tree') first.came second.came a b c first.keeps (second.keeps silent);
-    calm = λ calm. keeps_behind (Calm tree) (Calm tree') first.came second.came a b c first.calm (second.calm calm);
+    keeps = λ silent. keeps_after (Silent tree) (Silent tree') first.leads.came second.leads.came a b c first.keeps (second.keeps silent);
+    calm = λ calm. keeps_after (Calm tree) (Calm tree') first.leads.came second.leads.came a b c first.calm (second.calm calm);
+    shrinks = shrinks_after first.leads.came second.leads.came a b c first.shrinks second.shrinks;
   }
 
-  -- the answer behind others
-  pub completes_on : (answer : Answer) → Completes tells tree' answer b c → Completes tells tree answer a c
-  completes_on answer second = record {
-    came = first.came ++ second.came;
-    goes = joined_goes tells first.came second.came a b c first.goes second.goes;
-    plays = λ h resumes room asked more ended outcomes fit on.
-        first_plays second.came second.goes h resumes room asked more ended outcomes fit on
-        ∙ second.plays h (first.resumes resumes) room asked more ended outcomes fit on;
-    keeps = keeps_behind (Silent tree) (Silent tree') first.came second.came a b c first.keeps second.keeps;
-    calm = keeps_behind (Calm tree) (Calm tree') first.came second.came a b c first.calm second.calm;
+  -- the answer after others
+  pub ends_on : (answer : Answer) → Ends tells tree' answer b c → Ends tells tree answer a c
+  ends_on answer second = record {
+    completes = record {
+      came = first.leads.came ++ second.completes.came;
+      answered = first.leads.answered ++ second.completes.answered;
+      goes = joined_goes tells first.leads.came second.completes.came first.leads.answered second.completes.answered a b c first.leads.goes second.completes.goes;
+      plays = λ h resumes room more ended outcomes fit on.
+          first_plays second.completes.came second.completes.answered second.completes.goes h resumes room more ended outcomes fit on
+          ∙ second.completes.plays h (first.resumes resumes) room more ended outcomes fit on;
+    };
+    keeps = keeps_after (Silent tree) (Silent tree') first.leads.came second.completes.came a b c first.keeps second.keeps;
+    calm = keeps_after (Calm tree) (Calm tree') first.leads.came second.completes.came a b c first.calm second.calm;
+    shrinks = shrinks_after first.leads.came second.completes.came a b c first.shrinks second.shrinks;
   }
 
-  -- a failure behind others: want of memory where nothing was said fails nothing
-  pub breaks_on : (answer : Answer) → Breaks tells answer b c → (b ≡ a) ⊎ (answer ≡ Fault OutOfMemory → c.channel.failed ≡ true) → Breaks tells answer a c
-  breaks_on answer second (inl same) = let P : SessionValue → Type 0 = λ v. Breaks tells answer v c in subst P same second
-  breaks_on answer second (inr fails) = record {
+  -- a dialogue that is aborted after it has begun
+  pub aborts_on : (begun begun' : Bool) (answer : Answer) → begun' ≡ true → Aborts tells begun' tree' answer b c → Aborts tells begun tree answer a c
+  aborts_on begun begun' answer has second = record {
+    place = second.place;
+    at = second.at;
+    leads = leads_at;
+    state = second.state ∙ first.state;
+    going = second.going;
     fault = second.fault;
     is = second.is;
-    state = second.state ∙ first.state;
     cause = go second.cause;
   }
     where
-      go : Fails tells second.fault b c ⊎ WantsMemory tells second.fault b c → Fails tells second.fault a c ⊎ WantsMemory tells second.fault a c
-      go (inl f) = inl (record { io = f.io; failed = f.failed; counted = λ h. rw (← first.goes.failures h) (f.counted h) })
-      go (inr w) = inr (record { is = w.is; leaves = inl (fails (second.is ∙ ap Fault w.is)) })
+      leads_at : Leads tells tree second.place a second.at
+      leads_at = record {
+        came = first.leads.came ++ second.leads.came;
+        answered = first.leads.answered ++ second.leads.answered;
+        goes = joined_goes tells first.leads.came second.leads.came first.leads.answered second.leads.answered a b second.at first.leads.goes second.leads.goes;
+        plays = λ h resumes room more ended outcomes fit on.
+            rw (append_assoc first.leads.came second.leads.came more, outcomes-append first.leads.answered second.leads.answered, append_assoc (outcomes_of first.leads.answered) (outcomes_of second.leads.answered) outcomes)
+            (first.leads.plays h resumes room (second.leads.came ++ more) ended (outcomes_of second.leads.answered ++ outcomes) (fitted room _ _ (second.leads.goes.sent h) fit) (goes_after b.channel.ended second.leads.came more second.at.channel.ended ended second.leads.goes.over on))
+            ∙ second.leads.plays h (first.resumes resumes) room more ended outcomes fit on;
+      }
+
+      go : Fails tells second.fault second.at c ⊎ LacksMemory tells begun' second.leads.came second.fault b second.at c → Fails tells second.fault second.at c ⊎ LacksMemory tells begun leads_at.came second.fault a second.at c
+      go (inl fails) = inl fails
+      go (inr lacks) = inr (record { is = lacks.is; leaves = inr (lost lacks.leaves) })
+        where
+          lost : ((c ≡ second.at) × (begun' ≡ false) × Untouched tells second.leads.came b second.at) ⊎ (c ≡ failed_from second.at) → c ≡ failed_from second.at
+          lost (inl quiet) = let clash : true ≡ false = sym has ∙ quiet.1 in cc
+          lost (inr failed) = failed

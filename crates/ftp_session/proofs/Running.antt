@@ -1,35 +1,41 @@
 -- Lemmas on lists of calls.
 use Rattle.std.proofs.lemmas.List.{drop_more}
 use Rattle.std.proofs.Math.ListN.{drop_of_length-le}
-use Rattle.std.proofs.Common.{◌≡◌, ℕ, ◌+◌, ◌<◌, ◌≤◌, drop, get_or, Bool, true, false, cond, List, [], ◌∷◌, ◌++◌, length, Ok, inl, inr, ◌⊎◌, refl, ap, sym, ◌∙◌, subst, append_assoc, append-nil}
+use Rattle.std.proofs.Common.{◌≡◌, ℕ, ◌+◌, ◌<◌, ◌≤◌, drop, get_or, Bool, true, false, cond, List, [], ◌∷◌, ◌++◌, length, inl, inr, ◌⊎◌, refl, ap, sym, ◌∙◌, subst, append_assoc, append-nil}
 use Rattle.ftp_base.specs.declared.types.fault.FtpError.TheVariants.{SessionFailed}
 use Rattle.ftp_control.specs.declared.control.rule.ReplyRule.{ReplyRule}
 use Rattle.ftp_control.specs.declared.transport.room.Room.{Room}
-use Rattle.ftp_session.specs.declared.session.settings.State.{State}
+use Rattle.ftp_control.specs.declared.transport.request.Asked.{Asked}
+use Rattle.ftp_control.specs.Asking.{outcomes_of}
+use Rattle.ftp_control.proofs.Asking.{outcomes-append}
+use Rattle.ftp_session.specs.declared.session.state.State.{State}
 use Rattle.ftp_session.specs.declared.session.call.Answer.{Answer}
 use Rattle.ftp_session.specs.declared.session.call.Answer.TheVariants.{Fault}
 use Rattle.ftp_session.specs.declared.session.call.Call.{Call}
-use Rattle.ftp_session.specs.declared.plain.Standing.{Standing}
-use Rattle.ftp_session.specs.declared.plain.Played.TheVariants.{Done}
-use Rattle.ftp_session.specs.declared.plain.Wait.{Wait}
-use Rattle.ftp_session.specs.declared.plain.Ran.{Ran}
-use Rattle.ftp_session.specs.declared.plain.Ran.TheVariants.{Finished, Waiting}
+use Rattle.ftp_session.specs.declared.model.Standing.{Standing}
+use Rattle.ftp_session.specs.declared.model.Played.TheVariants.{Done}
+use Rattle.ftp_session.specs.declared.model.Wait.{Wait}
+use Rattle.ftp_session.specs.declared.model.Ran.{Ran}
+use Rattle.ftp_session.specs.declared.model.Ran.TheVariants.{Finished, Waiting}
 use Rattle.ftp_session.specs.State.{SessionValue}
+use Rattle.ftp_session.specs.Coding.{Coding}
 use Rattle.ftp_session.specs.Dialogue.{dialogue}
 use Rattle.ftp_session.specs.Play.{play, play_call}
 use Rattle.ftp_session.specs.Run.{run, before, and_then, OneView, Silent}
-use Rattle.ftp_session.specs.Moving.{standing, Keeps, Completes, Breaks, Plays, IsRefused}
-use Rattle.ftp_session.specs.Running.{AllRefused, before_all, Makes, RanTo, RunsTo, BrokeOff, Runs}
+use Rattle.ftp_session.specs.Promises.{standing, before_all, Completes, Agrees, AllRefused, Makes, RanTo, RunsTo, RunAborts, Runs, Aborts, Plays, Wired, IsSuccess, IsRefused, IsPlayed}
+use Rattle.ftp_session.specs.Steps.Moving.{Keeps, Ends, Made}
 use Rattle.ftp_session.proofs.Hearing.{nothing_resumes}
-use Rattle.ftp_session.proofs.Moving.{nothing_goes, joined_goes, goes_behind, fitted}
+use Rattle.ftp_session.proofs.Wired.{wired}
+use Rattle.ftp_session.proofs.Moving.{nothing_goes, joined_goes, goes_after, fitted}
 
-pub run-nil : (room : Room) (s : Standing) → run room Ok [] s ≡ Finished [] s
-unfolding run
-run-nil room s = refl
+module _ (coding : Coding) where
+  pub run-nil : (room : Room) (s : Standing) → run room coding [] s ≡ Finished [] s
+  unfolding run
+  run-nil room s = refl
 
-pub run-cons : (room : Room) (call : Call) (calls : List Call) (s : Standing) → run room Ok (call ∷ calls) s ≡ and_then (play_call room Ok call s) (λ t. run room Ok calls t)
-unfolding run
-run-cons room call calls s = refl
+  pub run-cons : (room : Room) (call : Call) (calls : List Call) (s : Standing) → run room coding (call ∷ calls) s ≡ and_then (play_call room coding call s) (λ t. run room coding calls t)
+  unfolding run
+  run-cons room call calls s = refl
 
 -- one answer more
 pub before_all-snoc : (answers : List Answer) (answer : Answer) (ran : Ran) → before_all (answers ++ answer ∷ []) ran ≡ before_all answers (before answer ran)
@@ -44,165 +50,204 @@ pub before_all-Waiting : (answers later : List Answer) (wait : Wait) (s : Standi
 before_all-Waiting [] later wait s = refl
 before_all-Waiting (answer ∷ answers) later wait s = ap (before answer) (before_all-Waiting answers later wait s)
 
--- where nothing is kept, every list has the same view
-pub nothing_views : (rule : ReplyRule) (calls : List Call) → OneView rule [] Ok calls
-nothing_views rule [] = tt
-nothing_views rule (call ∷ calls) = λ state. (nothing_resumes rule (dialogue Ok call state), λ silent. nothing_views rule calls)
+-- what is made of a call is its dialogue
+pub made_plays : (tells : Type 0) (coding : Coding) (call : Call) (old new : SessionValue) (answer : Answer) → Made tells coding call old new answer → Plays tells coding call old new answer
+made_plays tells coding call old new answer (inl refused) = record {
+  wired = λ success. let P : Answer → Type 0 = IsSuccess in absurd (subst P refused.is success);
+  made = inl refused;
+}
+made_plays tells coding call old new answer (inr made) = record {
+  wired = λ success. words success made.plays;
+  made = inr (record { going = made.going; plays = go made.plays });
+}
+  where
+    go : Ends tells (dialogue coding call old.state) answer old new ⊎ Aborts tells false (dialogue coding call old.state) answer old new → Completes tells (dialogue coding call old.state) answer old new ⊎ Aborts tells false (dialogue coding call old.state) answer old new
+    go (inl ends) = inl ends.completes
+    go (inr aborts) = inr aborts
 
--- a call that is played goes on with the later ones
-pub plays_on : (room : Room) (call : Call) (later : List Call) (s t : Standing) (answer : Answer) → s.failed ≡ false → play room (dialogue Ok call s.state) s ≡ Done answer t → run room Ok (call ∷ later) s ≡ before answer (run room Ok later t)
-plays_on room call later s t answer going is =
-    let next : Standing → Ran = λ u. run room Ok later u in
-    let P : Bool → Type 0 = λ failed. cond failed (Done (Fault SessionFailed) s) (play room (dialogue Ok call s.state) s) ≡ Done answer t in
-    run-cons room call later s ∙ ap (λ p. and_then p next) (subst P (sym going) is)
+    words : IsSuccess answer → Ends tells (dialogue coding call old.state) answer old new ⊎ Aborts tells false (dialogue coding call old.state) answer old new → Wired tells coding call old new
+    words success (inl ends) = wired tells coding call old new answer ends.completes success
+    words success (inr aborts) = let P : Answer → Type 0 = IsSuccess in absurd (subst P aborts.is success)
 
-pub refuses_on : (room : Room) (call : Call) (later : List Call) (s : Standing) → s.failed ≡ true → run room Ok (call ∷ later) s ≡ before (Fault SessionFailed) (run room Ok later s)
-refuses_on room call later s failed =
-    let next : Standing → Ran = λ u. run room Ok later u in
-    let P : Bool → Type 0 = λ f. cond f (Done (Fault SessionFailed) s) (play room (dialogue Ok call s.state) s) ≡ Done (Fault SessionFailed) s in
-    run-cons room call later s ∙ ap (λ p. and_then p next) (subst P (sym failed) refl)
+module _ (coding : Coding) where
+  -- where nothing is kept, every list has the same view
+  pub nothing_views : (rule : ReplyRule) (calls : List Call) → OneView rule [] coding calls
+  nothing_views rule [] = tt
+  nothing_views rule (call ∷ calls) = λ state. (nothing_resumes rule (dialogue coding call state), λ silent. nothing_views rule calls)
 
-pub ran_nothing : (tells : Type 0) (calls : List Call) (v : SessionValue) → RanTo tells calls calls v v []
-ran_nothing tells calls v = record {
-  came = [];
-  goes = nothing_goes tells v;
-  runs = λ h agrees room asked more ended outcomes fit on. refl;
+  -- a call that is played goes on with the later ones
+  pub plays_on : (room : Room) (call : Call) (later : List Call) (s t : Standing) (answer : Answer) → s.failed ≡ false → play room (dialogue coding call s.state) s ≡ Done answer t → run room coding (call ∷ later) s ≡ before answer (run room coding later t)
+  plays_on room call later s t answer going is =
+      let next : Standing → Ran = λ u. run room coding later u in
+      let P : Bool → Type 0 = λ failed. cond failed (Done (Fault SessionFailed) s) (play room (dialogue coding call s.state) s) ≡ Done answer t in
+      run-cons coding room call later s ∙ ap (λ p. and_then p next) (subst P (sym going) is)
+
+  pub refuses_on : (room : Room) (call : Call) (later : List Call) (s : Standing) → s.failed ≡ true → run room coding (call ∷ later) s ≡ before (Fault SessionFailed) (run room coding later s)
+  refuses_on room call later s failed =
+      let next : Standing → Ran = λ u. run room coding later u in
+      let P : Bool → Type 0 = λ f. cond f (Done (Fault SessionFailed) s) (play room (dialogue coding call s.state) s) ≡ Done (Fault SessionFailed) s in
+      run-cons coding room call later s ∙ ap (λ p. and_then p next) (subst P (sym failed) refl)
+
+  -- the view of the calls after one that is done
+  views_on : (call : Call) (later : List Call) (came : List ℕ) (mid new : SessionValue) (state : State) → new.channel.rule ≡ mid.channel.rule → Keeps (Silent (dialogue coding call state)) came mid new → OneView mid.channel.rule mid.channel.kept coding (call ∷ later) → OneView new.channel.rule new.channel.kept coding later
+  views_on call later came mid new state rule (inl none) view = rw none (nothing_views new.channel.rule later)
+  views_on call later came mid new state rule (inr same) view = rw (same.0, rule) ((view state).1 same.3)
+
+-- a run that got so far, with the view of the calls that are left
+pub record Reached (tells : Type 0) (coding : Coding) (calls to_make : List Call) (old new : SessionValue) (answers : List Answer) : Type 0 where
+  pub ran : RanTo tells coding calls to_make old new answers
+  pub agrees : Agrees coding old calls → Agrees coding new to_make
+
+pub ran_nothing : (tells : Type 0) (coding : Coding) (calls : List Call) (v : SessionValue) → Reached tells coding calls calls v v []
+ran_nothing tells coding calls v = record {
+  ran = record {
+    came = [];
+    answered = [];
+    goes = nothing_goes tells v;
+    runs = λ h agrees room more ended outcomes fit on. refl;
+  };
   agrees = λ a. a;
 }
 
--- the view of the calls behind one that is done
-views_on : (call : Call) (later : List Call) (came : List ℕ) (mid new : SessionValue) (state : State) → new.channel.rule ≡ mid.channel.rule → Keeps (Silent (dialogue Ok call state)) came mid new → OneView mid.channel.rule mid.channel.kept Ok (call ∷ later) → OneView new.channel.rule new.channel.kept Ok later
-views_on call later came mid new state rule (inl none) view = rw none (nothing_views new.channel.rule later)
-views_on call later came mid new state rule (inr same) view = rw (same.0, rule) ((view state).1 same.2)
+-- a run so far, where these are left to make
+abbrev pub RunsSoFar : Type 0 → Coding → List Call → List Call → SessionValue → SessionValue → List Answer → Type 0
+RunsSoFar tells coding calls to_make old new answers = Reached tells coding calls to_make old new answers ⊎ RunAborts tells coding calls to_make old new answers
 
-module _ (tells : Type 0) (calls later : List Call) (call : Call) (old mid new : SessionValue) (answers : List Answer) (answer : Answer) (ran : RanTo tells calls (call ∷ later) old mid answers) where
+module _ (tells : Type 0) (coding : Coding) (calls later : List Call) (call : Call) (old mid new : SessionValue) (answers : List Answer) (answer : Answer) (reached : Reached tells coding calls (call ∷ later) old mid answers) where
   -- the next call is done
-  completes_next : mid.channel.failed ≡ false → Completes tells (dialogue Ok call mid.state) answer mid new → RanTo tells calls later old new (answers ++ answer ∷ [])
-  completes_next going done = record {
-    came = ran.came ++ done.came;
-    goes = joined_goes tells ran.came done.came old mid new ran.goes done.goes;
-    runs = λ h agrees room asked more ended outcomes fit on.
-        let first = ran.runs h agrees room asked (done.came ++ more) ended outcomes (fitted room _ _ (done.goes.sent h) fit) (goes_behind mid.channel.ended done.came more new.channel.ended ended done.goes.over on) in
-        let played = done.plays h (ran.agrees agrees going mid.state).0 room asked more ended outcomes fit on in
-        rw (append_assoc ran.came done.came more)
-        (first
-        ∙ ap (before_all answers) (plays_on room call later (standing mid asked (done.came ++ more) ended outcomes) (standing new asked more ended outcomes) answer going played)
-        ∙ sym (before_all-snoc answers answer (run room Ok later (standing new asked more ended outcomes))));
-    agrees = λ agrees going'. views_on call later done.came mid new mid.state done.goes.rule done.keeps (ran.agrees agrees going);
-  }
+  completes_next : mid.channel.failed ≡ false → Ends tells (dialogue coding call mid.state) answer mid new → Reached tells coding calls later old new (answers ++ answer ∷ [])
+  completes_next going ends =
+      let ran = reached.ran in
+      let done = ends.completes in
+      record {
+        ran = record {
+          came = ran.came ++ done.came;
+          answered = ran.answered ++ done.answered;
+          goes = joined_goes tells ran.came done.came ran.answered done.answered old mid new ran.goes done.goes;
+          runs = λ h agrees room more ended outcomes fit on.
+              let first = ran.runs h agrees room (done.came ++ more) ended (outcomes_of done.answered ++ outcomes) (fitted room _ _ (done.goes.sent h) fit) (goes_after mid.channel.ended done.came more new.channel.ended ended done.goes.over on) in
+              let played = done.plays h (reached.agrees agrees going mid.state).0 room more ended outcomes fit on in
+              rw (append_assoc ran.came done.came more, outcomes-append ran.answered done.answered, append_assoc (outcomes_of ran.answered) (outcomes_of done.answered) outcomes)
+              (first
+              ∙ ap (before_all answers) (plays_on coding room call later (standing mid (done.came ++ more) ended (outcomes_of done.answered ++ outcomes)) (standing new more ended outcomes) answer going played)
+              ∙ sym (before_all-snoc answers answer (run room coding later (standing new more ended outcomes))));
+        };
+        agrees = λ agrees going'. views_on coding call later done.came mid new mid.state done.goes.rule ends.keeps (reached.agrees agrees going);
+      }
 
   -- the session has failed
-  refuses_next : IsRefused mid new answer → RanTo tells calls later old new (answers ++ answer ∷ [])
+  refuses_next : IsRefused mid new answer → Reached tells coding calls later old new (answers ++ answer ∷ [])
   refuses_next refused =
-      let P : SessionValue → Type 0 = λ v. RanTo tells calls later old v (answers ++ answer ∷ []) in
-      let Q : Answer → Type 0 = λ a. RanTo tells calls later old mid (answers ++ a ∷ []) in
+      let ran = reached.ran in
+      let P : SessionValue → Type 0 = λ v. Reached tells coding calls later old v (answers ++ answer ∷ []) in
+      let Q : Answer → Type 0 = λ a. Reached tells coding calls later old mid (answers ++ a ∷ []) in
       subst P (sym refused.unchanged)
       (subst Q (sym refused.is)
       (record {
-        came = ran.came;
-        goes = ran.goes;
-        runs = λ h agrees room asked more ended outcomes fit on.
-            ran.runs h agrees room asked more ended outcomes fit on
-            ∙ ap (before_all answers) (refuses_on room call later (standing mid asked more ended outcomes) refused.failed)
-            ∙ sym (before_all-snoc answers (Fault SessionFailed) (run room Ok later (standing mid asked more ended outcomes)));
+        ran = record {
+          came = ran.came;
+          answered = ran.answered;
+          goes = ran.goes;
+          runs = λ h agrees room more ended outcomes fit on.
+              ran.runs h agrees room more ended outcomes fit on
+              ∙ ap (before_all answers) (refuses_on coding room call later (standing mid more ended outcomes) refused.failed)
+              ∙ sym (before_all-snoc answers (Fault SessionFailed) (run room coding later (standing mid more ended outcomes)));
+        };
         agrees = λ agrees going. let clash : true ≡ false = sym refused.failed ∙ going in cc;
       }))
 
-  breaks_next : mid.channel.failed ≡ false → Breaks tells answer mid new → BrokeOff tells calls later old new (answers ++ answer ∷ [])
-  breaks_next going breaks = record {
+  aborts_next : mid.channel.failed ≡ false → Aborts tells false (dialogue coding call mid.state) answer mid new → RunAborts tells coding calls later old new (answers ++ answer ∷ [])
+  aborts_next going aborts = record {
     first = answers;
     call = call;
     made = [];
     middle = mid;
-    ran = ran;
+    ran = reached.ran;
     going = going;
-    fault = breaks.fault;
+    fault = aborts.fault;
     after = new;
-    breaks = let P : Answer → Type 0 = λ a. Breaks tells a mid new in subst P breaks.is breaks;
-    rest = [];
-    answers_are = ap (λ a. answers ++ a ∷ []) breaks.is;
+    aborts = let P : Answer → Type 0 = λ a. Aborts tells false (dialogue coding call mid.state) a mid new in subst P aborts.is aborts;
+    later = [];
+    answers_are = ap (λ a. answers ++ a ∷ []) aborts.is;
     makes = (refl, refl);
     failed = λ failed. (refl, tt);
   }
 
-  pub next_answer : Plays tells call mid new answer → RanTo tells calls later old new (answers ++ answer ∷ []) ⊎ BrokeOff tells calls later old new (answers ++ answer ∷ [])
+  pub next_answer : Made tells coding call mid new answer → RunsSoFar tells coding calls later old new (answers ++ answer ∷ [])
   next_answer (inl refused) = inl (refuses_next refused)
-  next_answer (inr played) = go played.plays
+  next_answer (inr made) = go made.plays
     where
-      go : Completes tells (dialogue Ok call mid.state) answer mid new ⊎ Breaks tells answer mid new → RanTo tells calls later old new (answers ++ answer ∷ []) ⊎ BrokeOff tells calls later old new (answers ++ answer ∷ [])
-      go (inl done) = inl (completes_next played.going done)
-      go (inr breaks) = inr (breaks_next played.going breaks)
+      go : Ends tells (dialogue coding call mid.state) answer mid new ⊎ Aborts tells false (dialogue coding call mid.state) answer mid new → RunsSoFar tells coding calls later old new (answers ++ answer ∷ [])
+      go (inl ends) = inl (completes_next made.going ends)
+      go (inr aborts) = inr (aborts_next made.going aborts)
 
-all_snoc : (rest : List Answer) (answer : Answer) → AllRefused rest → answer ≡ Fault SessionFailed → AllRefused (rest ++ answer ∷ [])
+all_snoc : (first : List Answer) (answer : Answer) → AllRefused first → answer ≡ Fault SessionFailed → AllRefused (first ++ answer ∷ [])
 all_snoc [] answer all is = (is, tt)
-all_snoc (first ∷ rest) answer all is = (all.0, all_snoc rest answer all.1 is)
+all_snoc (one ∷ first) answer all is = (all.0, all_snoc first answer all.1 is)
 
 -- one call more is made
-makes_more : (tells : Type 0) (made : List Call) (call : Call) (old mid new : SessionValue) (answers : List Answer) (answer : Answer) → Makes tells made old mid answers → Plays tells call mid new answer → Makes tells (made ++ call ∷ []) old new (answers ++ answer ∷ [])
-makes_more tells [] call old mid new answers answer so_far plays =
-    let P : SessionValue → Type 0 = λ v. Plays tells call v new answer in
+makes_more : (tells : Type 0) (coding : Coding) (made : List Call) (call : Call) (old mid new : SessionValue) (answers : List Answer) (answer : Answer) → Makes tells coding made old mid answers → Plays tells coding call mid new answer → Makes tells coding (made ++ call ∷ []) old new (answers ++ answer ∷ [])
+makes_more tells coding [] call old mid new answers answer so_far plays =
+    let P : SessionValue → Type 0 = λ v. Plays tells coding call v new answer in
     (new, answer, [], ap (λ a. a ++ answer ∷ []) so_far.1, subst P so_far.0 plays, (refl, refl))
-makes_more tells (first ∷ made) call old mid new answers answer so_far plays =
-    (so_far.0, so_far.1, so_far.2 ++ answer ∷ [], ap (λ a. a ++ answer ∷ []) so_far.3, so_far.4, makes_more tells made call so_far.0 mid new so_far.2 answer so_far.5 plays)
+makes_more tells coding (first ∷ made) call old mid new answers answer so_far plays =
+    (so_far.0, so_far.1, so_far.2 ++ answer ∷ [], ap (λ a. a ++ answer ∷ []) so_far.3, so_far.4, makes_more tells coding made call so_far.0 mid new so_far.2 answer so_far.5 plays)
 
--- a call behind one that broke off
-pub broke_more : (tells : Type 0) (calls left : List Call) (call : Call) (old mid new : SessionValue) (answers : List Answer) (answer : Answer) → BrokeOff tells calls (call ∷ left) old mid answers → Plays tells call mid new answer → BrokeOff tells calls left old new (answers ++ answer ∷ [])
-broke_more tells calls left call old mid new answers answer broke plays = record {
+-- a call after one that was aborted
+aborted_more : (tells : Type 0) (coding : Coding) (calls to_make : List Call) (call : Call) (old mid new : SessionValue) (answers : List Answer) (answer : Answer) → RunAborts tells coding calls (call ∷ to_make) old mid answers → Plays tells coding call mid new answer → RunAborts tells coding calls to_make old new (answers ++ answer ∷ [])
+aborted_more tells coding calls to_make call old mid new answers answer broke plays = record {
   first = broke.first;
   call = broke.call;
   made = broke.made ++ call ∷ [];
   middle = broke.middle;
-  ran = let P : List Call → Type 0 = λ l. RanTo tells calls (broke.call ∷ l) old broke.middle broke.first in subst P (sym (append_assoc broke.made (call ∷ []) left)) broke.ran;
+  ran = let P : List Call → Type 0 = λ l. RanTo tells coding calls (broke.call ∷ l) old broke.middle broke.first in subst P (sym (append_assoc broke.made (call ∷ []) to_make)) broke.ran;
   going = broke.going;
   fault = broke.fault;
   after = broke.after;
-  breaks = broke.breaks;
-  rest = broke.rest ++ answer ∷ [];
-  answers_are = ap (λ a. a ++ answer ∷ []) broke.answers_are ∙ append_assoc broke.first (Fault broke.fault ∷ broke.rest) (answer ∷ []);
-  makes = makes_more tells broke.made call broke.after mid new broke.rest answer broke.makes plays;
-  failed = λ failed. go plays failed (broke.failed failed);
+  aborts = broke.aborts;
+  later = broke.later ++ answer ∷ [];
+  answers_are = ap (λ a. a ++ answer ∷ []) broke.answers_are ∙ append_assoc broke.first (Fault broke.fault ∷ broke.later) (answer ∷ []);
+  makes = makes_more tells coding broke.made call broke.after mid new broke.later answer broke.makes plays;
+  failed = λ failed. go plays.made failed (broke.failed failed);
 }
   where
-    go : Plays tells call mid new answer → broke.after.channel.failed ≡ true → (mid ≡ broke.after) × AllRefused broke.rest → (new ≡ broke.after) × AllRefused (broke.rest ++ answer ∷ [])
-    go (inl refused) failed so_far = (refused.unchanged ∙ so_far.0, all_snoc broke.rest answer so_far.1 refused.is)
+    go : IsRefused mid new answer ⊎ IsPlayed tells coding call mid new answer → broke.after.channel.failed ≡ true → (mid ≡ broke.after) × AllRefused broke.later → (new ≡ broke.after) × AllRefused (broke.later ++ answer ∷ [])
+    go (inl refused) failed so_far = (refused.unchanged ∙ so_far.0, all_snoc broke.later answer so_far.1 refused.is)
     go (inr played) failed so_far =
         let clash : true ≡ false = sym failed ∙ sym (ap (λ v. v.channel.failed) so_far.0) ∙ played.going in
         cc
 
 -- no call is left
-pub ran_all : (tells : Type 0) (calls : List Call) (old new : SessionValue) (answers : List Answer) → RanTo tells calls [] old new answers → RunsTo tells calls old new answers
-ran_all tells calls old new answers ran = record {
-  came = ran.came;
-  goes = ran.goes;
-  runs = λ h agrees room asked more ended outcomes fit on.
-      ran.runs h agrees room asked more ended outcomes fit on
-      ∙ ap (before_all answers) (run-nil room (standing new asked more ended outcomes))
-      ∙ before_all-Finished answers [] (standing new asked more ended outcomes)
-      ∙ ap (λ a. Finished a (standing new asked more ended outcomes)) (append-nil answers);
+ran_all : (tells : Type 0) (coding : Coding) (calls : List Call) (old new : SessionValue) (answers : List Answer) → Reached tells coding calls [] old new answers → RunsTo tells coding calls old new answers
+ran_all tells coding calls old new answers reached = record {
+  came = reached.ran.came;
+  answered = reached.ran.answered;
+  goes = reached.ran.goes;
+  runs = λ h agrees room more ended outcomes fit on.
+      reached.ran.runs h agrees room more ended outcomes fit on
+      ∙ ap (before_all answers) (run-nil coding room (standing new more ended outcomes))
+      ∙ before_all-Finished answers [] (standing new more ended outcomes)
+      ∙ ap (λ a. Finished a (standing new more ended outcomes)) (append-nil answers);
 }
 
--- a run so far, where these are left
-abbrev pub RunsSoFar : Type 0 → List Call → List Call → SessionValue → SessionValue → List Answer → Type 0
-RunsSoFar tells calls left old new answers = RanTo tells calls left old new answers ⊎ BrokeOff tells calls left old new answers
-
 -- the next of the calls
-pub next_of : (tells : Type 0) (calls : List Call) (i : ℕ) (call : Call) (old mid new : SessionValue) (answers answers' : List Answer) (answer : Answer) → i < length calls → call ≡ get_or calls i call → answers' ≡ answers ++ answer ∷ [] → RunsSoFar tells calls (drop i calls) old mid answers → Plays tells call mid new answer → RunsSoFar tells calls (drop (i + 1) calls) old new answers'
-next_of tells calls i call old mid new answers answers' answer inside is pushed so_far plays =
-    let P : List Answer → Type 0 = λ a. RunsSoFar tells calls (drop (i + 1) calls) old new a in
-    let Q : List Call → Type 0 = λ l. RunsSoFar tells calls l old mid answers in
+pub next_of : (tells : Type 0) (coding : Coding) (calls : List Call) (i : ℕ) (call : Call) (old mid new : SessionValue) (answers answers' : List Answer) (answer : Answer) → i < length calls → call ≡ get_or calls i call → answers' ≡ answers ++ answer ∷ [] → RunsSoFar tells coding calls (drop i calls) old mid answers → Made tells coding call mid new answer → RunsSoFar tells coding calls (drop (i + 1) calls) old new answers'
+next_of tells coding calls i call old mid new answers answers' answer inside is pushed so_far made =
+    let P : List Answer → Type 0 = λ a. RunsSoFar tells coding calls (drop (i + 1) calls) old new a in
+    let Q : List Call → Type 0 = λ l. RunsSoFar tells coding calls l old mid answers in
     let left : drop i calls ≡ call ∷ drop (i + 1) calls = drop_more calls i call inside ∙ ap (λ c. c ∷ drop (i + 1) calls) (sym is) in
     subst P (sym pushed) (go (subst Q left so_far))
   where
-    go : RunsSoFar tells calls (call ∷ drop (i + 1) calls) old mid answers → RunsSoFar tells calls (drop (i + 1) calls) old new (answers ++ answer ∷ [])
-    go (inl ran) = next_answer tells calls (drop (i + 1) calls) call old mid new answers answer ran plays
-    go (inr broke) = inr (broke_more tells calls (drop (i + 1) calls) call old mid new answers answer broke plays)
+    go : RunsSoFar tells coding calls (call ∷ drop (i + 1) calls) old mid answers → RunsSoFar tells coding calls (drop (i + 1) calls) old new (answers ++ answer ∷ [])
+    go (inl reached) = next_answer tells coding calls (drop (i + 1) calls) call old mid new answers answer reached made
+    go (inr broke) = inr (aborted_more tells coding calls (drop (i + 1) calls) call old mid new answers answer broke (made_plays tells coding call mid new answer made))
 
--- no call is left, or one broke off
-pub all_of : (tells : Type 0) (calls : List Call) (i : ℕ) (old new : SessionValue) (answers : List Answer) → length calls ≤ i → RunsSoFar tells calls (drop i calls) old new answers → Runs tells calls old new answers
-all_of tells calls i old new answers past so_far =
-    let P : List Call → Type 0 = λ l. RunsSoFar tells calls l old new answers in
+-- no call is left, or one was aborted
+pub all_of : (tells : Type 0) (coding : Coding) (calls : List Call) (i : ℕ) (old new : SessionValue) (answers : List Answer) → length calls ≤ i → RunsSoFar tells coding calls (drop i calls) old new answers → Runs tells coding calls old new answers
+all_of tells coding calls i old new answers past so_far =
+    let P : List Call → Type 0 = λ l. RunsSoFar tells coding calls l old new answers in
     go (subst P (drop_of_length-le calls {i = i} past) so_far)
   where
-    go : RunsSoFar tells calls [] old new answers → Runs tells calls old new answers
-    go (inl ran) = inl (ran_all tells calls old new answers ran)
+    go : RunsSoFar tells coding calls [] old new answers → Runs tells coding calls old new answers
+    go (inl reached) = inl (ran_all tells coding calls old new answers reached)
     go (inr broke) = inr broke

@@ -2,7 +2,7 @@
 use Rattle.std.proofs.Common.{◌≡◌, Bool, false, ℕ, zero, suc, ◌+◌, ◌<◌, ◌≤◌, Option, Some, None, List, [], ◌∷◌, ◌++◌, length, take, drop, get_or, inl, inr, ◌⊎◌, refl, ap, sym, ◌∙◌, subst, append_assoc, arith}
 use Rattle.std.specs.Prelude.{OnErr, Result, Ok, Err}
 use Rattle.std.proofs.lemmas.List.{drop_more, take_more, take_all, take-append-drop}
-use Rattle.ftp_control.specs.declared.control.outcome.Outcome.TheVariants.{Waits as More}
+use Rattle.ftp_control.specs.declared.control.outcome.Outcome.TheVariants.{Waits}
 use Rattle.ftp_control.specs.Grammar.{outcome}
 use Rattle.ftp_control.specs.Memory.{IsGiven}
 use Rattle.ftp_control.specs.Channel.{IsSound}
@@ -12,171 +12,190 @@ use Rattle.ftp_session.specs.declared.session.call.Call.{Call}
 use Rattle.ftp_session.specs.declared.session.call.Event.{Event}
 use Rattle.ftp_session.specs.declared.session.call.Event.TheVariants.{Poll}
 use Rattle.ftp_session.specs.declared.session.stage.Stage.{Stage}
-use Rattle.ftp_session.specs.declared.plain.Standing.{Standing}
+use Rattle.ftp_session.specs.declared.model.Standing.{Standing}
+use Rattle.ftp_session.specs.declared.model.Script.{Script}
 use Rattle.ftp_session.specs.State.{SessionValue}
-use Rattle.ftp_session.specs.declared.plain.Script.{Script}
+use Rattle.ftp_session.specs.Coding.{Coding}
 use Rattle.ftp_session.specs.Script.{script, start_of, script_of, after_event, Lawful, IsLawful, MayCancel}
-use Rattle.ftp_session.specs.Running.{AllRefused}
-use Rattle.ftp_session.specs.Polling.{PollsTo, PollBroke, PollsDown, PollsLawfully, Stops, StopsAtFeed}
-use Rattle.ftp_session.specs.Following.{Follows, FailedStays, Happens, BreaksCall, IsFeed, given_answer}
+use Rattle.ftp_session.specs.Promises.{AllRefused}
+use Rattle.ftp_session.specs.Scripted.{ScriptHolds, LeftOf, ScriptAborts, ScriptsHold, IsScripted, Stops, StopsAtFeed}
+use Rattle.ftp_session.specs.Steps.Stages.{begun_at, remaining}
+use Rattle.ftp_session.specs.Steps.Following.{Follows, FailedStays, Happens, AbortsCall, Place, Started, UnderWay, IsFeed, given_answer}
 use Rattle.ftp_session.proofs.Events.{begins}
+use Rattle.ftp_session.proofs.Following.{left_of}
 
-script-snoc : (start : Standing) (s : Script) (events : List Event) (event : Event) → script start s (events ++ event ∷ []) ≡ after_event start (script start s events) event
-script-snoc start s [] event = refl
-script-snoc start s (first ∷ events) event = script-snoc start (after_event start s first) events event
+module _ (coding : Coding) where
+  script-snoc : (start : Standing) (s : Script) (events : List Event) (event : Event) → script coding start s (events ++ event ∷ []) ≡ after_event coding start (script coding start s events) event
+  script-snoc start s [] event = refl
+  script-snoc start s (first ∷ events) event = script-snoc start (after_event coding start s first) events event
 
-lawful-snoc : (start : Standing) (s : Script) (events : List Event) (event : Event) → Lawful start s (events ++ event ∷ []) → Lawful start s events × IsLawful start (script start s events) event
-lawful-snoc start s [] event lawful = (tt, lawful.0)
-lawful-snoc start s (first ∷ events) event lawful = let later = lawful-snoc start (after_event start s first) events event lawful.1 in ((lawful.0, later.0), later.1)
+  lawful-snoc : (start : Standing) (s : Script) (events : List Event) (event : Event) → Lawful coding start s (events ++ event ∷ []) → Lawful coding start s events × IsLawful start (script coding start s events) event
+  lawful-snoc start s [] event lawful = (tt, lawful.0)
+  lawful-snoc start s (first ∷ events) event lawful = let later = lawful-snoc start (after_event coding start s first) events event lawful.1 in ((lawful.0, later.0), later.1)
 
--- the events that happened so far, and what came of them: the session follows their script, or a call was broken
--- off; that is said of so many calls that are broken off
-abbrev pub Happened : ℕ → SessionValue → List Event → SessionValue → Option Call → Stage → List Answer → Type 0
-Happened zero old done v call stage answers = Unit {0}
-Happened (suc depth) old done v call stage answers =
-    (system : Bool) → outcome old.channel.rule system old.channel.kept false ≡ More → Lawful (start_of old) (script_of old system) done → Follows old (script (start_of old) (script_of old system) done) v call stage answers ⊎ PollBroke (λ after later rest. Happened depth after later v call stage rest) old system done v answers
+  -- the events that happened so far, and what came of them: the session follows their script, or a call was aborted; that is said of so many calls that are aborted
+  abbrev pub Happened : ℕ → SessionValue → List Event → SessionValue → Option Call → Stage → List Answer → Type 0
+  Happened zero old done v call stage answers = Unit {0}
+  Happened (suc depth) old done v call stage answers =
+      (system : Bool) → outcome old.channel.rule system old.channel.kept false ≡ Waits → Lawful coding (start_of old) (script_of old system) done → Follows coding old (script coding (start_of old) (script_of old system) done) v call stage answers ⊎ ScriptAborts (λ after later rest. Happened depth after later v call stage rest) coding old system done v answers
 
--- nothing has happened
-pub starts_script : (depth : ℕ) (old : SessionValue) (call : Option Call) (stage : Stage) → call ≡ None → IsGiven old.channel.told → IsSound (Unit {0}) old.channel → Happened depth old [] old call stage []
-starts_script zero old call stage none given sound = tt
-starts_script (suc depth) old call stage none given sound = λ system waits lawful.
-    let P : Option Call → Type 0 = λ c. Follows old (script_of old system) old c stage [] in
-    inl (subst P (sym none) (begins old system stage given sound waits))
+  -- nothing has happened
+  pub starts_script : (depth : ℕ) (old : SessionValue) (call : Option Call) (stage : Stage) → call ≡ None → IsGiven old.channel.told → IsSound (Unit {0}) old.channel → Happened depth old [] old call stage []
+  starts_script zero old call stage none given sound = tt
+  starts_script (suc depth) old call stage none given sound = λ system waits lawful.
+      let P : Option Call → Type 0 = λ c. Follows coding old (script_of old system) old c stage [] in
+      inl (subst P (sym none) (begins coding old system stage given sound waits))
 
--- the session stands where its script does
-polls_to : (old : SessionValue) (system : Bool) (done : List Event) (v : SessionValue) (call : Option Call) (stage : Stage) (answers : List Answer) → Follows old (script (start_of old) (script_of old system) done) v call stage answers → PollsTo old system done v answers
-polls_to old system done v call stage answers f =
-    let s = script (start_of old) (script_of old system) done in
-    record {
-      at = record {
-        answers_are = sym f.answers_are;
-        sent = sym f.sent;
-        untaken = sym f.untaken;
-        seen = sym f.seen;
-        waits = f.waits;
-        ended = sym f.ended;
-        room = sym f.room;
-        rest = λ may. sym (f.rest (let P : Option Call → Type 0 = λ c. MayCancel c s.polled in subst P f.call_is may));
-        state = sym f.state;
-        failed = sym f.failed;
-      };
-      rule = f.rule;
-      failures = f.failures;
-    }
+  -- the session stands where its script does
+  script_holds : (old : SessionValue) (system : Bool) (done : List Event) (v : SessionValue) (call : Option Call) (stage : Stage) (answers : List Answer) → Follows coding old (script coding (start_of old) (script_of old system) done) v call stage answers → ScriptHolds coding old system done v answers
+  script_holds old system done v call stage answers f =
+      let s = script coding (start_of old) (script_of old system) done in
+      record {
+        at = record {
+          answers_are = sym f.answers_are;
+          sent = sym f.sent;
+          untaken = sym f.untaken;
+          seen = sym f.seen;
+          waits = f.waits;
+          ended = sym f.ended;
+          room = sym f.room;
+          unsent = λ may. sym (f.unsent (let P : Option Call → Type 0 = λ c. MayCancel c s.polled in subst P f.call_is may));
+          state = sym f.state;
+          failed = sym f.failed;
+        };
+        rule = f.rule;
+        failures = f.failures;
+      }
 
--- each is refused, and so is the next
-refused_more : (first second : List Answer) → AllRefused first → AllRefused second → AllRefused (first ++ second)
-refused_more [] second one two = two
-refused_more (answer ∷ first) second one two = (one.0, refused_more first second one.1 two)
+  -- each is refused, and so is the next
+  refused_more : (first second : List Answer) → AllRefused first → AllRefused second → AllRefused (first ++ second)
+  refused_more [] second one two = two
+  refused_more (answer ∷ first) second one two = (one.0, refused_more first second one.1 two)
 
--- one event more
-module _ (event : Event) (v w : SessionValue) (call call' : Option Call) (stage stage' : Stage) (result : Option Answer) (stays : FailedStays v w result) (happens : Happens v w call call' stage stage' event result) where
-  -- a call is broken off
-  breaks_off : (depth : ℕ) (old : SessionValue) (system : Bool) (done : List Event) (answers : List Answer) → Follows old (script (start_of old) (script_of old system) done) v call stage answers → BreaksCall v w result → call' ≡ None → event ≡ Poll → PollBroke (λ after later rest. Happened depth after later w call' stage' rest) old system (done ++ event ∷ []) w (answers ++ given_answer result)
-  breaks_off depth old system done answers follows breaks none polled = record {
-    before = done;
-    later = [];
-    split = ap (λ e. done ++ e ∷ []) polled;
-    first = answers;
-    middle = v;
-    at = polls_to old system done v call stage answers follows;
-    fault = breaks.fault;
-    after = w;
-    breaks = breaks.breaks;
-    rest = [];
-    answers_are = ap (λ r. answers ++ given_answer r) breaks.is;
-    goes_on = starts_script depth w call' stage' none breaks.given breaks.sound;
-    failed = λ failed. (failed, tt);
-  }
+  -- one event more
+  module _ (event : Event) (v w : SessionValue) (call call' : Option Call) (stage stage' : Stage) (result : Option Answer) (stays : FailedStays v w result) (happens : Happens coding v w call call' stage stage' event result) where
+    -- a call is aborted
+    aborts_at : (depth : ℕ) (old : SessionValue) (system : Bool) (done : List Event) (answers : List Answer) → Follows coding old (script coding (start_of old) (script_of old system) done) v call stage answers → (broke : (under_way : Call) × (call ≡ Some under_way) × AbortsCall coding under_way stage v w result) → call' ≡ None → event ≡ Poll → ScriptAborts (λ after later rest. Happened depth after later w call' stage' rest) coding old system (done ++ event ∷ []) w (answers ++ given_answer result)
+    aborts_at depth old system done answers follows broke none polled =
+        let s = script coding (start_of old) (script_of old system) done in
+        let aborts = broke.2 in
+        let F : Option Call → Type 0 = λ c. Follows coding old s v c stage answers in
+        record {
+          before = done;
+          later = [];
+          split = ap (λ e. done ++ e ∷ []) polled;
+          first = answers;
+          middle = v;
+          at = script_holds old system done v call stage answers follows;
+          call = broke.0;
+          begun = begun_at stage;
+          tree = remaining coding broke.0 v.state stage;
+          under_way = left_of coding old s v broke.0 stage answers (subst F broke.1 follows) broke.2.going;
+          fault = aborts.fault;
+          after = w;
+          aborts = aborts.aborts;
+          others = [];
+          answers_are = ap (λ r. answers ++ given_answer r) aborts.is;
+          goes_on = starts_script depth w call' stage' none aborts.given aborts.sound;
+          failed = λ failed. (failed, tt);
+        }
 
-  -- an event behind a call that was broken off
-  goes_behind : (depth : ℕ) (old : SessionValue) (system : Bool) (done : List Event) (answers : List Answer) → (broke : PollBroke (λ after later rest. Happened depth after later v call stage rest) old system done v answers) → Happened depth broke.after (broke.later ++ event ∷ []) w call' stage' (broke.rest ++ given_answer result) → PollBroke (λ after later rest. Happened depth after later w call' stage' rest) old system (done ++ event ∷ []) w (answers ++ given_answer result)
-  goes_behind depth old system done answers broke goes_on = record {
-    before = broke.before;
-    later = broke.later ++ event ∷ [];
-    split = ap (λ e. e ++ event ∷ []) broke.split ∙ append_assoc broke.before (Poll ∷ broke.later) (event ∷ []);
-    first = broke.first;
-    middle = broke.middle;
-    at = broke.at;
-    fault = broke.fault;
-    after = broke.after;
-    breaks = broke.breaks;
-    rest = broke.rest ++ given_answer result;
-    answers_are = ap (λ a. a ++ given_answer result) broke.answers_are ∙ append_assoc broke.first (Fault broke.fault ∷ broke.rest) (given_answer result);
-    goes_on = goes_on;
-    failed = λ failed. let was = broke.failed failed in let is = stays was.0 in (is.0, refused_more broke.rest (given_answer result) was.1 is.2);
-  }
-
-  pub one_more : (depth : ℕ) (old : SessionValue) (done : List Event) (answers : List Answer) → Happened depth old done v call stage answers → Happened depth old (done ++ event ∷ []) w call' stage' (answers ++ given_answer result)
-  one_more zero old done answers so_far = tt
-  one_more (suc depth) old done answers so_far = λ system waits lawful.
-      let may = lawful-snoc (start_of old) (script_of old system) done event lawful in
-      go (one_more depth) system may.1 (so_far system waits may.0)
-    where
-      go : ((later : SessionValue) (done' : List Event) (rest : List Answer) → Happened depth later done' v call stage rest → Happened depth later (done' ++ event ∷ []) w call' stage' (rest ++ given_answer result)) → (system : Bool) → IsLawful (start_of old) (script (start_of old) (script_of old system) done) event → Follows old (script (start_of old) (script_of old system) done) v call stage answers ⊎ PollBroke (λ after later rest. Happened depth after later v call stage rest) old system done v answers → Follows old (script (start_of old) (script_of old system) (done ++ event ∷ [])) w call' stage' (answers ++ given_answer result) ⊎ PollBroke (λ after later rest. Happened depth after later w call' stage' rest) old system (done ++ event ∷ []) w (answers ++ given_answer result)
-      go again system may (inl follows) = next (happens old (script (start_of old) (script_of old system) done) answers follows may)
-        where
-          next : Follows old (after_event (start_of old) (script (start_of old) (script_of old system) done) event) w call' stage' (answers ++ given_answer result) ⊎ (BreaksCall v w result × (call' ≡ None) × (event ≡ Poll)) → Follows old (script (start_of old) (script_of old system) (done ++ event ∷ [])) w call' stage' (answers ++ given_answer result) ⊎ PollBroke (λ after later rest. Happened depth after later w call' stage' rest) old system (done ++ event ∷ []) w (answers ++ given_answer result)
-          next (inl later) =
-              let P : Script → Type 0 = λ s. Follows old s w call' stage' (answers ++ given_answer result) in
-              inl (subst P (sym (script-snoc (start_of old) (script_of old system) done event)) later)
-          next (inr broke) = inr (breaks_off depth old system done answers follows broke.0 broke.1 broke.2)
-      go again system may (inr broke) = inr (goes_behind depth old system done answers broke (again broke.after broke.later broke.rest broke.goes_on))
-
-pub next_event : (depth : ℕ) (old : SessionValue) (events : List Event) (i : ℕ) (event : Event) (v w : SessionValue) (call call' : Option Call) (stage stage' : Stage) (answers answers' : List Answer) (result : Option Answer) → i < length events → event ≡ get_or events i event → answers' ≡ answers ++ given_answer result → FailedStays v w result → Happens v w call call' stage stage' event result → Happened depth old (take i events) v call stage answers → Happened depth old (take (i + 1) events) w call' stage' answers'
-next_event depth old events i event v w call call' stage stage' answers answers' result inside is pushed stays happens so_far =
-    let done : take (i + 1) events ≡ take i events ++ event ∷ [] = take_more events i event inside ∙ ap (λ e. take i events ++ e ∷ []) (sym is) in
-    let P : List Event → Type 0 = λ l. Happened depth old l w call' stage' answers' in
-    let Q : List Answer → Type 0 = λ a. Happened depth old (take i events ++ event ∷ []) w call' stage' a in
-    subst P (sym done) (subst Q (sym pushed) (one_more event v w call call' stage stage' result stays happens depth old (take i events) answers so_far))
-
--- what has happened is what the events come to
-pub happened_polls : (depth : ℕ) (old : SessionValue) (done : List Event) (v : SessionValue) (call : Option Call) (stage : Stage) (answers : List Answer) → Happened depth old done v call stage answers → PollsDown depth old done v answers
-happened_polls zero old done v call stage answers so_far = tt
-happened_polls (suc depth) old done v call stage answers so_far = λ system waits lawful. go (λ later done' rest. happened_polls depth later done' v call stage rest) system (so_far system waits lawful)
-  where
-    go : ((later : SessionValue) (done' : List Event) (rest : List Answer) → Happened depth later done' v call stage rest → PollsDown depth later done' v rest) → (system : Bool) → Follows old (script (start_of old) (script_of old system) done) v call stage answers ⊎ PollBroke (λ after later rest. Happened depth after later v call stage rest) old system done v answers → PollsTo old system done v answers ⊎ PollBroke (λ after later rest. PollsDown depth after later v rest) old system done v answers
-    go again system (inl follows) = inl (polls_to old system done v call stage answers follows)
-    go again system (inr broke) = inr (record {
+    -- an event after a call that was aborted
+    goes_after : (depth : ℕ) (old : SessionValue) (system : Bool) (done : List Event) (answers : List Answer) → (broke : ScriptAborts (λ after later rest. Happened depth after later v call stage rest) coding old system done v answers) → Happened depth broke.after (broke.later ++ event ∷ []) w call' stage' (broke.others ++ given_answer result) → ScriptAborts (λ after later rest. Happened depth after later w call' stage' rest) coding old system (done ++ event ∷ []) w (answers ++ given_answer result)
+    goes_after depth old system done answers broke goes_on = record {
       before = broke.before;
-      later = broke.later;
-      split = broke.split;
+      later = broke.later ++ event ∷ [];
+      split = ap (λ e. e ++ event ∷ []) broke.split ∙ append_assoc broke.before (Poll ∷ broke.later) (event ∷ []);
       first = broke.first;
       middle = broke.middle;
       at = broke.at;
+      call = broke.call;
+      begun = broke.begun;
+      tree = broke.tree;
+      under_way = broke.under_way;
       fault = broke.fault;
       after = broke.after;
-      breaks = broke.breaks;
-      rest = broke.rest;
-      answers_are = broke.answers_are;
-      goes_on = again broke.after broke.later broke.rest broke.goes_on;
-      failed = broke.failed;
-    })
+      aborts = broke.aborts;
+      others = broke.others ++ given_answer result;
+      answers_are = ap (λ a. a ++ given_answer result) broke.answers_are ∙ append_assoc broke.first (Fault broke.fault ∷ broke.others) (given_answer result);
+      goes_on = goes_on;
+      failed = λ failed. let was = broke.failed failed in let is = stays was.0 in (is.0, refused_more broke.others (given_answer result) was.1 is.2);
+    }
 
--- no event is left
-pub all_events : (old : SessionValue) (events : List Event) (i : ℕ) (v : SessionValue) (call : Option Call) (stage : Stage) (answers : List Answer) → length events ≤ i → ((depth : ℕ) → Happened depth old (take i events) v call stage answers) → PollsLawfully old events v answers
-all_events old events i v call stage answers past so_far = λ depth.
-    let P : List Event → Type 0 = λ e. PollsDown depth old e v answers in
-    subst P (take_all i events past) (happened_polls depth old (take i events) v call stage answers (so_far depth))
+    pub one_more : (depth : ℕ) (old : SessionValue) (done : List Event) (answers : List Answer) → Happened depth old done v call stage answers → Happened depth old (done ++ event ∷ []) w call' stage' (answers ++ given_answer result)
+    one_more zero old done answers so_far = tt
+    one_more (suc depth) old done answers so_far = λ system waits lawful.
+        let may = lawful-snoc (start_of old) (script_of old system) done event lawful in
+        go (one_more depth) system may.1 (so_far system waits may.0)
+      where
+        go : ((later : SessionValue) (done' : List Event) (rest : List Answer) → Happened depth later done' v call stage rest → Happened depth later (done' ++ event ∷ []) w call' stage' (rest ++ given_answer result)) → (system : Bool) → IsLawful (start_of old) (script coding (start_of old) (script_of old system) done) event → Follows coding old (script coding (start_of old) (script_of old system) done) v call stage answers ⊎ ScriptAborts (λ after later rest. Happened depth after later v call stage rest) coding old system done v answers → Follows coding old (script coding (start_of old) (script_of old system) (done ++ event ∷ [])) w call' stage' (answers ++ given_answer result) ⊎ ScriptAborts (λ after later rest. Happened depth after later w call' stage' rest) coding old system (done ++ event ∷ []) w (answers ++ given_answer result)
+        go again system may (inl follows) = next (happens old (script coding (start_of old) (script_of old system) done) answers follows may)
+          where
+            next : Follows coding old (after_event coding (start_of old) (script coding (start_of old) (script_of old system) done) event) w call' stage' (answers ++ given_answer result) ⊎ (((under_way : Call) × (call ≡ Some under_way) × AbortsCall coding under_way stage v w result) × (call' ≡ None) × (event ≡ Poll)) → Follows coding old (script coding (start_of old) (script_of old system) (done ++ event ∷ [])) w call' stage' (answers ++ given_answer result) ⊎ ScriptAborts (λ after later rest. Happened depth after later w call' stage' rest) coding old system (done ++ event ∷ []) w (answers ++ given_answer result)
+            next (inl later) =
+                let P : Script → Type 0 = λ s. Follows coding old s w call' stage' (answers ++ given_answer result) in
+                inl (subst P (sym (script-snoc (start_of old) (script_of old system) done event)) later)
+            next (inr broke) = inr (aborts_at depth old system done answers follows broke.0 broke.1 broke.2)
+        go again system may (inr broke) = inr (goes_after depth old system done answers broke (again broke.after broke.later broke.others broke.goes_on))
 
-pub at_most_one : (answer : Option Answer) → length (given_answer answer) ≤ 1
-at_most_one None = omega arith
-at_most_one (Some answer) = omega arith
+  pub next_event : (depth : ℕ) (old : SessionValue) (events : List Event) (i : ℕ) (event : Event) (v w : SessionValue) (call call' : Option Call) (stage stage' : Stage) (answers answers' : List Answer) (result : Option Answer) → i < length events → event ≡ get_or events i event → answers' ≡ answers ++ given_answer result → FailedStays v w result → Happens coding v w call call' stage stage' event result → Happened depth old (take i events) v call stage answers → Happened depth old (take (i + 1) events) w call' stage' answers'
+  next_event depth old events i event v w call call' stage stage' answers answers' result inside is pushed stays happens so_far =
+      let done : take (i + 1) events ≡ take i events ++ event ∷ [] = take_more events i event inside ∙ ap (λ e. take i events ++ e ∷ []) (sym is) in
+      let P : List Event → Type 0 = λ l. Happened depth old l w call' stage' answers' in
+      let Q : List Answer → Type 0 = λ a. Happened depth old (take i events ++ event ∷ []) w call' stage' a in
+      subst P (sym done) (subst Q (sym pushed) (one_more event v w call call' stage stage' result stays happens depth old (take i events) answers so_far))
 
--- memory was refused for the bytes of the next event
-pub stops_at : (old : SessionValue) (events : List Event) (i : ℕ) (event : Event) (v w : SessionValue) (call : Option Call) (stage : Stage) (answers : List Answer) → i < length events → event ≡ get_or events i event → w ≡ v → IsFeed event → ((depth : ℕ) → Happened depth old (take i events) v call stage answers) → Stops old events w
-stops_at old events i event v w call stage answers inside is same feed so_far =
-    let left : drop i events ≡ event ∷ drop (i + 1) events = drop_more events i event inside ∙ ap (λ e. e ∷ drop (i + 1) events) (sym is) in
-    let P : SessionValue → Type 0 = λ x. StopsAtFeed old events x in
-    inr (subst P (sym same) (record {
-      before = take i events;
-      bytes = feed.bytes;
-      later = drop (i + 1) events;
-      split = sym (take-append-drop i events) ∙ ap (λ l. take i events ++ l) (left ∙ ap (λ e. e ∷ drop (i + 1) events) feed.is);
-      answers = answers;
-      polls = λ depth. happened_polls depth old (take i events) v call stage answers (so_far depth);
-    }))
+  -- what has happened is what the events come to
+  pub happened_scripted : (depth : ℕ) (old : SessionValue) (done : List Event) (v : SessionValue) (call : Option Call) (stage : Stage) (answers : List Answer) → Happened depth old done v call stage answers → ScriptsHold depth coding old done v answers
+  happened_scripted zero old done v call stage answers so_far = tt
+  happened_scripted (suc depth) old done v call stage answers so_far = λ system waits lawful. go (λ later done' rest. happened_scripted depth later done' v call stage rest) system (so_far system waits lawful)
+    where
+      go : ((later : SessionValue) (done' : List Event) (rest : List Answer) → Happened depth later done' v call stage rest → ScriptsHold depth coding later done' v rest) → (system : Bool) → Follows coding old (script coding (start_of old) (script_of old system) done) v call stage answers ⊎ ScriptAborts (λ after later rest. Happened depth after later v call stage rest) coding old system done v answers → ScriptHolds coding old system done v answers ⊎ ScriptAborts (λ after later rest. ScriptsHold depth coding after later v rest) coding old system done v answers
+      go again system (inl follows) = inl (script_holds old system done v call stage answers follows)
+      go again system (inr broke) = inr (record {
+        before = broke.before;
+        later = broke.later;
+        split = broke.split;
+        first = broke.first;
+        middle = broke.middle;
+        at = broke.at;
+        call = broke.call;
+        begun = broke.begun;
+        tree = broke.tree;
+        under_way = broke.under_way;
+        fault = broke.fault;
+        after = broke.after;
+        aborts = broke.aborts;
+        others = broke.others;
+        answers_are = broke.answers_are;
+        goes_on = again broke.after broke.later broke.others broke.goes_on;
+        failed = broke.failed;
+      })
 
-pub on_err : (T E : Type 0) (result : Result T E) (P : Type 0) → P → OnErr result P
-on_err T E (Ok value) P p = tt
-on_err T E (Err error) P p = p
+  -- no event is left
+  pub all_events : (old : SessionValue) (events : List Event) (i : ℕ) (v : SessionValue) (call : Option Call) (stage : Stage) (answers : List Answer) → length events ≤ i → ((depth : ℕ) → Happened depth old (take i events) v call stage answers) → IsScripted coding old events v answers
+  all_events old events i v call stage answers past so_far = λ depth.
+      let P : List Event → Type 0 = λ e. ScriptsHold depth coding old e v answers in
+      subst P (take_all i events past) (happened_scripted depth old (take i events) v call stage answers (so_far depth))
+
+  pub at_most_one : (answer : Option Answer) → length (given_answer answer) ≤ 1
+  at_most_one None = omega arith
+  at_most_one (Some answer) = omega arith
+
+  -- memory ran out for the bytes of the next event
+  pub stops_at : (old : SessionValue) (events : List Event) (i : ℕ) (event : Event) (v w : SessionValue) (call : Option Call) (stage : Stage) (answers : List Answer) → i < length events → event ≡ get_or events i event → w ≡ v → IsFeed event → ((depth : ℕ) → Happened depth old (take i events) v call stage answers) → Stops coding old events w
+  stops_at old events i event v w call stage answers inside is same feed so_far =
+      let left : drop i events ≡ event ∷ drop (i + 1) events = drop_more events i event inside ∙ ap (λ e. e ∷ drop (i + 1) events) (sym is) in
+      let P : SessionValue → Type 0 = λ x. StopsAtFeed coding old events x in
+      inr (subst P (sym same) (record {
+        before = take i events;
+        bytes = feed.bytes;
+        later = drop (i + 1) events;
+        split = sym (take-append-drop i events) ∙ ap (λ l. take i events ++ l) (left ∙ ap (λ e. e ∷ drop (i + 1) events) feed.is);
+        answers = answers;
+        scripted = λ depth. happened_scripted depth old (take i events) v call stage answers (so_far depth);
+      }))
+
+  pub on_err : (T E : Type 0) (result : Result T E) (P : Type 0) → P → OnErr result P
+  on_err T E (Ok value) P p = tt
+  on_err T E (Err error) P p = p

@@ -1,11 +1,12 @@
 pub mod Calls
+pub mod Coding
 pub mod Dialogue
-pub mod Following
-pub mod Moving
+pub mod Exchanges
 pub mod Play
-pub mod Polling
+pub mod Promises
 pub mod Run
-pub mod Running
 pub mod Script
+pub mod Scripted
 pub mod Sound
 pub mod State
+pub mod Steps

@@ -1,28 +1,30 @@
 -- Polled runs: what a list of events makes of a session. Each Poll plays all calls anew, on all bytes that came by
 -- then; no buffer and no state of a call under way occurs here.
-use Rattle.std.specs.Prelude.{◌≡◌, ◌⊎◌, ℕ, Bool, true, false, ◌||◌, ◌==◌, Option, Some, None, List, [], ◌∷◌, ◌++◌, length, take, drop, Ok, if◌then◌else◌}
+use Rattle.std.specs.Prelude.{◌≡◌, ◌⊎◌, ℕ, Bool, true, false, ◌||◌, ◌==◌, Option, Some, None, List, [], ◌∷◌, ◌++◌, length, take, drop, if◌then◌else◌}
 use Rattle.ftp_control.specs.declared.transport.room.Room.{Room}
 use Rattle.ftp_control.specs.declared.transport.room.Room.TheVariants.{Any, UpTo}
 use Rattle.ftp_control.specs.Told.{Told}
 use Rattle.ftp_control.specs.Memory.{more_room}
 use Rattle.ftp_session.specs.declared.session.call.Call.{Call}
-use Rattle.ftp_session.specs.declared.session.call.Call.TheVariants.{Greet, Noop, Quit, CustomCommand, ReadResponse, ReadResponseIn}
 use Rattle.ftp_session.specs.declared.session.call.Event.{Event}
 use Rattle.ftp_session.specs.declared.session.call.Event.TheVariants as event
-use Rattle.ftp_session.specs.declared.plain.Script.{Script}
-use Rattle.ftp_session.specs.declared.plain.Standing.{Standing}
-use Rattle.ftp_session.specs.declared.plain.Wait.{Wait}
-use Rattle.ftp_session.specs.declared.plain.Wait.TheVariants as wait
-use Rattle.ftp_session.specs.declared.plain.Ran.{Ran}
-use Rattle.ftp_session.specs.declared.plain.Ran.TheVariants.{Finished, Waiting}
-use Rattle.ftp_session.specs.State.{SessionValue}
+use Rattle.ftp_session.specs.declared.model.Script.{Script}
+use Rattle.ftp_session.specs.declared.model.Standing.{Standing}
+use Rattle.ftp_session.specs.declared.model.Wait.{Wait}
+use Rattle.ftp_session.specs.declared.model.Wait.TheVariants as wait
+use Rattle.ftp_session.specs.declared.model.Ran.{Ran}
+use Rattle.ftp_session.specs.declared.model.Ran.TheVariants.{Finished, Waiting}
 use Rattle.ftp_base.specs.declared.status.Status.TheVariants.{System}
-use Rattle.ftp_control.specs.declared.control.outcome.Outcome.TheVariants.{Waits as More}
+use Rattle.ftp_control.specs.declared.control.outcome.Outcome.TheVariants.{Waits}
 use Rattle.ftp_control.specs.Grammar.{outcome}
 use Rattle.ftp_control.specs.Answer.{is_among}
-use Rattle.ftp_session.specs.Dialogue.{codes_of}
+use Rattle.ftp_session.specs.declared.session.exchange.Turn.TheVariants.{First}
+use Rattle.ftp_session.specs.Coding.{Coding}
+use Rattle.ftp_session.specs.Exchanges.{exchange_of, statuses, is_read}
 use Rattle.ftp_session.specs.Run.{run}
-use Rattle.ftp_session.specs.Moving.{standing}
+use Rattle.ftp_session.specs.Promises.{standing}
+use Rattle.ftp_control.specs.Channel.{untaken}
+use Rattle.ftp_session.specs.State.{SessionValue}
 
 -- what came on a connection and wasn't read yet
 abbrev pub unread : Told → List ℕ
@@ -34,7 +36,7 @@ is_over t = t.given.closed || t.ended
 
 -- where a run begins, on what has come by then
 abbrev pub start_of : SessionValue → Standing
-start_of v = standing v [] (unread v.channel.told) (is_over v.channel.told) []
+start_of v = standing v (unread v.channel.told) (is_over v.channel.told) []
 
 -- a script begins; what an earlier read left was read under a list that holds System, or not
 abbrev pub script_of : SessionValue → Bool → Script
@@ -43,21 +45,21 @@ script_of v system = record {
   answers = [];
   call = None;
   polled = false;
-  bytes = v.channel.kept ++ unread v.channel.told;
+  bytes = untaken v.channel ++ unread v.channel.told;
   ended = is_over v.channel.told;
   room = v.channel.told.given.room;
   sent = v.channel.told.sent;
-  rest = v.channel.unsent;
-  untaken = v.channel.kept ++ unread v.channel.told;
+  unsent = v.channel.unsent;
+  untaken = untaken v.channel ++ unread v.channel.told;
   seen = length v.channel.kept;
   system = system;
   state = v.state;
   failed = v.channel.failed;
 }
 
--- whether the list that a call hears under holds System
+-- whether the list that a call first hears under holds System
 abbrev pub hears_system : Call → Bool
-hears_system call = is_among (codes_of call) System
+hears_system call = is_among (statuses (exchange_of call First).hears) System
 
 -- what goes out of what was said
 abbrev pub front : Room → List ℕ → List ℕ
@@ -68,14 +70,14 @@ front (UpTo most) all = take most all
 abbrev pub seen_in : Script → List ℕ → ℕ
 seen_in s left = if length left == length s.untaken then s.seen else 0
 
-abbrev pub system_at : Wait → Call → Script → Bool
-system_at wait.Room call s = s.system
-system_at wait.Bytes call s = hears_system call
-system_at wait.Outcome call s = s.system
+abbrev pub system_at : Wait → Script → Bool
+system_at wait.Room s = s.system
+system_at (wait.Bytes system) s = system
+system_at wait.Outcome s = s.system
 
 abbrev pub seen_at : Wait → Script → List ℕ → ℕ
 seen_at wait.Room s left = seen_in s left
-seen_at wait.Bytes s left = length left
+seen_at (wait.Bytes system) s left = length left
 seen_at wait.Outcome s left = seen_in s left
 
 -- a Poll completes the call under way exactly if the run of all calls has its answer
@@ -86,7 +88,7 @@ polled_as (Finished answers t) call s = record s {
   call = None;
   polled = false;
   sent = front s.room t.said;
-  rest = t.rest;
+  unsent = t.unsent;
   untaken = t.bytes;
   seen = seen_in s t.bytes;
   state = t.state;
@@ -97,15 +99,15 @@ polled_as (Waiting answers wait t) call s = record s {
   sent = front s.room t.said;
   untaken = t.bytes;
   seen = seen_at wait s t.bytes;
-  system = system_at wait call s;
+  system = system_at wait s;
   state = t.state;
   failed = t.failed;
 }
 
-abbrev pub poll_script : Standing → Option Call → Script → Script
-poll_script start None s = s
-poll_script start (Some call) s =
-    polled_as (run s.room Ok (s.items ++ call ∷ []) (record start { bytes = s.bytes; ended = s.ended })) call s
+abbrev pub poll_script : Coding → Standing → Option Call → Script → Script
+poll_script coding start None s = s
+poll_script coding start (Some call) s =
+    polled_as (run s.room coding (s.items ++ call ∷ []) (record start { bytes = s.bytes; ended = s.ended })) call s
 
 -- a call begins where none is under way
 abbrev pub start_script : Call → Option Call → Script → Script
@@ -117,30 +119,22 @@ abbrev pub fed : List ℕ → Script → Script
 fed more s = if s.ended then s else record s { bytes = s.bytes ++ more; untaken = s.untaken ++ more }
 
 -- what an event makes of it
-abbrev pub after_event : Standing → Script → Event → Script
-after_event start s (event.Feed more) = fed more s
-after_event start s event.End = record s { ended = true }
-after_event start s (event.Room more) = record s { room = more_room more (length s.sent) s.room }
-after_event start s (event.Start call) = start_script call s.call s
-after_event start s event.Poll = poll_script start s.call s
-after_event start s event.Cancel = record s { call = None; polled = false }
-after_event start s event.Leave = s
+abbrev pub after_event : Coding → Standing → Script → Event → Script
+after_event coding start s (event.Feed more) = fed more s
+after_event coding start s event.End = record s { ended = true }
+after_event coding start s (event.Room more) = record s { room = more_room more (length s.sent) s.room }
+after_event coding start s (event.Start call) = start_script call s.call s
+after_event coding start s event.Poll = poll_script coding start s.call s
+after_event coding start s event.Cancel = record s { call = None; polled = false }
+after_event coding start s event.Leave = s
 
-abbrev pub script : Standing → Script → List Event → Script
-script start s [] = s
-script start s (event ∷ events) = script start (after_event start s event) events
+abbrev pub script : Coding → Standing → Script → List Event → Script
+script coding start s [] = s
+script coding start s (event ∷ events) = script coding start (after_event coding start s event) events
 
 -- Lawful lists: a call is dropped before its first Poll, or it is a plain read; and a reply under way is resumed
 -- under a list that holds System where the one before did, and else doesn't, unless it is no whole reply under
 -- either
-
-abbrev pub is_read : Call → Bool
-is_read Greet = false
-is_read Noop = false
-is_read Quit = false
-is_read (CustomCommand line codes) = false
-is_read (ReadResponse status) = true
-is_read (ReadResponseIn codes) = true
 
 abbrev pub MayCancel : Option Call → Bool → Type 0
 MayCancel None polled = Unit {0}
@@ -149,7 +143,7 @@ MayCancel (Some call) polled = (polled ≡ false) ⊎ (is_read call ≡ true)
 abbrev pub MayPoll : Standing → Option Call → Script → Type 0
 MayPoll start None s = Unit {0}
 MayPoll start (Some call) s =
-    s.polled ≡ false → (hears_system call ≡ s.system) ⊎ (outcome start.rule (hears_system call) (take s.seen s.untaken) false ≡ More)
+    s.polled ≡ false → (hears_system call ≡ s.system) ⊎ (outcome start.rule (hears_system call) (take s.seen s.untaken) false ≡ Waits)
 
 abbrev pub IsLawful : Standing → Script → Event → Type 0
 IsLawful start s (event.Feed more) = Unit {0}
@@ -160,6 +154,6 @@ IsLawful start s event.Poll = MayPoll start s.call s
 IsLawful start s event.Cancel = MayCancel s.call s.polled
 IsLawful start s event.Leave = Unit {0}
 
-abbrev pub Lawful : Standing → Script → List Event → Type 0
-Lawful start s [] = Unit {0}
-Lawful start s (event ∷ events) = IsLawful start s event × Lawful start (after_event start s event) events
+abbrev pub Lawful : Coding → Standing → Script → List Event → Type 0
+Lawful coding start s [] = Unit {0}
+Lawful coding start s (event ∷ events) = IsLawful start s event × Lawful coding start (after_event coding start s event) events

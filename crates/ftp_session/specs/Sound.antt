@@ -1,8 +1,8 @@
 -- What always holds of a session.
 use Rattle.std.specs.Prelude.{◌≡◌, ℕ, ◌+◌}
 use Rattle.ftp_control.specs.Channel.{Channel, IsSound}
-use Rattle.ftp_session.specs.declared.session.settings.Owed.{Owed}
-use Rattle.ftp_session.specs.declared.session.settings.Owed.TheVariants.{Nothing, Live, Left}
+use Rattle.ftp_session.specs.declared.session.state.Owed.{Owed}
+use Rattle.ftp_session.specs.declared.session.state.Owed.TheVariants.{Nothing, Live, Left}
 
 -- the transfers that a session counted
 pub record Transfers : Type 0 where

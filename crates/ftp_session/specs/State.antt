@@ -1,16 +1,19 @@
 -- A session as one value.
-use Rattle.std.specs.Prelude.{◌≡◌, true, false, None}
+use Rattle.std.specs.Prelude.{◌≡◌, ℕ, List, true, false, Option, Some, None}
+use Rattle.ftp_base.specs.Welcome.{Welcome, welcome_text}
 use Rattle.std.specs.Duration.{as_nanos}
 use Rattle.ftp_base.specs.declared.types.mode.Mode.TheVariants.{Passive}
 use Rattle.ftp_base.specs.declared.types.mode.ActivePeerCheck.TheVariants.{ControlPeer}
 use Rattle.ftp_control.specs.Channel.{Channel}
 use Rattle.ftp_session.specs.Sound.{no_transfers}
-use Rattle.ftp_session.specs.declared.session.settings.State.{State}
+use Rattle.ftp_session.specs.declared.session.state.State.{State}
+use Rattle.ftp_control.specs.declared.transport.request.Asked.{Asked}
 
--- its control channel, and what it keeps beside it
+-- its control channel, what it keeps beside it, and what its transport was asked, with the outcomes, in order
 pub record SessionValue : Type 0 where
   pub channel : Channel
   pub state : State
+  pub asked : List Asked
 
 -- a session begins
 pub record IsFirst (state : State) : Type 0 where
@@ -23,3 +26,11 @@ pub record IsFirst (state : State) : Type 0 where
   pub offset : state.settings.restart_offset ≡ 0
   pub transfers : state.counts ≡ no_transfers
   pub ungreeted : state.welcome ≡ None
+
+-- the text of a greeting is read again in another encoding
+abbrev pub welcomed_again : (List ℕ → List ℕ) → Option Welcome → Option Welcome
+welcomed_again decode None = None
+welcomed_again decode (Some welcome) = Some (record { greeting = welcome.greeting; text = welcome_text decode welcome.greeting })
+
+abbrev pub greeted_again : (List ℕ → List ℕ) → SessionValue → SessionValue
+greeted_again decode v = record v { state = record v.state { welcome = welcomed_again decode v.state.welcome } }

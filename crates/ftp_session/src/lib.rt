@@ -1,5 +1,5 @@
 //! The dialogues of an FTP session.
 #![tactic(auto)]
 
-pub mod plain;
+pub mod model;
 pub mod session;

@@ -1,16 +1,25 @@
 //! A session: the dialogues of RFC 959 on one control connection.
+//!
+//! Each dialogue is a row of `exchange`: what is said, which statuses are heard, how it ends. One machine plays all
+//! of them, polled; a blocking call is the same poll over a connection that never waits. A user holds a `Session`,
+//! which is that machine and the encoding of its texts.
 
-pub mod ask;
 mod call;
-mod calls;
+mod chosen;
+mod client;
+mod commands;
+pub mod exchange;
 mod machine;
+mod nodes;
+mod parameters;
 mod run;
 mod run_polled;
-mod settings;
 mod stage;
 mod state;
-mod step;
+mod transitions;
 
 pub use call::{Answer, Call, Event};
-pub use settings::{Counts, Owed, Settings, State};
-pub use state::Session;
+pub use chosen::Chosen;
+pub use client::Session;
+pub use parameters::{NoStreamBuilder, NoTlsConnector};
+pub use state::{Counts, Owed, Settings, State};

@@ -16,6 +16,8 @@ mod hostile;
 mod real_lines;
 #[cfg(test)]
 mod rows;
+#[cfg(test)]
+mod splits;
 
 /// What a parser answered, in one line: kind, name, target, size, time, owner, group, mode; or the
 /// refusal's number.

@@ -1,82 +1,73 @@
-//! Polled runs computed as they are defined, slowly: each Poll plays all calls anew, on all bytes that came.
+//! Polled runs: each Poll plays all calls anew, on all bytes that came.
 
-ghost use Rattle.std.specs.Prelude.{◌≡◌, ℕ, List, [], ◌∷◌, ◌++◌, IfOk, Some, None, length, take, true, false};
-ghost use Rattle.ftp_session.specs.Script.{after_event, fed, front, hears_system, poll_script, script, seen_at, seen_in, start_script, system_at};
+ghost use Rattle.std.specs.Prelude.{◌≡◌, ℕ, List, [], ◌∷◌, ◌++◌, IfOk, OnOk, None, length, true, false};
 ghost use Rattle.ftp_control.specs.Memory.{more_room};
+ghost use Rattle.ftp_session.specs.Coding.{coding_of};
+ghost use Rattle.ftp_session.specs.Run.{run};
+ghost use Rattle.ftp_session.specs.Script.{after_event, fed, front, poll_script, script, seen_at, seen_in, start_script, system_at};
 
-use crate::dialogue::codes_of;
+use crate::exchange::copy_of;
 use crate::runs::run;
-use ftp_base::status::Status;
+use ftp_base::encoding::Encoding;
 use ftp_base::types::{Bytes, Items};
-use ftp_control::control::is_among;
 use ftp_control::transport::Room;
-use ftp_session::plain::{Ran, Script, Standing, Wait};
-use ftp_session::session::{Call, Event};
+use ftp_session::model::{Ran, Script, Standing, Wait};
+use ftp_session::session::{Answer, Call, Event};
 use std::alloc::{AllocError, Global};
-use std::mem;
 
 /// What these events make of a session, whose runs begin at `first`.
-pub fn run_polled(
+pub fn run_polled<E: Encoding>(
     alloc: Global,
+    encoding: &E,
     first: &Standing,
-    here: Script,
+    mut here: Script,
     events: &[Event],
 ) -> Result<Script, AllocError>
-    ensures { IfOk result (λ later. later ≡ script first.now here events.now) }
+    ensures { IfOk result (λ later. later ≡
+        script (coding_of E.decoded E.encoded encoding.now) first.now here events.now) }
 {
     let Some((event, others)) = events.split_first() else {
         return Ok(here);
     };
-    run_polled(
-        alloc,
-        first,
-        after_event(alloc, first, here, event)?,
-        others,
-    )
+    happen(alloc, encoding, first, &mut here, event)?;
+    run_polled(alloc, encoding, first, here, others)
 }
 
-/// What an event makes of it.
-fn after_event(
+/// Lets an event happen.
+fn happen<E: Encoding>(
     alloc: Global,
+    encoding: &E,
     first: &Standing,
-    mut here: Script,
+    here: &mut Script,
     event: &Event,
-) -> Result<Script, AllocError>
-    ensures { IfOk result (λ later. later ≡ after_event first.now here event.now) }
+) -> Result<(), AllocError>
+    ensures { OnOk result (here.new ≡
+        after_event (coding_of E.decoded E.encoded encoding.now) first.now here.old event.now) }
 {
     match event {
-        Event::Feed(more) => fed(more.as_slice(), here),
-        Event::End => {
-            here.ended = true;
-            Ok(here)
-        }
-        Event::Room(more) => {
-            here.room = more_room(*more, here.sent.len(), here.room);
-            Ok(here)
-        }
-        Event::Start(call) => started(call, here),
-        Event::Poll => match mem::replace(&mut here.call, None) {
-            Some(call) => polled(alloc, first, call, here),
-            None => Ok(here),
-        },
+        Event::Feed(more) => feed(here, more.as_slice())?,
+        Event::End => here.ended = true,
+        Event::Room(more) => here.room = more_room(*more, here.sent.len(), here.room),
+        Event::Start(call) => start(here, call)?,
+        Event::Poll => poll(alloc, encoding, first, here)?,
         Event::Cancel => {
             here.call = None;
             here.polled = false;
-            Ok(here)
         }
-        Event::Leave => Ok(here),
+        Event::Leave => {}
     }
+    Ok(())
 }
 
 /// Bytes come, unless the input has ended.
-fn fed(more: &[u8], mut here: Script) -> Result<Script, AllocError>
-    ensures { IfOk result (λ later. later ≡ fed more.now here) }
+fn feed(here: &mut Script, more: &[u8]) -> Result<(), AllocError>
+    ensures { OnOk result (here.new ≡ fed more.now here.old) }
 {
     if !here.ended {
         here.bytes.extend_from_slice(more)?;
         here.untaken.extend_from_slice(more)?;
     }
-    Ok(here)
+    Ok(())
 }
 
 /// Room for so many more bytes.
@@ -91,122 +82,124 @@ fn more_room(more: u64, sent: usize, room: Room) -> Room
 }
 
 /// A call begins where none is under way.
-fn started(call: &Call, mut here: Script) -> Result<Script, AllocError>
-    ensures { IfOk result (λ later. later ≡ start_script call.now here.call here) }
+fn start(here: &mut Script, call: &Call) -> Result<(), AllocError>
+    ensures { OnOk result (here.new ≡ start_script call.now here.old.call here.old) }
 {
     if here.call.is_none() {
-        here.call = Some(call.clone()?);
+        here.call = Some(copy_of(call)?);
         here.polled = false;
     }
-    Ok(here)
+    Ok(())
 }
 
-/// The call under way is played behind those that are done.
-#[tactic(auto, using(crate::proofs::Lists::take_front))]
-fn polled(
+/// The call under way, if any, is played after those that are done.
+fn poll<E: Encoding>(
     alloc: Global,
+    encoding: &E,
     first: &Standing,
-    call: Call,
-    mut here: Script,
-) -> Result<Script, AllocError>
-    ensures { IfOk result (λ later. later ≡
-        poll_script first.now (Some call) (record here { call = Some call })) }
+    here: &mut Script,
+) -> Result<(), AllocError>
+    ensures { OnOk result (here.new ≡ poll_script (coding_of E.decoded E.encoded encoding.now)
+        first.now here.old.call here.old) }
 {
-    let count = here.items.as_slice().len();
-    here.items = with_call(here.items, &call)?;
-    let begun = begun(first, &here.bytes, here.ended)?;
-    match run(alloc, here.room, here.items.as_slice(), begun)? {
-        Ran::Finished(answers, there) => {
-            here.answers = answers;
-            Ok(done(there, here))
-        }
-        Ran::Waiting(_answers, wait, there) => {
-            here.items = front_of(here.items, count);
-            Ok(waiting(call, wait, there, here))
-        }
+    let Some(call) = &here.call else {
+        return Ok(());
+    };
+    let calls = with_call(&here.items, call)?;
+    match run_again(alloc, encoding, first, here, calls.as_slice())? {
+        Ran::Finished(answers, there) => finish(here, calls, answers, there),
+        Ran::Waiting(_answers, wait, there) => suspend(here, wait, there),
     }
+    Ok(())
 }
 
-/// These calls with one more behind them.
-fn with_call(items: Items<Call>, call: &Call) -> Result<Items<Call>, AllocError>
-    ensures { IfOk result (λ calls. calls ≡ items ++ call.now ∷ []) }
+/// One call after these.
+fn with_call(items: &Items<Call>, call: &Call) -> Result<Items<Call>, AllocError>
+    ensures { IfOk result (λ calls. calls ≡ items.now ++ call.now ∷ []) }
 {
-    let mut calls = items.into_vec();
-    calls.push(call.clone()?)?;
+    let mut calls = items.clone()?.into_vec();
+    calls.push(copy_of(call)?)?;
     Ok(Items::from_vec(calls))
 }
 
-/// The first so many of these calls.
-fn front_of(items: Items<Call>, count: usize) -> Items<Call>
-    ensures { result ≡ take count items }
+/// These calls are played from where the run began, on the bytes that came by now.
+fn run_again<E: Encoding>(
+    alloc: Global,
+    encoding: &E,
+    first: &Standing,
+    here: &Script,
+    calls: &[Call],
+) -> Result<Ran, AllocError>
+    ensures { IfOk result (λ ran. ran ≡
+        run here.now.room (coding_of E.decoded E.encoded encoding.now) calls.now
+        (record first.now { bytes = here.now.bytes; ended = here.now.ended })) }
 {
-    let mut calls = items.into_vec();
-    calls.truncate(count);
-    Items::from_vec(calls)
+    let begun = begun(first, here)?;
+    run(alloc, here.room, encoding, calls, begun)
 }
 
-/// A run begins where another began, on these bytes.
-fn begun(first: &Standing, bytes: &Bytes, ended: bool) -> Result<Standing, AllocError>
-    ensures { IfOk result (λ here. here ≡
-        record first.now { bytes = bytes.now; ended = ended }) }
+/// Where the run began, on the bytes that came by now.
+fn begun(first: &Standing, here: &Script) -> Result<Standing, AllocError>
+    ensures { IfOk result (λ begun. begun ≡
+        record first.now { bytes = here.now.bytes; ended = here.now.ended }) }
 {
-    let mut here = first.clone()?;
-    here.bytes = bytes.clone()?;
-    here.ended = ended;
-    Ok(here)
+    let mut begun = first.clone()?;
+    begun.bytes = here.bytes.clone()?;
+    begun.ended = here.ended;
+    Ok(begun)
 }
 
-/// The call under way has its answer: the run stands there.
-fn done(there: Standing, mut here: Script) -> Script
-    ensures { result ≡ record here {
+/// All these calls have their answers: the run stands there.
+fn finish(here: &mut Script, calls: Items<Call>, answers: Items<Answer>, there: Standing)
+    ensures { here.new ≡ record here.old {
+      items = calls;
+      answers = answers;
       call = None;
       polled = false;
-      sent = front here.room there.said;
-      rest = there.rest;
+      sent = front here.old.room there.said;
+      unsent = there.unsent;
       untaken = there.bytes;
-      seen = seen_in here there.bytes;
+      seen = seen_in here.old there.bytes;
       state = there.state;
       failed = there.failed;
     } }
 {
+    here.items = calls;
+    here.answers = answers;
     here.call = None;
     here.polled = false;
-    here.seen = seen_in(&here, there.bytes.len());
     here.sent = front(here.room, there.said);
-    here.rest = there.rest;
+    here.unsent = there.unsent;
+    here.seen = seen_in(here, there.bytes.len());
     here.untaken = there.bytes;
     here.state = there.state;
     here.failed = there.failed;
-    here
 }
 
 /// The call under way waits: the run stands there.
-fn waiting(call: Call, wait: Wait, there: Standing, mut here: Script) -> Script
-    ensures { result ≡ record here {
-      call = Some call;
+fn suspend(here: &mut Script, wait: Wait, there: Standing)
+    ensures { here.new ≡ record here.old {
       polled = true;
-      sent = front here.room there.said;
+      sent = front here.old.room there.said;
       untaken = there.bytes;
-      seen = seen_at wait here there.bytes;
-      system = system_at wait call here;
+      seen = seen_at wait here.old there.bytes;
+      system = system_at wait here.old;
       state = there.state;
       failed = there.failed;
     } }
 {
-    here.polled = true;
     match wait {
-        Wait::Room | Wait::Outcome => here.seen = seen_in(&here, there.bytes.len()),
-        Wait::Bytes => {
+        Wait::Room | Wait::Outcome => here.seen = seen_in(here, there.bytes.len()),
+        Wait::Bytes(system) => {
             here.seen = there.bytes.len();
-            here.system = is_among(codes_of(&call), Status::System);
+            here.system = system;
         }
     }
-    here.call = Some(call);
+    here.polled = true;
     here.sent = front(here.room, there.said);
     here.untaken = there.bytes;
     here.state = there.state;
     here.failed = there.failed;
-    here
 }
 
 /// How many of so many untaken bytes were read before.

@@ -1,9 +1,9 @@
-//! Calls, runs and polled runs computed as they are defined, slowly, over all bytes at once. The tests compare a session
-//! with them.
+//! Calls, runs and polled runs computed as they are defined, slowly, over all bytes at once. The tests compare a
+//! session with them. What each call says and hears is read from the session's own table, `exchange_of`.
 #![tactic(auto)]
 
-mod dialogue;
 mod events;
+mod exchange;
 mod play;
 mod runs;
 

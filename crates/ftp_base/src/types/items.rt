@@ -3,11 +3,12 @@
 ghost use Rattle.std.specs.Prelude.{◌≡◌, List};
 ghost use Rattle.std.specs.Cmp.Lexicographic.{pointwise, lists_per, lists_equiv};
 
+use std::alloc::AllocError;
 use std::fmt;
 use std::marker::Model;
 
 /// A list of values, made from a `Vec` and given back as one without taking memory.
-#[derive(Clone, Drop)]
+#[derive(Drop)]
 pub struct Items<T> {
     items: Vec<T>,
 }
@@ -39,6 +40,15 @@ impl<T> Items<T> {
         ensures { result.now ≡ self.now }
     {
         self.items.as_slice()
+    }
+}
+
+impl<T: Clone> Clone for Items<T> {
+    ghost is_clone = { λ list copy. ((x y : T) → T.is_clone x y → y ≡ x) → copy ≡ list };
+
+    fn clone(&self) -> Result<Items<T>, AllocError> {
+        let items = self.items.clone()?;
+        Ok(Items { items })
     }
 }
 

@@ -1,4 +1,4 @@
-//! The control channel.
+//! The control channel: a connection, the bytes of the reply under way, and the line that goes out.
 
 ghost use Rattle.std.specs.Prelude.{◌≡◌, ◌||◌, Ok, [], false, true};
 ghost use Rattle.futures.specs.declared.task.Poll.TheVariants as poll;
@@ -6,8 +6,9 @@ ghost use Rattle.ftp_control.specs.declared.control.outcome.Outcome.TheVariants 
 ghost use Rattle.ftp_control.specs.Channel.{fails_by};
 
 use super::outbox::{Outbox, flush};
-use super::reader::hear;
+use super::read_loop::hear;
 use super::reply_buffer::ReplyBuffer;
+use super::sought::Sought;
 use super::{Broken, Outcome, ReplyRule, WireLine};
 use crate::transport::{PollConn, Tells};
 use futures::task::Poll;
@@ -15,10 +16,10 @@ use std::alloc::Global;
 use std::io::ErrorKind;
 use std::marker::Model;
 
-/// A control connection: it takes replies whole and in order, and sends nothing but whole command lines.
+/// A control connection: it delivers replies whole and in order, and sends nothing but whole command lines.
 ///
-/// A read or a write that has to wait may be dropped: what was read is kept for the next read, and the rest of
-/// a line that was begun goes out before any other byte.
+/// A read or a write that has to wait may be dropped: what was read is kept for the next read, and the unsent
+/// tail of a line goes out before any other byte.
 #[derive(Drop)]
 pub struct ControlChannel<C: Tells + Drop> {
     pub(super) conn: C,
@@ -30,16 +31,17 @@ pub struct ControlChannel<C: Tells + Drop> {
 }
 
 impl<C: Tells + Drop> Model for ControlChannel<C> {
-    ghost use Rattle.std.specs.Prelude.{◌≡◌, ◌≤◌, length, drop};
+    ghost use Rattle.std.specs.Prelude.{◌≡◌, ◌≤◌, [], length, drop};
     ghost use Rattle.ftp_control.specs.Channel.{Channel, IsSound};
-    ghost use Rattle.ftp_control.specs.UnderWay.{IsUnderWay};
-    ghost use Rattle.ftp_control.specs.Held.{Holds};
+    ghost use Rattle.ftp_control.specs.Inside.UnderWay.{IsUnderWay};
+    ghost use Rattle.ftp_control.specs.Inside.Held.{Holds};
 
     ghost Value = { Channel };
 
     ghost view = { λ c. record {
       told = C.told c.conn;
       kept = c.reply.bytes.items;
+      ahead = [];
       unsent = drop c.outbox.sent c.outbox.line.items;
       ended = c.ended;
       failed = c.failed;
@@ -53,13 +55,13 @@ impl<C: Tells + Drop> Model for ControlChannel<C> {
 impl<C: Tells + Drop> ControlChannel<C> {
     ghost use Rattle.std.specs.Prelude.{length};
     ghost use Rattle.ftp_control.specs.Told.{EndsAsTold, IsFresh};
-    ghost use Rattle.ftp_control.specs.Channel.{Channel, IsIdle, IsSound, ReadsReply, FlushesRest};
+    ghost use Rattle.ftp_control.specs.Channel.{Channel, IsIdle, IsSound, ReadsReply, FlushesTail, untaken};
 
-    /// Reads a reply as far as it has come, and takes exactly its bytes. `Waits` says that the connection
+    /// Reads a reply as far as it has come, and consumes exactly its bytes. Returns `Waits` where the connection
     /// waits.
     ///
     /// # Errors
-    /// A fault of the connection, after which the channel has failed, or want of memory. Neither loses a byte.
+    /// A fault of the connection, after which the channel has failed, or out of memory. Neither loses a byte.
     pub fn poll_outcome<W>(
         &mut self,
         alloc: Global,
@@ -79,7 +81,7 @@ impl<C: Tells + Drop> ControlChannel<C> {
             &mut self.reply,
             &mut self.ended,
             self.rule,
-            system,
+            Sought::Reply(system),
             w,
         );
         self.failed = fails(self.failed, &result);
@@ -109,7 +111,7 @@ impl<C: Tells + Drop> ControlChannel<C> {
         }
     }
 
-    /// Whether a read, a write or the server broke the channel off. Such a channel sends and reads nothing.
+    /// Whether the channel has failed, by a read, a write or the server. A failed channel sends and reads nothing.
     pub fn failed(&self) -> bool
         ensures value { result ≡ self.now.failed }
         ensures sound { IsSound C.tells self.now }
@@ -124,9 +126,9 @@ impl<C: Tells + Drop> ControlChannel<C> {
         self.failed = true;
     }
 
-    /// How many received bytes are part of no reply yet.
+    /// How many received bytes no reply has consumed.
     pub fn untaken(&self) -> usize
-        ensures value { result ≡ length self.now.kept }
+        ensures value { result ≡ length (untaken self.now) }
         ensures sound { IsSound C.tells self.now }
     {
         self.reply.bytes.as_slice().len()
@@ -139,7 +141,7 @@ impl<C: Tells + Drop> ControlChannel<C> {
         &self.conn
     }
 
-    /// The connection, given back. What is kept or unsent is dropped.
+    /// Returns the connection. What is kept or unsent is dropped.
     pub fn into_inner(self) -> C
         ensures { C.told result ≡ self.told }
     {
@@ -154,7 +156,7 @@ impl<C: Tells + Drop> ControlChannel<C> {
         conn
     }
 
-    /// Sends the rest of a line that was begun.
+    /// Sends the unsent tail of a line.
     ///
     /// # Errors
     /// A fault of the connection, after which the channel has failed.
@@ -162,7 +164,7 @@ impl<C: Tells + Drop> ControlChannel<C> {
     where
         C: PollConn<W>,
         ensures waits { result ≡ Ok poll.Pending → C.may_wait }
-        ensures flushes { FlushesRest C.Tells.tells self.old self.new result }
+        ensures flushes { FlushesTail C.Tells.tells self.old self.new result }
     {
         let result = flush(&mut self.conn, &mut self.outbox, w);
         self.failed = self.failed || result.is_err();

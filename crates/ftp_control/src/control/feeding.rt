@@ -9,7 +9,7 @@ use crate::transport::MemoryConn;
 use std::alloc::AllocError;
 
 impl ControlChannel<MemoryConn> {
-    /// The server's bytes come. Behind the end none do, whether it was told or met.
+    /// Adds bytes from the server; none after the end, whether it was announced or reached.
     pub fn feed(&mut self, bytes: &[u8]) -> Result<(), AllocError>
         ensures ok { OnOk result (self.new ≡ record self.old {
           told = fed bytes.now self.old.told;
@@ -19,7 +19,7 @@ impl ControlChannel<MemoryConn> {
         self.conn.feed(bytes)
     }
 
-    /// How many bytes came that weren't read yet.
+    /// How many bytes of the server weren't read yet.
     pub fn unread(&self) -> usize
         ensures value { length self.now.told.received + result ≡
             length self.now.told.given.bytes }
@@ -29,7 +29,7 @@ impl ControlChannel<MemoryConn> {
         self.conn.unread()
     }
 
-    /// The server's bytes end.
+    /// Announces the end of the server's bytes.
     pub fn end_input(&mut self)
         ensures { self.new ≡ record self.old { told = closed_memory self.old.told } }
     {

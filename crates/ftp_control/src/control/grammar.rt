@@ -5,11 +5,11 @@ ghost use Rattle.std.specs.List.{list_all};
 ghost use Rattle.std.specs.Char.{is_ascii_digit};
 ghost use Rattle.std.specs.Cmp.Lexicographic.{pointwise};
 ghost use Rattle.ftp_control.specs.Grammar.{opens, ends, begins_with_digits, code_at_start};
-ghost use Rattle.ftp_control.specs.Verdict.{verdict};
+ghost use Rattle.ftp_control.specs.Inside.Verdict.{verdict};
 
 use super::ReplyRule;
 
-/// What one more line of a reply comes to.
+/// What one more line means for a reply.
 #[derive(Clone, Copy, Debug, PartialEq, Eq)]
 pub(crate) enum Verdict {
     /// The first line opens no reply.
@@ -20,8 +20,8 @@ pub(crate) enum Verdict {
     GoesOn,
 }
 
-/// What a line comes to that stands first in a reply, or behind others that don't end it. `reply` is the
-/// reply so far.
+/// What a line means that stands first in a reply, or after others that don't end it. `reply` is the reply so
+/// far.
 pub(crate) fn judge(
     rule: ReplyRule,
     system: bool,

@@ -1,8 +1,8 @@
-//! What a read of a reply comes to.
+//! What a read of a reply results in.
 
 use ftp_base::types::Bytes;
 
-/// What a read says of the bytes that came since the reply began, one of five.
+/// What the bytes received since the reply began hold, one of five.
 #[derive(Debug, Drop)]
 pub enum Outcome {
     /// A whole reply: its bytes, and the code of the line that ended it.

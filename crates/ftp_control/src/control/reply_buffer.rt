@@ -1,10 +1,10 @@
 //! The bytes of the reply under way. Each byte is looked at once.
 
 ghost use Rattle.std.specs.Prelude.{◌≡◌, ◌≤◌, ◌<◌, Ok, nat_eq, false, true, ◌∷◌, [], ◌++◌, drop, length, vec_len, vec_capacity};
-ghost use Rattle.ftp_control.specs.Grammar.{outcome, left_by};
-ghost use Rattle.ftp_control.specs.Reading.{IsAll};
-ghost use Rattle.ftp_control.specs.UnderWay.{IsUnderWay};
-ghost use Rattle.ftp_control.specs.Verdict.{verdict, outcome_by};
+ghost use Rattle.ftp_control.specs.Grammar.{outcome};
+ghost use Rattle.ftp_control.specs.Inside.ReadLoop.{TakesAll};
+ghost use Rattle.ftp_control.specs.Inside.UnderWay.{IsUnderWay};
+ghost use Rattle.ftp_control.specs.Inside.Verdict.{verdict, outcome_by};
 
 use super::grammar::{Verdict, judge};
 use super::{Outcome, ReplyRule};
@@ -22,8 +22,8 @@ pub(crate) struct ReplyBuffer {
     pub(crate) line_start: usize,
 }
 
-/// Takes one more byte of the reply.
-pub(crate) fn take_byte(
+/// Consumes one more byte of the reply.
+pub(super) fn take_reply_byte(
     alloc: Global,
     reply: &mut ReplyBuffer,
     rule: ReplyRule,
@@ -34,8 +34,7 @@ pub(crate) fn take_byte(
     requires room { vec_len reply.old.bytes < vec_capacity reply.old.bytes }
     ensures outcome { outcome rule system reply.old.bytes.items false ≡ Outcome.Waits → result ≡
         outcome rule system (reply.old.bytes.items ++ byte ∷ []) false }
-    ensures left { reply.new.bytes.items ≡ left_by result (reply.old.bytes.items ++ byte ∷ []) }
-    ensures all { IsAll (Ok result) (reply.old.bytes.items ++ byte ∷ []) reply.new.bytes.items }
+    ensures all { TakesAll (Ok result) (reply.old.bytes.items ++ byte ∷ []) reply.new.bytes.items }
     ensures under_way { IsUnderWay rule reply.new.bytes.items reply.new.line_start }
 {
     reply.bytes.push(byte).unwrap();
@@ -50,8 +49,8 @@ pub(crate) fn take_byte(
     settle(alloc, reply, false, verdict)
 }
 
-/// Takes the end of the input for the reply.
-pub(crate) fn take_end(
+/// The end of the input, for the reply.
+pub(super) fn take_reply_end(
     alloc: Global,
     reply: &mut ReplyBuffer,
     rule: ReplyRule,
@@ -61,8 +60,7 @@ pub(crate) fn take_end(
     ensures outcome { outcome rule system reply.old.bytes.items false ≡ Outcome.Waits → result ≡
         outcome rule system reply.old.bytes.items true }
     ensures settled { result ≡ Outcome.Waits → ⊥ }
-    ensures left { reply.new.bytes.items ≡ left_by result reply.old.bytes.items }
-    ensures all { IsAll (Ok result) reply.old.bytes.items reply.new.bytes.items }
+    ensures all { TakesAll (Ok result) reply.old.bytes.items reply.new.bytes.items }
     ensures under_way { IsUnderWay rule reply.new.bytes.items reply.new.line_start }
 {
     if reply.line_start == count(reply) {
@@ -73,11 +71,10 @@ pub(crate) fn take_end(
     settle(alloc, reply, true, verdict)
 }
 
-/// What a verdict on the last line comes to.
+/// The outcome by a verdict on the last line.
 fn settle(alloc: Global, reply: &mut ReplyBuffer, ended: bool, verdict: Verdict) -> Outcome
     ensures outcome { result ≡ outcome_by ended verdict reply.old.bytes.items }
-    ensures left { reply.new.bytes.items ≡ left_by result reply.old.bytes.items }
-    ensures all { IsAll (Ok result) reply.old.bytes.items reply.new.bytes.items }
+    ensures all { TakesAll (Ok result) reply.old.bytes.items reply.new.bytes.items }
     ensures start { reply.new.line_start ≡ length reply.new.bytes.items }
 {
     match verdict {
@@ -94,7 +91,7 @@ fn settle(alloc: Global, reply: &mut ReplyBuffer, ended: bool, verdict: Verdict)
     }
 }
 
-/// What the line under way comes to.
+/// The verdict on the line under way.
 fn judge_line(reply: &ReplyBuffer, rule: ReplyRule, system: bool) -> Verdict
     requires { reply.now.line_start ≤ length reply.now.bytes.items }
     ensures { result ≡ verdict rule system (nat_eq reply.now.line_start 0) reply.now.bytes.items
@@ -116,7 +113,7 @@ pub(super) fn count(reply: &ReplyBuffer) -> usize
     reply.bytes.as_slice().len()
 }
 
-/// Takes all bytes out, for the next reply to begin.
+/// Moves all bytes out, for the next reply to begin.
 pub(super) fn take_all(alloc: Global, reply: &mut ReplyBuffer) -> Bytes
     ensures taken { result ≡ reply.old.bytes.items }
     ensures left { reply.new.bytes.items ≡ [] }

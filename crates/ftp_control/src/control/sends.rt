@@ -16,8 +16,8 @@ use futures::task::Poll;
 use std::alloc::Global;
 
 impl<C: Tells + Drop> ControlChannel<C> {
-    /// Sends a line, behind the rest of the one before. The line is taken out of the option once it begins to
-    /// go out, whole; dropped while it waits and called again, the call goes on where it was.
+    /// Sends a line, after the unsent tail of the one before. The line is moved out of the option, whole, once it
+    /// begins to go out; dropped while it waits and called again, the call resumes where it stopped.
     ///
     /// # Errors
     /// `SessionFailed` where the channel has failed, and nothing is sent. A fault of the connection, after
@@ -51,11 +51,11 @@ impl<C: Tells + Drop> ControlChannel<C> {
         }
     }
 
-    /// Sends a command as one line, behind the rest of the one before, and returns when all of it went out.
+    /// Sends a command as one line, after the unsent tail of the one before, and returns when all of it went out.
     ///
     /// # Errors
-    /// `SessionFailed` where the channel has failed. `LineBreak`, the encoding's refusal, `EncodedWithoutCrlf`
-    /// or `EncodedLineBreak` where the command has no wire line, or `OutOfMemory`: nothing is sent then, and
+    /// `SessionFailed` where the channel has failed. `LineBreak`, the encoding's error, `EncodedWithoutCrlf` or
+    /// `EncodedLineBreak` where the command has no wire line, or `OutOfMemory`: nothing is sent then, and
     /// nothing changes. A fault of the connection, after which the channel has failed.
     pub fn perform<E: Encoding>(
         &mut self,

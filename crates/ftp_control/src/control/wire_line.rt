@@ -37,9 +37,9 @@ impl WireLine {
     /// The line of a command under an encoding (RFC 959, section 4.1.3; RFC 854 for byte 255).
     ///
     /// # Errors
-    /// `LineBreak` where CR or LF stands in the command's text before its end, else the encoding's own
-    /// refusal, else `EncodedWithoutCrlf` or `EncodedLineBreak` where the encoded bytes are no line;
-    /// `OutOfMemory` where memory is refused.
+    /// `LineBreak` where CR or LF stands in the command's text before its end, else the encoding's own error,
+    /// else `EncodedWithoutCrlf` or `EncodedLineBreak` where the encoded bytes are no line; `OutOfMemory` where
+    /// an allocation fails.
     pub fn of<E: Encoding>(alloc: Global, command: &Command, encoding: &E) -> FtpResult<WireLine>
         ensures line { IfOk result (λ line. wire (E.encoded encoding.now) (text_of command.now) ≡
             Ok line) }

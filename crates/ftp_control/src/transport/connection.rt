@@ -1,4 +1,4 @@
-//! What a connection does and tells.
+//! What a connection does, and what it records of it.
 
 ghost use Rattle.std.specs.Prelude.{◌≡◌, ◌<◌, ◌≤◌, Ok, length, true};
 ghost use Rattle.futures.specs.declared.task.Poll.TheVariants as poll;
@@ -7,20 +7,20 @@ ghost use Rattle.ftp_control.specs.Told.{Told, IsFresh, ReadTells, WriteTells, R
 use futures::task::Poll;
 use std::io::ErrorKind;
 
-/// What a connection tells of itself, however it is called.
+/// What a connection records of its traffic, however it is called.
 pub trait Tells {
-    /// Whether it tells: a fact for a connection over memory, and nothing that is claimed for a socket.
+    /// Whether the record is true: so it is for a connection over memory; for a socket it isn't proved.
     ghost tells: { Type 0 };
 
     /// What went over it since its channel began.
     ghost told: { Self → Told };
 
-    /// A channel begins on the connection: from now on it tells of this channel alone.
+    /// A channel begins on the connection: from now on the record is of this channel alone.
     fn begin(&mut self)
         ensures { tells → IsFresh (told self.new) };
 }
 
-/// A connection that may have to wait, and tells so through a `W`: an event loop's context, or nothing.
+/// A connection that may have to wait, and says so through a `W`: an event loop's context, or nothing.
 pub trait PollConn<W>: Tells {
     /// Whether a call may have to wait.
     ghost may_wait: { Type 0 };
@@ -61,7 +61,7 @@ pub trait Conn: Tells {
             (Self.told self.new) };
 }
 
-/// Through which nothing is told to wait: a poll under it is a call that blocks.
+/// The `W` of calls that never wait: a poll under it is a call that blocks.
 #[derive(Clone, Copy, Debug)]
 pub struct NeverWaits;
 

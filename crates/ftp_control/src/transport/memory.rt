@@ -1,6 +1,6 @@
-//! Connections over memory, which tell all that goes over them.
+//! Connections over memory, which record all traffic.
 
-ghost use Rattle.std.specs.Prelude.{◌≡◌, ◌≤◌, ◌<◌, ◌+◌, OnOk, OnErr, length, take, drop, min};
+ghost use Rattle.std.specs.Prelude.{◌≡◌, ◌≤◌, ◌<◌, ◌+◌, OnOk, OnErr, [], length, take, drop, min};
 ghost use Rattle.ftp_control.specs.Told.{after_read, as_poll, Fits, HasFailed, HasRoomFor, IsFull, WritesSome, WriteTells};
 ghost use Rattle.ftp_control.specs.Memory.{fresh_memory, fed, closed_memory, widened, IsGiven};
 
@@ -12,8 +12,8 @@ use std::marker::Model;
 
 /// A connection over memory: the server's bytes are fed to it, and what is written can be looked at.
 ///
-/// Polled, a read waits where no byte is left and the end wasn't told, and a write waits where no room is left.
-/// Blocking, the input ends behind the last byte, and a write where no room is left fails.
+/// Polled, a read waits where no byte is left and the end wasn't announced, and a write waits where no room is
+/// left. Blocking, the input ends after the last byte, and a write where no room is left fails.
 #[derive(Drop)]
 pub struct MemoryConn {
     input: Vec<u8>,
@@ -49,7 +49,7 @@ impl Model for MemoryConn {
 }
 
 impl MemoryConn {
-    /// A connection on which no byte came yet, with room for any number.
+    /// A connection without bytes to read, and with room for any number.
     pub fn new(alloc: Global) -> MemoryConn
         ensures { result ≡ fresh_memory }
     {
@@ -65,7 +65,7 @@ impl MemoryConn {
         }
     }
 
-    /// The server's bytes come. Behind the end none do, whether it was told or met.
+    /// Adds bytes from the server; none after the end, whether it was announced or reached.
     pub fn feed(&mut self, bytes: &[u8]) -> Result<(), AllocError>
         ensures ok { OnOk result (self.new ≡ fed bytes.now self.old) }
         ensures err { OnErr result (self.new ≡ self.old) }
@@ -76,7 +76,7 @@ impl MemoryConn {
         self.input.extend_from_slice(bytes)
     }
 
-    /// The server's bytes end.
+    /// Announces the end of the server's bytes.
     pub fn end(&mut self)
         ensures { self.new ≡ closed_memory self.old }
     {
@@ -109,7 +109,7 @@ impl MemoryConn {
         self.read - self.begun
     }
 
-    /// How many bytes came that weren't read yet.
+    /// How many bytes of the server weren't read yet.
     pub fn unread(&self) -> usize
         ensures value { length self.now.received + result ≡ length self.now.given.bytes }
         ensures given { IsGiven self.now }
@@ -117,7 +117,7 @@ impl MemoryConn {
         self.input.as_slice().len() - self.read
     }
 
-    /// Gives what there is to read, or nothing.
+    /// Copies what there is to read into the buffer, as far as it fits.
     fn give(&mut self, buffer: &mut [u8]) -> usize
         ensures bound { result ≤ length buffer.old }
         ensures given { self.new ≡ after_read (take result buffer.new) self.old }
@@ -129,7 +129,7 @@ impl MemoryConn {
         count
     }
 
-    /// For how many of so many bytes there is room.
+    /// How many of so many bytes there is room for.
     fn free(&self, wanted: usize) -> usize
         ensures bound { result ≤ wanted }
         ensures fits { Fits self.now → HasRoomFor self.now.given.room
@@ -144,7 +144,7 @@ impl MemoryConn {
         }
     }
 
-    /// Takes what there is to write, as far as memory is given.
+    /// Records written bytes; fails where the allocation does.
     fn take(&mut self, bytes: &[u8]) -> Result<usize, ErrorKind>
         requires some { 0 < length bytes.now }
         requires fits { Fits self.old → HasRoomFor self.old.given.room
@@ -168,7 +168,7 @@ impl MemoryConn {
     }
 }
 
-/// The bytes behind so many.
+/// The bytes after the first so many.
 fn behind(bytes: &[u8], count: usize) -> &[u8]
     requires { count ≤ length bytes.now }
     ensures { result.now ≡ drop count bytes.now }
@@ -184,7 +184,7 @@ fn front(bytes: &[u8], count: usize) -> &[u8]
     &bytes[..count]
 }
 
-/// Copies as many bytes as there are and fit, to the front, and answers how many.
+/// Copies as many bytes as there are and fit, to the front, and returns how many.
 fn copy_front(from: &[u8], to: &mut [u8]) -> usize
     ensures count { result ≡ min (length from.now) (length to.old) }
     ensures copied { take result to.new ≡ take result from.now }
@@ -254,10 +254,12 @@ impl PollConn<()> for MemoryConn {
     }
 }
 
-/// A transport whose connections are handed in.
+/// A transport whose connections the caller supplies. It is asked nothing yet.
 #[derive(Drop)]
 pub struct MemoryTransport;
 
 impl Network for MemoryTransport {
     type Conn = MemoryConn;
+
+    ghost asked = { λ _. [] };
 }

@@ -1,5 +1,6 @@
-//! Connections over TCP sockets. Nothing is claimed of what a socket carried.
+//! Connections over TCP sockets. What a socket carried is not covered by any proof.
 
+ghost use Rattle.std.specs.Prelude.{[]};
 ghost use Rattle.ftp_control.specs.Memory.{fresh_memory};
 
 use super::{Conn, Network, Tells};
@@ -66,10 +67,12 @@ impl Conn for TcpConn {
     }
 }
 
-/// The transport over TCP sockets.
+/// The transport over TCP sockets. It is asked nothing yet.
 #[derive(Drop)]
 pub struct TcpTransport;
 
 impl Network for TcpTransport {
     type Conn = TcpConn;
+
+    ghost asked = { λ _. [] };
 }

@@ -1,4 +1,4 @@
-//! Connections that tell an event loop what they wait for.
+//! Connections that wait in a task of an event loop.
 
 ghost use Rattle.std.specs.Prelude.{◌≡◌, ◌≤◌, ◌<◌, Ok, length, true};
 ghost use Rattle.futures.specs.declared.task.Poll.TheVariants as poll;

@@ -1,18 +1,41 @@
 //! What a run is made of: calls and their answers, and what happens between the polls of a call.
 
 use ftp_base::status::Status;
-use ftp_base::types::{Bytes, FtpError, Items, Response, Text};
+use ftp_base::types::{Bytes, FileType, FtpError, Items, Response, Text};
+use std::net::SocketAddr;
 
-/// A call of a session, with what it takes.
+/// A call of a session, with its arguments.
 #[derive(Clone, Debug, Drop)]
 pub enum Call {
     /// The greeting is read (220).
     Greet,
+    /// `USER` (230, 331), and after 331 `PASS` (230).
+    Login(Text, Text),
+    /// `CWD` (200, 250).
+    Cwd(Text),
+    /// `CDUP` (200, 250).
+    Cdup,
     /// `NOOP` (200).
     Noop,
+    /// `EPRT` (200).
+    Eprt(SocketAddr),
+    /// `OPTS`, with a value or without (200).
+    Opts(Text, Option<Text>),
+    /// `SITE` (200).
+    Site(Text),
+    /// `TYPE` (200).
+    TransferType(FileType),
+    /// `MKD` (257, 200).
+    Mkdir(Text),
+    /// `RMD` (250, 200).
+    Rmdir(Text),
+    /// `DELE` (250, 200).
+    Rm(Text),
+    /// `RNFR` (350), then `RNTO` (250, 200).
+    Rename(Text, Text),
     /// `QUIT` (221).
     Quit,
-    /// A line of the caller's, and the statuses that its reply may have.
+    /// A caller-supplied line, and the statuses that its reply may have.
     CustomCommand(Text, Items<Status>),
     /// A reply of this status is read; nothing is said.
     ReadResponse(Status),
@@ -20,21 +43,21 @@ pub enum Call {
     ReadResponseIn(Items<Status>),
 }
 
-/// What a call of a run came to.
+/// The answer of a call in a run.
 #[derive(Debug, Drop)]
 pub enum Answer {
     /// The call succeeded.
     Unit,
     /// The call succeeded with this reply.
     Reply(Response),
-    /// The call was refused, or broken off.
+    /// The call failed.
     Fault(FtpError),
 }
 
 /// What happens to a session that is polled over memory.
 #[derive(Debug, Drop)]
 pub enum Event {
-    /// The server's bytes come. Behind `End` none do.
+    /// The server's bytes come. After `End` none do.
     Feed(Bytes),
     /// The server's bytes end.
     End,

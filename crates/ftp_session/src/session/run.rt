@@ -1,47 +1,65 @@
 //! Runs: lists of calls, one after another.
 
 ghost use Rattle.std.specs.Prelude.{◌≡◌, IfOk, IfErr, OnErr, length};
-ghost use Rattle.ftp_session.specs.Running.{Runs};
+ghost use Rattle.ftp_session.specs.Coding.{chosen, coding_of};
+ghost use Rattle.ftp_session.specs.Promises.{Runs};
 ghost use Rattle.ftp_session.specs.Sound.{Sound};
 
-use super::{Answer, Call, Session};
+use super::client::Session;
+use super::machine::Machine;
+use super::{Answer, Call};
+use ftp_base::encoding::Encoding;
 use ftp_base::types::{FtpError, FtpResult};
 use ftp_control::transport::{Conn, Network};
 use std::alloc::Global;
 
-impl<Tr: Network> Session<Tr>
+impl<Tr: Network, K: Drop, E: Encoding, B: Drop> Session<Tr, K, E, B>
 where
     Tr::Conn: Conn,
 {
-    /// Makes these calls, one after another, and gives their answers in order. After a call in which the session
+    /// Makes these calls, one after another, and returns their answers in order. After a call in which the session
     /// failed each is answered by `SessionFailed`.
     ///
     /// # Errors
-    /// `OutOfMemory` where memory for the answers is refused, and nothing changes.
+    /// `OutOfMemory` where there is no memory for the answers, and nothing changes.
     pub fn run(&mut self, alloc: Global, calls: &[Call]) -> FtpResult<Vec<Answer>>
         ensures runs { IfOk result (λ answers.
-            Runs Tr.Conn.tells calls.now self.old self.new answers.items) }
+            Runs Tr.Conn.tells (chosen E.decoded E.encoded self.old.encoding.0) calls.now
+            self.old.machine self.new.machine answers.items) }
         ensures count { IfOk result (λ answers. length answers.items ≡ length calls.now) }
+        ensures encoding { self.new.encoding ≡ self.old.encoding }
         ensures memory { IfErr result (λ fault. fault ≡ FtpError.OutOfMemory) }
         ensures unchanged { OnErr result (self.new ≡ self.old) }
-        ensures sound { Sound Tr.Conn.tells self.new.channel self.new.state.counts }
+        ensures sound { Sound Tr.Conn.tells self.new.machine.channel
+            self.new.machine.state.counts }
     {
-        let answers = self.make(alloc, calls);
-        self.untaken();
+        let answers = self.machine.run(alloc, &self.encoding, calls);
+        self.machine.holds();
         answers
     }
+}
 
+impl<Tr: Network> Machine<Tr>
+where
+    Tr::Conn: Conn,
+{
     /// Makes these calls.
-    fn make(&mut self, alloc: Global, calls: &[Call]) -> FtpResult<Vec<Answer>>
+    fn run<E: Encoding>(
+        &mut self,
+        alloc: Global,
+        encoding: &E,
+        calls: &[Call],
+    ) -> FtpResult<Vec<Answer>>
         ensures runs { IfOk result (λ answers.
-            Runs Tr.Conn.tells calls.now self.old self.new answers.items) }
+            Runs Tr.Conn.tells (coding_of E.decoded E.encoded encoding.now) calls.now self.old
+            self.new answers.items) }
         ensures count { IfOk result (λ answers. length answers.items ≡ length calls.now) }
         ensures memory { IfErr result (λ fault. fault ≡ FtpError.OutOfMemory) }
         ensures unchanged { OnErr result (self.new ≡ self.old) }
     {
         let mut answers = Vec::with_capacity(alloc, calls.len())?;
         for call in calls {
-            let answer = self.call(alloc, call);
+            let answer = self.call(alloc, encoding, call);
             answers.push(answer).unwrap();
         }
         Ok(answers)

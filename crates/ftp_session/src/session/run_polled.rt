@@ -1,64 +1,83 @@
 //! Polled runs over memory: lists of events.
 
-ghost use Rattle.std.specs.Prelude.{◌≡◌, ◌<◌, ◌≤◌, ◌++◌, IfOk, IfErr, OnErr, Ok, option_map, vec_len, vec_capacity};
+ghost use Rattle.std.specs.Prelude.{◌≡◌, ◌<◌, ◌≤◌, ◌++◌, IfOk, IfErr, OnErr, option_map, vec_len, vec_capacity};
 ghost use Rattle.ftp_control.specs.Channel.{IsSound};
 ghost use Rattle.ftp_control.specs.Memory.{IsGiven};
-ghost use Rattle.ftp_session.specs.Following.{FailedStays, Happens, IsFeed, PollsHere, StageIn, Starts, given_answer};
-ghost use Rattle.ftp_session.specs.Moving.{StageOf};
-ghost use Rattle.ftp_session.specs.Polling.{PollsLawfully, Stops};
+ghost use Rattle.ftp_session.specs.Coding.{chosen, coding_of};
+ghost use Rattle.ftp_session.specs.Scripted.{IsScripted, Stops};
 ghost use Rattle.ftp_session.specs.Sound.{Sound, SoundCounts};
+ghost use Rattle.ftp_session.specs.Steps.Following.{FailedStays, Happens, IsFeed, PollsHere, StageIn, Starts, given_answer};
+ghost use Rattle.ftp_session.specs.Steps.Stages.{StageOf};
 
+use super::client::Session;
+use super::exchange::Turn;
+use super::machine::Machine;
 use super::stage::Stage;
-use super::{Answer, Call, Event, Session};
+use super::{Answer, Call, Event};
+use ftp_base::encoding::Encoding;
 use ftp_base::types::{FtpError, FtpResult};
 use ftp_control::transport::MemoryTransport;
 use futures::task::Poll;
 use std::alloc::{AllocError, Global};
 
-impl Session<MemoryTransport> {
-    /// Lets these events happen, one after another, and gives the answers of the calls that were completed, in
-    /// order. A `Start` while a call is under way, a `Poll` or `Cancel` without one, and a `Feed` behind the end
+impl<K: Drop, E: Encoding, B: Drop> Session<MemoryTransport, K, E, B> {
+    /// Lets these events happen, one after another, and returns the answers of the calls that were completed, in
+    /// order. A `Start` while a call is under way, a `Poll` or `Cancel` without one, and a `Feed` after the end
     /// change nothing. A call under way at the end is dropped, as by `Cancel`.
     ///
     /// # Errors
-    /// `OutOfMemory` where memory is refused for the answers, and nothing changes; or for the bytes of a `Feed`,
+    /// `OutOfMemory` where there is no memory for the answers, and nothing changes; or for the bytes of a `Feed`,
     /// and the events before it have happened.
     pub fn run_polled(&mut self, alloc: Global, events: &[Event]) -> FtpResult<Vec<Answer>>
-        ensures polled { IfOk result (λ answers.
-            PollsLawfully self.old events.now self.new answers.items) }
+        ensures scripted { IfOk result (λ answers.
+            IsScripted (chosen E.decoded E.encoded self.old.encoding.0) self.old.machine
+            events.now self.new.machine answers.items) }
+        ensures encoding { self.new.encoding ≡ self.old.encoding }
         ensures memory { IfErr result (λ fault. fault ≡ FtpError.OutOfMemory) }
-        ensures stops { OnErr result (Stops self.old events.now self.new) }
-        ensures sound { Sound (Unit {0}) self.new.channel self.new.state.counts }
+        ensures stops { OnErr result (Stops (chosen E.decoded E.encoded self.old.encoding.0)
+            self.old.machine events.now self.new.machine) }
+        ensures sound { Sound (Unit {0}) self.new.machine.channel
+            self.new.machine.state.counts }
     {
-        self.holds();
-        let answers = self.let_happen(alloc, events);
-        self.holds();
+        self.machine.holds_memory();
+        let answers = self.machine.let_happen(alloc, &self.encoding, events);
+        self.machine.holds_memory();
         answers
     }
+}
 
+impl Machine<MemoryTransport> {
     /// Lets these events happen.
-    fn let_happen(&mut self, alloc: Global, events: &[Event]) -> FtpResult<Vec<Answer>>
+    fn let_happen<E: Encoding>(
+        &mut self,
+        alloc: Global,
+        encoding: &E,
+        events: &[Event],
+    ) -> FtpResult<Vec<Answer>>
         requires given { IsGiven self.old.channel.told }
         requires sound { IsSound (Unit {0}) self.old.channel }
-        ensures polled { IfOk result (λ answers.
-            PollsLawfully self.old events.now self.new answers.items) }
+        ensures scripted { IfOk result (λ answers.
+            IsScripted (coding_of E.decoded E.encoded encoding.now) self.old events.now self.new
+            answers.items) }
         ensures memory { IfErr result (λ fault. fault ≡ FtpError.OutOfMemory) }
-        ensures stops { OnErr result (Stops self.old events.now self.new) }
+        ensures stops { OnErr result (Stops (coding_of E.decoded E.encoded encoding.now) self.old
+            events.now self.new) }
     {
         let mut answers = Vec::with_capacity(alloc, events.len())?;
         let mut under_way = None;
-        let mut stage = Stage::Begun;
+        let mut stage = Stage::At(Turn::First);
         for event in events {
-            let answer = self.happen(alloc, event, &mut under_way, &mut stage)?;
+            let answer = self.happen(alloc, encoding, event, &mut under_way, &mut stage)?;
             note(&mut answers, answer);
         }
         Ok(answers)
     }
 
-    /// Lets one event happen, and gives the answer of the call that it completed, if it did.
-    fn happen<'e>(
+    /// Lets one event happen, and returns the answer of the call that it completed, if it did.
+    fn happen<'e, E: Encoding>(
         &mut self,
         alloc: Global,
+        encoding: &E,
         event: &'e Event,
         under_way: &mut Option<&'e Call>,
         stage: &mut Stage,
@@ -68,39 +87,42 @@ impl Session<MemoryTransport> {
         ensures stage { StageIn (option_map (λ c. c.now) under_way.new) stage.new }
         ensures failed { IfOk result (λ answer. FailedStays self.old self.new answer) }
         ensures happens { IfOk result (λ answer.
-            Happens self.old self.new (option_map (λ c. c.now) under_way.old)
-            (option_map (λ c. c.now) under_way.new) stage.old stage.new event.now answer) }
+            Happens (coding_of E.decoded E.encoded encoding.now) self.old self.new
+            (option_map (λ c. c.now) under_way.old) (option_map (λ c. c.now) under_way.new)
+            stage.old stage.new event.now answer) }
     {
         match event {
             Event::Feed(bytes) => self.channel.feed(bytes.as_slice())?,
             Event::End => self.channel.end_input(),
             Event::Room(more) => self.channel.allow(*more),
             Event::Start(call) => start(call, under_way, stage),
-            Event::Poll => return Ok(self.poll_under_way(alloc, under_way, stage)),
+            Event::Poll => return Ok(self.poll_under_way(alloc, encoding, under_way, stage)),
             Event::Cancel => *under_way = None,
             Event::Leave => {}
         }
-        self.holds();
+        self.holds_memory();
         Ok(None)
     }
 
-    /// Polls the call under way, if any, and gives its answer once it has one.
-    fn poll_under_way<'e>(
+    /// Polls the call under way, if any, and returns its answer once it has one.
+    fn poll_under_way<'e, E: Encoding>(
         &mut self,
         alloc: Global,
+        encoding: &E,
         under_way: &mut Option<&'e Call>,
         stage: &mut Stage,
     ) -> Option<Answer>
         requires { StageIn (option_map (λ c. c.now) under_way.old) stage.old }
         ensures stage { StageIn (option_map (λ c. c.now) under_way.new) stage.new }
         ensures failed { FailedStays self.old self.new result }
-        ensures happens { Happens self.old self.new (option_map (λ c. c.now) under_way.old)
-            (option_map (λ c. c.now) under_way.new) stage.old stage.new Event.Poll result }
+        ensures happens { Happens (coding_of E.decoded E.encoded encoding.now) self.old self.new
+            (option_map (λ c. c.now) under_way.old) (option_map (λ c. c.now) under_way.new)
+            stage.old stage.new Event.Poll result }
     {
         let Some(call) = *under_way else {
             return None;
         };
-        match self.poll_here(alloc, call, stage) {
+        match self.poll_here(alloc, encoding, call, stage) {
             Poll::Ready(answer) => {
                 *under_way = None;
                 Some(answer)
@@ -110,18 +132,25 @@ impl Session<MemoryTransport> {
     }
 
     /// Polls a call over memory.
-    fn poll_here(&mut self, alloc: Global, call: &Call, stage: &mut Stage) -> Poll<Answer>
+    fn poll_here<E: Encoding>(
+        &mut self,
+        alloc: Global,
+        encoding: &E,
+        call: &Call,
+        stage: &mut Stage,
+    ) -> Poll<Answer>
         requires { StageOf call.now stage.old }
         ensures stage { StageOf call.now stage.new }
-        ensures polled { PollsHere call.now stage.old stage.new self.old self.new result }
+        ensures polled { PollsHere (coding_of E.decoded E.encoded encoding.now) call.now stage.old
+            stage.new self.old self.new result }
     {
-        let polled = self.poll_started(alloc, call, stage, &mut ());
-        self.holds();
+        let polled = self.poll_started(alloc, encoding, call, stage, &mut ());
+        self.holds_memory();
         polled
     }
 
-    /// What always holds of a session over memory.
-    fn holds(&self)
+    /// What always holds of a machine over memory.
+    fn holds_memory(&self)
         ensures given { IsGiven self.now.channel.told }
         ensures sound { IsSound (Unit {0}) self.now.channel }
         ensures counts { SoundCounts self.now.state.counts }
@@ -131,7 +160,7 @@ impl Session<MemoryTransport> {
     }
 }
 
-/// Puts an answer, if there is one, behind those of before.
+/// Adds an answer, if there is one, after those of before.
 fn note(answers: &mut Vec<Answer>, answer: Option<Answer>)
     requires { vec_len answers.old < vec_capacity answers.old }
     ensures items { answers.new.items ≡ answers.old.items ++ given_answer answer }
@@ -151,6 +180,6 @@ fn start<'e>(call: &'e Call, under_way: &mut Option<&'e Call>, stage: &mut Stage
 {
     if under_way.is_none() {
         *under_way = Some(call);
-        *stage = Stage::Begun;
+        *stage = Stage::At(Turn::First);
     }
 }

@@ -1,26 +1,123 @@
 //! How far a call has come.
 
-use super::Answer;
+ghost use Rattle.std.specs.Prelude.{◌≡◌, Ok, IfOk, IfErr, true, false};
+ghost use Rattle.ftp_base.specs.Command.{text_of};
+ghost use Rattle.ftp_base.specs.Wire.{wire};
+ghost use Rattle.ftp_control.specs.Refusal.{IsRefusalOf};
+ghost use Rattle.ftp_session.specs.Coding.{coding_of};
+ghost use Rattle.ftp_session.specs.Exchanges.{exchange_of, is_read};
+ghost use Rattle.ftp_session.specs.Steps.Stages.{Begins, FirstNode, is_second};
+
+use super::exchange::{Codes, Ending, Exchange, Turn, exchange_of};
+use super::{Answer, Call};
+use ftp_base::command::Command;
+use ftp_base::encoding::Encoding;
+use ftp_base::types::FtpResult;
 use ftp_control::control::WireLine;
+use std::alloc::{AllocError, Global};
 
 /// Where a call stands: the node of its dialogue that comes next.
 #[derive(Drop)]
 pub(crate) enum Stage {
-    /// Nothing was said or heard.
-    Begun,
+    /// An exchange begins.
+    At(Turn),
     /// Its line goes out, whole; none once it has begun to.
-    Saying(Option<WireLine>),
+    Saying(Option<WireLine>, Awaits),
     /// Its reply is read.
-    Hearing,
+    Hearing(Awaits),
 }
 
-/// What a step of a dialogue came to.
+/// The reply that is awaited.
+#[derive(Drop)]
+pub(crate) struct Awaits {
+    /// Of which exchange.
+    pub(super) turn: Turn,
+    /// Whether something of the dialogue was said or taken.
+    pub(super) begun: bool,
+    /// The statuses that are accepted.
+    pub(super) hears: Codes,
+    /// What an accepted reply does.
+    pub(super) ending: Ending,
+}
+
+/// The result of a step of a dialogue.
 #[derive(Drop)]
 pub(crate) enum Step {
     /// The next node was reached.
     Next,
     /// The connection waits.
-    Waits,
+    Pending,
     /// The call has its answer.
     Done(Answer),
+}
+
+/// The first node of an exchange: its line, or its reply.
+///
+/// # Errors
+/// The command has no wire line, or `OutOfMemory`.
+pub(super) fn begin<E: Encoding>(
+    alloc: Global,
+    encoding: &E,
+    call: &Call,
+    turn: Turn,
+) -> FtpResult<Stage>
+    requires { is_second turn ≡ true → is_read call.now ≡ false }
+    ensures { Begins (coding_of E.decoded E.encoded encoding.now) call.now turn result }
+{
+    let exchange = row_of(call, turn)?;
+    first_node(alloc, encoding, turn, exchange)
+}
+
+/// The exchange of a call at this turn.
+fn row_of(call: &Call, turn: Turn) -> Result<Exchange, AllocError>
+    ensures { IfOk result (λ exchange. exchange ≡ exchange_of call.now turn) }
+{
+    Ok(exchange_of(call.clone()?, turn))
+}
+
+/// The first node of an exchange.
+fn first_node<E: Encoding>(
+    alloc: Global,
+    encoding: &E,
+    turn: Turn,
+    exchange: Exchange,
+) -> FtpResult<Stage>
+    ensures { FirstNode (coding_of E.decoded E.encoded encoding.now) turn exchange result }
+{
+    let Exchange {
+        says,
+        hears,
+        ending,
+    } = exchange;
+    let awaits = Awaits {
+        turn,
+        begun: is_second(turn),
+        hears,
+        ending,
+    };
+    match says {
+        None => Ok(Stage::Hearing(awaits)),
+        Some(command) => match line_of(alloc, encoding, command) {
+            Ok(line) => Ok(Stage::Saying(Some(line), awaits)),
+            Err(fault) => Err(fault),
+        },
+    }
+}
+
+/// Whether an exchange was made before.
+pub(super) fn is_second(turn: Turn) -> bool
+    ensures { result ≡ is_second turn }
+{
+    match turn {
+        Turn::First => false,
+        Turn::Second => true,
+    }
+}
+
+/// The line of a command.
+fn line_of<E: Encoding>(alloc: Global, encoding: &E, command: Command) -> FtpResult<WireLine>
+    ensures line { IfOk result (λ line. wire (E.encoded encoding.now) (text_of command) ≡ Ok line) }
+    ensures refused { IfErr result (IsRefusalOf (wire (E.encoded encoding.now) (text_of command))) }
+{
+    WireLine::of(alloc, &command, encoding)
 }

@@ -1,99 +1,130 @@
-//! What a session keeps.
+//! What a session was told to do, and the transfers that it counted.
 
-ghost use Rattle.std.specs.Prelude.{◌≡◌, IsOk, IfOk, length, option_map};
-ghost use Rattle.ftp_control.specs.Channel.{IsIdle, IsSound};
-ghost use Rattle.ftp_control.specs.Told.{IsFresh};
-ghost use Rattle.ftp_session.specs.Sound.{SoundCounts};
+ghost use Rattle.std.specs.Prelude.{◌≡◌};
+ghost use Rattle.ftp_session.specs.Sound.{no_transfers, SoundCounts};
 ghost use Rattle.ftp_session.specs.State.{IsFirst};
 
-use super::settings::State;
-use ftp_base::types::FtpResult;
-use ftp_control::control::ControlChannel;
-use ftp_control::transport::Network;
-use std::alloc::Global;
+use ftp_base::encoding::WelcomeMessage;
+use ftp_base::types::{ActivePeerCheck, Mode};
 use std::marker::Model;
+use std::time::Duration;
 
-/// A session over the connections of a transport.
-#[derive(Drop)]
-pub struct Session<Tr: Network> {
-    pub(super) transport: Tr,
-    pub(super) channel: ControlChannel<Tr::Conn>,
-    pub(super) state: State,
+/// How many seconds a session waits for an active data connection, unless it is told otherwise.
+pub const ACTIVE_DEADLINE_SECONDS: u64 = 60;
+
+/// What a session was told to do.
+#[derive(Clone, Drop)]
+pub struct Settings {
+    /// Who opens data connections.
+    pub mode: Mode,
+    /// Whether the host of a reply to PASV is passed over for the control peer's.
+    pub passive_nat_workaround: bool,
+    /// Which peers may open an active data connection.
+    pub active_peer_check: ActivePeerCheck,
+    /// How long an active data connection is waited for.
+    pub active_deadline: Duration,
+    /// Whether transfers are of text.
+    pub text: bool,
+    /// Whether data connections are secure.
+    pub secure: bool,
+    /// Where the next transfer begins, in bytes (RFC 3659, section 5).
+    pub restart_offset: u64,
 }
 
-impl<Tr: Network> Model for Session<Tr> {
-    ghost use Rattle.ftp_session.specs.State.{SessionValue};
-
-    ghost Value = { SessionValue };
-
-    ghost view = { λ s. record { channel = s.channel; state = s.state } };
+/// The transfer whose last reply hasn't been read.
+#[derive(Clone, Copy, Debug, PartialEq, Eq)]
+pub enum Owed {
+    /// None.
+    Nothing,
+    /// One that is still held, of this number.
+    Live(u64),
+    /// One that was left, of this number.
+    Left(u64),
 }
 
-impl<Tr: Network> Session<Tr> {
-    /// A session on a connection. Nothing is read and nothing is sent.
-    ///
-    /// # Errors
-    /// None today: the answer leaves room for a session that makes a buffer.
-    pub fn new(alloc: Global, transport: Tr, conn: Tr::Conn) -> FtpResult<Session<Tr>>
-        ensures succeeds { IsOk result }
-        ensures idle { IfOk result (λ session. IsIdle session.channel) }
-        ensures fresh { IfOk result (λ session. Tr.Conn.tells → IsFresh session.channel.told) }
-        ensures sound { IfOk result (λ session. IsSound Tr.Conn.tells session.channel) }
-        ensures first { IfOk result (λ session. IsFirst session.state) }
+/// How many transfers were opened, and how they came to their end.
+#[derive(Clone, Drop)]
+pub struct Counts {
+    opened: u64,
+    finished: u64,
+    aborted: u64,
+    drained: u64,
+    owed: Owed,
+}
+
+impl Model for Counts {
+    ghost use Rattle.ftp_session.specs.Sound.{Transfers, SoundCounts};
+
+    ghost Value = { Transfers };
+
+    ghost view = { λ c. record {
+      opened = c.opened;
+      finished = c.finished;
+      aborted = c.aborted;
+      drained = c.drained;
+      owed = c.owed;
+    } };
+
+    ghost invariant = { λ c. SoundCounts (record {
+      opened = c.opened;
+      finished = c.finished;
+      aborted = c.aborted;
+      drained = c.drained;
+      owed = c.owed;
+    }) };
+}
+
+impl Counts {
+    /// No transfer was opened.
+    pub fn new() -> Counts
+        ensures { result ≡ no_transfers }
     {
-        Ok(Session {
-            transport,
-            channel: ControlChannel::new(alloc, conn),
-            state: State::new(),
-        })
+        Counts {
+            opened: 0,
+            finished: 0,
+            aborted: 0,
+            drained: 0,
+            owed: Owed::Nothing,
+        }
     }
 
-    /// The transport.
-    pub fn transport(&self) -> &Tr {
-        &self.transport
-    }
-
-    /// The control connection.
-    pub fn get_ref(&self) -> &Tr::Conn
-        ensures { Tr.Conn.told result.now ≡ self.now.channel.told }
+    /// How many transfers were opened.
+    pub fn opened(&self) -> u64
+        ensures value { result ≡ self.now.opened }
+        ensures sound { SoundCounts self.now }
     {
-        self.channel.get_ref()
+        self.opened
     }
+}
 
-    /// What the session keeps beside its channel.
-    pub fn state(&self) -> &State
-        ensures value { result.now ≡ self.now.state }
-    {
-        &self.state
-    }
+/// What a session keeps beside its control channel.
+#[derive(Clone, Drop)]
+pub struct State {
+    /// What it was told to do.
+    pub settings: Settings,
+    /// The transfers that it counted.
+    pub counts: Counts,
+    /// What the server greeted with, once the greeting was taken.
+    pub welcome: Option<WelcomeMessage>,
+}
 
-    /// How many received bytes are part of no reply yet.
-    pub fn untaken(&self) -> usize
-        ensures value { result ≡ length self.now.channel.kept }
-        ensures sound { IsSound Tr.Conn.tells self.now.channel }
-        ensures counts { SoundCounts self.now.state.counts }
+impl State {
+    /// A session begins: passive, its transfers of text, the control peer alone let in.
+    pub fn new() -> State
+        ensures { IsFirst result }
     {
-        self.state.counts.opened();
-        self.channel.untaken()
-    }
-
-    /// Whether the session has failed: a read or a write of the control connection did, the input ended or went
-    /// beyond a reply's limit where a reply was due, or memory was refused inside a dialogue. Each later command
-    /// is refused by `SessionFailed`.
-    pub fn failed(&self) -> bool
-        ensures { result ≡ self.now.channel.failed }
-    {
-        self.channel.failed()
-    }
-
-    /// The text that the server greeted with, once the greeting was taken.
-    pub fn get_welcome_msg(&self) -> Option<&str>
-        ensures { option_map (λ text. text.now) result ≡
-            option_map (λ welcome. welcome.text) self.now.state.welcome }
-    {
-        match &self.state.welcome {
-            Some(welcome) => Some(welcome.text()),
-            None => None,
+        State {
+            settings: Settings {
+                mode: Mode::Passive,
+                passive_nat_workaround: false,
+                active_peer_check: ActivePeerCheck::ControlPeer,
+                active_deadline: Duration::from_secs(ACTIVE_DEADLINE_SECONDS),
+                text: true,
+                secure: false,
+                restart_offset: 0,
+            },
+            counts: Counts::new(),
+            welcome: None,
         }
     }
 }

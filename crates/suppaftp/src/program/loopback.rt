@@ -38,7 +38,11 @@ where
 /// The client's side.
 fn talk<R: AllocGlobal + Print>(rt: &R, client: TcpStream) -> Result<(), DemoError> {
     let alloc = rt.alloc();
-    let mut session = Session::connect_with_stream(alloc, TcpTransport, TcpConn::new(client))?;
+    let mut session: Session<TcpTransport> = Session::connect_with_stream(
+        alloc,
+        TcpTransport,
+        TcpConn::new(client),
+    )?;
     let welcome = session.get_welcome_msg().unwrap_or("");
     println!(rt; "welcome {welcome}")?;
     session.noop(alloc)?;

@@ -1,5 +1,6 @@
+use Rattle.std.proofs.Common.{refl}
 use Rattle.ftp_control.proofs.Channels.{read_holds}
-use Rattle.ftp_control.proofs.Law.{stays, ended_last}
+use Rattle.ftp_control.proofs.Reading.{reads_reply}
 use Rattle.ftp_control.proofs.control.channel.ControlChannel.poll_outcome.Goals as goal
 
 pub invariant_of-self : goal.invariant_of-self
@@ -8,5 +9,4 @@ invariant_of-self g c =
 
 pub returns-clause-reads : goal.returns-clause-reads
 returns-clause-reads g c =
-    let heard = c.hear-result.ensures.heard in
-    rw (← c.self.view_is) (record { heard = heard; stays = λ waits. stays _ _ _ _ _ (heard.answer waits); last = λ waits. ended_last _ _ _ _ _ (heard.answer waits); same = rw c.fails-self-inside.ensures })
+    rw (← c.self.view_is) (reads_reply _ _ _ _ refl refl (rw c.fails-self-inside.ensures) _ c.hear-result.ensures.heard)

@@ -1,0 +1,99 @@
+//! Copies from sources and to writers that are interrupted, slow, or fail.
+
+use crate::words::answered;
+use ftp_base::ascii::copy_crlf;
+use row_text::{RowError, bytes_of, refusal, value};
+use std::alloc::Global;
+use std::io;
+use std::io::{ErrorKind, Read, Write};
+
+/// What a copy answers, and what was written: `INTERRUPTED TEXT END INTERRUPTED AT_ONCE`. The source is interrupted
+/// so many times, gives the text, and ends or fails; the writer is interrupted so many times, and takes at most so
+/// many bytes at once.
+pub fn copied(alloc: Global, input: &str) -> Result<Vec<u8>, RowError> {
+    let words: Vec<&str> = input.split(' ').collect(alloc)?;
+    let [interrupted, text, end, refused, at_once] = words.as_slice() else {
+        return Err(RowError::NotUnderstood);
+    };
+    let text = bytes_of(alloc, text)?;
+    let source = Source {
+        interrupted: value(interrupted)?,
+        text: &text,
+        end: end_of(end)?,
+    };
+    let writer = Writer {
+        interrupted: value(refused)?,
+        at_once: value(at_once)?,
+        written: Vec::new(alloc),
+    };
+    copy(alloc, source, writer)
+}
+
+/// The end of a source.
+fn end_of(word: &str) -> Result<Option<ErrorKind>, RowError> {
+    match word {
+        "ends" => Ok(None),
+        "breaks" => Ok(Some(ErrorKind::BrokenPipe)),
+        _ => Err(RowError::NotUnderstood),
+    }
+}
+
+/// A copy from this source to this writer.
+fn copy(alloc: Global, mut source: Source<'_>, mut writer: Writer) -> Result<Vec<u8>, RowError> {
+    let answer = match copy_crlf(alloc, &mut source, &mut writer) {
+        Ok(count) => format!(in alloc; "{count}")?,
+        Err(fault) => format!(in alloc; "E{} {fault}", refusal(&fault))?,
+    };
+    answered(answer, &writer.written)
+}
+
+/// A source that is interrupted, gives a text, and then ends or fails.
+#[derive(Drop)]
+struct Source<'a> {
+    interrupted: usize,
+    text: &'a [u8],
+    end: Option<ErrorKind>,
+}
+
+impl Read for Source<'_> {
+    fn read(&mut self, buf: &mut [u8]) -> io::Result<usize> {
+        if self.interrupted > 0 {
+            self.interrupted -= 1;
+            return Err(ErrorKind::Interrupted.into());
+        }
+        if self.text.is_empty() {
+            return match self.end {
+                Some(kind) => Err(kind.into()),
+                None => Ok(0),
+            };
+        }
+        let n = buf.len().min(self.text.len());
+        buf[..n].copy_from_slice(&self.text[..n]);
+        self.text = &self.text[n..];
+        Ok(n)
+    }
+}
+
+/// A writer that is interrupted, and takes a few bytes at once.
+#[derive(Drop)]
+struct Writer {
+    interrupted: usize,
+    at_once: usize,
+    written: Vec<u8>,
+}
+
+impl Write for Writer {
+    fn write(&mut self, buf: &[u8]) -> io::Result<usize> {
+        if self.interrupted > 0 {
+            self.interrupted -= 1;
+            return Err(ErrorKind::Interrupted.into());
+        }
+        let n = buf.len().min(self.at_once);
+        self.written.extend_from_slice(&buf[..n])?;
+        Ok(n)
+    }
+
+    fn flush(&mut self) -> io::Result<()> {
+        Ok(())
+    }
+}

@@ -1,0 +1,95 @@
+//! The sets of rows, and what a row of each comes to.
+
+use crate::{commands, comparisons, copies, faults, features, peers, replies, scans, uploads};
+use row_text::RowError;
+use std::alloc::Global;
+
+/// A set of rows.
+#[derive(Clone, Copy, Debug, PartialEq, Eq)]
+pub enum Set {
+    /// A command, and its line.
+    Commands,
+    /// A code, and its status.
+    Statuses,
+    /// Two values, and how they compare.
+    Comparisons,
+    /// The text of a reply to PASV, and the places of its six numbers.
+    Passive,
+    /// The text of a reply to EPSV, and the place of its port.
+    Extended,
+    /// The text of a reply to MDTM, and the places of the parts of its time.
+    Timestamps,
+    /// The text of a reply to SIZE, and the place of its size.
+    Sizes,
+    /// A text, a place in it and the greatest number that is asked for, and the number there.
+    Numbers,
+    /// The reply to FEAT, and its features.
+    Features,
+    /// A line of the reply to FEAT, and whether it is the last.
+    LastLines,
+    /// A check, a peer and the control connection's peer, and whether the check lets the peer in.
+    Peers,
+    /// The pieces of a text, and its bytes on the wire.
+    Uploads,
+    /// A source and a writer, and what a copy answers and writes.
+    Copies,
+    /// Bytes, and what goes out for them on a Telnet connection.
+    Escaped,
+    /// Bytes of a Telnet connection, and what they stand for.
+    Unescaped,
+    /// A code and the bytes of a reply, and how it is shown.
+    Replies,
+    /// The name of a fault, and its text.
+    Faults,
+}
+
+/// The names of all sets, as headings write them.
+const NAMES: [(&str, Set); 17] = [
+    ("commands", Set::Commands),
+    ("statuses", Set::Statuses),
+    ("comparisons", Set::Comparisons),
+    ("passive", Set::Passive),
+    ("extended", Set::Extended),
+    ("timestamps", Set::Timestamps),
+    ("sizes", Set::Sizes),
+    ("numbers", Set::Numbers),
+    ("features", Set::Features),
+    ("last_lines", Set::LastLines),
+    ("peers", Set::Peers),
+    ("uploads", Set::Uploads),
+    ("copies", Set::Copies),
+    ("escaped", Set::Escaped),
+    ("unescaped", Set::Unescaped),
+    ("replies", Set::Replies),
+    ("faults", Set::Faults),
+];
+
+impl Set {
+    /// The set of this name, and its name.
+    pub fn named(name: &str) -> Option<(&'static str, Set)> {
+        NAMES.into_iter().find(|(known, _)| *known == name)
+    }
+
+    /// What a row with this input comes to.
+    pub fn came(self, alloc: Global, input: &str) -> Result<Vec<u8>, RowError> {
+        match self {
+            Set::Commands => commands::line(alloc, input),
+            Set::Statuses => replies::status(alloc, input),
+            Set::Comparisons => comparisons::comparison(alloc, input),
+            Set::Passive => scans::passive(alloc, input),
+            Set::Extended => scans::extended(alloc, input),
+            Set::Timestamps => scans::timestamp(alloc, input),
+            Set::Sizes => scans::size(alloc, input),
+            Set::Numbers => scans::number(alloc, input),
+            Set::Features => features::features(alloc, input),
+            Set::LastLines => features::last_line(alloc, input),
+            Set::Peers => peers::admitted(alloc, input),
+            Set::Uploads => uploads::uploaded(alloc, input),
+            Set::Copies => copies::copied(alloc, input),
+            Set::Escaped => replies::escaped(alloc, input),
+            Set::Unescaped => replies::unescaped(alloc, input),
+            Set::Replies => replies::reply(alloc, input),
+            Set::Faults => faults::fault(alloc, input),
+        }
+    }
+}

@@ -1,0 +1,22 @@
+use Rattle.std.proofs.Common.{◌≡◌, ◌-◌, length, cond}
+use Rattle.ftp_control.specs.Inside.ReadLoop.{says_of, CanSeek}
+use Rattle.ftp_control.specs.Inside.UnderWay.{IsUnderWay}
+use Rattle.ftp_control.specs.Told.{EndsAsTold}
+use Rattle.ftp_control.proofs.ReadLoop.{SoFar}
+use Rattle.ftp_control.proofs.control.read_loop.hear.Given as goal
+
+-- what was read so far says nothing yet
+abbrev pub invariant-loop-ended : goal.invariant-loop-ended
+invariant-loop-ended g l =
+    let told = g.C.Tells.told in
+    record {
+      under_way : IsUnderWay l.rule l.reply.bytes.items l.reply.line_start;
+      can_seek : CanSeek l.sought l.reply.bytes.items;
+      known : g.C.Tells.tells → (told l.conn).ended ≡ l.ended;
+      end : g.C.Tells.tells → g.C.PollConn.may_wait → EndsAsTold l.fn.ended l.ended (told l.fn.conn);
+      so_far : SoFar g.C.Tells.tells (says_of l.rule l.sought) l.fn.reply.bytes.items l.reply.bytes.items l.fn.ended l.ended (told l.fn.conn) (told l.conn);
+    }
+
+-- a byte more is kept, or the input has ended
+abbrev pub decreases-loop-ended : goal.decreases-loop-ended
+decreases-loop-ended g l = cond l.ended 0 (262146 - length l.reply.bytes.items)

@@ -1,0 +1,5 @@
+-- The bookkeeping of the channel: what its parts keep between two bytes. No public clause speaks of it.
+pub mod Held
+pub mod ReadLoop
+pub mod UnderWay
+pub mod Verdict

@@ -1,0 +1,39 @@
+//! What a transport is asked for a data connection, and what that results in.
+
+use ftp_base::types::ConnectionError;
+use std::net::SocketAddr;
+
+/// What is asked for a data connection.
+#[derive(Clone, Copy, Debug)]
+pub enum Request {
+    /// The address of the control connection at this end.
+    LocalAddress,
+    /// The address of the control connection's peer.
+    PeerAddress,
+    /// A connection to this address.
+    Connect(SocketAddr),
+    /// A listener on this address.
+    Listen(SocketAddr),
+    /// A peer's connection on the listener.
+    Accept,
+}
+
+/// What a request resulted in.
+#[derive(Clone, Copy, Debug)]
+pub enum RequestOutcome {
+    /// It was done.
+    Done,
+    /// It was done, with this address.
+    Address(SocketAddr),
+    /// It failed.
+    Refused(ConnectionError),
+}
+
+/// A request and its outcome.
+#[derive(Clone, Copy, Debug)]
+pub struct Asked {
+    /// What was asked.
+    pub request: Request,
+    /// What it resulted in.
+    pub outcome: RequestOutcome,
+}

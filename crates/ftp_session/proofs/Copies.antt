@@ -1,0 +1,24 @@
+-- A clone of a call is the call.
+use Rattle.std.proofs.Common.{◌≡◌, rules}
+use Rattle.ftp_session.specs.declared.session.call.Call.{Call}
+use Rattle.ftp_session.specs.declared.session.call.Call.TheVariants.{Greet, Login, Cwd, Cdup, Noop, Eprt, Opts, Site, TransferType, Mkdir, Rmdir, Rm, Rename, Quit, CustomCommand, ReadResponse, ReadResponseIn}
+use Rattle.ftp_session.specs.contracts.session.call.CallClone.TheImpl.{by_variants}
+
+pub same_call : (call copy : Call) → by_variants call copy → copy ≡ call
+same_call Greet copy is = search rules
+same_call (Login user password) copy is = search rules
+same_call (Cwd path) copy is = search rules
+same_call Cdup copy is = search rules
+same_call Noop copy is = search rules
+same_call (Eprt address) copy is = search rules
+same_call (Opts name value) copy is = search rules
+same_call (Site words) copy is = search rules
+same_call (TransferType kind) copy is = search rules
+same_call (Mkdir path) copy is = search rules
+same_call (Rmdir path) copy is = search rules
+same_call (Rm path) copy is = search rules
+same_call (Rename one other) copy is = search rules
+same_call Quit copy is = search rules
+same_call (CustomCommand line codes) copy is = search rules
+same_call (ReadResponse status) copy is = search rules
+same_call (ReadResponseIn codes) copy is = search rules

@@ -1,0 +1,65 @@
+-- Lemmas on the stages of a call.
+use Rattle.std.proofs.Common.{◌≡◌, ℕ, ◌-◌, ◌<◌, Bool, true, false, ◌&&◌, Option, Some, None, is_none, List, Result, Ok, Err, refl, ap, sym, ◌∙◌, subst, arith}
+use Rattle.ftp_base.specs.declared.command.Command.{Command}
+use Rattle.ftp_base.specs.Command.{text_of}
+use Rattle.ftp_base.specs.Wire.{wire}
+use Rattle.ftp_base.specs.declared.types.fault.ConnectionError.{ConnectionError as Cause}
+use Rattle.ftp_control.specs.Saying.{due}
+use Rattle.ftp_session.specs.declared.session.state.State.{State}
+use Rattle.ftp_session.specs.declared.session.call.Call.{Call}
+use Rattle.ftp_session.specs.declared.session.exchange.Turn.{Turn}
+use Rattle.ftp_session.specs.declared.session.exchange.Turn.TheVariants.{First, Second}
+use Rattle.ftp_session.specs.declared.session.exchange.Exchange.{Exchange}
+use Rattle.ftp_session.specs.declared.session.stage.Awaits.{Awaits}
+use Rattle.ftp_session.specs.declared.session.stage.Stage.{Stage}
+use Rattle.ftp_session.specs.declared.session.stage.Stage.TheVariants.{At, Saying, Hearing}
+use Rattle.ftp_session.specs.Coding.{Coding}
+use Rattle.ftp_session.specs.Exchanges.{exchange_of, statuses, gives_reply, is_read}
+use Rattle.ftp_session.specs.Dialogue.{Tree, Say, saying, awaiting, exchanging, later, from_turn}
+use Rattle.ftp_session.specs.Steps.Stages.{is_second, remaining, awaited, begun_at, nodes_from, nodes_left, StageOf, line_of, awaits_of, NodeOf, Begun}
+
+and_false : (b : Bool) → b && false ≡ false
+and_false true = refl
+and_false false = refl
+
+one_fewer : (turn : Turn) → nodes_from turn - 1 < nodes_from turn
+one_fewer First = omega arith
+one_fewer Second = omega arith
+
+two_fewer : (turn : Turn) → nodes_from turn - 2 < nodes_from turn
+two_fewer First = omega arith
+two_fewer Second = omega arith
+
+-- a line that is said first
+said_first : (coding : Coding) (command : Option Command) (line : List ℕ) (next : Tree) → is_none command ≡ false → line_of coding command ≡ Ok line → Say (Ok line) next ≡ saying coding command next
+said_first coding None line next some is = let clash : true ≡ false = some in cc
+said_first coding (Some command) line next some is =
+    let S : Result (List ℕ) Cause → Tree = λ l. Say l next in
+    ap S (sym is)
+
+-- a call that says something is no plain read
+no_read : (call : Call) (turn : Turn) → (is_second turn ≡ true → is_read call ≡ false) → is_none (exchange_of call turn).says ≡ false → is_read call ≡ false
+no_read call First read some = ap (λ b. gives_reply (exchange_of call First).ending && b) some ∙ and_false (gives_reply (exchange_of call First).ending)
+no_read call Second read some = read refl
+
+-- the first node is all that is left of an exchange, and of what comes after it
+pub node_begins : (coding : Coding) (call : Call) (turn : Turn) (stage : Stage) → (is_second turn ≡ true → is_read call ≡ false) → NodeOf coding turn (exchange_of call turn) stage → Begun coding call turn stage
+node_begins coding call turn (At other) read node = absurd node
+node_begins coding call turn (Saying line a) read node =
+    let e = exchange_of call turn in
+    let P : Awaits → Type 0 = λ x. Begun coding call turn (Saying line x) in
+    subst P (sym node.2) (record {
+      same = λ state. said_first coding e.says (due line) (awaiting coding (statuses e.hears) e.ending state (later coding call turn)) node.1 node.0;
+      fewer = one_fewer turn;
+      stage_of = (refl, no_read call turn read node.1);
+      begun = refl;
+    })
+node_begins coding call turn (Hearing a) read node =
+    let e = exchange_of call turn in
+    let P : Awaits → Type 0 = λ x. Begun coding call turn (Hearing x) in
+    subst P (sym node.1) (record {
+      same = λ state. ap (λ s. saying coding s (awaiting coding (statuses e.hears) e.ending state (later coding call turn))) (sym node.0);
+      fewer = two_fewer turn;
+      stage_of = (refl, read);
+      begun = refl;
+    })

@@ -1,0 +1,203 @@
+-- What a call that succeeded did on the wire.
+use Rattle.std.proofs.Common.{◌≡◌, ℕ, Bool, true, false, cond, ◌==◌, eqb, Option, Some, None, List, [], ◌++◌, Result, Ok, Err, refl, ap, sym, ◌∙◌, subst, append-nil}
+use Rattle.ftp_base.specs.declared.status.Status.{Status}
+use Rattle.ftp_base.specs.declared.status.Status.TheVariants.{System}
+use Rattle.ftp_base.specs.Status.{code_of, status_of}
+use Rattle.ftp_base.specs.declared.command.Command.{Command}
+use Rattle.ftp_base.specs.Command.{text_of}
+use Rattle.ftp_base.specs.Wire.{wire}
+use Rattle.ftp_base.specs.declared.types.reply.Response.{Response}
+use Rattle.ftp_base.specs.declared.types.fault.FtpError.{FtpError}
+use Rattle.ftp_base.specs.declared.types.fault.FtpError.TheVariants as fault
+use Rattle.ftp_base.specs.declared.types.fault.ConnectionError.{ConnectionError as Cause}
+use Rattle.ftp_base.specs.declared.types.fault.ConnectionError.TheVariants as connection
+use Rattle.ftp_control.specs.declared.transport.room.Room.TheVariants.{Any}
+use Rattle.ftp_control.specs.Asking.{outcomes_of}
+use Rattle.ftp_control.specs.declared.transport.request.RequestOutcome.{RequestOutcome}
+use Rattle.ftp_control.specs.declared.control.outcome.Outcome.{Outcome}
+use Rattle.ftp_control.specs.declared.control.outcome.Outcome.TheVariants.{Whole, Bad, TooLarge, Ended, Waits}
+use Rattle.ftp_control.specs.Grammar.{outcome, left_by}
+use Rattle.ftp_control.specs.Answer.{is_among}
+use Rattle.ftp_session.specs.declared.session.state.State.{State}
+use Rattle.ftp_session.specs.declared.session.call.Answer.{Answer}
+use Rattle.ftp_session.specs.declared.session.call.Answer.TheVariants.{Unit, Reply, Fault}
+use Rattle.ftp_session.specs.declared.session.call.Call.{Call}
+use Rattle.ftp_session.specs.declared.session.exchange.Turn.TheVariants.{First, Second}
+use Rattle.ftp_session.specs.declared.session.exchange.Ending.{Ending}
+use Rattle.ftp_session.specs.declared.session.exchange.Ending.TheVariants as ending
+use Rattle.ftp_session.specs.declared.session.exchange.Exchange.{Exchange}
+use Rattle.ftp_session.specs.declared.model.Standing.{Standing}
+use Rattle.ftp_session.specs.declared.model.Played.{Played}
+use Rattle.ftp_session.specs.declared.model.Played.TheVariants.{Done, Pending}
+use Rattle.ftp_session.specs.State.{SessionValue}
+use Rattle.ftp_session.specs.Coding.{Coding}
+use Rattle.ftp_session.specs.Exchanges.{exchange_of, statuses}
+use Rattle.ftp_session.specs.Dialogue.{Tree, Say, Hear, Leaf, saying, awaiting, concluded, accepted, exchanging, later, dialogue}
+use Rattle.ftp_session.specs.Play.{play, heard_then}
+use Rattle.ftp_session.specs.Promises.{standing, Completes, IsSuccess, Says, Exchanged, Follows, Succeeds, Wired, goes_on_with}
+use Rattle.ftp_session.proofs.Moving.{play-Say, play-Leaf, play-Refused}
+use Rattle.ftp_session.proofs.Hearing.{play-Hear}
+
+-- a fault is no success
+no_success : (found : FtpError) (answer : Answer) (s t : Standing) → Done (Fault found) s ≡ Done answer t → IsSuccess answer → ⊥
+no_success found answer s t is success =
+    let same : answer ≡ Fault found = cc in
+    let P : Answer → Type 0 = IsSuccess in
+    subst P same success
+
+-- a tree whose last node gave this answer ends where it is
+leaf_at : (answer answer' : Answer) (state : State) (s t : Standing) → play Any (Leaf answer state) s ≡ Done answer' t → t ≡ record s { state = state }
+leaf_at answer answer' state s t is =
+    let both : Done answer (record s { state = state }) ≡ Done answer' t = sym (play-Leaf Any answer state s) ∙ is in
+    cc
+
+-- a reply that was heard
+pub record HeardOne (coding : Coding) (codes : List Status) (how : Ending) (state : State) (next : State → Tree) (answer : Answer) (s t : Standing) : Type 0 where
+  pub reply : Response
+  pub code : ℕ
+  pub whole : outcome s.rule (is_among codes System) s.bytes s.ended ≡ Whole reply.body code
+  pub status : reply.status ≡ status_of code
+  pub among : is_among codes reply.status ≡ true
+  pub goes : play Any (accepted coding how state reply next) (record s { bytes = left_by (Whole reply.body code) s.bytes }) ≡ Done answer t
+
+module _ (coding : Coding) (codes : List Status) (how : Ending) (state : State) (next : State → Tree) (answer : Answer) (s t : Standing) (success : IsSuccess answer) where
+  abbrev k : Result Response FtpError → Standing → Played
+  k a x = play Any (concluded coding how state next a) x
+
+  found : (fault : FtpError) (x : Standing) → k (Err fault) x ≡ Done answer t → ⊥
+  found fault x is = no_success fault answer (record x { state = state }) t (sym (play-Leaf Any (Fault fault) state x) ∙ is) success
+
+  pub one_reply : play Any (awaiting coding codes how state next) s ≡ Done answer t → HeardOne coding codes how state next answer s t
+  one_reply is = go (outcome s.rule (is_among codes System) s.bytes s.ended) refl (sym (play-Hear Any codes (concluded coding how state next) s) ∙ is)
+    where
+      go : (o : Outcome) → outcome s.rule (is_among codes System) s.bytes s.ended ≡ o → heard_then o codes s (λ a x. play Any (concluded coding how state next a) x) ≡ Done answer t → HeardOne coding codes how state next answer s t
+      go (Whole body code) whole done =
+          let reply : Response = record { status = status_of code; body = body } in
+          let here : Standing = record s { bytes = left_by (Whole body code) s.bytes } in
+          elim (is_among codes (status_of code)) as (λ b. is_among codes (status_of code) ≡ b → k (cond b (Ok reply) (Err (fault.UnexpectedResponse reply))) here ≡ Done answer t → HeardOne coding codes how state next answer s t) [
+            | true ↦ λ among done. record { reply = reply; code = code; whole = whole; status = refl; among = among; goes = done }
+            | false ↦ λ among done. absurd (found (fault.UnexpectedResponse reply) here done)
+          ] refl done
+      go (Bad line) whole done = absurd (found fault.BadResponse (record s { bytes = left_by (Bad line) s.bytes }) done)
+      go TooLarge whole done = absurd (found (fault.ConnectionError connection.ReplyTooLarge) (record s { bytes = left_by TooLarge s.bytes; failed = true }) done)
+      go Ended whole done = absurd (found (fault.ConnectionError connection.UnexpectedEof) (record s { bytes = left_by Ended s.bytes; failed = true }) done)
+      go Waits whole done = cc done
+
+-- an exchange that succeeded
+pub record ExchangedOne (coding : Coding) (exchange : Exchange) (state : State) (next : State → Tree) (answer : Answer) (s t : Standing) : Type 0 where
+  pub reply : Response
+  pub between : Standing
+  pub exchanged : Exchanged coding exchange reply s between
+  pub goes : play Any (accepted coding exchange.ending state reply next) between ≡ Done answer t
+
+pub one_exchange : (coding : Coding) (exchange : Exchange) (state : State) (next : State → Tree) (answer : Answer) (s t : Standing) → IsSuccess answer → play Any (exchanging coding exchange state next) s ≡ Done answer t → ExchangedOne coding exchange state next answer s t
+one_exchange coding exchange state next answer s t success is = go exchange.says refl is
+  where
+    codes : List Status
+    codes = statuses exchange.hears
+
+    go : (command : Option Command) → exchange.says ≡ command → play Any (saying coding command (awaiting coding (statuses exchange.hears) exchange.ending state next)) s ≡ Done answer t → ExchangedOne coding exchange state next answer s t
+    go None says done =
+        let one = one_reply coding (statuses exchange.hears) exchange.ending state next answer s t success done in
+        let here : Standing = record s { bytes = left_by (Whole one.reply.body one.code) s.bytes } in
+        let P : Option Command → Type 0 = λ c. Says coding c s here in
+        record {
+          reply = one.reply;
+          between = here;
+          exchanged = record { says = subst P (sym says) (refl, refl); code = one.code; whole = one.whole; status = one.status; accepted = one.among; consumed = refl };
+          goes = one.goes;
+        }
+    go (Some command) says done = line (wire coding.encode (text_of command)) refl done
+      where
+        line : (l : Result (List ℕ) Cause) → wire coding.encode (text_of command) ≡ l → play Any (Say l (awaiting coding (statuses exchange.hears) exchange.ending state next)) s ≡ Done answer t → ExchangedOne coding exchange state next answer s t
+        line (Err cause) refused done = absurd (no_success (fault.ConnectionError cause) answer s t (sym (play-Refused Any cause (awaiting coding (statuses exchange.hears) exchange.ending state next) s) ∙ done) success)
+        line (Ok bytes) wired done =
+            let there : Standing = record s { said = s.said ++ s.unsent ++ bytes; unsent = [] } in
+            let one = one_reply coding (statuses exchange.hears) exchange.ending state next answer there t success (sym (play-Say Any bytes (awaiting coding (statuses exchange.hears) exchange.ending state next) s) ∙ done) in
+            let here : Standing = record there { bytes = left_by (Whole one.reply.body one.code) s.bytes } in
+            let P : Option Command → Type 0 = λ c. Says coding c s here in
+            record {
+              reply = one.reply;
+              between = here;
+              exchanged = record { says = subst P (sym says) (bytes, wired, refl, refl); code = one.code; whole = one.whole; status = one.status; accepted = one.among; consumed = refl };
+              goes = one.goes;
+            }
+
+-- the last exchange ends in a leaf
+accepted_leaf : (coding : Coding) (how : Ending) (state : State) (reply : Response) → (answer : Answer) × (new : State) × (accepted coding how state reply (λ x. Leaf Unit x) ≡ Leaf answer new)
+accepted_leaf coding ending.Done state reply = (Unit, state, refl)
+accepted_leaf coding ending.GivesReply state reply = (Reply reply, state, refl)
+accepted_leaf coding ending.Greets state reply = (Unit, _, refl)
+accepted_leaf coding (ending.SetsText text) state reply = (Unit, _, refl)
+accepted_leaf coding (ending.GoesOn status) state reply = (Unit, state, same (eqb (code_of reply.status) (code_of status)))
+  where
+    same : (b : Bool) → cond b (Leaf Unit state) (Leaf Unit state) ≡ Leaf Unit state
+    same true = refl
+    same false = refl
+
+says_state : (coding : Coding) (command : Option Command) (s t : Standing) (state : State) → Says coding command s t → Says coding command s (record t { state = state })
+says_state coding None s t state says = says
+says_state coding (Some command) s t state says = says
+
+-- a call that succeeded
+pub call_succeeds : (coding : Coding) (call : Call) (answer : Answer) (s t : Standing) (state : State) → IsSuccess answer → play Any (dialogue coding call state) s ≡ Done answer t → Succeeds coding call s t
+call_succeeds coding call answer s t state success is = record {
+  reply = one.reply;
+  between = one.between;
+  first = one.exchanged;
+  second = go (exchange_of call First).ending one.goes;
+}
+  where
+    one : ExchangedOne coding (exchange_of call First) state (later coding call First) answer s t
+    one = one_exchange coding (exchange_of call First) state (later coding call First) answer s t success is
+
+    stays : (a : Answer) (new : State) → play Any (Leaf a new) one.between ≡ Done answer t → (t.said ≡ one.between.said) × (t.unsent ≡ one.between.unsent) × (t.bytes ≡ one.between.bytes)
+    stays a new done =
+        let same = leaf_at a answer new one.between t done in
+        (ap (λ x. x.said) same, ap (λ x. x.unsent) same, ap (λ x. x.bytes) same)
+
+    last : (m : Standing) → play Any (later coding call First state) m ≡ Done answer t → (reply : Response) × Exchanged coding (exchange_of call Second) reply m t
+    last m done =
+        let e = exchange_of call Second in
+        let two = one_exchange coding e state (λ x. Leaf Unit x) answer m t success done in
+        let leaf = accepted_leaf coding e.ending state two.reply in
+        let L : Tree → Type 0 = λ x. play Any x two.between ≡ Done answer t in
+        let same = leaf_at leaf.0 answer leaf.1 two.between t (subst L leaf.2 two.goes) in
+        let P : Standing → Type 0 = λ x. Exchanged coding e two.reply m x in (
+          two.reply,
+          subst P (sym same) (record {
+            says = says_state coding e.says m two.between leaf.1 two.exchanged.says;
+            code = two.exchanged.code;
+            whole = two.exchanged.whole;
+            status = two.exchanged.status;
+            accepted = two.exchanged.accepted;
+            consumed = two.exchanged.consumed;
+          }),
+        )
+
+    go : (how : Ending) → play Any (accepted coding how state one.reply (later coding call First)) one.between ≡ Done answer t → Follows (goes_on_with how one.reply) coding (exchange_of call Second) one.between t
+    go ending.Done done = stays _ _ done
+    go ending.GivesReply done = stays _ _ done
+    go ending.Greets done = stays _ _ done
+    go (ending.SetsText text) done = stays _ _ done
+    go (ending.GoesOn status) done =
+        elim (eqb (code_of one.reply.status) (code_of status)) as (λ b. play Any (cond b (later coding call First state) (Leaf Unit state)) one.between ≡ Done answer t → Follows b coding (exchange_of call Second) one.between t) [
+          | true ↦ λ done. last one.between done
+          | false ↦ λ done. stays Unit state done
+        ] done
+
+-- the calls of a session
+pub wired : (tells : Type 0) (coding : Coding) (call : Call) (old new : SessionValue) (answer : Answer) → Completes tells (dialogue coding call old.state) answer old new → IsSuccess answer → Wired tells coding call old new
+wired tells coding call old new answer done success = record {
+  came = done.came;
+  answered = done.answered;
+  goes = done.goes;
+  succeeds = λ h resumes.
+      let ended = new.channel.ended in
+      let played = done.plays h resumes Any [] ended [] tt (record { nothing = λ e. refl; over = λ e. e }) in
+      let F : List ℕ → Standing = λ c. standing old c ended (outcomes_of done.answered ++ []) in
+      let G : List RequestOutcome → Standing = λ o. standing old done.came ended o in
+      let same : standing old (done.came ++ []) ended (outcomes_of done.answered ++ []) ≡ standing old done.came ended (outcomes_of done.answered) = ap F (append-nil done.came) ∙ ap G (append-nil (outcomes_of done.answered)) in
+      let P : Standing → Type 0 = λ s. play Any (dialogue coding call old.state) s ≡ Done answer (standing new [] ended []) in
+      call_succeeds coding call answer (standing old done.came ended (outcomes_of done.answered)) (standing new [] ended []) old.state success (subst P same played);
+}

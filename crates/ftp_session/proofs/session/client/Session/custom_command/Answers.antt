@@ -1,0 +1,5 @@
+use Rattle.ftp_session.specs.declared.session.call.Call.TheVariants.{CustomCommand}
+use Rattle.ftp_session.proofs.session.client.Session.custom_command.Goals as goal
+
+pub returns : goal.returns
+returns g c = c.perform_for_reply.ensures.plays (CustomCommand c.args.line.now c.args.expected.now) c.custom_call.ensures.call

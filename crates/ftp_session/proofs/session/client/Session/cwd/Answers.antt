@@ -1,0 +1,5 @@
+use Rattle.ftp_session.specs.declared.session.call.Call.TheVariants.{Cwd}
+use Rattle.ftp_session.proofs.session.client.Session.cwd.Goals as goal
+
+pub returns : goal.returns
+returns g c = c.perform.ensures.plays (Cwd c.args.path.now) c.cwd_call.ensures.call

@@ -1,0 +1,5 @@
+use Rattle.ftp_session.specs.declared.session.call.Call.TheVariants.{Mkdir}
+use Rattle.ftp_session.proofs.session.client.Session.mkdir.Goals as goal
+
+pub returns : goal.returns
+returns g c = c.perform.ensures.plays (Mkdir c.args.path.now) c.mkdir_call.ensures.call

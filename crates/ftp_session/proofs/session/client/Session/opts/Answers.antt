@@ -1,0 +1,6 @@
+use Rattle.std.proofs.Common.{option_map}
+use Rattle.ftp_session.specs.declared.session.call.Call.TheVariants.{Opts}
+use Rattle.ftp_session.proofs.session.client.Session.opts.Goals as goal
+
+pub returns : goal.returns
+returns g c = c.perform.ensures.plays (Opts c.args.option.now (option_map (λ text. text.now) c.args.value)) c.opts_call.ensures.call

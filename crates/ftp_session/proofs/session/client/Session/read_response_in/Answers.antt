@@ -1,0 +1,5 @@
+use Rattle.ftp_session.specs.declared.session.call.Call.TheVariants.{ReadResponseIn}
+use Rattle.ftp_session.proofs.session.client.Session.read_response_in.Goals as goal
+
+pub returns : goal.returns
+returns g c = c.perform_for_reply.ensures.plays (ReadResponseIn c.args.expected.now) c.read_call.ensures.call

@@ -1,0 +1,5 @@
+use Rattle.ftp_session.specs.declared.session.call.Call.TheVariants.{Rm}
+use Rattle.ftp_session.proofs.session.client.Session.rm.Goals as goal
+
+pub returns : goal.returns
+returns g c = c.perform.ensures.plays (Rm c.args.path.now) c.rm_call.ensures.call

@@ -1,0 +1,5 @@
+use Rattle.ftp_session.specs.declared.session.call.Call.TheVariants.{Rmdir}
+use Rattle.ftp_session.proofs.session.client.Session.rmdir.Goals as goal
+
+pub returns : goal.returns
+returns g c = c.perform.ensures.plays (Rmdir c.args.path.now) c.rmdir_call.ensures.call

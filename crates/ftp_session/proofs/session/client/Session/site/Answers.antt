@@ -1,0 +1,5 @@
+use Rattle.ftp_session.specs.declared.session.call.Call.TheVariants.{Site}
+use Rattle.ftp_session.proofs.session.client.Session.site.Goals as goal
+
+pub returns : goal.returns
+returns g c = c.perform_for_reply.ensures.plays (Site c.args.command.now) c.site_call.ensures.call

@@ -1,0 +1,33 @@
+use Rattle.std.proofs.Common.{refl}
+use Rattle.ftp_session.specs.Dialogue.{Leaf}
+use Rattle.ftp_session.specs.declared.session.call.Answer.TheVariants.{Unit}
+use Rattle.ftp_session.specs.Coding.{coding_of}
+use Rattle.ftp_session.specs.Dialogue.{concluded, later}
+use Rattle.ftp_session.proofs.Transitions.{concludes, fault_ends}
+use Rattle.ftp_session.proofs.session.machine.Machine.hear_reply.Goals as goal
+
+pub returns-in-Ready-Ok-clause-steps : goal.returns-in-Ready-Ok-clause-steps
+returns-in-Ready-Ok-clause-steps g c = λ call.
+    let coding = coding_of g.E.Encoding.decoded g.E.Encoding.encoded c.args.encoding.now in
+    let heard = rw (c.in-Ready-Ok.is, c.in-Ready-Ok.field-0-is) at c.hear_codes.ensures.hears in
+    concludes _ coding call c.args.awaits _ _ _ _ _ _ c.requires.going (heard (concluded coding c.args.awaits.ending c.args.self.now.state (later coding call c.args.awaits.turn))) (c.accept_reply.ensures.concludes call)
+
+pub returns-in-Ready-Err-clause-steps : goal.returns-in-Ready-Err-clause-steps
+returns-in-Ready-Err-clause-steps g c = λ call.
+    let coding = coding_of g.E.Encoding.decoded g.E.Encoding.encoded c.args.encoding.now in
+    let next = concluded coding c.args.awaits.ending c.args.self.now.state (later coding call c.args.awaits.turn) in
+    let heard = rw (c.in-Ready-Err.is, c.in-Ready-Err.field-0-is) at c.hear_codes.ensures.hears in
+    rw c.abort_dialogue.ensures
+    (fault_ends _ _ next c.args.awaits.begun c.in-Ready-Err.fault _ _ refl (heard next))
+
+pub returns-in-Pending-clause-steps : goal.returns-in-Pending-clause-steps
+returns-in-Pending-clause-steps g c = λ call.
+    let coding = coding_of g.E.Encoding.decoded g.E.Encoding.encoded c.args.encoding.now in
+    let heard = rw c.in-Pending.is at c.hear_codes.ensures.hears in
+    let waits = heard (concluded coding c.args.awaits.ending c.args.self.now.state (later coding call c.args.awaits.turn)) in
+    (waits.0, waits.1)
+
+pub returns-in-Pending-clause-rests : goal.returns-in-Pending-clause-rests
+returns-in-Pending-clause-rests g c = λ waits.
+    let heard = rw c.in-Pending.is at c.hear_codes.ensures.hears in
+    (heard (concluded (coding_of g.E.Encoding.decoded g.E.Encoding.encoded c.args.encoding.now) c.args.awaits.ending c.args.self.now.state (λ s. Leaf Unit s))).2

@@ -1,0 +1,26 @@
+use Rattle.std.proofs.Common.{◌∙◌, inl}
+use Rattle.ftp_session.proofs.Transitions.{nothing_so_far, next_step, last_step, waits_step, rests_from, end_on}
+use Rattle.ftp_session.proofs.session.machine.Machine.poll_call.Goals as goal
+
+pub loop-answer-init : goal.loop-answer-init
+loop-answer-init g c = record { so_far = nothing_so_far _ _ _ _ _ c.requires.stage; end = λ h may e. inl e }
+
+pub loop-answer-preserved : goal.loop-answer-preserved
+loop-answer-preserved g c =
+    let so_far = c.loop-answer.invariant.so_far in
+    let made = rw c.in-Next.is at c.step.ensures.steps in
+    let quiet = rw c.in-Next.is at c.step.ensures.quiet in
+    record {
+      so_far = next_step _ _ _ _ _ _ _ so_far c.step.new.stage c.step.new.self made quiet c.step.ensures.stage c.step.ensures.asked;
+      end = λ h may. end_on c.args.self.now.channel.ended c.loop-answer.self.channel.ended c.step.new.self.channel.ended c.args.self.now.channel.told c.loop-answer.self.channel.told (so_far.moved.moves.leads.goes.given h) (c.loop-answer.invariant.end h may) (c.step.ensures.end h may);
+    }
+
+pub returns-in-Pending-clause-polls : goal.returns-in-Pending-clause-polls
+returns-in-Pending-clause-polls g c =
+    let made = rw c.in-Pending.is at c.step.ensures.steps in
+    waits_step _ _ _ _ _ _ _ c.loop-answer.invariant.so_far c.step.new.stage c.step.new.self made
+
+pub returns-in-Done-clause-polls : goal.returns-in-Done-clause-polls
+returns-in-Done-clause-polls g c =
+    let made = rw c.in-Done.is at c.step.ensures.steps in
+    last_step _ _ _ _ _ _ _ c.loop-answer.invariant.so_far c.step.new.stage c.step.new.self c.in-Done.answer made

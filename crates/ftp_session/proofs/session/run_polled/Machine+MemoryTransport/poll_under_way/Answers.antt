@@ -1,0 +1,18 @@
+use Rattle.std.proofs.Common.{ap, inl, refl, option_map}
+use Rattle.ftp_session.specs.Coding.{Coding, coding_of}
+use Rattle.ftp_session.proofs.Events.{at_poll, polled_ready, polled_pending}
+use Rattle.ftp_session.proofs.session.run_polled.Machine+MemoryTransport.poll_under_way.Goals as goal
+
+pub returns-in-Ready-clause-happens : goal.returns-in-Ready-clause-happens
+returns-in-Ready-clause-happens g c = λ old s answers follows may.
+    let coding : Coding = coding_of g.E.Encoding.decoded g.E.Encoding.encoded c.args.encoding.now in
+    let polled = rw c.in-Ready.is at c.poll_here.ensures.polled in
+    let call = ap (λ o. option_map (λ c'. c'.now) o) c.in-Some.is in
+    at_poll coding _ _ _ _ c.in-Some.call.now c.args.stage.now (option_map (λ c'. c'.now) c.args.under_way.now) _ call refl (polled_ready coding old s c.args.self.now c.poll_here.new.self (option_map (λ c'. c'.now) c.args.under_way.now) c.in-Some.call.now c.args.stage.now c.poll_here.new.stage answers c.in-Ready.answer call follows may polled)
+
+pub returns-in-Pending-clause-happens : goal.returns-in-Pending-clause-happens
+returns-in-Pending-clause-happens g c = λ old s answers follows may.
+    let coding : Coding = coding_of g.E.Encoding.decoded g.E.Encoding.encoded c.args.encoding.now in
+    let polled = rw c.in-Pending.is at c.poll_here.ensures.polled in
+    let call = ap (λ o. option_map (λ c'. c'.now) o) c.in-Some.is in
+    inl (polled_pending coding old s c.args.self.now c.poll_here.new.self (option_map (λ c'. c'.now) c.args.under_way.now) c.in-Some.call.now c.args.stage.now c.poll_here.new.stage answers call follows may polled)

@@ -1,0 +1,74 @@
+-- What each call says and hears, one row an exchange: RFC 959, sections 4.1, 5.4 and 6; RFC 2389, section 4
+-- (OPTS); RFC 2428, section 2 (EPRT). All that a call does follows from its row.
+use Rattle.std.specs.Prelude.{Bool, true, false, ◌&&◌, List, [], ◌∷◌, Some, None, is_none}
+use Rattle.ftp_base.specs.declared.status.Status.{Status}
+use Rattle.ftp_base.specs.declared.status.Status.TheVariants.{CommandOk, Ready, Closing, LoggedIn, RequestedFileActionOk, PathCreated, NeedPassword, RequestFilePending}
+use Rattle.ftp_base.specs.declared.types.file_type.FileType.{FileType}
+use Rattle.ftp_base.specs.declared.types.file_type.FileType.TheVariants.{Ascii, Ebcdic, Image, Binary, Local}
+use Rattle.ftp_base.specs.declared.command.Command.{Command}
+use Rattle.ftp_base.specs.declared.command.Command.TheVariants as command
+use Rattle.ftp_session.specs.declared.session.call.Call.{Call}
+use Rattle.ftp_session.specs.declared.session.call.Call.TheVariants.{Greet, Login, Cwd, Cdup, Noop, Eprt, Opts, Site, TransferType, Mkdir, Rmdir, Rm, Rename, Quit, CustomCommand, ReadResponse, ReadResponseIn}
+use Rattle.ftp_session.specs.declared.session.exchange.Turn.{Turn}
+use Rattle.ftp_session.specs.declared.session.exchange.Turn.TheVariants.{First, Second}
+use Rattle.ftp_session.specs.declared.session.exchange.Codes.{Codes}
+use Rattle.ftp_session.specs.declared.session.exchange.Codes.TheVariants.{One, Either, Given}
+use Rattle.ftp_session.specs.declared.session.exchange.Ending.{Ending}
+use Rattle.ftp_session.specs.declared.session.exchange.Ending.TheVariants.{Done, GivesReply, Greets, SetsText, GoesOn}
+use Rattle.ftp_session.specs.declared.session.exchange.Exchange.{Exchange}
+
+-- the statuses that a reply may have
+abbrev pub statuses : Codes → List Status
+statuses (One status) = status ∷ []
+statuses (Either one other) = one ∷ other ∷ []
+statuses (Given codes) = codes
+
+-- a command and its reply
+abbrev pub says : Command → Codes → Ending → Exchange
+says command codes ending = record { says = Some command; hears = codes; ending = ending }
+
+-- a reply alone
+abbrev pub hears : Codes → Ending → Exchange
+hears codes ending = record { says = None; hears = codes; ending = ending }
+
+-- text is in ASCII: RFC 959, section 3.1.1.1
+abbrev pub is_ascii : FileType → Bool
+is_ascii (Ascii format) = true
+is_ascii (Ebcdic format) = false
+is_ascii Image = false
+is_ascii Binary = false
+is_ascii (Local bits) = false
+
+-- the exchange of a call at this turn
+abbrev pub exchange_of : Call → Turn → Exchange
+exchange_of Greet turn = hears (One Ready) Greets
+exchange_of (Login user password) First = says (command.User user) (Either LoggedIn NeedPassword) (GoesOn NeedPassword)
+exchange_of (Login user password) Second = says (command.Pass password) (One LoggedIn) Done
+exchange_of (Cwd directory) turn = says (command.Cwd directory) (Either CommandOk RequestedFileActionOk) Done
+exchange_of Cdup turn = says command.Cdup (Either CommandOk RequestedFileActionOk) Done
+exchange_of Noop turn = says command.Noop (One CommandOk) Done
+exchange_of (Eprt address) turn = says (command.Eprt address) (One CommandOk) Done
+exchange_of (Opts name value) turn = says (command.Opts name value) (One CommandOk) Done
+exchange_of (Site words) turn = says (command.Site words) (One CommandOk) GivesReply
+exchange_of (TransferType kind) turn = says (command.TransferType kind) (One CommandOk) (SetsText (is_ascii kind))
+exchange_of (Mkdir path) turn = says (command.Mkd path) (Either PathCreated CommandOk) Done
+exchange_of (Rmdir path) turn = says (command.Rmd path) (Either RequestedFileActionOk CommandOk) Done
+exchange_of (Rm path) turn = says (command.Dele path) (Either RequestedFileActionOk CommandOk) Done
+exchange_of (Rename one other) First = says (command.RenameFrom one) (One RequestFilePending) (GoesOn RequestFilePending)
+exchange_of (Rename one other) Second = says (command.RenameTo other) (Either RequestedFileActionOk CommandOk) Done
+exchange_of Quit turn = says command.Quit (One Closing) Done
+exchange_of (CustomCommand line codes) turn = says (command.Custom line) (Given codes) GivesReply
+exchange_of (ReadResponse status) turn = hears (One status) GivesReply
+exchange_of (ReadResponseIn codes) turn = hears (Given codes) GivesReply
+
+-- a reply is the answer
+abbrev pub gives_reply : Ending → Bool
+gives_reply Done = false
+gives_reply GivesReply = true
+gives_reply Greets = false
+gives_reply (SetsText text) = false
+gives_reply (GoesOn status) = false
+
+-- a plain read: a reply is its answer, and nothing is said
+abbrev pub is_read : Call → Bool
+is_read call = gives_reply (exchange_of call First).ending && is_none (exchange_of call First).says

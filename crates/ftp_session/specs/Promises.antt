@@ -1,0 +1,256 @@
+-- What a session promises of a call and of a list of calls: what their definition says of all that the server sends,
+-- until the connection fails or memory runs out.
+use Rattle.std.specs.Prelude.{◌≡◌, ◌⊎◌, ◌≤◌, ◌==◌, ℕ, Bool, true, false, Option, Some, None, List, [], ◌∷◌, ◌++◌, length, Result, Ok, Err}
+use Rattle.std.specs.declared.io.ErrorKind.{ErrorKind}
+use Rattle.futures.specs.declared.task.Poll.{Poll}
+use Rattle.futures.specs.declared.task.Poll.TheVariants.{Ready, Pending}
+use Rattle.ftp_base.specs.declared.status.Status.{Status}
+use Rattle.ftp_base.specs.declared.status.Status.TheVariants.{System}
+use Rattle.ftp_base.specs.Status.{code_of, status_of}
+use Rattle.ftp_base.specs.declared.command.Command.{Command}
+use Rattle.ftp_base.specs.Command.{text_of}
+use Rattle.ftp_base.specs.Wire.{wire}
+use Rattle.ftp_control.specs.declared.control.outcome.Outcome.TheVariants.{Whole}
+use Rattle.ftp_control.specs.Grammar.{outcome, left_by}
+use Rattle.ftp_control.specs.Answer.{is_among}
+use Rattle.ftp_base.specs.declared.types.reply.Response.{Response}
+use Rattle.ftp_base.specs.declared.types.fault.FtpError.{FtpError}
+use Rattle.ftp_base.specs.declared.types.fault.FtpError.TheVariants.{ConnectionError, OutOfMemory, SessionFailed}
+use Rattle.ftp_base.specs.declared.types.fault.ConnectionError.TheVariants.{Io}
+use Rattle.ftp_control.specs.declared.transport.room.Room.{Room}
+use Rattle.ftp_control.specs.declared.transport.request.RequestOutcome.{RequestOutcome}
+use Rattle.ftp_control.specs.declared.transport.request.Asked.{Asked}
+use Rattle.ftp_control.specs.Asking.{requests_of, outcomes_of}
+use Rattle.ftp_control.specs.Told.{HasRoomFor, HasFailed}
+use Rattle.ftp_control.specs.Reading.{GoesOn as GoesBeyond}
+use Rattle.ftp_control.specs.Channel.{untaken}
+use Rattle.ftp_control.specs.Saying.{said}
+use Rattle.ftp_session.specs.declared.session.call.Answer.{Answer}
+use Rattle.ftp_session.specs.declared.session.call.Answer.TheVariants.{Fault}
+use Rattle.ftp_session.specs.declared.session.call.Answer.TheVariants as answers
+use Rattle.ftp_session.specs.declared.session.exchange.Turn.TheVariants.{First, Second}
+use Rattle.ftp_session.specs.declared.session.exchange.Ending.{Ending}
+use Rattle.ftp_session.specs.declared.session.exchange.Ending.TheVariants.{Done, GivesReply, Greets, SetsText, GoesOn}
+use Rattle.ftp_session.specs.declared.session.exchange.Exchange.{Exchange}
+use Rattle.ftp_session.specs.declared.session.call.Call.{Call}
+use Rattle.ftp_session.specs.declared.model.Standing.{Standing}
+use Rattle.ftp_session.specs.declared.model.Played.TheVariants as played
+use Rattle.ftp_session.specs.declared.model.Ran.{Ran}
+use Rattle.ftp_session.specs.declared.model.Ran.TheVariants.{Finished}
+use Rattle.ftp_session.specs.State.{SessionValue}
+use Rattle.ftp_session.specs.Coding.{Coding}
+use Rattle.ftp_session.specs.Exchanges.{exchange_of, statuses}
+use Rattle.ftp_session.specs.Dialogue.{Tree, Hear, dialogue}
+use Rattle.ftp_session.specs.Play.{play}
+use Rattle.ftp_session.specs.Run.{run, before, OneView, Resumes}
+
+-- What a call that succeeded did on the wire
+
+abbrev pub IsSuccess : Answer → Type 0
+IsSuccess answers.Unit = Unit {0}
+IsSuccess (answers.Reply reply) = Unit {0}
+IsSuccess (Fault fault) = ⊥
+
+-- a command's line was said after what was unsent, or nothing was
+abbrev pub Says : Coding → Option Command → Standing → Standing → Type 0
+Says coding None s t = (t.said ≡ s.said) × (t.unsent ≡ s.unsent)
+Says coding (Some command) s t = (line : List ℕ) × (wire coding.encode (text_of command) ≡ Ok line) × (t.said ≡ s.said ++ s.unsent ++ line) × (t.unsent ≡ [])
+
+-- one exchange: its line was said, if it has one, and then one reply of an accepted status was consumed
+pub record Exchanged (coding : Coding) (exchange : Exchange) (reply : Response) (s t : Standing) : Type 0 where
+  pub says : Says coding exchange.says s t
+  pub code : ℕ
+  pub whole : outcome s.rule (is_among (statuses exchange.hears) System) s.bytes s.ended ≡ Whole reply.body code
+  pub status : reply.status ≡ status_of code
+  pub accepted : is_among (statuses exchange.hears) reply.status ≡ true
+  pub consumed : t.bytes ≡ left_by (Whole reply.body code) s.bytes
+
+-- a reply goes on to the second exchange
+abbrev pub goes_on_with : Ending → Response → Bool
+goes_on_with Done reply = false
+goes_on_with GivesReply reply = false
+goes_on_with Greets reply = false
+goes_on_with (SetsText text) reply = false
+goes_on_with (GoesOn status) reply = code_of reply.status == code_of status
+
+-- the first exchange of a call, and the second where the first reply goes on
+abbrev pub Follows : Bool → Coding → Exchange → Standing → Standing → Type 0
+Follows true coding exchange s t = (reply : Response) × Exchanged coding exchange reply s t
+Follows false coding exchange s t = (t.said ≡ s.said) × (t.unsent ≡ s.unsent) × (t.bytes ≡ s.bytes)
+
+pub record Succeeds (coding : Coding) (call : Call) (s t : Standing) : Type 0 where
+  pub reply : Response
+  pub between : Standing
+  pub first : Exchanged coding (exchange_of call First) reply s between
+  pub second : Follows (goes_on_with (exchange_of call First).ending reply) coding (exchange_of call Second) between t
+
+-- where a run stands in a session, where these bytes are still to come, and these outcomes
+abbrev pub standing : SessionValue → List ℕ → Bool → List RequestOutcome → Standing
+standing v more ended outcomes = record {
+  state = v.state;
+  failed = v.channel.failed;
+  rule = v.channel.rule;
+  said = v.channel.told.sent;
+  unsent = v.channel.unsent;
+  asked = requests_of v.asked;
+  bytes = untaken v.channel ++ more;
+  ended = ended;
+  outcomes = outcomes;
+}
+
+-- whatever still comes, and whatever room there is, this holds of where a run stood in a session and where it
+-- stands now, where these bytes came between and these requests were answered
+abbrev pub However : SessionValue → List ℕ → List Asked → SessionValue → (Room → Standing → Standing → Type 0) → Type 0
+However old came answered new Holds =
+    (room : Room) (more : List ℕ) (ended : Bool) (outcomes : List RequestOutcome)
+    → HasRoomFor room (length new.channel.told.sent) → GoesBeyond new.channel.ended more ended
+    → Holds room (standing old (came ++ more) ended (outcomes_of answered ++ outcomes)) (standing new more ended outcomes)
+
+-- these bytes came, these requests were answered, other bytes may have gone out, and no call failed
+pub record Goes (tells : Type 0) (came : List ℕ) (answered : List Asked) (old new : SessionValue) : Type 0 where
+  pub over : GoesBeyond old.channel.ended came new.channel.ended
+  pub received : tells → new.channel.told.received ≡ old.channel.told.received ++ came
+  pub given : tells → new.channel.told.given ≡ old.channel.told.given
+  pub failures : tells → new.channel.told.failures ≡ old.channel.told.failures
+  pub sent : tells → length old.channel.told.sent ≤ length new.channel.told.sent
+  pub asked : tells → new.asked ≡ old.asked ++ answered
+  pub rule : new.channel.rule ≡ old.channel.rule
+
+-- one tree is left of another
+pub record Leads (tells : Type 0) (tree tree' : Tree) (old new : SessionValue) : Type 0 where
+  pub came : List ℕ
+  pub answered : List Asked
+  pub goes : Goes tells came answered old new
+  pub plays : tells → Resumes old.channel.rule old.channel.kept tree → However old came answered new (λ room s t. play room tree s ≡ play room tree' t)
+
+-- a tree comes to its answer
+pub record Completes (tells : Type 0) (tree : Tree) (answer : Answer) (old new : SessionValue) : Type 0 where
+  pub came : List ℕ
+  pub answered : List Asked
+  pub goes : Goes tells came answered old new
+  pub plays : tells → Resumes old.channel.rule old.channel.kept tree → However old came answered new (λ room s t. play room tree s ≡ played.Done answer t)
+
+-- the connection failed, which was counted, and nothing else happened
+pub record Fails (tells : Type 0) (fault : FtpError) (at new : SessionValue) : Type 0 where
+  pub kind : ErrorKind
+  pub is : fault ≡ ConnectionError (Io kind)
+  pub same : new ≡ record at { channel = record at.channel { told = new.channel.told; failed = true } }
+  pub failed : tells → HasFailed at.channel.told new.channel.told
+
+-- nothing was said and no reply was taken
+pub record Untouched (tells : Type 0) (came : List ℕ) (old new : SessionValue) : Type 0 where
+  pub said : tells → said new.channel ≡ said old.channel
+  pub untaken : untaken new.channel ≡ untaken old.channel ++ came
+
+abbrev pub failed_from : SessionValue → SessionValue
+failed_from v = record v { channel = record v.channel { failed = true } }
+
+-- memory ran out: before anything of the dialogue was said or taken nothing happened; afterwards the session has
+-- failed
+pub record LacksMemory (tells : Type 0) (begun : Bool) (came : List ℕ) (fault : FtpError) (old at new : SessionValue) : Type 0 where
+  pub is : fault ≡ OutOfMemory
+  pub leaves : ((new ≡ at) × (begun ≡ false) × Untouched tells came old at) ⊎ (new ≡ failed_from at)
+
+-- a dialogue is aborted at some place of its tree; it may have begun before
+pub record Aborts (tells : Type 0) (begun : Bool) (tree : Tree) (answer : Answer) (old new : SessionValue) : Type 0 where
+  pub place : Tree
+  pub at : SessionValue
+  pub leads : Leads tells tree place old at
+  pub state : at.state ≡ old.state
+  pub going : at.channel.failed ≡ false
+  pub fault : FtpError
+  pub is : answer ≡ Fault fault
+  pub cause : Fails tells fault at new ⊎ LacksMemory tells begun leads.came fault old at new
+
+-- a call, whole: it fails with `SessionFailed` where the session has failed, else its dialogue comes to its answer
+-- or is aborted
+pub record IsRefused (old new : SessionValue) (answer : Answer) : Type 0 where
+  pub failed : old.channel.failed ≡ true
+  pub is : answer ≡ Fault SessionFailed
+  pub unchanged : new ≡ old
+
+pub record IsPlayed (tells : Type 0) (coding : Coding) (call : Call) (old new : SessionValue) (answer : Answer) : Type 0 where
+  pub going : old.channel.failed ≡ false
+  pub plays : Completes tells (dialogue coding call old.state) answer old new ⊎ Aborts tells false (dialogue coding call old.state) answer old new
+
+--
+-- what a call that succeeded did on the wire comes first: these lines were said, these replies were consumed
+pub record Wired (tells : Type 0) (coding : Coding) (call : Call) (old new : SessionValue) : Type 0 where
+  pub came : List ℕ
+  pub answered : List Asked
+  pub goes : Goes tells came answered old new
+  pub succeeds : tells → Resumes old.channel.rule old.channel.kept (dialogue coding call old.state) → Succeeds coding call (standing old came new.channel.ended (outcomes_of answered)) (standing new [] new.channel.ended [])
+
+pub record Plays (tells : Type 0) (coding : Coding) (call : Call) (old new : SessionValue) (answer : Answer) : Type 0 where
+  pub wired : IsSuccess answer → Wired tells coding call old new
+  pub made : IsRefused old new answer ⊎ IsPlayed tells coding call old new answer
+
+-- a read that waits leaves a run where it stood: what came is untaken, and nothing else happened
+pub record Rests (tells : Type 0) (old new : SessionValue) : Type 0 where
+  pub came : List ℕ
+  pub goes : Goes tells came [] old new
+  pub failed : new.channel.failed ≡ old.channel.failed
+  pub stays : tells → (more : List ℕ) (ended : Bool) (outcomes : List RequestOutcome) → standing old (came ++ more) ended outcomes ≡ standing new more ended outcomes
+
+-- a read of one reply: it is heard, or a fault in its place; or the read is aborted, or waits
+abbrev pub Reads : Type 0 → List Status → (Result Response FtpError → Tree) → SessionValue → SessionValue → Poll (Result Response FtpError) → Type 0
+Reads tells codes next old new (Ready (Ok reply)) = Leads tells (Hear codes next) (next (Ok reply)) old new
+Reads tells codes next old new (Ready (Err fault)) =
+    Leads tells (Hear codes next) (next (Err fault)) old new ⊎ Aborts tells false (Hear codes next) (Fault fault) old new
+Reads tells codes next old new Pending = Leads tells (Hear codes next) (Hear codes next) old new × Rests tells old new
+
+-- one view of System: what is kept is no whole reply under the first list that these calls hear under
+abbrev pub Agrees : Coding → SessionValue → List Call → Type 0
+Agrees coding v calls = v.channel.failed ≡ false → OneView v.channel.rule v.channel.kept coding calls
+
+-- answers before those of later calls
+abbrev pub before_all : List Answer → Ran → Ran
+before_all [] ran = ran
+before_all (answer ∷ answers) ran = before answer (before_all answers ran)
+
+-- a run that got so far: it comes to these answers, and to what is left of it from here
+pub record RanTo (tells : Type 0) (coding : Coding) (calls to_make : List Call) (old new : SessionValue) (answers : List Answer) : Type 0 where
+  pub came : List ℕ
+  pub answered : List Asked
+  pub goes : Goes tells came answered old new
+  pub runs : tells → Agrees coding old calls → However old came answered new (λ room s t. run room coding calls s ≡ before_all answers (run room coding to_make t))
+
+-- a run that came to its end: these are the answers, and here it stands, whatever else the server sends
+pub record RunsTo (tells : Type 0) (coding : Coding) (calls : List Call) (old new : SessionValue) (answers : List Answer) : Type 0 where
+  pub came : List ℕ
+  pub answered : List Asked
+  pub goes : Goes tells came answered old new
+  pub runs : tells → Agrees coding old calls → However old came answered new (λ room s t. run room coding calls s ≡ Finished answers t)
+
+-- each is refused, since the session has failed
+abbrev pub AllRefused : List Answer → Type 0
+AllRefused [] = Unit {0}
+AllRefused (answer ∷ answers) = (answer ≡ Fault SessionFailed) × AllRefused answers
+
+-- calls made one after another: each is its dialogue, or is refused, or is aborted
+abbrev pub Makes : Type 0 → Coding → List Call → SessionValue → SessionValue → List Answer → Type 0
+Makes tells coding [] old new answers = (new ≡ old) × (answers ≡ [])
+Makes tells coding (call ∷ calls) old new answers =
+    (middle : SessionValue) × (answer : Answer) × (later : List Answer) × (answers ≡ answer ∷ later) × Plays tells coding call old middle answer × Makes tells coding calls middle new later
+
+-- a run in which a call was aborted, where these are left to make: the answers before it are the definition's, and
+-- each later call that was made is its dialogue again; where the session has failed, each is refused and changes
+-- nothing
+pub record RunAborts (tells : Type 0) (coding : Coding) (calls to_make : List Call) (old new : SessionValue) (answers : List Answer) : Type 0 where
+  pub first : List Answer
+  pub call : Call
+  pub made : List Call
+  pub middle : SessionValue
+  pub ran : RanTo tells coding calls (call ∷ made ++ to_make) old middle first
+  pub going : middle.channel.failed ≡ false
+  pub fault : FtpError
+  pub after : SessionValue
+  pub aborts : Aborts tells false (dialogue coding call middle.state) (Fault fault) middle after
+  pub later : List Answer
+  pub answers_are : answers ≡ first ++ Fault fault ∷ later
+  pub makes : Makes tells coding made after new later
+  pub failed : after.channel.failed ≡ true → (new ≡ after) × AllRefused later
+
+-- the run of a list of calls
+abbrev pub Runs : Type 0 → Coding → List Call → SessionValue → SessionValue → List Answer → Type 0
+Runs tells coding calls old new answers = RunsTo tells coding calls old new answers ⊎ RunAborts tells coding calls [] old new answers

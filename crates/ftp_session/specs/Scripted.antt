@@ -1,0 +1,103 @@
+-- What a session promises of a list of events: what their script says, until the connection fails or memory runs out.
+use Rattle.std.specs.Prelude.{◌≡◌, ◌⊎◌, ℕ, zero, suc, Bool, true, false, Some, List, [], ◌∷◌, ◌++◌, length}
+use Rattle.ftp_base.specs.declared.types.fault.FtpError.{FtpError}
+use Rattle.ftp_control.specs.declared.transport.room.Room.{Room}
+use Rattle.ftp_control.specs.declared.control.outcome.Outcome.TheVariants.{Waits}
+use Rattle.ftp_control.specs.Grammar.{outcome}
+use Rattle.ftp_control.specs.Told.{HasRoomFor}
+use Rattle.ftp_control.specs.Reading.{GoesOn}
+use Rattle.ftp_control.specs.Channel.{untaken}
+use Rattle.ftp_session.specs.declared.session.call.Answer.{Answer}
+use Rattle.ftp_session.specs.declared.session.call.Answer.TheVariants.{Fault}
+use Rattle.ftp_session.specs.declared.session.call.Call.{Call}
+use Rattle.ftp_session.specs.declared.session.call.Event.{Event}
+use Rattle.ftp_session.specs.declared.session.call.Event.TheVariants.{Feed, Poll}
+use Rattle.ftp_session.specs.declared.model.Script.{Script}
+use Rattle.ftp_session.specs.State.{SessionValue}
+use Rattle.ftp_session.specs.Coding.{Coding}
+use Rattle.ftp_session.specs.Dialogue.{Tree}
+use Rattle.ftp_session.specs.Play.{play}
+use Rattle.ftp_session.specs.Run.{run, and_then}
+use Rattle.ftp_session.specs.Promises.{standing, before_all, Aborts, AllRefused}
+use Rattle.ftp_session.specs.Script.{script, script_of, start_of, unread, is_over, Lawful, MayCancel}
+
+-- the session stands where the script does, with these answers
+pub record StandsAt (s : Script) (new : SessionValue) (answers : List Answer) : Type 0 where
+  pub answers_are : answers ≡ s.answers
+  pub sent : new.channel.told.sent ≡ s.sent
+  pub untaken : untaken new.channel ++ unread new.channel.told ≡ s.untaken
+  pub seen : length new.channel.kept ≡ s.seen
+  pub waits : outcome new.channel.rule s.system new.channel.kept false ≡ Waits
+  pub ended : is_over new.channel.told ≡ s.ended
+  pub room : new.channel.told.given.room ≡ s.room
+  pub unsent : MayCancel s.call s.polled → new.channel.unsent ≡ s.unsent
+  pub state : new.state ≡ s.state
+  pub failed : new.channel.failed ≡ s.failed
+
+-- the events come to their script; nothing fails, and which lines open and end a reply stays
+pub record ScriptHolds (coding : Coding) (old : SessionValue) (system : Bool) (events : List Event) (new : SessionValue) (answers : List Answer) : Type 0 where
+  pub at : StandsAt (script coding (start_of old) (script_of old system) events) new answers
+  pub rule : new.channel.rule ≡ old.channel.rule
+  pub failures : new.channel.told.failures ≡ old.channel.told.failures
+
+-- the calls that are done come to these answers, and the call under way to what is left of it, from here
+abbrev pub Reaches : Coding → SessionValue → List Call → List ℕ → SessionValue → List Answer → Call → Tree → Type 0
+Reaches coding old items came v answers call tree =
+    (later : List Call) (room : Room) (more : List ℕ) (ended : Bool)
+    → HasRoomFor room (length v.channel.told.sent) → GoesOn v.channel.ended more ended
+    → run room coding (items ++ call ∷ later) (standing old (came ++ more) ended []) ≡ before_all answers (and_then (play room tree (standing v more ended [])) (λ t. run room coding later t))
+
+-- a call was under way, and this is left of its dialogue
+pub record LeftOf (coding : Coding) (old : SessionValue) (s : Script) (v : SessionValue) (call : Call) (begun : Bool) (tree : Tree) : Type 0 where
+  pub call_is : s.call ≡ Some call
+  pub going : v.channel.failed ≡ false
+  pub came : List ℕ
+  pub bytes : s.bytes ≡ untaken old.channel ++ came ++ unread v.channel.told
+  pub reaches : Reaches coding old s.items came v s.answers call tree
+  pub fresh : s.polled ≡ false → begun ≡ false
+
+-- a call was aborted at a Poll, in a session that the events before had come to; the later events find no call under
+-- way, and come to `Later`
+pub record ScriptAborts (Later : SessionValue → List Event → List Answer → Type 0) (coding : Coding) (old : SessionValue) (system : Bool) (events : List Event) (new : SessionValue) (answers : List Answer) : Type 0 where
+  pub before : List Event
+  pub later : List Event
+  pub split : events ≡ before ++ Poll ∷ later
+  pub first : List Answer
+  pub middle : SessionValue
+  pub at : ScriptHolds coding old system before middle first
+  pub call : Call
+  pub begun : Bool
+  pub tree : Tree
+  pub under_way : LeftOf coding old (script coding (start_of old) (script_of old system) before) middle call begun tree
+  pub fault : FtpError
+  pub after : SessionValue
+  pub aborts : Aborts (Unit {0}) begun tree (Fault fault) middle after
+  pub others : List Answer
+  pub answers_are : answers ≡ first ++ Fault fault ∷ others
+  pub goes_on : Later after later others
+  pub failed : after.channel.failed ≡ true → (new.channel.failed ≡ true) × AllRefused others
+
+-- for every lawful list, from any session, where what an earlier read left of a reply says nothing yet under its
+-- list: the events come to their script, or a call is aborted and the later ones are such a list again; that is
+-- said of so many calls that are aborted
+abbrev pub ScriptsHold : ℕ → Coding → SessionValue → List Event → SessionValue → List Answer → Type 0
+ScriptsHold zero coding old events new answers = Unit {0}
+ScriptsHold (suc depth) coding old events new answers =
+    (system : Bool) → outcome old.channel.rule system old.channel.kept false ≡ Waits → Lawful coding (start_of old) (script_of old system) events → ScriptHolds coding old system events new answers ⊎ ScriptAborts (λ after later others. ScriptsHold depth coding after later new others) coding old system events new answers
+
+-- that is said of however many
+abbrev pub IsScripted : Coding → SessionValue → List Event → SessionValue → List Answer → Type 0
+IsScripted coding old events new answers = (depth : ℕ) → ScriptsHold depth coding old events new answers
+
+-- memory ran out: for the answers, and nothing changed; or for the bytes of a Feed, and the events before it have
+-- happened
+pub record StopsAtFeed (coding : Coding) (old : SessionValue) (events : List Event) (new : SessionValue) : Type 0 where
+  pub before : List Event
+  pub bytes : List ℕ
+  pub later : List Event
+  pub split : events ≡ before ++ Feed bytes ∷ later
+  pub answers : List Answer
+  pub scripted : IsScripted coding old before new answers
+
+abbrev pub Stops : Coding → SessionValue → List Event → SessionValue → Type 0
+Stops coding old events new = (new ≡ old) ⊎ StopsAtFeed coding old events new

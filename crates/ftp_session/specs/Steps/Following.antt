@@ -1,0 +1,124 @@
+-- How a session follows its script between two events.
+use Rattle.std.specs.Prelude.{◌≡◌, ◌⊎◌, ℕ, Bool, true, false, Option, Some, None, List, [], ◌∷◌, ◌++◌, length}
+use Rattle.futures.specs.declared.task.Poll.{Poll}
+use Rattle.futures.specs.declared.task.Poll.TheVariants.{Ready, Pending}
+use Rattle.ftp_base.specs.declared.types.fault.FtpError.{FtpError}
+use Rattle.ftp_base.specs.declared.types.fault.FtpError.TheVariants.{SessionFailed}
+use Rattle.ftp_control.specs.declared.transport.room.Room.{Room}
+use Rattle.ftp_control.specs.Told.{HasRoomFor, EndsAsTold}
+use Rattle.ftp_control.specs.Reading.{GoesOn}
+use Rattle.ftp_control.specs.declared.control.outcome.Outcome.TheVariants.{Waits}
+use Rattle.ftp_control.specs.Grammar.{outcome}
+use Rattle.ftp_control.specs.Memory.{IsGiven}
+use Rattle.ftp_control.specs.Channel.{IsSound, untaken}
+use Rattle.ftp_session.specs.declared.session.call.Answer.{Answer}
+use Rattle.ftp_session.specs.declared.session.call.Answer.TheVariants.{Fault}
+use Rattle.ftp_session.specs.declared.session.call.Call.{Call}
+use Rattle.ftp_session.specs.declared.session.call.Event.{Event}
+use Rattle.ftp_session.specs.declared.session.call.Event.TheVariants.{Feed, Poll as Polling}
+use Rattle.ftp_session.specs.declared.session.exchange.Turn.TheVariants.{First}
+use Rattle.ftp_session.specs.declared.session.stage.Stage.{Stage}
+use Rattle.ftp_session.specs.declared.session.stage.Stage.TheVariants.{At}
+use Rattle.ftp_session.specs.State.{SessionValue}
+use Rattle.ftp_session.specs.Coding.{Coding}
+use Rattle.ftp_session.specs.Exchanges.{is_read}
+use Rattle.ftp_session.specs.Run.{run, Resumes}
+use Rattle.ftp_session.specs.Scripted.{Reaches}
+use Rattle.ftp_session.specs.Promises.{standing, before_all, AllRefused, Aborts, Rests}
+use Rattle.ftp_session.specs.Steps.Stages.{remaining, begun_at, StageOf}
+use Rattle.ftp_session.specs.Steps.Moving.{PollSteps}
+use Rattle.ftp_session.specs.declared.model.Script.{Script}
+use Rattle.ftp_session.specs.Script.{unread, is_over, start_of, after_event, IsLawful, MayCancel}
+
+-- the calls that are done come to these answers, and to whatever comes after them from here
+abbrev pub Stands : Coding → SessionValue → List Call → List ℕ → SessionValue → List Answer → Type 0
+Stands coding old items came v answers =
+    (later : List Call) (room : Room) (more : List ℕ) (ended : Bool)
+    → HasRoomFor room (length v.channel.told.sent) → GoesOn v.channel.ended more ended
+    → run room coding (items ++ later) (standing old (came ++ more) ended []) ≡ before_all answers (run room coding later (standing v more ended []))
+
+-- a call that was polled; of a plain read no trace is left where it is dropped
+pub record UnderWay (coding : Coding) (old : SessionValue) (s : Script) (came : List ℕ) (v : SessionValue) (call : Call) (stage : Stage) : Type 0 where
+  pub polled : s.polled ≡ true
+  pub going : v.channel.failed ≡ false
+  pub reaches : Reaches coding old s.items came v s.answers call (remaining coding call v.state stage)
+  pub resumes : Resumes v.channel.rule v.channel.kept (remaining coding call v.state stage)
+  pub read : is_read call ≡ true → Stands coding old s.items came v s.answers
+
+-- a call that wasn't polled
+pub record Started (coding : Coding) (old : SessionValue) (s : Script) (came : List ℕ) (v : SessionValue) (stage : Stage) : Type 0 where
+  pub at : stage ≡ At First
+  pub unpolled : s.polled ≡ false
+  pub stands : Stands coding old s.items came v s.answers
+
+abbrev pub Place : Coding → SessionValue → Script → List ℕ → SessionValue → Option Call → Stage → Type 0
+Place coding old s came v None stage = Stands coding old s.items came v s.answers
+Place coding old s came v (Some call) stage = Started coding old s came v stage ⊎ UnderWay coding old s came v call stage
+
+-- the session follows the script
+pub record Follows (coding : Coding) (old : SessionValue) (s : Script) (v : SessionValue) (call : Option Call) (stage : Stage) (answers : List Answer) : Type 0 where
+  pub came : List ℕ
+  pub place : Place coding old s came v call stage
+  pub rule : v.channel.rule ≡ old.channel.rule
+  pub failures : v.channel.told.failures ≡ old.channel.told.failures
+  pub given : IsGiven v.channel.told
+  pub sound : IsSound (Unit {0}) v.channel
+  pub bytes : s.bytes ≡ untaken old.channel ++ came ++ unread v.channel.told
+  pub ended : s.ended ≡ is_over v.channel.told
+  pub room : s.room ≡ v.channel.told.given.room
+  pub sent : s.sent ≡ v.channel.told.sent
+  pub unsent : MayCancel call s.polled → s.unsent ≡ v.channel.unsent
+  pub untaken : s.untaken ≡ untaken v.channel ++ unread v.channel.told
+  pub seen : s.seen ≡ length v.channel.kept
+  pub waits : outcome v.channel.rule s.system v.channel.kept false ≡ Waits
+  pub state : s.state ≡ v.state
+  pub failed : s.failed ≡ v.channel.failed
+  pub call_is : s.call ≡ call
+  pub answers_are : s.answers ≡ answers
+
+-- the stage of the call under way, if any, is one of that call's
+abbrev pub StageIn : Option Call → Stage → Type 0
+StageIn None stage = Unit {0}
+StageIn (Some call) stage = StageOf call stage
+
+abbrev pub given_answer : Option Answer → List Answer
+given_answer None = []
+given_answer (Some answer) = answer ∷ []
+
+-- a call begins where none is under way
+abbrev pub Starts : Call → Option Call → Option Call → Stage → Stage → Type 0
+Starts call None call' stage stage' = (call' ≡ Some call) × (stage' ≡ At First)
+Starts call (Some other) call' stage stage' = (call' ≡ Some other) × (stage' ≡ stage)
+
+-- what a poll over memory does, and what holds then
+pub record PollsHere (coding : Coding) (call : Call) (stage stage' : Stage) (v w : SessionValue) (result : Poll Answer) : Type 0 where
+  pub refused : v.channel.failed ≡ true → (result ≡ Ready (Fault SessionFailed)) × (w ≡ v)
+  pub polls : v.channel.failed ≡ false → PollSteps (Unit {0}) (begun_at stage) (remaining coding call v.state stage) (remaining coding call v.state stage') v w result
+  pub rests : result ≡ Pending → is_read call ≡ true → Rests (Unit {0}) v w
+  pub asked : w.asked ≡ v.asked
+  pub end : EndsAsTold v.channel.ended w.channel.ended v.channel.told
+  pub given : IsGiven w.channel.told
+  pub sound : IsSound (Unit {0}) w.channel
+
+-- a call is aborted at this stage
+pub record AbortsCall (coding : Coding) (call : Call) (stage : Stage) (v w : SessionValue) (result : Option Answer) : Type 0 where
+  pub fault : FtpError
+  pub is : result ≡ Some (Fault fault)
+  pub going : v.channel.failed ≡ false
+  pub aborts : Aborts (Unit {0}) (begun_at stage) (remaining coding call v.state stage) (Fault fault) v w
+  pub given : IsGiven w.channel.told
+  pub sound : IsSound (Unit {0}) w.channel
+
+-- a session that has failed fails no more, and refuses what it answers
+abbrev pub FailedStays : SessionValue → SessionValue → Option Answer → Type 0
+FailedStays v w answer = v.channel.failed ≡ true → (w.channel.failed ≡ true) × (w.channel.told.failures ≡ v.channel.told.failures) × AllRefused (given_answer answer)
+
+-- only a Feed may need memory
+pub record IsFeed (event : Event) : Type 0 where
+  pub bytes : List ℕ
+  pub is : event ≡ Feed bytes
+
+-- an event of a script: the session follows it, or the call under way is aborted
+abbrev pub Happens : Coding → SessionValue → SessionValue → Option Call → Option Call → Stage → Stage → Event → Option Answer → Type 0
+Happens coding v w call call' stage stage' event result =
+    (old : SessionValue) (s : Script) (answers : List Answer) → Follows coding old s v call stage answers → IsLawful (start_of old) s event → Follows coding old (after_event coding (start_of old) s event) w call' stage' (answers ++ given_answer result) ⊎ (((under_way : Call) × (call ≡ Some under_way) × AbortsCall coding under_way stage v w result) × (call' ≡ None) × (event ≡ Polling))

@@ -1,0 +1,116 @@
+-- The stages of a call: what of its dialogue is left at each.
+use Rattle.std.specs.Prelude.{◌≡◌, ◌<◌, ◌-◌, ℕ, Bool, true, false, Option, Some, None, is_none, List, [], ◌∷◌, Result, Ok, Err}
+use Rattle.std.specs.declared.io.ErrorKind.{ErrorKind}
+use Rattle.futures.specs.declared.task.Poll.{Poll}
+use Rattle.futures.specs.declared.task.Poll.TheVariants.{Ready, Pending}
+use Rattle.ftp_base.specs.declared.command.Command.{Command}
+use Rattle.ftp_base.specs.Command.{text_of}
+use Rattle.ftp_base.specs.Wire.{wire}
+use Rattle.ftp_base.specs.declared.types.reply.Response.{Response}
+use Rattle.ftp_base.specs.declared.types.fault.FtpError.{FtpError}
+use Rattle.ftp_base.specs.declared.types.fault.ConnectionError.{ConnectionError as Cause}
+use Rattle.ftp_control.specs.Refusal.{IsRefusalOf}
+use Rattle.ftp_control.specs.Saying.{due}
+use Rattle.ftp_session.specs.declared.session.state.State.{State}
+use Rattle.ftp_session.specs.declared.session.call.Call.{Call}
+use Rattle.ftp_session.specs.declared.session.call.Answer.{Answer}
+use Rattle.ftp_session.specs.declared.session.call.Answer.TheVariants as answer
+use Rattle.ftp_session.specs.declared.session.exchange.Turn.{Turn}
+use Rattle.ftp_session.specs.declared.session.exchange.Turn.TheVariants.{First, Second}
+use Rattle.ftp_session.specs.declared.session.exchange.Exchange.{Exchange}
+use Rattle.ftp_session.specs.declared.session.stage.Awaits.{Awaits}
+use Rattle.ftp_session.specs.declared.session.stage.Stage.{Stage}
+use Rattle.ftp_session.specs.declared.session.stage.Stage.TheVariants.{At, Saying, Hearing}
+use Rattle.ftp_session.specs.declared.session.stage.Step.{Step}
+use Rattle.ftp_session.specs.declared.session.stage.Step.TheVariants as step
+use Rattle.ftp_session.specs.Coding.{Coding, coding_of}
+use Rattle.ftp_session.specs.Exchanges.{exchange_of, statuses, gives_reply, is_read}
+use Rattle.ftp_session.specs.Dialogue.{Tree, Say, awaiting, later, from_turn}
+
+-- an exchange was made before
+abbrev pub is_second : Turn → Bool
+is_second First = false
+is_second Second = true
+
+-- a reply is awaited
+abbrev pub awaited : Coding → Call → State → Awaits → Tree
+awaited coding call state a = awaiting coding (statuses a.hears) a.ending state (later coding call a.turn)
+
+-- what is left of a call's dialogue
+abbrev pub remaining : Coding → Call → State → Stage → Tree
+remaining coding call state (At turn) = from_turn coding call turn state
+remaining coding call state (Saying line a) = Say (Ok (due line)) (awaited coding call state a)
+remaining coding call state (Hearing a) = awaited coding call state a
+
+-- something of the dialogue was said or taken
+abbrev pub begun_at : Stage → Bool
+begun_at (At turn) = is_second turn
+begun_at (Saying line a) = a.begun
+begun_at (Hearing a) = a.begun
+
+-- the nodes that are left
+abbrev pub nodes_from : Turn → ℕ
+nodes_from First = 5
+nodes_from Second = 2
+
+abbrev pub nodes_left : Stage → ℕ
+nodes_left (At turn) = nodes_from turn
+nodes_left (Saying line a) = nodes_from a.turn - 1
+nodes_left (Hearing a) = nodes_from a.turn - 2
+
+-- the stages of a call; a plain read says nothing and has one exchange
+abbrev pub StageOf : Call → Stage → Type 0
+StageOf call (At turn) = is_second turn ≡ true → is_read call ≡ false
+StageOf call (Saying line a) = (a.ending ≡ (exchange_of call a.turn).ending) × (is_read call ≡ false)
+StageOf call (Hearing a) = (a.ending ≡ (exchange_of call a.turn).ending) × (a.begun ≡ true → is_read call ≡ false)
+
+-- the line of a command, where there is one
+abbrev pub line_of : Coding → Option Command → Result (List ℕ) Cause
+line_of coding None = Ok []
+line_of coding (Some command) = wire coding.encode (text_of command)
+
+-- the first node of an exchange, or the refusal of its line
+abbrev pub awaits_of : Turn → Exchange → Awaits
+awaits_of turn exchange = record { turn = turn; begun = is_second turn; hears = exchange.hears; ending = exchange.ending }
+
+abbrev pub NodeOf : Coding → Turn → Exchange → Stage → Type 0
+NodeOf coding turn exchange (At other) = ⊥
+NodeOf coding turn exchange (Saying line a) = (line_of coding exchange.says ≡ Ok (due line)) × (is_none exchange.says ≡ false) × (a ≡ awaits_of turn exchange)
+NodeOf coding turn exchange (Hearing a) = (exchange.says ≡ None) × (a ≡ awaits_of turn exchange)
+
+abbrev pub FirstNode : Coding → Turn → Exchange → Result Stage FtpError → Type 0
+FirstNode coding turn exchange (Ok stage) = NodeOf coding turn exchange stage
+FirstNode coding turn exchange (Err fault) = IsRefusalOf (line_of coding exchange.says) fault
+
+-- an exchange begins: its first node, or the refusal of its line
+pub record Begun (coding : Coding) (call : Call) (turn : Turn) (stage : Stage) : Type 0 where
+  pub same : (state : State) → remaining coding call state stage ≡ from_turn coding call turn state
+  pub fewer : nodes_left stage < nodes_from turn
+  pub stage_of : StageOf call stage
+  pub begun : begun_at stage ≡ is_second turn
+
+abbrev pub Begins : Coding → Call → Turn → Result Stage FtpError → Type 0
+Begins coding call turn (Ok stage) = Begun coding call turn stage
+Begins coding call turn (Err fault) = IsRefusalOf (line_of coding (exchange_of call turn).says) fault
+
+-- the kind of an answer: some exchange of the call gives its reply, or gives none
+abbrev pub MayAnswer : Call → Answer → Type 0
+MayAnswer call answer.Unit = (turn : Turn) × (gives_reply (exchange_of call turn).ending ≡ false)
+MayAnswer call (answer.Reply reply) = (turn : Turn) × (gives_reply (exchange_of call turn).ending ≡ true)
+MayAnswer call (answer.Fault fault) = Unit {0}
+
+abbrev pub StepAnswers : Call → Step → Type 0
+StepAnswers call step.Next = Unit {0}
+StepAnswers call step.Pending = Unit {0}
+StepAnswers call (step.Done answer) = MayAnswer call answer
+
+abbrev pub PollAnswers : Call → Poll Answer → Type 0
+PollAnswers call (Ready answer) = MayAnswer call answer
+PollAnswers call Pending = Unit {0}
+
+-- no exchange of a call gives its reply, or its only one does
+abbrev pub GivesNothing : Call → Type 0
+GivesNothing call = (gives_reply (exchange_of call First).ending ≡ false) × (gives_reply (exchange_of call Second).ending ≡ false)
+
+abbrev pub GivesReply : Call → Type 0
+GivesReply call = (gives_reply (exchange_of call First).ending ≡ true) × (gives_reply (exchange_of call Second).ending ≡ true)

@@ -1,0 +1,92 @@
+//! What the definitions of runs speak of: where a run stands, what a call and a run come to, and what events made of
+//! a session.
+
+use crate::session::{Answer, Call, State};
+use ftp_base::types::{Bytes, Items};
+use ftp_control::control::ReplyRule;
+use ftp_control::transport::{Request, RequestOutcome, Room};
+
+/// Where a run stands.
+#[derive(Clone, Drop)]
+pub struct Standing {
+    /// What the session keeps beside its channel.
+    pub state: State,
+    /// Whether the session has failed.
+    pub failed: bool,
+    /// Which lines open and end a reply.
+    pub rule: ReplyRule,
+    /// All that was said: it goes out as far as there is room.
+    pub said: Bytes,
+    /// The unsent tail of a line that was begun before, which goes out before the next line.
+    pub unsent: Bytes,
+    /// What was asked.
+    pub asked: Items<Request>,
+    /// The bytes that are part of no reply yet.
+    pub bytes: Bytes,
+    /// Whether no others come.
+    pub ended: bool,
+    /// The outcomes of the requests to come.
+    pub outcomes: Items<RequestOutcome>,
+}
+
+/// What a call waits for.
+#[derive(Clone, Copy, Debug, PartialEq, Eq)]
+pub enum Wait {
+    /// Room for the line that was said last.
+    Room,
+    /// More bytes, or their end, for a reply under a list that holds System, or doesn't.
+    Bytes(bool),
+    /// The outcome of a request.
+    Outcome,
+}
+
+/// What a call comes to.
+#[derive(Drop)]
+pub enum Played {
+    /// Its answer, and where the run stands then.
+    Done(Answer, Standing),
+    /// It waits for this, here.
+    Pending(Wait, Standing),
+}
+
+/// What a list of calls comes to.
+#[derive(Drop)]
+pub enum Ran {
+    /// Their answers, and where the run stands then.
+    Finished(Items<Answer>, Standing),
+    /// The answers of those before the one that waits for this, here.
+    Waiting(Items<Answer>, Wait, Standing),
+}
+
+/// What events have made of a session.
+#[derive(Drop)]
+pub struct Script {
+    /// The calls that are done.
+    pub items: Items<Call>,
+    /// Their answers.
+    pub answers: Items<Answer>,
+    /// The call under way.
+    pub call: Option<Call>,
+    /// Whether it was polled.
+    pub polled: bool,
+    /// All bytes that came.
+    pub bytes: Bytes,
+    /// Whether they ended.
+    pub ended: bool,
+    /// How much may be written.
+    pub room: Room,
+    /// The bytes that went out.
+    pub sent: Bytes,
+    /// The unsent tail of a line that was begun before.
+    pub unsent: Bytes,
+    /// The bytes that are part of no reply.
+    pub untaken: Bytes,
+    /// How many of these a Poll has read.
+    pub seen: usize,
+    /// Whether the list that it read them under holds System.
+    pub system: bool,
+    /// What the session keeps beside its channel.
+    pub state: State,
+    /// Whether it has failed.
+    pub failed: bool,
+}

@@ -1,0 +1,152 @@
+//! A session as its user holds it.
+
+ghost use Rattle.std.specs.Prelude.{◌≡◌, IsOk, IfOk, MatchResult, Ok, IfErr, OnOk, OnErr, Some, None, length, option_map};
+ghost use Rattle.ftp_control.specs.Channel.{IsIdle, IsSound, untaken};
+ghost use Rattle.ftp_control.specs.Told.{IsFresh};
+ghost use Rattle.ftp_session.specs.Calls.{Connects, Fails};
+ghost use Rattle.ftp_session.specs.Coding.{chosen};
+ghost use Rattle.ftp_session.specs.Sound.{SoundCounts};
+ghost use Rattle.ftp_session.specs.State.{IsFirst, greeted_again};
+
+use super::chosen::Chosen;
+use super::machine::Machine;
+use super::parameters::{NoStreamBuilder, NoTlsConnector};
+use super::{Call, State};
+use ftp_base::encoding::{Encoding, Utf8Encoding};
+use ftp_base::types::{FtpError, FtpResult};
+use ftp_control::transport::{Conn, Network};
+use std::alloc::Global;
+
+/// A session over the connections of a transport.
+///
+/// Its parameters are the transport, the connector of TLS, the encoding of texts on the control connection and the
+/// builder of passive data connections. Without the last three, as in `Session<TcpTransport>`, it has no TLS, reads
+/// and writes UTF-8, and lets the transport make its data connections.
+#[derive(Drop)]
+pub struct Session<
+    Tr: Network,
+    K: Drop = NoTlsConnector,
+    E: Encoding = Utf8Encoding,
+    B: Drop = NoStreamBuilder,
+> {
+    pub(super) machine: Machine<Tr>,
+    pub(super) encoding: Chosen<E>,
+    connector: Option<K>,
+    builder: Option<B>,
+}
+
+impl<Tr: Network, K: Drop, E: Encoding, B: Drop> Session<Tr, K, E, B> {
+    /// A session on a connection. Nothing is read and nothing is sent.
+    ///
+    /// # Errors
+    /// None today: the result leaves room for a session that makes a buffer.
+    pub fn new(alloc: Global, transport: Tr, conn: Tr::Conn) -> FtpResult<Session<Tr, K, E, B>>
+        ensures succeeds { IsOk result }
+        ensures idle { IfOk result (λ session. IsIdle session.machine.channel) }
+        ensures fresh { IfOk result (λ session.
+            Tr.Conn.tells → IsFresh session.machine.channel.told) }
+        ensures sound { IfOk result (λ session. IsSound Tr.Conn.tells session.machine.channel) }
+        ensures first { IfOk result (λ session. IsFirst session.machine.state) }
+        ensures encoding { IfOk result (λ session. session.encoding.0 ≡ None) }
+    {
+        Ok(Session {
+            machine: Machine::new(alloc, transport, conn),
+            encoding: Chosen(None),
+            connector: None,
+            builder: None,
+        })
+    }
+
+    /// A session on a connection, once the server's greeting (220) was read.
+    ///
+    /// # Errors
+    /// Those of a read of one reply. The connection is closed then.
+    pub fn connect_with_stream(
+        alloc: Global,
+        transport: Tr,
+        conn: Tr::Conn,
+    ) -> FtpResult<Session<Tr, K, E, B>>
+    where
+        Tr::Conn: Conn,
+        ensures encoding { IfOk result (λ session. session.encoding.0 ≡ None) }
+        ensures connects { MatchResult result
+            (λ session. Connects Tr.Conn.tells (chosen E.decoded E.encoded None) session.machine
+            (Ok tt))
+            (λ fault. Fails Tr.Conn.tells (chosen E.decoded E.encoded None) fault) }
+    {
+        let mut session = Session::new(alloc, transport, conn)?;
+        match session.greet(alloc) {
+            Ok(()) => Ok(session),
+            Err(fault) => Err(fault),
+        }
+    }
+
+    /// Sets the encoding of texts on the control connection; the text of the greeting is read again under it.
+    ///
+    /// # Errors
+    /// `OutOfMemory`, and nothing changes.
+    pub fn set_encoding(&mut self, alloc: Global, encoding: E) -> FtpResult<()>
+        ensures set { OnOk result (self.new.encoding.0 ≡ Some encoding) }
+        ensures welcome { OnOk result (self.new.machine ≡
+            greeted_again (E.decoded encoding) self.old.machine) }
+        ensures memory { IfErr result (λ fault. fault ≡ FtpError.OutOfMemory) }
+        ensures unchanged { OnErr result (self.new ≡ self.old) }
+    {
+        if let Some(welcome) = &mut self.machine.state.welcome {
+            welcome.decode_again(alloc, &encoding)?;
+        }
+        self.encoding = Chosen(Some(encoding));
+        Ok(())
+    }
+
+    /// The transport.
+    pub fn transport(&self) -> &Tr
+        ensures { Tr.asked result.now ≡ self.now.machine.asked }
+    {
+        &self.machine.transport
+    }
+
+    /// The control connection.
+    pub fn get_ref(&self) -> &Tr::Conn
+        ensures { Tr.Conn.told result.now ≡ self.now.machine.channel.told }
+    {
+        self.machine.channel.get_ref()
+    }
+
+    /// What the session keeps beside its channel.
+    pub fn state(&self) -> &State
+        ensures value { result.now ≡ self.now.machine.state }
+    {
+        &self.machine.state
+    }
+
+    /// How many received bytes are part of no reply yet.
+    pub fn untaken(&self) -> usize
+        ensures value { result ≡ length (untaken self.now.machine.channel) }
+        ensures sound { IsSound Tr.Conn.tells self.now.machine.channel }
+        ensures counts { SoundCounts self.now.machine.state.counts }
+    {
+        self.machine.holds();
+        self.machine.channel.untaken()
+    }
+
+    /// Whether the session has failed: a read or a write of the control connection did, the input ended or went
+    /// beyond a reply's limit where a reply was due, or memory ran out inside a dialogue. Each later command fails
+    /// with `SessionFailed`.
+    pub fn failed(&self) -> bool
+        ensures { result ≡ self.now.machine.channel.failed }
+    {
+        self.machine.channel.failed()
+    }
+
+    /// The text that the server greeted with, once the greeting was taken.
+    pub fn get_welcome_msg(&self) -> Option<&str>
+        ensures { option_map (λ text. text.now) result ≡
+            option_map (λ welcome. welcome.text) self.now.machine.state.welcome }
+    {
+        match &self.machine.state.welcome {
+            Some(welcome) => Some(welcome.text()),
+            None => None,
+        }
+    }
+}

@@ -1,0 +1,446 @@
+//! The calls of a session (RFC 959, section 4.1). Each is its dialogue, made whole.
+
+ghost use Rattle.std.specs.Prelude.{◌≡◌, Err, IfOk, Result, true, false, [], ◌∷◌, option_map};
+ghost use Rattle.futures.specs.declared.task.Poll.TheVariants as poll;
+ghost use Rattle.ftp_base.specs.declared.types.reply.Response.{Response as Heard};
+ghost use Rattle.ftp_base.specs.declared.types.fault.FtpError.{FtpError as Faults};
+ghost use Rattle.ftp_session.specs.declared.session.call.Call.{Call as Called};
+ghost use Rattle.ftp_session.specs.Calls.{reply_answer, unit_answer};
+ghost use Rattle.ftp_session.specs.Coding.{chosen};
+ghost use Rattle.ftp_session.specs.Dialogue.{Tree};
+ghost use Rattle.ftp_session.specs.Promises.{Plays, Reads};
+ghost use Rattle.ftp_session.specs.Steps.Moving.{withheld};
+ghost use Rattle.ftp_session.specs.Steps.Stages.{GivesNothing, GivesReply, MayAnswer};
+
+use super::client::Session;
+use super::{Answer, Call};
+use ftp_base::encoding::Encoding;
+use ftp_base::status::Status;
+use ftp_base::types::{FileType, FtpError, FtpResult, Items, Response, Text};
+use ftp_control::transport::{Conn, Network, PollConn};
+use futures::task::Poll;
+use std::alloc::{AllocError, Global};
+use std::net::SocketAddr;
+
+impl<Tr: Network, K: Drop, E: Encoding, B: Drop> Session<Tr, K, E, B>
+where
+    Tr::Conn: Conn,
+{
+    /// Reads the server's greeting (220).
+    pub(super) fn greet(&mut self, alloc: Global) -> FtpResult<()>
+        ensures encoding { self.new.encoding ≡ self.old.encoding }
+        ensures plays { Plays Tr.Conn.tells (chosen E.decoded E.encoded self.old.encoding.0) Call.Greet
+            self.old.machine self.new.machine (unit_answer result) }
+    {
+        unit(self.call(alloc, &Call::Greet))
+    }
+
+    /// Logs in: `USER` (230, 331), and where the server asks for a password `PASS` (230). The password is looked at
+    /// only then.
+    ///
+    /// # Errors
+    /// Those of a command and its reply: `LineBreak` where CR or LF stands in the user's name or the password.
+    pub fn login(&mut self, alloc: Global, user: &str, password: &str) -> FtpResult<()>
+        ensures { Plays Tr.Conn.tells (chosen E.decoded E.encoded self.old.encoding.0) (Call.Login user.now password.now)
+            self.old.machine self.new.machine (unit_answer result) }
+    {
+        self.perform(alloc, login_call(alloc, user, password))
+    }
+
+    /// Changes to this directory: `CWD` (200, 250).
+    ///
+    /// # Errors
+    /// Those of a command and its reply.
+    pub fn cwd(&mut self, alloc: Global, path: &str) -> FtpResult<()>
+        ensures { Plays Tr.Conn.tells (chosen E.decoded E.encoded self.old.encoding.0) (Call.Cwd path.now)
+            self.old.machine self.new.machine (unit_answer result) }
+    {
+        self.perform(alloc, cwd_call(alloc, path))
+    }
+
+    /// Changes to the directory above: `CDUP` (200, 250).
+    ///
+    /// # Errors
+    /// Those of a command and its reply.
+    pub fn cdup(&mut self, alloc: Global) -> FtpResult<()>
+        ensures { Plays Tr.Conn.tells (chosen E.decoded E.encoded self.old.encoding.0) Call.Cdup
+            self.old.machine self.new.machine (unit_answer result) }
+    {
+        unit(self.call(alloc, &Call::Cdup))
+    }
+
+    /// Does nothing but to have the server answer: `NOOP` (200).
+    ///
+    /// # Errors
+    /// Those of a command and its reply.
+    pub fn noop(&mut self, alloc: Global) -> FtpResult<()>
+        ensures { Plays Tr.Conn.tells (chosen E.decoded E.encoded self.old.encoding.0) Call.Noop
+            self.old.machine self.new.machine (unit_answer result) }
+    {
+        unit(self.call(alloc, &Call::Noop))
+    }
+
+    /// Names the address that the server is to open data connections to: `EPRT` (200; RFC 2428, section 2).
+    ///
+    /// # Errors
+    /// Those of a command and its reply.
+    pub fn eprt(&mut self, alloc: Global, address: SocketAddr) -> FtpResult<()>
+        ensures { Plays Tr.Conn.tells (chosen E.decoded E.encoded self.old.encoding.0) (Call.Eprt address)
+            self.old.machine self.new.machine (unit_answer result) }
+    {
+        unit(self.call(alloc, &Call::Eprt(address)))
+    }
+
+    /// Sets an option of the server's, to a value or without one: `OPTS` (200; RFC 2389, section 4).
+    ///
+    /// # Errors
+    /// Those of a command and its reply.
+    pub fn opts(&mut self, alloc: Global, option: &str, value: Option<&str>) -> FtpResult<()>
+        ensures { Plays Tr.Conn.tells (chosen E.decoded E.encoded self.old.encoding.0) (Call.Opts option.now (option_map (λ text. text.now) value.entry))
+            self.old.machine self.new.machine (unit_answer result) }
+    {
+        self.perform(alloc, opts_call(alloc, option, value))
+    }
+
+    /// Sends a command of the server's own: `SITE` (200).
+    ///
+    /// # Errors
+    /// Those of a command and its reply.
+    pub fn site(&mut self, alloc: Global, command: &str) -> FtpResult<Response>
+        ensures { Plays Tr.Conn.tells (chosen E.decoded E.encoded self.old.encoding.0) (Call.Site command.now)
+            self.old.machine self.new.machine (reply_answer result) }
+    {
+        self.perform_for_reply(alloc, site_call(alloc, command))
+    }
+
+    /// Sets the type of data: `TYPE` (200). After it, transfers are of text where the type is ASCII.
+    ///
+    /// # Errors
+    /// Those of a command and its reply.
+    pub fn transfer_type(&mut self, alloc: Global, kind: FileType) -> FtpResult<()>
+        ensures { Plays Tr.Conn.tells (chosen E.decoded E.encoded self.old.encoding.0) (Call.TransferType kind)
+            self.old.machine self.new.machine (unit_answer result) }
+    {
+        unit(self.call(alloc, &Call::TransferType(kind)))
+    }
+
+    /// Makes a directory: `MKD` (257, 200).
+    ///
+    /// # Errors
+    /// Those of a command and its reply.
+    pub fn mkdir(&mut self, alloc: Global, path: &str) -> FtpResult<()>
+        ensures { Plays Tr.Conn.tells (chosen E.decoded E.encoded self.old.encoding.0) (Call.Mkdir path.now)
+            self.old.machine self.new.machine (unit_answer result) }
+    {
+        self.perform(alloc, mkdir_call(alloc, path))
+    }
+
+    /// Removes a directory: `RMD` (250, 200).
+    ///
+    /// # Errors
+    /// Those of a command and its reply.
+    pub fn rmdir(&mut self, alloc: Global, path: &str) -> FtpResult<()>
+        ensures { Plays Tr.Conn.tells (chosen E.decoded E.encoded self.old.encoding.0) (Call.Rmdir path.now)
+            self.old.machine self.new.machine (unit_answer result) }
+    {
+        self.perform(alloc, rmdir_call(alloc, path))
+    }
+
+    /// Deletes a file: `DELE` (250, 200).
+    ///
+    /// # Errors
+    /// Those of a command and its reply.
+    pub fn rm(&mut self, alloc: Global, path: &str) -> FtpResult<()>
+        ensures { Plays Tr.Conn.tells (chosen E.decoded E.encoded self.old.encoding.0) (Call.Rm path.now)
+            self.old.machine self.new.machine (unit_answer result) }
+    {
+        self.perform(alloc, rm_call(alloc, path))
+    }
+
+    /// Renames a file or directory: `RNFR` (350), then `RNTO` (250, 200). The new name is looked at only after 350.
+    ///
+    /// # Errors
+    /// Those of a command and its reply.
+    pub fn rename(&mut self, alloc: Global, from: &str, to: &str) -> FtpResult<()>
+        ensures { Plays Tr.Conn.tells (chosen E.decoded E.encoded self.old.encoding.0) (Call.Rename from.now to.now)
+            self.old.machine self.new.machine (unit_answer result) }
+    {
+        self.perform(alloc, rename_call(alloc, from, to))
+    }
+
+    /// Ends the session: `QUIT` (221).
+    ///
+    /// # Errors
+    /// Those of a command and its reply.
+    pub fn quit(&mut self, alloc: Global) -> FtpResult<()>
+        ensures { Plays Tr.Conn.tells (chosen E.decoded E.encoded self.old.encoding.0) Call.Quit
+            self.old.machine self.new.machine (unit_answer result) }
+    {
+        unit(self.call(alloc, &Call::Quit))
+    }
+
+    /// Sends a caller-supplied line and reads its reply, whose status is among the expected.
+    ///
+    /// # Errors
+    /// Those of a command and its reply: `LineBreak` where CR or LF stands in the line.
+    pub fn custom_command(
+        &mut self,
+        alloc: Global,
+        line: &str,
+        expected: &[Status],
+    ) -> FtpResult<Response>
+        ensures { Plays Tr.Conn.tells (chosen E.decoded E.encoded self.old.encoding.0) (Call.CustomCommand line.now expected.now)
+            self.old.machine self.new.machine (reply_answer result) }
+    {
+        self.perform_for_reply(alloc, custom_call(alloc, line, expected))
+    }
+
+    /// Reads one reply of this status. Nothing is said.
+    ///
+    /// # Errors
+    /// Those of a read of one reply.
+    pub fn read_response(&mut self, alloc: Global, expected: Status) -> FtpResult<Response>
+        ensures { Plays Tr.Conn.tells (chosen E.decoded E.encoded self.old.encoding.0) (Call.ReadResponse expected)
+            self.old.machine self.new.machine (reply_answer result) }
+    {
+        reply(self.call(alloc, &Call::ReadResponse(expected)))
+    }
+
+    /// Reads one reply whose status is among the expected. Nothing is said.
+    ///
+    /// # Errors
+    /// Those of a read of one reply.
+    pub fn read_response_in(&mut self, alloc: Global, expected: &[Status]) -> FtpResult<Response>
+        ensures { Plays Tr.Conn.tells (chosen E.decoded E.encoded self.old.encoding.0) (Call.ReadResponseIn expected.now)
+            self.old.machine self.new.machine (reply_answer result) }
+    {
+        self.perform_for_reply(alloc, read_call(alloc, expected))
+    }
+
+    /// Makes a call.
+    fn call(&mut self, alloc: Global, call: &Call) -> Answer
+        ensures encoding { self.new.encoding ≡ self.old.encoding }
+        ensures answers { MayAnswer call.now result }
+        ensures plays { Plays Tr.Conn.tells (chosen E.decoded E.encoded self.old.encoding.0)
+            call.now self.old.machine self.new.machine result }
+    {
+        self.machine.call(alloc, &self.encoding, call)
+    }
+
+    /// Makes a call that gives nothing, whose arguments were copied. Where memory ran out for them nothing happens.
+    fn perform(&mut self, alloc: Global, call: Result<Call, AllocError>) -> FtpResult<()>
+        requires { IfOk call GivesNothing }
+        ensures encoding { self.new.encoding ≡ self.old.encoding }
+        ensures plays { (made : Called) → IfOk call (λ c. c ≡ made) →
+            Plays Tr.Conn.tells (chosen E.decoded E.encoded self.old.encoding.0) made
+            self.old.machine self.new.machine (unit_answer result) }
+    {
+        match call {
+            Ok(call) => unit(self.call(alloc, &call)),
+            Err(AllocError) => Err(self.withheld()),
+        }
+    }
+
+    /// Makes a call that gives its reply, as `perform` does.
+    fn perform_for_reply(
+        &mut self,
+        alloc: Global,
+        call: Result<Call, AllocError>,
+    ) -> FtpResult<Response>
+        requires { IfOk call GivesReply }
+        ensures encoding { self.new.encoding ≡ self.old.encoding }
+        ensures plays { (made : Called) → IfOk call (λ c. c ≡ made) →
+            Plays Tr.Conn.tells (chosen E.decoded E.encoded self.old.encoding.0) made
+            self.old.machine self.new.machine (reply_answer result) }
+    {
+        match call {
+            Ok(call) => reply(self.call(alloc, &call)),
+            Err(AllocError) => Err(self.withheld()),
+        }
+    }
+
+    /// Why a call isn't made whose arguments found no memory.
+    fn withheld(&self) -> FtpError
+        ensures { result ≡ withheld self.now.machine }
+    {
+        if self.machine.channel.failed() {
+            FtpError::SessionFailed
+        } else {
+            FtpError::OutOfMemory
+        }
+    }
+}
+
+impl<Tr: Network, K: Drop, E: Encoding, B: Drop> Session<Tr, K, E, B> {
+    /// Reads one reply whose status is among the expected, as far as it has come. Dropped and called again, it
+    /// resumes where it stopped.
+    ///
+    /// # Errors
+    /// Those of a read of one reply.
+    pub fn poll_read_response_in<W>(
+        &mut self,
+        alloc: Global,
+        expected: &[Status],
+        w: &mut W,
+    ) -> Poll<FtpResult<Response>>
+    where
+        Tr::Conn: PollConn<W>,
+        ensures waits { result ≡ poll.Pending → Tr.Conn.may_wait }
+        ensures failed { self.old.machine.channel.failed ≡ true →
+            (result ≡ poll.Ready (Err FtpError.SessionFailed)) × (self.new ≡ self.old) }
+        ensures reads { self.old.machine.channel.failed ≡ false →
+            (next : Result Heard Faults → Tree) →
+            Reads Tr.Conn.tells expected.now next self.old.machine self.new.machine result }
+    {
+        if self.machine.channel.failed() {
+            return Poll::Ready(Err(FtpError::SessionFailed));
+        }
+        self.machine.hear(alloc, expected, w)
+    }
+
+    /// Reads one reply of this status, as `poll_read_response_in` does.
+    ///
+    /// # Errors
+    /// Those of a read of one reply.
+    pub fn poll_read_response<W>(
+        &mut self,
+        alloc: Global,
+        expected: Status,
+        w: &mut W,
+    ) -> Poll<FtpResult<Response>>
+    where
+        Tr::Conn: PollConn<W>,
+        ensures waits { result ≡ poll.Pending → Tr.Conn.may_wait }
+        ensures failed { self.old.machine.channel.failed ≡ true →
+            (result ≡ poll.Ready (Err FtpError.SessionFailed)) × (self.new ≡ self.old) }
+        ensures reads { self.old.machine.channel.failed ≡ false →
+            (next : Result Heard Faults → Tree) →
+            Reads Tr.Conn.tells (expected ∷ []) next self.old.machine self.new.machine result }
+    {
+        self.poll_read_response_in(alloc, &[expected], w)
+    }
+}
+
+/// A text that may be left out.
+fn optional_text(alloc: Global, text: Option<&str>) -> Result<Option<Text>, AllocError>
+    ensures { IfOk result (λ copy. copy ≡ option_map (λ text. text.now) text.entry) }
+{
+    match text {
+        Some(text) => Ok(Some(Text::from_str(alloc, text)?)),
+        None => Ok(None),
+    }
+}
+
+/// `CWD` as a call.
+fn cwd_call(alloc: Global, path: &str) -> Result<Call, AllocError>
+    ensures call { IfOk result (λ call. call ≡ Call.Cwd path.now) }
+    ensures kind { IfOk result GivesNothing }
+{
+    Ok(Call::Cwd(Text::from_str(alloc, path)?))
+}
+
+/// `SITE` as a call.
+fn site_call(alloc: Global, command: &str) -> Result<Call, AllocError>
+    ensures call { IfOk result (λ call. call ≡ Call.Site command.now) }
+    ensures kind { IfOk result GivesReply }
+{
+    Ok(Call::Site(Text::from_str(alloc, command)?))
+}
+
+/// `MKD` as a call.
+fn mkdir_call(alloc: Global, path: &str) -> Result<Call, AllocError>
+    ensures call { IfOk result (λ call. call ≡ Call.Mkdir path.now) }
+    ensures kind { IfOk result GivesNothing }
+{
+    Ok(Call::Mkdir(Text::from_str(alloc, path)?))
+}
+
+/// `RMD` as a call.
+fn rmdir_call(alloc: Global, path: &str) -> Result<Call, AllocError>
+    ensures call { IfOk result (λ call. call ≡ Call.Rmdir path.now) }
+    ensures kind { IfOk result GivesNothing }
+{
+    Ok(Call::Rmdir(Text::from_str(alloc, path)?))
+}
+
+/// `DELE` as a call.
+fn rm_call(alloc: Global, path: &str) -> Result<Call, AllocError>
+    ensures call { IfOk result (λ call. call ≡ Call.Rm path.now) }
+    ensures kind { IfOk result GivesNothing }
+{
+    Ok(Call::Rm(Text::from_str(alloc, path)?))
+}
+
+/// A login as a call.
+fn login_call(alloc: Global, user: &str, password: &str) -> Result<Call, AllocError>
+    ensures call { IfOk result (λ call. call ≡ Call.Login user.now password.now) }
+    ensures kind { IfOk result GivesNothing }
+{
+    let user = Text::from_str(alloc, user)?;
+    let password = Text::from_str(alloc, password)?;
+    Ok(Call::Login(user, password))
+}
+
+/// A renaming as a call.
+fn rename_call(alloc: Global, from: &str, to: &str) -> Result<Call, AllocError>
+    ensures call { IfOk result (λ call. call ≡ Call.Rename from.now to.now) }
+    ensures kind { IfOk result GivesNothing }
+{
+    let from = Text::from_str(alloc, from)?;
+    let to = Text::from_str(alloc, to)?;
+    Ok(Call::Rename(from, to))
+}
+
+/// `OPTS` as a call.
+fn opts_call(alloc: Global, option: &str, value: Option<&str>) -> Result<Call, AllocError>
+    ensures call { IfOk result (λ call. call ≡
+        Call.Opts option.now (option_map (λ text. text.now) value.entry)) }
+    ensures kind { IfOk result GivesNothing }
+{
+    let option = Text::from_str(alloc, option)?;
+    let value = optional_text(alloc, value)?;
+    Ok(Call::Opts(option, value))
+}
+
+/// A caller-supplied line as a call.
+fn custom_call(alloc: Global, line: &str, expected: &[Status]) -> Result<Call, AllocError>
+    ensures call { IfOk result (λ call. call ≡ Call.CustomCommand line.now expected.now) }
+    ensures kind { IfOk result GivesReply }
+{
+    let line = Text::from_str(alloc, line)?;
+    let expected = Items::from_vec(Vec::from_slice(alloc, expected)?);
+    Ok(Call::CustomCommand(line, expected))
+}
+
+/// A read as a call.
+fn read_call(alloc: Global, expected: &[Status]) -> Result<Call, AllocError>
+    ensures call { IfOk result (λ call. call ≡ Call.ReadResponseIn expected.now) }
+    ensures kind { IfOk result GivesReply }
+{
+    let expected = Items::from_vec(Vec::from_slice(alloc, expected)?);
+    Ok(Call::ReadResponseIn(expected))
+}
+
+/// The result of a call that gives nothing.
+fn unit(answer: Answer) -> FtpResult<()>
+    requires { (call : Called) × MayAnswer call answer × GivesNothing call }
+    ensures { unit_answer result ≡ answer }
+{
+    match answer {
+        Answer::Unit => Ok(()),
+        Answer::Fault(fault) => Err(fault),
+        Answer::Reply(_reply) => unreachable!(),
+    }
+}
+
+/// The result of a call that gives its reply.
+fn reply(answer: Answer) -> FtpResult<Response>
+    requires { (call : Called) × MayAnswer call answer × GivesReply call }
+    ensures { reply_answer result ≡ answer }
+{
+    match answer {
+        Answer::Unit => unreachable!(),
+        Answer::Fault(fault) => Err(fault),
+        Answer::Reply(reply) => Ok(reply),
+    }
+}

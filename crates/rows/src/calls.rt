@@ -1,0 +1,77 @@
+//! Calls in words.
+
+use ftp_base::status::Status;
+use ftp_base::types::Items;
+use ftp_session::session::Call;
+use row_text::{RowError, file_type, pair, text, value};
+use std::alloc::Global;
+
+/// The call that words write: its name, and what it takes.
+pub fn call(alloc: Global, words: &str) -> Result<Call, RowError> {
+    match words.split_once(' ') {
+        Some((name, argument)) => with_argument(alloc, name, argument),
+        None => bare(words).ok_or(RowError::NotUnderstood),
+    }
+}
+
+/// A call that takes nothing.
+fn bare(name: &str) -> Option<Call> {
+    match name {
+        "greet" => Some(Call::Greet),
+        "cdup" => Some(Call::Cdup),
+        "noop" => Some(Call::Noop),
+        "quit" => Some(Call::Quit),
+        _ => None,
+    }
+}
+
+/// A call that takes something.
+fn with_argument(alloc: Global, name: &str, argument: &str) -> Result<Call, RowError> {
+    match name {
+        "cwd" => Ok(Call::Cwd(text(alloc, argument)?)),
+        "eprt" => Ok(Call::Eprt(value(argument)?)),
+        "site" => Ok(Call::Site(text(alloc, argument)?)),
+        "type" => Ok(Call::TransferType(file_type(argument)?)),
+        "mkdir" => Ok(Call::Mkdir(text(alloc, argument)?)),
+        "rmdir" => Ok(Call::Rmdir(text(alloc, argument)?)),
+        "rm" => Ok(Call::Rm(text(alloc, argument)?)),
+        "opts" => opts(alloc, argument),
+        "read" => Ok(Call::ReadResponse(status(argument)?)),
+        "reads" => Ok(Call::ReadResponseIn(statuses(alloc, argument)?)),
+        _ => with_two(alloc, name, argument),
+    }
+}
+
+/// A call that takes two things.
+fn with_two(alloc: Global, name: &str, arguments: &str) -> Result<Call, RowError> {
+    let (first, second) = pair(arguments, " ")?;
+    let second = text(alloc, second)?;
+    match name {
+        "login" => Ok(Call::Login(text(alloc, first)?, second)),
+        "rename" => Ok(Call::Rename(text(alloc, first)?, second)),
+        "custom" => Ok(Call::CustomCommand(second, statuses(alloc, first)?)),
+        _ => Err(RowError::NotUnderstood),
+    }
+}
+
+/// `OPTION`, or `OPTION VALUE`.
+fn opts(alloc: Global, words: &str) -> Result<Call, RowError> {
+    match words.split_once(' ') {
+        Some((option, set)) => Ok(Call::Opts(text(alloc, option)?, Some(text(alloc, set)?))),
+        None => Ok(Call::Opts(text(alloc, words)?, None)),
+    }
+}
+
+/// The status of a code.
+fn status(code: &str) -> Result<Status, RowError> {
+    Ok(Status::from(value::<u32>(code)?))
+}
+
+/// The statuses of codes, as `200,250`, or `none`.
+fn statuses(alloc: Global, codes: &str) -> Result<Items<Status>, RowError> {
+    if codes == "none" {
+        return Ok(Items::from_vec(Vec::new(alloc)));
+    }
+    let all: Vec<Status> = codes.split(',').map(status).try_collect(alloc)?;
+    Ok(Items::from_vec(all))
+}

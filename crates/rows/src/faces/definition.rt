@@ -1,0 +1,108 @@
+//! What the definitions of runs say.
+
+use crate::answers::texts_of;
+use crate::encodings::Named;
+use crate::play::Play;
+use crate::transcript::Standing;
+use ftp_base::types::{Bytes, Items};
+use ftp_control::control::ReplyRule;
+use ftp_control::transport::Room;
+use ftp_session::model::{self, Ran, Script};
+use ftp_session::session::{Answer, Call, Event, State};
+use row_text::RowError;
+use session_plain::{run, run_polled};
+use std::alloc::{AllocError, Global};
+
+/// A run that begins: these are all bytes of the server.
+fn first(alloc: Global, input: &[u8]) -> Result<model::Standing, AllocError> {
+    Ok(model::Standing {
+        state: State::new(),
+        failed: false,
+        rule: ReplyRule::Lenient,
+        said: Bytes::new(alloc),
+        unsent: Bytes::new(alloc),
+        asked: Items::from_vec(Vec::new(alloc)),
+        bytes: Bytes::from_slice(alloc, input)?,
+        ended: true,
+        outcomes: Items::from_vec(Vec::new(alloc)),
+    })
+}
+
+/// A script that begins: nothing came, and nothing was said.
+fn first_script(alloc: Global) -> Script {
+    Script {
+        items: Items::from_vec(Vec::new(alloc)),
+        answers: Items::from_vec(Vec::new(alloc)),
+        call: None,
+        polled: false,
+        bytes: Bytes::new(alloc),
+        ended: false,
+        room: Room::Any,
+        sent: Bytes::new(alloc),
+        unsent: Bytes::new(alloc),
+        untaken: Bytes::new(alloc),
+        seen: 0,
+        system: false,
+        state: State::new(),
+        failed: false,
+    }
+}
+
+/// The encoding of a row: UTF-8 where it names none.
+fn encoding_of(play: &Play) -> Named {
+    play.encoding.unwrap_or(Named::Utf8)
+}
+
+/// Where a run of these calls ends.
+pub fn ran(alloc: Global, calls: &[Call], play: &Play) -> Result<Standing, RowError> {
+    let first = first(alloc, &play.input)?;
+    match run(alloc, Room::Any, &encoding_of(play), calls, first)? {
+        Ran::Finished(answers, here) | Ran::Waiting(answers, _, here) => {
+            stands(alloc, answers, here, play.input.len())
+        }
+    }
+}
+
+/// Where a run stands that had these answers.
+fn stands(
+    alloc: Global,
+    answers: Items<Answer>,
+    here: model::Standing,
+    came: usize,
+) -> Result<Standing, RowError> {
+    let answers = texts_of(alloc, answers.as_slice())?;
+    let welcome = welcome(alloc, &here.state)?;
+    Ok(Standing {
+        sent: here.said.into_vec(),
+        answers,
+        taken: came.saturating_sub(here.bytes.len()),
+        seen: None,
+        failed: here.failed,
+        welcome,
+    })
+}
+
+/// What was greeted with.
+pub fn welcome(alloc: Global, state: &State) -> Result<Option<String>, AllocError> {
+    match &state.welcome {
+        Some(welcome) => Ok(Some(String::from_str(alloc, welcome.text())?)),
+        None => Ok(None),
+    }
+}
+
+/// Where these events lead to.
+pub fn scripted(alloc: Global, events: &[Event], play: &Play) -> Result<Standing, RowError> {
+    let encoding = encoding_of(play);
+    let first = first(alloc, b"")?;
+    let script = run_polled(alloc, &encoding, &first, first_script(alloc), events)?;
+    let answers = texts_of(alloc, script.answers.as_slice())?;
+    let welcome = welcome(alloc, &script.state)?;
+    Ok(Standing {
+        sent: Vec::from_slice(alloc, script.sent.as_slice())?,
+        answers,
+        taken: script.bytes.len().saturating_sub(script.untaken.len()),
+        seen: Some(script.seen),
+        failed: script.failed,
+        welcome,
+    })
+}

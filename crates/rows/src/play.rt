@@ -1,0 +1,127 @@
+//! A row as bytes, calls and events.
+
+use crate::calls::call;
+use crate::encodings::Named;
+use crate::step::Step;
+use ftp_base::types::Bytes;
+use ftp_session::session::{Call, Event};
+use row_text::{RowError, bytes_of, value};
+use std::alloc::Global;
+
+/// What is played of a row.
+#[derive(Drop)]
+pub struct Play {
+    /// All bytes of the server.
+    pub input: Vec<u8>,
+    /// The calls.
+    pub calls: Vec<Call>,
+    /// What happens, event by event: of a row without events all bytes come, they end, and each call begins and is
+    /// polled.
+    pub events: Vec<Event>,
+    /// Before which events a run of its own begins.
+    pub runs: Vec<usize>,
+    /// In pieces of how many bytes the server's come.
+    pub piece: usize,
+    /// The encoding that the session is given.
+    pub encoding: Option<Named>,
+}
+
+impl Play {
+    /// What is played of these steps.
+    pub fn of(
+        alloc: Global,
+        steps: &[Step<'_>],
+        has_events: bool,
+        piece: usize,
+    ) -> Result<Play, RowError> {
+        let mut play = Play {
+            input: Vec::new(alloc),
+            calls: Vec::new(alloc),
+            events: Vec::new(alloc),
+            runs: Vec::new(alloc),
+            piece,
+            encoding: None,
+        };
+        for step in steps {
+            play.add_input(alloc, *step)?;
+        }
+        if !has_events {
+            play.add_all(alloc)?;
+        }
+        for step in steps {
+            play.add(alloc, *step, has_events)?;
+        }
+        Ok(play)
+    }
+
+    /// Adds what the server sends.
+    fn add_input(&mut self, alloc: Global, step: Step<'_>) -> Result<(), RowError> {
+        if let Step::Server(bytes) = step {
+            self.input.extend_from_slice(&bytes_of(alloc, bytes)?)?;
+        }
+        Ok(())
+    }
+
+    /// All bytes come, and they end.
+    fn add_all(&mut self, alloc: Global) -> Result<(), RowError> {
+        for part in self.input.chunks(self.piece.max(1)) {
+            self.events
+                .push(Event::Feed(Bytes::from_slice(alloc, part)?))?;
+        }
+        self.events.push(Event::End)?;
+        Ok(())
+    }
+
+    /// Adds the calls and events of a step.
+    fn add(&mut self, alloc: Global, step: Step<'_>, has_events: bool) -> Result<(), RowError> {
+        match step {
+            Step::Server(bytes) if has_events => self.feed(alloc, bytes),
+            Step::Call(words) => {
+                self.calls.push(call(alloc, words)?)?;
+                self.start(alloc, words)?;
+                self.push(Event::Poll)
+            }
+            Step::Feed(bytes) => self.feed(alloc, bytes),
+            Step::End => self.push(Event::End),
+            Step::Room(count) => self.push(Event::Room(value(count)?)),
+            Step::Start(words) => self.start(alloc, words),
+            Step::Poll => self.push(Event::Poll),
+            Step::Cancel => self.push(Event::Cancel),
+            Step::Leave => self.push(Event::Leave),
+            Step::Later => self.begin_run(),
+            Step::Encoding(name) => self.set_encoding(name),
+            Step::Server(_) => Ok(()),
+            Step::Welcome | Step::Sessions | Step::Lists(_) => Ok(()),
+        }
+    }
+
+    fn feed(&mut self, alloc: Global, bytes: &str) -> Result<(), RowError> {
+        let bytes = bytes_of(alloc, bytes)?;
+        for part in bytes.chunks(self.piece.max(1)) {
+            self.events
+                .push(Event::Feed(Bytes::from_slice(alloc, part)?))?;
+        }
+        Ok(())
+    }
+
+    fn start(&mut self, alloc: Global, words: &str) -> Result<(), RowError> {
+        self.push(Event::Start(call(alloc, words)?))
+    }
+
+    /// A run of its own begins. The end of the run before drops its call, as a cancel does.
+    fn begin_run(&mut self) -> Result<(), RowError> {
+        self.push(Event::Cancel)?;
+        self.runs.push(self.events.len())?;
+        Ok(())
+    }
+
+    fn set_encoding(&mut self, name: &str) -> Result<(), RowError> {
+        self.encoding = Some(Named::of(name)?);
+        Ok(())
+    }
+
+    fn push(&mut self, event: Event) -> Result<(), RowError> {
+        self.events.push(event)?;
+        Ok(())
+    }
+}

@@ -1,0 +1,78 @@
+//! What happens in a row, a step a line.
+
+use row_text::RowError;
+
+/// A step of a row, with its words.
+#[derive(Clone, Copy, Debug)]
+pub enum Step<'a> {
+    /// `server BYTES`: the server sends these. Without events they are all there from the start.
+    Server(&'a str),
+    /// `encoding NAME`: the encoding of the session's texts.
+    Encoding(&'a str),
+    /// `call WORDS`: a call, made whole; among events it begins and is polled.
+    Call(&'a str),
+    /// `feed BYTES`: the server's bytes come.
+    Feed(&'a str),
+    /// `end`: the server's bytes end.
+    End,
+    /// `room N`: so many more bytes may be written.
+    Room(&'a str),
+    /// `start WORDS`: a call begins.
+    Start(&'a str),
+    /// `poll`: the call under way is polled.
+    Poll,
+    /// `cancel`: the call under way is dropped.
+    Cancel,
+    /// `leave`: the transfer is left.
+    Leave,
+    /// `later`: what follows is a run of its own, so that a call under way is dropped.
+    Later,
+    /// `welcome`: the transcript ends with the text that the server greeted with.
+    Welcome,
+    /// `sessions`: the row is played on sessions alone. The definition says nothing of it, as of a call that is dropped
+    /// in mid-way, or takes too long, as on a long reply.
+    Sessions,
+    /// `lists N`: the row is each list of at most N of its other steps, and the definition says what is due.
+    Lists(&'a str),
+}
+
+impl<'a> Step<'a> {
+    /// The step that a line writes.
+    pub fn of(line: &'a str) -> Result<Step<'a>, RowError> {
+        match line.split_once(' ') {
+            Some(("server", bytes)) => Ok(Step::Server(bytes)),
+            Some(("encoding", name)) => Ok(Step::Encoding(name)),
+            Some(("call", words)) => Ok(Step::Call(words)),
+            Some(("feed", bytes)) => Ok(Step::Feed(bytes)),
+            Some(("room", count)) => Ok(Step::Room(count)),
+            Some(("start", words)) => Ok(Step::Start(words)),
+            Some(("lists", count)) => Ok(Step::Lists(count)),
+            Some(_) => Err(RowError::NotUnderstood),
+            None => Step::bare(line),
+        }
+    }
+
+    /// A step of one word.
+    fn bare(word: &str) -> Result<Step<'a>, RowError> {
+        match word {
+            "end" => Ok(Step::End),
+            "poll" => Ok(Step::Poll),
+            "cancel" => Ok(Step::Cancel),
+            "leave" => Ok(Step::Leave),
+            "later" => Ok(Step::Later),
+            "welcome" => Ok(Step::Welcome),
+            "sessions" => Ok(Step::Sessions),
+            _ => Err(RowError::NotUnderstood),
+        }
+    }
+
+    /// Whether a row with this step is one of events.
+    pub fn is_event(self) -> bool {
+        match self {
+            Step::Server(_) | Step::Encoding(_) | Step::Call(_) => false,
+            Step::Feed(_) | Step::End | Step::Room(_) | Step::Start(_) => true,
+            Step::Poll | Step::Cancel | Step::Leave | Step::Later => true,
+            Step::Welcome | Step::Sessions | Step::Lists(_) => false,
+        }
+    }
+}

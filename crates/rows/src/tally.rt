@@ -1,0 +1,157 @@
+//! The rows of a set that were played, and those that differed.
+
+use crate::alphabet::Lists;
+use crate::faces::{Agreement, Came, Face};
+use crate::play::Play;
+use crate::row::Row;
+use anyhow::Result;
+use row_text::RowError;
+use std::alloc::Global;
+use std::fmt;
+
+/// The sizes of the pieces in which the server's bytes come: as they are written, and one by one.
+const PIECES: [usize; 2] = [usize::MAX, 1];
+
+/// How many rows of a set were played, how often, and how many plays differed.
+#[derive(Clone, Copy)]
+pub struct Tally<'a> {
+    /// The set.
+    pub set: &'a str,
+    rows: u64,
+    plays: u64,
+    differ: u64,
+}
+
+impl fmt::Display for Tally<'_> {
+    fn fmt<W: fmt::Write>(&self, f: &mut fmt::Formatter<W>) -> fmt::Result {
+        let set = self.set;
+        let rows = self.rows;
+        let plays = self.plays;
+        let differ = self.differ;
+        write!(f, "{set}: {rows} rows, {plays} plays, {differ} differ")
+    }
+}
+
+impl<'a> Tally<'a> {
+    /// No row of the set was played.
+    pub fn new(set: &'a str) -> Tally<'a> {
+        Tally {
+            set,
+            rows: 0,
+            plays: 0,
+            differ: 0,
+        }
+    }
+
+    /// Plays a row on all its faces, and prints what differs.
+    pub fn play<R: Print + AllocGlobal>(&mut self, rt: &R, row: &Row<'_>) -> Result<()> {
+        self.rows = self.rows.saturating_add(1);
+        if let Some(longest) = row.lists() {
+            return self.play_lists(rt, row, longest);
+        }
+        for piece in PIECES {
+            self.play_in_pieces(rt, row, piece)?;
+        }
+        Ok(())
+    }
+
+    /// Plays a row whose bytes come in pieces of so many.
+    fn play_in_pieces<R: Print + AllocGlobal>(
+        &mut self,
+        rt: &R,
+        row: &Row<'_>,
+        piece: usize,
+    ) -> Result<()> {
+        let alloc = rt.alloc();
+        let play = Play::of(alloc, &row.steps, row.has_events(), piece)?;
+        let mut agreement = Agreement::new();
+        for face in faces_of(row) {
+            let came = face.play(alloc, &play, row.wants_welcome())?;
+            let agrees = agreement.agrees(&came);
+            self.count(agrees && came.transcript.as_str() == row.due()?);
+            if !agrees || came.transcript.as_str() != row.due()? {
+                show(rt, row, *face, piece, &came)?;
+            }
+        }
+        Ok(())
+    }
+
+    /// Plays each list of the row's steps, of at most so many, on both faces.
+    fn play_lists<R: Print + AllocGlobal>(
+        &mut self,
+        rt: &R,
+        row: &Row<'_>,
+        longest: &str,
+    ) -> Result<()> {
+        let alloc = rt.alloc();
+        if row.due().is_ok() {
+            return Err(RowError::NotUnderstood.into());
+        }
+        let mut lists = Lists::new(alloc, row, longest)?;
+        for _ in 0..u64::MAX {
+            let due = play_list(alloc, &lists, Face::Script)?;
+            let came = play_list(alloc, &lists, Face::Polled)?;
+            self.count(due.is_same(&came));
+            if !due.is_same(&came) {
+                show_list(rt, row, &lists, &due, &came)?;
+            }
+            if !lists.advance()? {
+                return Ok(());
+            }
+        }
+        Ok(())
+    }
+
+    /// Counts a play.
+    fn count(&mut self, agrees: bool) {
+        self.plays = self.plays.saturating_add(1);
+        if !agrees {
+            self.differ = self.differ.saturating_add(1);
+        }
+    }
+}
+
+/// The faces that a row is played on.
+fn faces_of(row: &Row<'_>) -> &'static [Face] {
+    match (row.has_events(), row.is_of_sessions()) {
+        (false, false) => &Face::OF_CALLS,
+        (false, true) => &Face::SESSIONS_OF_CALLS,
+        (true, false) => &Face::OF_EVENTS,
+        (true, true) => &Face::SESSIONS_OF_EVENTS,
+    }
+}
+
+/// What a list comes to on a face, its bytes one by one.
+fn play_list(alloc: Global, lists: &Lists<'_>, face: Face) -> Result<Came, RowError> {
+    let steps = lists.steps(alloc)?;
+    let play = Play::of(alloc, &steps, true, 1)?;
+    face.play(alloc, &play, false)
+}
+
+/// Prints a play that differs.
+fn show<R: Print>(rt: &R, row: &Row<'_>, face: Face, piece: usize, came: &Came) -> Result<()> {
+    let bytes = if piece == 1 { ", bytes one by one" } else { "" };
+    println!(rt; "{}: {} ({}{bytes})", row.set, row.title, face.name())?;
+    println!(rt; "due\n{}came\n{}", row.due()?, came.transcript)?;
+    println!(rt; "failed {}, seen {:?}", came.failed, came.seen)?;
+    Ok(())
+}
+
+/// Prints a list that differs.
+fn show_list<R: Print + AllocGlobal>(
+    rt: &R,
+    row: &Row<'_>,
+    lists: &Lists<'_>,
+    due: &Came,
+    came: &Came,
+) -> Result<()> {
+    println!(rt;
+        "{}: {}, {:?}",
+        row.set,
+        row.title,
+        lists.steps(rt.alloc())?
+    )?;
+    println!(rt; "due\n{}came\n{}", due.transcript, came.transcript)?;
+    println!(rt; "failed {}, seen {:?}", came.failed, came.seen)?;
+    Ok(())
+}
