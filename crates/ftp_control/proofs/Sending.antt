@@ -38,11 +38,11 @@ module _ (tells : Type 0) (unsent now : List ℕ) (t u : Told) (so_far : SentSoF
     fits = λ h f. let P : Told → Type 0 = Fits in subst P (sym (told h).0) (so_far.fits h f);
   }
 
-  pub write_failed : (kind : ErrorKind) (v : Told) → (tells → HasFailed u v) → Flushes tells unsent now t v (Err kind)
+  pub write_failed : (kind : ErrorKind) (v : Told) → (tells → HasFailed kind u v) → Flushes tells unsent now t v (Err kind)
   write_failed kind v told = record {
     part = so_far.part;
     split = so_far.split;
     leaves = tt;
-    told = λ h. let P : Told → Type 0 = λ x. HasFailed x v in subst P (so_far.told h) (told h);
+    told = λ h. let P : Told → Type 0 = λ x. HasFailed kind x v in subst P (so_far.told h) (told h);
     fits = λ h f. let P : Told → Type 0 = Fits in subst P (sym (told h).same) (so_far.fits h f);
   }

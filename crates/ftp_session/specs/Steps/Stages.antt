@@ -45,7 +45,8 @@ remaining coding call state (Hearing a) = awaited coding call state a
 -- something of the dialogue was said or taken
 abbrev pub begun_at : Stage → Bool
 begun_at (At turn) = is_second turn
-begun_at (Saying line a) = a.begun
+begun_at (Saying None a) = true
+begun_at (Saying (Some line) a) = a.begun
 begun_at (Hearing a) = a.begun
 
 -- the nodes that are left
@@ -75,7 +76,7 @@ awaits_of turn exchange = record { turn = turn; begun = is_second turn; hears = 
 
 abbrev pub NodeOf : Coding → Turn → Exchange → Stage → Type 0
 NodeOf coding turn exchange (At other) = ⊥
-NodeOf coding turn exchange (Saying line a) = (line_of coding exchange.says ≡ Ok (due line)) × (is_none exchange.says ≡ false) × (a ≡ awaits_of turn exchange)
+NodeOf coding turn exchange (Saying line a) = (line_of coding exchange.says ≡ Ok (due line)) × (is_none line ≡ false) × (is_none exchange.says ≡ false) × (a ≡ awaits_of turn exchange)
 NodeOf coding turn exchange (Hearing a) = (exchange.says ≡ None) × (a ≡ awaits_of turn exchange)
 
 abbrev pub FirstNode : Coding → Turn → Exchange → Result Stage FtpError → Type 0

@@ -2,6 +2,7 @@
 
 ghost use Rattle.std.specs.Prelude.{◌≡◌, IfOk, IfErr, OnErr, length};
 ghost use Rattle.ftp_session.specs.Coding.{chosen, coding_of};
+ghost use Rattle.ftp_session.specs.Link.{link};
 ghost use Rattle.ftp_session.specs.Promises.{Runs};
 ghost use Rattle.ftp_session.specs.Sound.{Sound};
 
@@ -24,7 +25,7 @@ where
     /// `OutOfMemory` where there is no memory for the answers, and nothing changes.
     pub fn run(&mut self, alloc: Global, calls: &[Call]) -> FtpResult<Vec<Answer>>
         ensures runs { IfOk result (λ answers.
-            Runs Tr.Conn.tells (chosen E.decoded E.encoded self.old.encoding.0) calls.now
+            Runs (link Tr.Conn.tells Tr.Conn.blocking_read_faults Tr.Conn.blocking_write_faults) (chosen E.decoded E.encoded self.old.encoding.0) calls.now
             self.old.machine self.new.machine answers.items) }
         ensures count { IfOk result (λ answers. length answers.items ≡ length calls.now) }
         ensures encoding { self.new.encoding ≡ self.old.encoding }
@@ -51,7 +52,7 @@ where
         calls: &[Call],
     ) -> FtpResult<Vec<Answer>>
         ensures runs { IfOk result (λ answers.
-            Runs Tr.Conn.tells (coding_of E.decoded E.encoded encoding.now) calls.now self.old
+            Runs (link Tr.Conn.tells Tr.Conn.blocking_read_faults Tr.Conn.blocking_write_faults) (coding_of E.decoded E.encoded encoding.now) calls.now self.old
             self.new answers.items) }
         ensures count { IfOk result (λ answers. length answers.items ≡ length calls.now) }
         ensures memory { IfErr result (λ fault. fault ≡ FtpError.OutOfMemory) }

@@ -41,7 +41,7 @@ returns-clause-happens g c = λ old s answers follows may.
           inl (happened coding old s z c.args.event.now (event.Start w.in-Start.call) _ _ _ _ answers w.in-Start.is same w.stage-is (stayed coding old _ v z _ _ answers w.self-is begun))
           )
       | in-Cancel w ↦ (
-          let L : Event → Type 0 = λ e. IsLawful (start_of old) s e in
+          let L : Event → Type 0 = λ e. IsLawful coding (start_of old) s e in
           let none = ap (λ o. option_map (λ c'. c'.now) o) w.under_way-is in
           let dropped = cancels coding old s v _ _ c.args.stage.now answers follows (subst L w.in-Cancel.is may) in
           inl (happened coding old s z c.args.event.now event.Cancel None _ _ _ answers w.in-Cancel.is none w.stage-is (stayed coding old _ v z None c.args.stage.now answers w.self-is dropped))
