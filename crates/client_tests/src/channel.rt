@@ -10,14 +10,14 @@ use row_text::shown;
 use std::alloc::{AllocError, Global};
 use std::test::Fail;
 
-/// Whether a read is polled or blocks, the bytes that come before it, and what is due: the answer, how many bytes
-/// were not read, and how many of those read are part of no reply.
+/// Whether a read is polled or blocks, the bytes that come before it, and what is due: the answer, how many bytes were
+/// not read, as the channel and its connection have it, and how many of those read are part of no reply.
 const REPLIES: [(bool, &[u8], &str); 5] = [
-    (true, b"20", "waits, 0 and 2"),
-    (true, b"0 o", "waits, 0 and 5"),
-    (true, b"k\r\n200 a\r\n22", "200 200 ok\\r\\n, 9 and 0"),
-    (false, b"", "200 200 a\\r\\n, 2 and 0"),
-    (true, b"1", "waits, 0 and 3"),
+    (true, b"20", "waits, 0, 0 and 2"),
+    (true, b"0 o", "waits, 0, 0 and 5"),
+    (true, b"k\r\n200 a\r\n22", "200 200 ok\\r\\n, 9, 9 and 0"),
+    (false, b"", "200 200 a\\r\\n, 2, 2 and 0"),
+    (true, b"1", "waits, 0, 0 and 3"),
 ];
 
 /// Whether a read is polled or blocks, the bytes that come before it, and the line that is due.
@@ -43,8 +43,9 @@ fn read_reply(
     };
     let text = poll_text(alloc, answer)?;
     let unread = channel.unread();
+    let of_connection = channel.get_ref().unread();
     let untaken = channel.untaken();
-    format!(in alloc; "{text}, {unread} and {untaken}")
+    format!(in alloc; "{text}, {unread}, {of_connection} and {untaken}")
 }
 
 /// What a read of one line returns.
@@ -90,13 +91,6 @@ fn a_reply_comes_in_pieces(rt: HostRuntime) -> Result<(), Fail> {
         let text = read_reply(alloc, &mut channel, polled)?;
         assert_eq!(rt; text.as_str(), due);
     }
-    Ok(())
-}
-
-#[test]
-fn bytes_of_a_connection_that_were_not_read(rt: HostRuntime) -> Result<(), Fail> {
-    let conn = conn_with(rt.alloc(), b"200 ok\r\n22")?;
-    assert_eq!(rt; conn.unread(), 10);
     Ok(())
 }
 

@@ -1,6 +1,7 @@
 //! What a session keeps beside its channel.
 
 use crate::scene::greeted;
+use ftp_base::types::FtpResult;
 use ftp_control::transport::{MemoryConn, MemoryTransport};
 use ftp_session::session::{Counts, Session, Settings};
 use std::alloc::{AllocError, Global};
@@ -30,26 +31,29 @@ fn settings_text(alloc: Global, settings: &Settings) -> Result<String, AllocErro
     format!(in alloc; "{mode:?} {workaround} {check:?} {seconds} {text} {secure} {offset}")
 }
 
-#[test]
-fn a_session_begins_passive_and_of_text(rt: HostRuntime) -> Result<(), Fail> {
-    let alloc = rt.alloc();
-    let session = Session::new(alloc, MemoryTransport, MemoryConn::new(alloc))?;
-    let text = text_of(alloc, &session)?;
-    assert_eq!(rt;
-        text.as_str(),
-        "Passive false ControlPeer 60 true false 0 0 none"
-    );
-    Ok(())
+/// A session whose server sent this greeting, or one that read none.
+fn begun(alloc: Global, greeting: Option<&[u8]>) -> FtpResult<Session<MemoryTransport>> {
+    match greeting {
+        Some(greeting) => greeted(alloc, greeting),
+        None => Session::new(alloc, MemoryTransport, MemoryConn::new(alloc)),
+    }
 }
 
 #[test]
-fn a_greeting_changes_the_welcome_alone(rt: HostRuntime) -> Result<(), Fail> {
-    let session = greeted(rt.alloc(), b"220 r\r\n")?;
-    let text = text_of(rt.alloc(), &session)?;
-    assert_eq!(rt;
-        text.as_str(),
-        "Passive false ControlPeer 60 true false 0 0 220 r"
-    );
+fn a_session_begins_passive_and_a_greeting_changes_the_welcome(
+    rt: HostRuntime,
+) -> Result<(), Fail> {
+    for (greeting, due) in [
+        (None, "Passive false ControlPeer 60 true false 0 0 none"),
+        (
+            Some(b"220 r\r\n".as_slice()),
+            "Passive false ControlPeer 60 true false 0 0 220 r",
+        ),
+    ] {
+        let session = begun(rt.alloc(), greeting)?;
+        let text = text_of(rt.alloc(), &session)?;
+        assert_eq!(rt; text.as_str(), due);
+    }
     Ok(())
 }
 
