@@ -1,21 +1,42 @@
 //! Reads of one reply by a session, polled and blocking.
 
-use crate::scene::{greeted, poll_text, reply_text};
+use crate::scene::poll_text;
 use ftp_base::status::Status;
 use ftp_base::types::{Bytes, FtpResult};
 use ftp_control::transport::{MemoryConn, MemoryTransport};
 use ftp_session::session::{Event, Session};
+use futures::task::Poll;
 use std::alloc::{AllocError, Global};
 use std::test::Fail;
 
-/// Whether a read expects 200 alone or 220 too, the bytes that come before it, and what is due: the answer, how many
-/// bytes are part of no reply, and how many were sent.
-const REPLIES: [(bool, &[u8], &str); 5] = [
-    (true, b"20", "waits, 2 and 0"),
-    (true, b"0 ok\r\n", "200 200 ok\\r\\n, 0 and 0"),
-    (false, b"20", "waits, 2 and 0"),
-    (false, b"0 ok\r\n", "200 200 ok\\r\\n, 0 and 0"),
-    (false, b"221 bye\r\n", "E10 221 221 bye\\r\\n, 0 and 0"),
+/// A read of one reply.
+#[derive(Clone, Copy)]
+enum Reading {
+    /// Polled, where 200 is expected.
+    Polled,
+    /// Polled, where 220 or 200 is expected.
+    PolledIn,
+    /// Blocking, where 220 or 200 is expected.
+    BlockingIn,
+}
+
+/// A read, the bytes that come before it, and what is due: the answer, how many bytes are part of no reply, and how
+/// many were sent.
+const REPLIES: [(Reading, &[u8], &str); 6] = [
+    (Reading::Polled, b"20", "waits, 2 and 0"),
+    (Reading::Polled, b"0 ok\r\n", "200 200 ok\\r\\n, 0 and 0"),
+    (Reading::PolledIn, b"20", "waits, 2 and 0"),
+    (Reading::PolledIn, b"0 ok\r\n", "200 200 ok\\r\\n, 0 and 0"),
+    (
+        Reading::PolledIn,
+        b"221 bye\r\n",
+        "E10 221 221 bye\\r\\n, 0 and 0",
+    ),
+    (
+        Reading::BlockingIn,
+        b"226 ok\r\n",
+        "E10 226 226 ok\\r\\n, 0 and 0",
+    ),
 ];
 
 /// More bytes of the server come.
@@ -24,16 +45,17 @@ fn feed(alloc: Global, session: &mut Session<MemoryTransport>, bytes: &[u8]) -> 
     Ok(())
 }
 
-/// What a polled read returns, how many bytes are part of no reply, and how many were sent.
+/// What a read returns, how many bytes are part of no reply, and how many were sent.
 fn read(
     alloc: Global,
     session: &mut Session<MemoryTransport>,
-    one: bool,
+    kind: Reading,
 ) -> Result<String, AllocError> {
-    let answer = if one {
-        session.poll_read_response(alloc, Status::CommandOk, &mut ())
-    } else {
-        session.poll_read_response_in(alloc, &[Status::Ready, Status::CommandOk], &mut ())
+    let expected = [Status::Ready, Status::CommandOk];
+    let answer = match kind {
+        Reading::Polled => session.poll_read_response(alloc, Status::CommandOk, &mut ()),
+        Reading::PolledIn => session.poll_read_response_in(alloc, &expected, &mut ()),
+        Reading::BlockingIn => Poll::Ready(session.read_response_in(alloc, &expected)),
     };
     let text = poll_text(alloc, answer)?;
     let untaken = session.untaken();
@@ -42,23 +64,13 @@ fn read(
 }
 
 #[test]
-fn a_polled_read_waits_for_its_whole_reply(rt: HostRuntime) -> Result<(), Fail> {
+fn a_reply_is_read_whole_and_an_unexpected_one_returned(rt: HostRuntime) -> Result<(), Fail> {
     let alloc = rt.alloc();
     let mut session = Session::new(alloc, MemoryTransport, MemoryConn::new(alloc))?;
-    for (one, bytes, due) in REPLIES {
+    for (kind, bytes, due) in REPLIES {
         feed(alloc, &mut session, bytes)?;
-        let text = read(alloc, &mut session, one)?;
+        let text = read(alloc, &mut session, kind)?;
         assert_eq!(rt; text.as_str(), due);
     }
-    Ok(())
-}
-
-#[test]
-fn an_unexpected_reply_is_returned_whole(rt: HostRuntime) -> Result<(), Fail> {
-    let alloc = rt.alloc();
-    let mut session = greeted(alloc, b"220 r\r\n221 bye\r\n")?;
-    let answer = session.read_response_in(alloc, &[Status::Ready, Status::CommandOk]);
-    let text = reply_text(alloc, &answer)?;
-    assert_eq!(rt; text.as_str(), "E10 221 221 bye\\r\\n");
     Ok(())
 }

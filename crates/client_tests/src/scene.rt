@@ -36,7 +36,7 @@ pub fn poll_text(alloc: Global, answer: Poll<FtpResult<Response>>) -> Result<Str
 }
 
 /// The code and the bytes of a reply, or the fault as [`fault_text`] has it.
-pub fn reply_text(alloc: Global, answer: &FtpResult<Response>) -> Result<String, AllocError> {
+fn reply_text(alloc: Global, answer: &FtpResult<Response>) -> Result<String, AllocError> {
     match answer {
         Ok(reply) => code_and_bytes(alloc, reply),
         Err(fault) => fault_text(alloc, fault),
