@@ -2,16 +2,14 @@
 #![tactic(auto)]
 
 #[cfg(test)]
-mod channel_reads;
+mod channel;
 pub mod first_use;
 #[cfg(test)]
 mod grammar;
 #[cfg(test)]
-mod long_replies;
-#[cfg(test)]
-mod memory;
-#[cfg(test)]
 mod reads;
+#[cfg(test)]
+mod room;
 #[cfg(test)]
 mod scene;
 #[cfg(test)]
