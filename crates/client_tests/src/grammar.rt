@@ -1,10 +1,12 @@
 //! The reader against the grammar computed plainly, over every front of a reply.
 
 use crate::scene::conn_with;
-use ftp_base::types::FtpResult;
+use ftp_base::status::Status;
+use ftp_base::types::{Bytes, FtpError, FtpResult, Response};
 use ftp_control::control::{ControlChannel, Outcome, ReplyRule};
 use ftp_control::plain;
-use ftp_control::transport::NeverWaits;
+use futures::task::Poll;
+use row_text::refusal;
 use std::alloc::Global;
 use std::test::Fail;
 
@@ -23,33 +25,65 @@ const REPLIES: [&[u8]; 8] = [
 /// Whether the input has ended after a front, and whether the reply may be one of a system status.
 const CASES: [(bool, bool); 4] = [(false, false), (false, true), (true, false), (true, true)];
 
-/// An outcome as a word and its bytes.
-fn shown(outcome: &Outcome) -> (&'static str, u32, &[u8]) {
-    match outcome {
-        Outcome::Whole(bytes, code) => ("whole", *code, bytes.as_slice()),
-        Outcome::Bad(line) => ("bad", 0, line.as_slice()),
-        Outcome::TooLarge => ("too large", 0, b"".as_slice()),
-        Outcome::Ended => ("ended", 0, b"".as_slice()),
-        Outcome::Waits => ("waits", 0, b"".as_slice()),
+/// What a read comes to: a word, and the code and the bytes of a whole reply.
+type Heard = (&'static str, u32, Bytes);
+
+/// What the grammar says of these bytes.
+fn due(alloc: Global, bytes: &[u8], ended: bool, system: bool) -> FtpResult<Heard> {
+    let outcome = plain::outcome(alloc, ReplyRule::Lenient, system, bytes, ended)?;
+    Ok(match outcome {
+        Outcome::Whole(reply, code) => ("whole", Status::from(code).code(), reply),
+        Outcome::Bad(_line) => ("bad", 0, Bytes::new(alloc)),
+        Outcome::TooLarge => ("too large", 0, Bytes::new(alloc)),
+        Outcome::Ended => ("ended", 0, Bytes::new(alloc)),
+        Outcome::Waits => ("waits", 0, Bytes::new(alloc)),
+    })
+}
+
+/// What the reader answers.
+fn said(alloc: Global, answer: Poll<FtpResult<Response>>) -> Heard {
+    match answer {
+        Poll::Ready(Ok(reply)) => ("whole", reply.status.code(), reply.body),
+        Poll::Ready(Err(FtpError::UnexpectedResponse(reply))) => {
+            ("whole", reply.status.code(), reply.body)
+        }
+        Poll::Ready(Err(fault)) => (word(refusal(&fault)), 0, Bytes::new(alloc)),
+        Poll::Pending => ("waits", 0, Bytes::new(alloc)),
+    }
+}
+
+/// The word for a refusal of this number.
+fn word(number: u8) -> &'static str {
+    match number {
+        2 => "ended",
+        3 => "too large",
+        11 => "bad",
+        _ => "another fault",
     }
 }
 
 /// What the reader says of these bytes.
-fn read(alloc: Global, bytes: &[u8], ended: bool, system: bool) -> FtpResult<Outcome> {
+fn read(alloc: Global, bytes: &[u8], ended: bool, system: bool) -> FtpResult<Heard> {
     let mut channel = ControlChannel::new(alloc, conn_with(alloc, bytes)?);
-    let heard = if ended {
-        channel.poll_outcome(alloc, system, &mut NeverWaits)
+    let expected = [if system {
+        Status::System
     } else {
-        channel.poll_outcome(alloc, system, &mut ())
+        Status::CommandOk
+    }];
+    let answer = if ended {
+        Poll::Ready(channel.read_response_in(alloc, &expected))
+    } else {
+        channel.poll_read_response_in(alloc, &expected, &mut ())
     };
-    Ok(heard.unwrap_or(Outcome::Waits))
+    Ok(said(alloc, answer))
 }
 
 /// Whether the reader says of these bytes what the grammar says.
 fn agrees(alloc: Global, bytes: &[u8], ended: bool, system: bool) -> FtpResult<bool> {
-    let due = plain::outcome(alloc, ReplyRule::Lenient, system, bytes, ended)?;
+    let due = due(alloc, bytes, ended, system)?;
     let said = read(alloc, bytes, ended, system)?;
-    Ok(shown(&said) == shown(&due))
+    let same = said.0 == due.0 && said.1 == due.1;
+    Ok(same && said.2.as_slice() == due.2.as_slice())
 }
 
 #[test]

@@ -1,5 +1,5 @@
 -- What happens to a connection over memory from the outside.
-use Rattle.std.specs.Prelude.{◌≡◌, ℕ, ◌+◌, ◌||◌, true, false, Option, None, List, [], ◌++◌, length, if◌then◌else◌, min}
+use Rattle.std.specs.Prelude.{◌≡◌, ℕ, ◌+◌, ◌||◌, true, false, None, List, [], ◌++◌, length, if◌then◌else◌, min}
 use Rattle.ftp_control.specs.declared.transport.room.Room.{Room}
 use Rattle.ftp_control.specs.declared.transport.room.Room.TheVariants.{Any, UpTo}
 use Rattle.ftp_control.specs.Told.{Told}

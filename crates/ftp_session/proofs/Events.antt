@@ -17,9 +17,8 @@ use Rattle.ftp_session.specs.declared.session.state.State.{State}
 use Rattle.ftp_session.specs.declared.model.Script.{Script}
 use Rattle.ftp_session.specs.State.{SessionValue}
 use Rattle.ftp_session.specs.Coding.{Coding}
-use Rattle.ftp_session.specs.Exchanges.{is_read}
 use Rattle.ftp_session.specs.Script.{unread, is_over, start_of, script_of, after_event, start_script, MayCancel, MayPoll, poll_script}
-use Rattle.ftp_session.specs.Steps.Following.{UnderWay, Started, Place, Follows, Starts, PollsHere, AbortsCall}
+use Rattle.ftp_session.specs.Steps.Following.{Place, Follows, Starts, PollsHere, AbortsCall}
 use Rattle.ftp_control.specs.Saying.{said}
 use Rattle.ftp_session.specs.Scripted.{Stands}
 use Rattle.ftp_session.proofs.Following.{unread_is, poll_follows}

@@ -33,7 +33,6 @@ use Rattle.ftp_session.specs.declared.session.call.Answer.TheVariants.{Fault}
 use Rattle.ftp_session.specs.declared.session.call.Call.{Call}
 use Rattle.ftp_session.specs.declared.session.exchange.Turn.TheVariants.{First}
 use Rattle.ftp_session.specs.declared.session.stage.Stage.{Stage}
-use Rattle.ftp_session.specs.declared.session.stage.Stage.TheVariants.{At}
 use Rattle.ftp_session.specs.declared.model.Standing.{Standing}
 use Rattle.ftp_session.specs.declared.model.Wait.{Wait}
 use Rattle.ftp_session.specs.declared.model.Wait.TheVariants as wait
@@ -51,8 +50,8 @@ use Rattle.ftp_session.specs.Promises.{standing, before_all, Goes, Leads, Rests,
 use Rattle.ftp_session.specs.Script.{unread, is_over, start_of, front, seen_in, seen_at, system_at, hears_system, polled_as, poll_script, MayCancel, MayPoll}
 use Rattle.ftp_session.specs.Scripted.{IsFrontOf, Stands, SaysOrTakes, CallHasBegun, Reaches, LeftOf}
 use Rattle.ftp_session.specs.Steps.Stages.{remaining, begun_at}
-use Rattle.ftp_session.specs.Steps.Moving.{HasBegun, Keeps, Shrinks, Calm, Moves, Advances, Ends, PollSteps, WaitsFor, WaitsToSay, WaitsToHear}
-use Rattle.ftp_session.specs.Steps.Following.{Since, UnderWay, Started, Place, Follows, PollsHere, AbortsCall}
+use Rattle.ftp_session.specs.Steps.Moving.{HasBegun, Keeps, Shrinks, Calm, Advances, Ends, PollSteps, WaitsFor}
+use Rattle.ftp_session.specs.Steps.Following.{Since, UnderWay, Place, Follows, PollsHere, AbortsCall}
 use Rattle.ftp_session.proofs.Moving.{goes_after, fitted, play-Say}
 use Rattle.ftp_session.proofs.Hearing.{play-Hear, nothing_says}
 use Rattle.ftp_session.proofs.Running.{run-nil, run-cons, before_all-snoc, before_all-Finished, before_all-Waiting, refuses_on}

@@ -21,7 +21,7 @@ use Rattle.ftp_control.specs.declared.control.outcome.Outcome.TheVariants.{Whole
 use Rattle.ftp_control.specs.Grammar.{outcome, left_by}
 use Rattle.ftp_control.specs.Told.{Told, IsDry, HasFailed, NoneFailed}
 use Rattle.ftp_control.specs.Reading.{GoesOn, HearTells, MayBreak, after_input}
-use Rattle.ftp_control.specs.Channel.{Channel, ReadsReply, fails_by, untaken}
+use Rattle.ftp_control.specs.Channel.{Channel, ReadsReply, fails_by}
 use Rattle.ftp_control.specs.Answer.{AnswersRead, answer_of, expected_reply, is_among}
 use Rattle.ftp_session.specs.declared.session.state.State.{State}
 use Rattle.ftp_session.specs.declared.model.Standing.{Standing}

@@ -1,10 +1,9 @@
 -- Lemmas on the steps of a dialogue.
-use Rattle.std.proofs.Common.{◌≡◌, ℕ, ◌+◌, ◌≤◌, Bool, true, false, cond, List, [], ◌++◌, length, length-append, ◌<◌, Option, Some, None, Result, Ok, Err, inl, inr, ◌⊎◌, refl, ap, sym, ◌∙◌, subst, append_assoc, append-nil, arith}
+use Rattle.std.proofs.Common.{◌≡◌, ℕ, ◌+◌, ◌≤◌, Bool, true, false, List, [], ◌++◌, length, length-append, ◌<◌, Option, None, Result, Ok, Err, inl, inr, ◌⊎◌, refl, ap, sym, ◌∙◌, subst, append_assoc, append-nil, arith}
 use Rattle.std.proofs.lemmas.Bool.{le-leb}
 use Rattle.ftp_base.specs.declared.types.fault.FtpError.{FtpError}
-use Rattle.ftp_base.specs.declared.types.fault.FtpError.TheVariants.{ConnectionError, SecureError, UnexpectedResponse, BadResponse, InvalidAddress, DataConnectionAlreadyOpen, OutOfMemory, SessionFailed}
+use Rattle.ftp_base.specs.declared.types.fault.FtpError.TheVariants.{ConnectionError, OutOfMemory}
 use Rattle.ftp_base.specs.declared.types.fault.ConnectionError.{ConnectionError as Cause}
-use Rattle.ftp_base.specs.declared.types.reply.Response.{Response}
 use Rattle.ftp_control.specs.declared.transport.room.Room.{Room}
 use Rattle.ftp_control.specs.declared.transport.room.Room.TheVariants.{Any, UpTo}
 use Rattle.ftp_control.specs.declared.transport.request.RequestOutcome.{RequestOutcome}
@@ -24,10 +23,10 @@ use Rattle.ftp_session.specs.declared.session.stage.Step.TheVariants.{Next, Pend
 use Rattle.ftp_session.specs.declared.model.Standing.{Standing}
 use Rattle.ftp_session.specs.declared.model.Played.TheVariants as played
 use Rattle.ftp_session.specs.State.{SessionValue}
-use Rattle.ftp_session.specs.Dialogue.{Tree, Say, Hear, Leaf}
+use Rattle.ftp_session.specs.Dialogue.{Tree, Say, Leaf}
 use Rattle.ftp_session.specs.Play.{play, fits, said_then}
 use Rattle.ftp_session.specs.Run.{Resumes, Silent}
-use Rattle.ftp_session.specs.Promises.{standing, Goes, Leads, Completes, Fails, Touched, Untouched, LacksMemory, Aborts, failed_from}
+use Rattle.ftp_session.specs.Promises.{standing, Goes, Leads, Fails, Touched, Untouched, LacksMemory, Aborts, failed_from}
 use Rattle.ftp_session.specs.Steps.Moving.{Keeps, Shrinks, Calm, Moves, Advances, Ends, WaitsFor, Steps, TakesLine, after_line, step_of}
 use Rattle.ftp_session.specs.Link.{Link}
 

@@ -18,9 +18,9 @@ use Rattle.ftp_session.specs.State.{SessionValue}
 use Rattle.ftp_session.specs.Coding.{Coding}
 use Rattle.ftp_session.specs.Script.{script, start_of, script_of, after_event, Lawful, IsLawful, MayCancel}
 use Rattle.ftp_session.specs.Promises.{AllRefused}
-use Rattle.ftp_session.specs.Scripted.{ScriptHolds, LeftOf, ScriptAborts, ScriptsHold, IsScripted, Stops, StopsAtFeed}
+use Rattle.ftp_session.specs.Scripted.{ScriptHolds, ScriptAborts, ScriptsHold, IsScripted, Stops, StopsAtFeed}
 use Rattle.ftp_session.specs.Steps.Stages.{begun_at, remaining}
-use Rattle.ftp_session.specs.Steps.Following.{Follows, FailedStays, Happens, AbortsCall, Place, Started, UnderWay, IsFeed, given_answer}
+use Rattle.ftp_session.specs.Steps.Following.{Follows, FailedStays, Happens, AbortsCall, IsFeed, given_answer}
 use Rattle.ftp_session.proofs.Events.{begins}
 use Rattle.ftp_session.proofs.Following.{left_of}
 

@@ -1,22 +1,18 @@
 -- Lemmas on the stages of a call.
-use Rattle.std.proofs.Common.{◌≡◌, ℕ, ◌-◌, ◌<◌, Bool, true, false, ◌&&◌, Option, Some, None, is_none, List, Result, Ok, Err, inl, inr, ◌⊎◌, refl, ap, sym, ◌∙◌, subst, arith}
+use Rattle.std.proofs.Common.{◌≡◌, ℕ, ◌-◌, ◌<◌, Bool, true, false, ◌&&◌, Option, Some, None, is_none, List, Result, Ok, inl, inr, ◌⊎◌, refl, ap, sym, ◌∙◌, subst, arith}
 use Rattle.ftp_base.specs.declared.command.Command.{Command}
-use Rattle.ftp_base.specs.Command.{text_of}
-use Rattle.ftp_base.specs.Wire.{wire}
 use Rattle.ftp_base.specs.declared.types.fault.ConnectionError.{ConnectionError as Cause}
 use Rattle.ftp_control.specs.Saying.{due}
-use Rattle.ftp_session.specs.declared.session.state.State.{State}
 use Rattle.ftp_session.specs.declared.session.call.Call.{Call}
 use Rattle.ftp_session.specs.declared.session.exchange.Turn.{Turn}
 use Rattle.ftp_session.specs.declared.session.exchange.Turn.TheVariants.{First, Second}
-use Rattle.ftp_session.specs.declared.session.exchange.Exchange.{Exchange}
 use Rattle.ftp_session.specs.declared.session.stage.Awaits.{Awaits}
 use Rattle.ftp_session.specs.declared.session.stage.Stage.{Stage}
 use Rattle.ftp_session.specs.declared.session.stage.Stage.TheVariants.{At, Saying, Hearing}
 use Rattle.ftp_session.specs.Coding.{Coding}
 use Rattle.ftp_session.specs.Exchanges.{exchange_of, statuses, gives_reply, is_read}
-use Rattle.ftp_session.specs.Dialogue.{Tree, Say, saying, awaiting, exchanging, later, from_turn}
-use Rattle.ftp_session.specs.Steps.Stages.{is_second, remaining, awaited, begun_at, nodes_from, nodes_left, StageOf, line_of, awaits_of, NodeOf, Begun}
+use Rattle.ftp_session.specs.Dialogue.{Tree, Say, saying, awaiting, later}
+use Rattle.ftp_session.specs.Steps.Stages.{is_second, begun_at, nodes_from, line_of, awaits_of, NodeOf, Begun}
 use Rattle.ftp_session.specs.declared.session.stage.Step.{Step}
 use Rattle.ftp_session.specs.declared.session.stage.Step.TheVariants.{Next}
 use Rattle.ftp_session.specs.Link.{Link}

@@ -1,5 +1,5 @@
 -- Lemmas on the machine's steps and polls.
-use Rattle.std.proofs.Common.{◌≡◌, ℕ, Bool, true, false, cond, ◌&&◌, Option, Some, None, List, [], Result, Ok, Err, inl, inr, ◌⊎◌, refl, ap, sym, ◌∙◌, subst}
+use Rattle.std.proofs.Common.{◌≡◌, ℕ, Bool, true, false, cond, Option, Some, None, List, [], Result, Ok, Err, inl, inr, ◌⊎◌, refl, ap, sym, ◌∙◌, subst}
 use Rattle.std.specs.Prelude.{IfOk}
 use Rattle.std.specs.declared.alloc.AllocError.{AllocError}
 use Rattle.futures.specs.declared.task.Poll.{Poll}
@@ -26,10 +26,10 @@ use Rattle.ftp_session.specs.declared.session.stage.Step.TheVariants.{Next, Pend
 use Rattle.ftp_session.specs.State.{SessionValue}
 use Rattle.ftp_session.specs.Coding.{Coding}
 use Rattle.ftp_session.specs.Exchanges.{exchange_of, statuses, is_read}
-use Rattle.ftp_session.specs.Dialogue.{Tree, Say, Hear, Leaf, saying, awaiting, concluded, accepted, later, from_turn, dialogue}
+use Rattle.ftp_session.specs.Dialogue.{Tree, Say, Hear, Leaf, saying, awaiting, accepted, later, from_turn, dialogue}
 use Rattle.ftp_session.specs.Promises.{Aborts, Fails, Touched, Untouched, LacksMemory, Plays, Reads, Rests, failed_from}
 use Rattle.ftp_session.specs.Steps.Stages.{is_second, remaining, awaited, begun_at, StageOf, line_of}
-use Rattle.ftp_session.specs.Steps.Moving.{Moves, Advances, Ends, Steps, PollSteps, AbortsRead, Hears, EndsWith, BeginsExchange, Concludes, NothingYet, Quiet, HasBegun, Takes, Tracks, wants_memory, withheld, after_fault}
+use Rattle.ftp_session.specs.Steps.Moving.{Moves, Advances, Ends, Steps, PollSteps, Hears, BeginsExchange, Concludes, NothingYet, Quiet, HasBegun, Takes, Tracks, wants_memory, withheld, after_fault}
 use Rattle.ftp_session.proofs.Moving.{leaf_ends, refused_line, lacks_memory_first, lacks_memory_at, stays_put, moves_on, ends_on, aborts_on, touched_on, touched_later}
 use Rattle.ftp_session.specs.Link.{Link}
 

@@ -1,5 +1,5 @@
 -- What a call that succeeded did on the wire.
-use Rattle.std.proofs.Common.{◌≡◌, ℕ, Bool, true, false, cond, ◌==◌, eqb, Option, Some, None, List, [], ◌++◌, Result, Ok, Err, refl, ap, sym, ◌∙◌, subst, append-nil}
+use Rattle.std.proofs.Common.{◌≡◌, ℕ, Bool, true, false, cond, eqb, Option, Some, None, List, [], ◌++◌, Result, Ok, Err, refl, ap, sym, ◌∙◌, subst, append-nil}
 use Rattle.ftp_base.specs.declared.status.Status.{Status}
 use Rattle.ftp_base.specs.declared.status.Status.TheVariants.{System}
 use Rattle.ftp_base.specs.Status.{code_of, status_of}
@@ -28,11 +28,11 @@ use Rattle.ftp_session.specs.declared.session.exchange.Ending.TheVariants as end
 use Rattle.ftp_session.specs.declared.session.exchange.Exchange.{Exchange}
 use Rattle.ftp_session.specs.declared.model.Standing.{Standing}
 use Rattle.ftp_session.specs.declared.model.Played.{Played}
-use Rattle.ftp_session.specs.declared.model.Played.TheVariants.{Done, Pending}
+use Rattle.ftp_session.specs.declared.model.Played.TheVariants.{Done}
 use Rattle.ftp_session.specs.State.{SessionValue}
 use Rattle.ftp_session.specs.Coding.{Coding}
 use Rattle.ftp_session.specs.Exchanges.{exchange_of, statuses}
-use Rattle.ftp_session.specs.Dialogue.{Tree, Say, Hear, Leaf, saying, awaiting, concluded, accepted, exchanging, later, dialogue}
+use Rattle.ftp_session.specs.Dialogue.{Tree, Say, Leaf, saying, awaiting, concluded, accepted, exchanging, later, dialogue}
 use Rattle.ftp_session.specs.Play.{play, heard_then}
 use Rattle.ftp_session.specs.Promises.{standing, Completes, IsSuccess, Says, Exchanged, ExchangedIf, Succeeds, Wired, goes_on_with}
 use Rattle.ftp_session.proofs.Moving.{play-Say, play-Leaf, play-Refused}

@@ -5,9 +5,7 @@ use Rattle.futures.specs.declared.task.Poll.{Poll}
 use Rattle.futures.specs.declared.task.Poll.TheVariants.{Ready, Pending}
 use Rattle.ftp_base.specs.declared.types.fault.FtpError.{FtpError}
 use Rattle.ftp_base.specs.declared.types.fault.FtpError.TheVariants.{SessionFailed}
-use Rattle.ftp_control.specs.declared.transport.room.Room.{Room}
-use Rattle.ftp_control.specs.Told.{HasRoomFor, EndsAsTold}
-use Rattle.ftp_control.specs.Reading.{GoesOn}
+use Rattle.ftp_control.specs.Told.{EndsAsTold}
 use Rattle.ftp_control.specs.declared.control.outcome.Outcome.TheVariants.{Waits}
 use Rattle.ftp_control.specs.Grammar.{outcome}
 use Rattle.ftp_control.specs.Memory.{IsGiven}
@@ -23,9 +21,9 @@ use Rattle.ftp_session.specs.declared.session.stage.Stage.TheVariants.{At}
 use Rattle.ftp_session.specs.State.{SessionValue}
 use Rattle.ftp_session.specs.Coding.{Coding}
 use Rattle.ftp_session.specs.Exchanges.{is_read}
-use Rattle.ftp_session.specs.Run.{run, Resumes}
+use Rattle.ftp_session.specs.Run.{Resumes}
 use Rattle.ftp_session.specs.Scripted.{IsFrontOf, Stands, SaysOrTakes, Reaches}
-use Rattle.ftp_session.specs.Promises.{standing, before_all, AllRefused, Aborts, Rests}
+use Rattle.ftp_session.specs.Promises.{AllRefused, Aborts, Rests}
 use Rattle.ftp_session.specs.Steps.Stages.{remaining, begun_at, StageOf}
 use Rattle.ftp_session.specs.Steps.Moving.{HasBegun, PollSteps}
 use Rattle.ftp_session.specs.declared.model.Script.{Script}

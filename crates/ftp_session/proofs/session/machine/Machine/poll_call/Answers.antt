@@ -1,5 +1,5 @@
-use Rattle.std.proofs.Common.{◌∙◌, inl}
-use Rattle.ftp_session.proofs.Transitions.{nothing_so_far, next_step, last_step, waits_step, rests_from, begun_on, end_on}
+use Rattle.std.proofs.Common.{inl}
+use Rattle.ftp_session.proofs.Transitions.{nothing_so_far, next_step, last_step, waits_step, begun_on, end_on}
 use Rattle.ftp_session.proofs.session.machine.Machine.poll_call.Goals as goal
 
 pub loop-answer-init : goal.loop-answer-init

@@ -1,4 +1,3 @@
-use Rattle.std.proofs.Common.{refl}
 use Rattle.ftp_session.specs.Steps.Stages.{awaited, begun_at}
 use Rattle.ftp_session.specs.declared.session.stage.Stage.TheVariants.{Saying}
 use Rattle.ftp_session.proofs.Stages.{line_begins, line_gone}
