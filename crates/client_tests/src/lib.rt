@@ -3,7 +3,6 @@
 
 #[cfg(test)]
 mod channel;
-pub mod first_use;
 #[cfg(test)]
 mod grammar;
 #[cfg(test)]

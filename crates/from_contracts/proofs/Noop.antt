@@ -1,5 +1,5 @@
 -- A greeting and a NOOP, from contracts alone.
-use Rattle.std.proofs.Common.{◌≡◌, ◌⊎◌, ℕ, Bool, false, List, [], ◌∷◌, ◌++◌, Ok, inl, inr, refl, ap, sym, ◌∙◌, subst}
+use Rattle.std.proofs.Common.{length, ◌≡◌, ◌⊎◌, ℕ, Bool, false, List, [], ◌∷◌, ◌++◌, Ok, inl, inr, refl, ap, sym, ◌∙◌, subst}
 use Rattle.std.specs.declared.io.ErrorKind.{ErrorKind}
 use Rattle.std.specs.declared.io.ErrorKind.TheVariants as kinds
 use Rattle.ftp_base.specs.declared.types.fault.FtpError.{FtpError}
@@ -12,6 +12,8 @@ use Rattle.ftp_control.specs.declared.transport.room.Room.TheVariants.{Any}
 use Rattle.ftp_control.specs.declared.transport.request.Request.{Request}
 use Rattle.ftp_control.specs.declared.transport.request.RequestOutcome.{RequestOutcome}
 use Rattle.ftp_control.specs.Asking.{outcomes_of}
+use Rattle.ftp_control.specs.Told.{IsFull, HasNoRoom}
+use Rattle.ftp_control.specs.declared.transport.room.Room.{Room}
 use Rattle.ftp_control.specs.Memory.{IsGiven, fresh_memory, fed}
 use Rattle.ftp_control.specs.Channel.{IsSound, untaken}
 use Rattle.ftp_control.specs.Reading.{GoesOn}
@@ -28,10 +30,10 @@ use Rattle.ftp_session.specs.Link.{Link}
 use Rattle.ftp_session.specs.Coding.{Coding}
 use Rattle.ftp_session.specs.Calls.{Begins}
 use Rattle.ftp_session.specs.State.{SessionValue}
-use Rattle.ftp_session.specs.Dialogue.{dialogue}
+use Rattle.ftp_session.specs.Dialogue.{Tree, Say, Hear, Ask, Leaf, dialogue}
 use Rattle.ftp_session.specs.Play.{play}
 use Rattle.ftp_session.specs.Run.{run, OneView}
-use Rattle.ftp_session.specs.Promises.{standing, Runs, RunsTo, RunAborts, Fails, LacksMemory}
+use Rattle.ftp_session.specs.Promises.{standing, Runs, RunsTo, RunAborts, Fails, LacksMemory, MayFailAt}
 use Rattle.ftp_session.proofs.Running.{nothing_views}
 use Rattle.from_contracts.specs.Aborted.{MayAbort, WasAborted}
 
@@ -45,7 +47,7 @@ as_it_is decode = record { decode = decode; encode = λ text. Ok text }
 
 -- a blocking connection over memory
 abbrev pub over_memory : Link
-over_memory = record { tells = Unit {0}; reads = λ kind. ⊥; writes = λ kind. (kind ≡ kinds.OutOfMemory) ⊎ (kind ≡ kinds.WouldBlock) }
+over_memory = record { tells = Unit {0}; reads = λ kind. ⊥; writes = λ told kind. (kind ≡ kinds.OutOfMemory) ⊎ ((kind ≡ kinds.WouldBlock) × IsFull told) }
 
 abbrev answers_of : Ran → List Answer
 answers_of (Finished answers s) = answers
@@ -101,16 +103,26 @@ module _ (decode : List ℕ → List ℕ) (old new : SessionValue) (answers : Li
     cause = let same : broke.fault ≡ broke.aborts.fault = cc broke.aborts.is in (let P : FtpError → Type 0 = MayAbort in subst P (sym same) (may broke.aborts.cause));
   }
     where
-      kinds_may : {kind : ErrorKind} → broke.aborts.fault ≡ ConnectionError (Io kind) → (kind ≡ kinds.OutOfMemory) ⊎ (kind ≡ kinds.WouldBlock) → MayAbort broke.aborts.fault
-      kinds_may is (inl memory) = inr (inl (is ∙ ap (λ k. ConnectionError (Io k)) memory))
-      kinds_may is (inr room) = inr (inr (is ∙ ap (λ k. ConnectionError (Io k)) room))
+      -- there is room for any number of bytes
+      room : broke.aborts.at.channel.told.given.room ≡ Any
+      room =
+          let same : broke.aborts.at.channel.told.given ≡ old.channel.told.given = broke.aborts.leads.goes.given tt ∙ broke.ran.goes.given tt in
+          ap (λ g. g.room) same ∙ ap (λ t. t.given.room) (begins.told tt)
 
-      may : Fails over_memory broke.aborts.fault broke.aborts.at broke.after ⊎ LacksMemory over_memory false (dialogue (as_it_is decode) broke.call broke.middle.state) broke.aborts.leads.came broke.aborts.fault broke.middle broke.aborts.at broke.after → MayAbort broke.aborts.fault
-      may (inl fails) = written fails.is fails.may
-        where
-          written : {kind : ErrorKind} → broke.aborts.fault ≡ ConnectionError (Io kind) → ⊥ ⊎ ((kind ≡ kinds.OutOfMemory) ⊎ (kind ≡ kinds.WouldBlock)) → MayAbort broke.aborts.fault
-          written is (inl read) = absurd read
-          written is (inr write) = kinds_may is write
+      written : {kind : ErrorKind} → broke.aborts.fault ≡ ConnectionError (Io kind) → (kind ≡ kinds.OutOfMemory) ⊎ ((kind ≡ kinds.WouldBlock) × IsFull broke.aborts.at.channel.told) → MayAbort broke.aborts.fault
+      written is (inl memory) = inr (is ∙ ap (λ k. ConnectionError (Io k)) memory)
+      written is (inr full) =
+          let P : Room → Type 0 = λ r. HasNoRoom r (length broke.aborts.at.channel.told.sent) in
+          absurd (subst P room full.1)
+
+      failed_at : {kind : ErrorKind} (place : Tree) → broke.aborts.fault ≡ ConnectionError (Io kind) → MayFailAt over_memory place broke.aborts.at.channel.told kind → MayAbort broke.aborts.fault
+      failed_at (Say line next) is may = written is (may tt)
+      failed_at (Hear codes next) is may = absurd may
+      failed_at (Ask request next) is may = absurd may
+      failed_at (Leaf answer state) is may = absurd may
+
+      may : Fails over_memory broke.aborts.place broke.aborts.fault broke.aborts.at broke.after ⊎ LacksMemory over_memory false (dialogue (as_it_is decode) broke.call broke.middle.state) broke.aborts.leads.came broke.aborts.fault broke.middle broke.aborts.at broke.after → MayAbort broke.aborts.fault
+      may (inl fails) = failed_at broke.aborts.place fails.is fails.may
       may (inr lacks) = inl lacks.is
 
   -- both calls succeed, or one was aborted

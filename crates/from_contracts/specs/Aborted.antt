@@ -7,10 +7,9 @@ use Rattle.ftp_base.specs.declared.types.fault.ConnectionError.TheVariants.{Io}
 use Rattle.ftp_session.specs.declared.session.call.Answer.{Answer}
 use Rattle.ftp_session.specs.declared.session.call.Answer.TheVariants.{Fault}
 
--- memory ran out, or a write to memory failed, for want of memory or of room
+-- memory ran out, in the session or in a write to its connection
 abbrev pub MayAbort : FtpError → Type 0
-MayAbort fault =
-    (fault ≡ OutOfMemory) ⊎ (fault ≡ ConnectionError (Io kinds.OutOfMemory)) ⊎ (fault ≡ ConnectionError (Io kinds.WouldBlock))
+MayAbort fault = (fault ≡ OutOfMemory) ⊎ (fault ≡ ConnectionError (Io kinds.OutOfMemory))
 
 -- some call was aborted, and for no other cause
 pub record WasAborted (answers : List Answer) : Type 0 where

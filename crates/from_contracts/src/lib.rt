@@ -10,7 +10,7 @@ use ftp_session::session::{Answer, Call, Session};
 use std::alloc::Global;
 
 /// A server's bytes are fed, a session is made on their connection, and it reads the greeting and says `NOOP`: both
-/// calls succeed, or one was aborted.
+/// calls succeed, or memory ran out.
 pub fn greeting_and_noop(alloc: Global) -> FtpResult<Vec<Answer>>
     ensures { IfOk result (λ answers. (answers.items ≡ Answer.Unit ∷ Answer.Unit ∷ []) ⊎
         WasAborted answers.items) }

@@ -15,6 +15,7 @@ use Rattle.ftp_control.specs.declared.control.broken.Broken.{Broken}
 use Rattle.ftp_control.specs.declared.control.broken.Broken.TheVariants.{Connection, OutOfMemory}
 use Rattle.ftp_control.specs.declared.control.outcome.Outcome.{Outcome}
 use Rattle.ftp_control.specs.declared.control.outcome.Outcome.TheVariants.{Whole, Bad, TooLarge, Ended, Waits}
+use Rattle.ftp_control.specs.Memory.{IsGiven}
 use Rattle.ftp_control.specs.Reading.{MayBreak}
 use Rattle.ftp_control.specs.Channel.{Channel, ReadsReply}
 
@@ -41,4 +42,5 @@ pub record AnswersRead (tells : Type 0) (faults : ErrorKind → Type 0) (expecte
   pub result : Result Outcome Broken
   pub reads : ReadsReply tells (is_among expected System) old new result
   pub fault : MayBreak faults result
+  pub given : tells → IsGiven old.told → IsGiven new.told
   pub is : answer ≡ answer_of expected result

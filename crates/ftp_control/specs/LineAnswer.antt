@@ -10,6 +10,7 @@ use Rattle.ftp_control.specs.declared.control.broken.Broken.TheVariants.{Connect
 use Rattle.ftp_control.specs.declared.control.outcome.Outcome.{Outcome}
 use Rattle.ftp_control.specs.declared.control.outcome.Outcome.TheVariants.{Whole, Bad, TooLarge, Ended, Waits}
 use Rattle.std.specs.declared.io.ErrorKind.{ErrorKind}
+use Rattle.ftp_control.specs.Memory.{IsGiven}
 use Rattle.ftp_control.specs.Reading.{MayBreak}
 use Rattle.ftp_control.specs.Channel.{Channel, ReadsLine}
 
@@ -28,4 +29,5 @@ pub record AnswersLine (tells : Type 0) (faults : ErrorKind → Type 0) (old new
   pub result : Result Outcome Broken
   pub reads : ReadsLine tells old new result
   pub fault : MayBreak faults result
+  pub given : tells → IsGiven old.told → IsGiven new.told
   pub is : answer ≡ line_answer result

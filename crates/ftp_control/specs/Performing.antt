@@ -4,12 +4,13 @@ use Rattle.std.specs.declared.io.ErrorKind.{ErrorKind}
 use Rattle.futures.specs.declared.task.Poll.TheVariants.{Ready}
 use Rattle.ftp_base.specs.declared.types.fault.FtpError.{FtpError}
 use Rattle.ftp_base.specs.declared.types.fault.ConnectionError.{ConnectionError as Cause}
+use Rattle.ftp_control.specs.Told.{Told}
 use Rattle.ftp_control.specs.Channel.{Channel}
 use Rattle.ftp_control.specs.Refusal.{IsRefusalOf}
 use Rattle.ftp_control.specs.Saying.{SaysLine}
 
 -- the wire line goes out
-pub record SendsLine (tells : Type 0) (faults : ErrorKind → Type 0) (wire : Result (List ℕ) Cause) (old new : Channel) (result : Result (Unit {0}) FtpError) : Type 0 where
+pub record SendsLine (tells : Type 0) (faults : Told → ErrorKind → Type 0) (wire : Result (List ℕ) Cause) (old new : Channel) (result : Result (Unit {0}) FtpError) : Type 0 where
   pub line : List ℕ
   pub is_wire : wire ≡ Ok line
   pub line' : Option (List ℕ)
@@ -22,5 +23,5 @@ pub record RefusesLine (wire : Result (List ℕ) Cause) (old new : Channel) (res
   pub cause : IsRefusalOf wire fault
   pub unchanged : new ≡ old
 
-abbrev pub Performs : Type 0 → (ErrorKind → Type 0) → Result (List ℕ) Cause → Channel → Channel → Result (Unit {0}) FtpError → Type 0
+abbrev pub Performs : Type 0 → (Told → ErrorKind → Type 0) → Result (List ℕ) Cause → Channel → Channel → Result (Unit {0}) FtpError → Type 0
 Performs tells faults wire old new result = SendsLine tells faults wire old new result ⊎ RefusesLine wire old new result

@@ -78,6 +78,10 @@ pub record HasFailed (kind : ErrorKind) (t u : Told) : Type 0 where
   pub same : u ≡ record t { failures = u.failures; last_fault = u.last_fault }
   pub counts : HasCounted kind t u
 
+-- the record as it was before a failure
+abbrev pub before_fault : Told → Told → Told
+before_fault t u = record u { failures = t.failures; last_fault = t.last_fault }
+
 -- no call failed
 pub record NoneFailed (t u : Told) : Type 0 where
   pub failures : u.failures ≡ t.failures

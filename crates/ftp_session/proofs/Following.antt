@@ -22,7 +22,7 @@ use Rattle.ftp_control.specs.Asking.{outcomes_of}
 use Rattle.ftp_control.specs.Told.{Told, HasRoomFor, HasNoRoom, IsDry, IsFull, EndsAsTold}
 use Rattle.ftp_control.specs.Memory.{IsGiven}
 use Rattle.ftp_control.specs.Reading.{GoesOn}
-use Rattle.ftp_control.specs.Channel.{IsSound, untaken}
+use Rattle.ftp_control.specs.Channel.{Channel, IsSound, untaken}
 use Rattle.ftp_control.specs.Saying.{said}
 use Rattle.ftp_control.specs.declared.control.outcome.Outcome.TheVariants.{Waits}
 use Rattle.ftp_control.specs.Grammar.{outcome}
@@ -48,9 +48,9 @@ use Rattle.ftp_session.specs.Play.{play, fits, heard_then}
 use Rattle.ftp_session.specs.Run.{run, and_then, Resumes, Silent}
 use Rattle.ftp_session.specs.Promises.{standing, before_all, Goes, Leads, Rests, Aborts, Touched}
 use Rattle.ftp_session.specs.Script.{unread, is_over, start_of, front, seen_in, seen_at, system_at, hears_system, polled_as, poll_script, MayCancel, MayPoll}
-use Rattle.ftp_session.specs.Scripted.{IsFrontOf, Stands, SaysOrTakes, CallHasBegun, Reaches, LeftOf}
+use Rattle.ftp_session.specs.Scripted.{SaysFrontOf, SaysNothing, Stands, SaysOrTakes, CallHasBegun, Reaches, LeftOf}
 use Rattle.ftp_session.specs.Steps.Stages.{remaining, begun_at}
-use Rattle.ftp_session.specs.Steps.Moving.{HasBegun, Keeps, Shrinks, Calm, Advances, Ends, PollSteps, WaitsFor}
+use Rattle.ftp_session.specs.Steps.Moving.{HasBegun, NothingTouched, Keeps, Shrinks, Calm, Advances, Ends, PollSteps, WaitsFor}
 use Rattle.ftp_session.specs.Steps.Following.{Since, UnderWay, Place, Follows, PollsHere, AbortsCall}
 use Rattle.ftp_session.proofs.Moving.{goes_after, fitted, play-Say}
 use Rattle.ftp_session.proofs.Hearing.{play-Hear, nothing_says}
@@ -164,6 +164,7 @@ full_room (UpTo most) sent unsent line fit full some =
 -- what a poll leaves of a connection
 pub record Carried (v w : SessionValue) (came : List ℕ) : Type 0 where
   pub rule : w.channel.rule ≡ v.channel.rule
+  pub received : w.channel.told.received ≡ v.channel.told.received ++ came
   pub failures : w.channel.told.failures ≡ v.channel.told.failures
   pub split : unread v.channel.told ≡ came ++ unread w.channel.told
   pub given : w.channel.told.given ≡ v.channel.told.given
@@ -174,6 +175,7 @@ pub record Carried (v w : SessionValue) (came : List ℕ) : Type 0 where
 pub carried : (v w : SessionValue) (came : List ℕ) (answered : List Asked) → Goes over_memory came answered v w → IsSound (Unit {0}) v.channel → EndsAsTold v.channel.ended w.channel.ended v.channel.told → IsGiven w.channel.told → IsSound (Unit {0}) w.channel → Carried v w came
 carried v w came answered goes sound end given sound' = record {
   rule = goes.rule;
+  received = goes.received tt;
   failures = (goes.failures tt).failures;
   split = unread_split v.channel.told w.channel.told came given (goes.given tt) (goes.received tt);
   given = goes.given tt;
@@ -193,8 +195,11 @@ PollFollows coding old s v w call stage stage' answers (Ready answer) =
 PollFollows coding old s v w call stage stage' answers Pending = Follows coding old (poll_script coding (start_of old) (Some call) s) w (Some call) stage' answers
 
 -- what went out and is unsent begins what is said with the next line
-line_front : (sent unsent line : List ℕ) → IsFrontOf (sent ++ unsent) ((sent ++ unsent ++ line) ++ [])
-line_front sent unsent line = record { rest = line; is = append-nil (sent ++ unsent ++ line) }
+line_front : (c : Channel) (line : List ℕ) → (c.unsent ≡ [] → ⊥) → SaysFrontOf c ((c.told.sent ++ c.unsent ++ line) ++ [])
+line_front c line some = record { rest = line; is = append-nil (c.told.sent ++ c.unsent ++ line); whole = inr some }
+
+all_said : (c : Channel) → SaysFrontOf c (said c)
+all_said c = record { rest = []; is = sym (append-nil (said c)); whole = inl refl }
 
 module _ (coding : Coding) where
   -- Runs
@@ -273,6 +278,9 @@ module _ (coding : Coding) where
     fits_here : HasRoomFor s.room (length w.channel.told.sent)
     fits_here = let P : Room → Type 0 = λ room. HasRoomFor room (length w.channel.told.sent) in subst P (sym (f.room ∙ ap (λ g. g.room) (sym c.given))) (c.sound.fits tt)
 
+    all_received : w.channel.told.received ≡ old.channel.told.received ++ (f.came ++ came)
+    all_received = c.received ∙ ap (λ x. x ++ came) f.received ∙ append_assoc old.channel.told.received f.came came
+
     over_is : s.ended ≡ is_over w.channel.told
     over_is = f.ended ∙ sym c.over
 
@@ -308,7 +316,8 @@ module _ (coding : Coding) where
           ended = over_is;
           room = f.room ∙ ap (λ g. g.room) (sym c.given);
           sent = front_fits s.room w.channel.told.sent fits_here;
-          said = record { rest = []; is = sym (append-nil (said w.channel)) };
+          said = all_said w.channel;
+          received = all_received;
           unsent = λ may. refl;
           untaken = refl;
           seen = seen_kept P s v w came f.seen f.untaken c.split shrinks keeps;
@@ -321,7 +330,7 @@ module _ (coding : Coding) where
         subst Q (sym ran) follows
 
     -- the call waits
-    wait_on : (tree : Tree) (stage' : Stage) (wait : Wait) (t : Standing) → Reaches coding old s.items (f.came ++ came) w s.answers call tree → play s.room tree here ≡ played.Pending wait t → front s.room t.said ≡ w.channel.told.sent → IsFrontOf (said w.channel) (t.said ++ t.unsent) → t.bytes ≡ untaken w.channel ++ unread w.channel.told → seen_at wait s t.bytes ≡ length w.channel.kept → outcome w.channel.rule (system_at wait s) w.channel.kept false ≡ Waits → t.state ≡ w.state → t.failed ≡ w.channel.failed → (MayCancel (Some call) true → s.unsent ≡ w.channel.unsent) → Place coding old (polled_as (Waiting s.answers wait t) call s) (f.came ++ came) w (Some call) stage' → Follows coding old (poll_script coding (start_of old) (Some call) s) w (Some call) stage' answers
+    wait_on : (tree : Tree) (stage' : Stage) (wait : Wait) (t : Standing) → Reaches coding old s.items (f.came ++ came) w s.answers call tree → play s.room tree here ≡ played.Pending wait t → front s.room t.said ≡ w.channel.told.sent → SaysFrontOf w.channel (t.said ++ t.unsent) → t.bytes ≡ untaken w.channel ++ unread w.channel.told → seen_at wait s t.bytes ≡ length w.channel.kept → outcome w.channel.rule (system_at wait s) w.channel.kept false ≡ Waits → t.state ≡ w.state → t.failed ≡ w.channel.failed → (MayCancel (Some call) true → s.unsent ≡ w.channel.unsent) → Place coding old (polled_as (Waiting s.answers wait t) call s) (f.came ++ came) w (Some call) stage' → Follows coding old (poll_script coding (start_of old) (Some call) s) w (Some call) stage' answers
     wait_on tree stage' wait t reaches waits sent begins bytes seen says_nothing state failed unsent place =
         let next : Standing → Ran = λ u. run s.room coding [] u in
         let ran : run s.room coding (s.items ++ call ∷ []) (record (start_of old) { bytes = s.bytes; ended = s.ended }) ≡ Waiting s.answers wait t =
@@ -343,6 +352,7 @@ module _ (coding : Coding) where
           room = f.room ∙ ap (λ g. g.room) (sym c.given);
           sent = sent;
           said = begins;
+          received = all_received;
           unsent = unsent;
           untaken = bytes;
           seen = seen;
@@ -391,6 +401,7 @@ module _ (coding : Coding) where
     said = omega arith;
     taken = omega arith;
     has_begun = λ has. let clash : false ≡ true = has in cc;
+    not_begun = λ none. (refl, sym (append-nil (untaken v.channel)));
   }
 
   since_on : (old : SessionValue) (items : List Call) (answers : List Answer) (came : List ℕ) (v w : SessionValue) (begun begun' : Bool) (tree : Tree) (since : Since coding old items answers came v begun) → Resumes v.channel.rule v.channel.kept tree → (more : List ℕ) (answered : List Asked) → Goes over_memory more answered v w → HasBegun over_memory begun begun' tree v w → Since coding old items answers (came ++ more) w begun'
@@ -402,9 +413,17 @@ module _ (coding : Coding) where
     stands = since.stands;
     said = omega (arith, since.said, goes.said tt);
     taken = omega (arith, since.taken, goes.untaken, length-append came more);
-    has_begun = λ has. go (here has);
+    has_begun = λ has. go (here.0 has);
+    not_begun = λ none. back (here.1 none);
   }
     where
+      back : (begun ≡ false) × NothingTouched over_memory v w → SaysNothing (since.later ++ more) since.start w
+      back none =
+          let first = since.not_begun none.0 in
+          let here = none.1 tt in
+          let same : here.0 ≡ more = append_cancel_left v.channel.told.received here.0 more (sym here.1 ∙ goes.received tt) in
+          (here.2 ∙ first.0, here.3 ∙ ap (λ x. x ++ here.0) first.1 ∙ append_assoc (untaken since.start.channel) since.later here.0 ∙ ap (λ x. untaken since.start.channel ++ (since.later ++ x)) same)
+
       before_this : SaysOrTakes since.before came since.start v → SaysOrTakes since.before (came ++ more) since.start w
       before_this (inl said_more) = inl (omega (arith, said_more, goes.said tt))
       before_this (inr taken_more) = inr (omega (arith, taken_more, goes.untaken, length-append came more))
@@ -469,7 +488,7 @@ module _ (coding : Coding) where
             let calm = moves.calm (subst C (sym says.is) tt) in
             let seen = seen_kept (Calm (remaining coding call v.state stage)) s v w moves.leads.came f.seen f.untaken c.split moves.shrinks calm in
             let says_nothing = waits_kept (Calm (remaining coding call v.state stage)) s v w moves.leads.came c.rule f.waits calm in
-            wait_on old s v w call stage answers f moves.leads.came c (Say (Ok says.line) says.next) stage' wait.Room t (subst P says.is reaches') stuck.0 stuck.1 (line_front w.channel.told.sent w.channel.unsent says.line) refl seen says_nothing refl refl unsent' (inr (under_way t wait.Room))
+            wait_on old s v w call stage answers f moves.leads.came c (Say (Ok says.line) says.next) stage' wait.Room t (subst P says.is reaches') stuck.0 stuck.1 (line_front w.channel says.line says.some) refl seen says_nothing refl refl unsent' (inr (under_way t wait.Room))
         go (inr hears) =
             let moves = advances.moves in
             let P : Tree → Type 0 = λ x. Reaches coding old s.items (f.came ++ moves.leads.came) w s.answers call x in
@@ -480,7 +499,7 @@ module _ (coding : Coding) where
             let seen : length (untaken w.channel ++ unread w.channel.told) ≡ length w.channel.kept = ap length (all_read old s v w call stage answers f moves.leads.came c hears.none_ahead (hears.dry tt)) in
             let sent = front_fits s.room w.channel.told.sent (fits_here old s v w call stage answers f moves.leads.came c) in
             let b : Wait = wait.Bytes (is_among hears.codes System) in
-            wait_on old s v w call stage answers f moves.leads.came c (Hear hears.codes hears.next) stage' b t (subst P hears.is reaches') stuck sent (record { rest = []; is = sym (append-nil (said w.channel)) }) refl seen resumed refl refl unsent' (inr (under_way t b))
+            wait_on old s v w call stage answers f moves.leads.came c (Hear hears.codes hears.next) stage' b t (subst P hears.is reaches') stuck sent (all_said w.channel) refl seen resumed refl refl unsent' (inr (under_way t b))
 
     -- a poll that completes the call
     completed : (stage' : Stage) (answer : Answer) (ends : Ends over_memory (remaining coding call v.state stage) answer v w) → Carried v w ends.completes.came → Follows coding old (poll_script coding (start_of old) (Some call) s) w None stage' (answers ++ answer ∷ [])
@@ -492,7 +511,7 @@ module _ (coding : Coding) where
   -- a session that has failed refuses the call
   refused_poll : (old : SessionValue) (s : Script) (v : SessionValue) (call : Call) (stage stage' : Stage) (answers : List Answer) (f : Follows coding old s v (Some call) stage answers) → v.channel.failed ≡ true → Stands coding old s.items f.came v s.answers → Follows coding old (poll_script coding (start_of old) (Some call) s) v None stage' (answers ++ Fault SessionFailed ∷ [])
   refused_poll old s v call stage stage' answers f failed stands =
-      finish old s v v call stage answers f [] (record { rule = refl; failures = refl; split = refl; given = refl; over = refl; has = f.given; sound = f.sound }) (Unit {0}) stage' (Fault SessionFailed)
+      finish old s v v call stage answers f [] (record { rule = refl; received = sym (append-nil v.channel.told.received); failures = refl; split = refl; given = refl; over = refl; has = f.given; sound = f.sound }) (Unit {0}) stage' (Fault SessionFailed)
       (stands_refused old v s.items f.came s.answers call failed stands)
       (omega arith)
       (inr (refl, refl, refl, tt))
@@ -567,7 +586,7 @@ module _ (coding : Coding) where
     came = f.came;
     bytes = f.bytes;
     reaches = reaches f.place;
-    has_begun = begun f.place;
+    since = since f.place;
   }
     where
       reaches : Place coding old s f.came v (Some call) stage → Reaches coding old s.items f.came v s.answers call (remaining coding call v.state stage)
@@ -576,6 +595,14 @@ module _ (coding : Coding) where
           subst P (sym started.at) (stands_reaches old v s.items f.came s.answers call going started.stands)
       reaches (inr u) = u.reaches
 
-      begun : Place coding old s f.came v (Some call) stage → begun_at stage ≡ true → CallHasBegun coding old s f.came v
-      begun (inl started) has = let clash : false ≡ true = sym (ap begun_at started.at) ∙ has in cc
-      begun (inr u) has = record { start = u.since.start; before = u.since.before; later = u.since.later; split = u.since.split; stands = u.since.stands; begun = u.since.has_begun has }
+      since : Place coding old s f.came v (Some call) stage → CallHasBegun coding old s f.came v (begun_at stage)
+      since (inl started) = record {
+        start = v;
+        before = f.came;
+        later = [];
+        split = sym (append-nil f.came);
+        stands = started.stands;
+        has_begun = λ has. let clash : false ≡ true = sym (ap begun_at started.at) ∙ has in cc;
+        not_begun = λ none. (refl, sym (append-nil (untaken v.channel)));
+      }
+      since (inr u) = record { start = u.since.start; before = u.since.before; later = u.since.later; split = u.since.split; stands = u.since.stands; has_begun = u.since.has_begun; not_begun = u.since.not_begun }

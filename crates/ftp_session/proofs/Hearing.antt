@@ -19,6 +19,7 @@ use Rattle.ftp_control.specs.declared.control.broken.Broken.TheVariants.{Connect
 use Rattle.ftp_control.specs.declared.control.outcome.Outcome.{Outcome}
 use Rattle.ftp_control.specs.declared.control.outcome.Outcome.TheVariants.{Whole, Bad, TooLarge, Ended, Waits}
 use Rattle.ftp_control.specs.Grammar.{outcome, left_by}
+use Rattle.ftp_control.specs.Memory.{IsGiven}
 use Rattle.ftp_control.specs.Told.{Told, IsDry, HasFailed, NoneFailed}
 use Rattle.ftp_control.specs.Reading.{GoesOn, HearTells, MayBreak, after_input}
 use Rattle.ftp_control.specs.Channel.{Channel, ReadsReply, fails_by}
@@ -66,8 +67,8 @@ module _ (link : Link) (state : State) (asked : List Asked) (t : Told) (kept ahe
   abbrev new : Told → Bool → SessionValue
   new u failed = record { channel = record { told = u; kept = kept'; ahead = ahead'; unsent = unsent; ended = ended; failed = failed; rule = rule }; state = state; asked = asked }
 
-  goes : (u : Told) (failed : Bool) (came : List ℕ) → GoesOn first came ended → length (kept' ++ ahead') ≤ length (kept ++ ahead) + length came → (link.tells → (u.received ≡ t.received ++ came) × (u.given ≡ t.given) × NoneFailed t u × (u.sent ≡ t.sent)) → Goes link came [] old (new u failed)
-  goes u failed came over fewer told = record {
+  goes : (u : Told) (failed : Bool) (came : List ℕ) → (link.tells → IsGiven t → IsGiven u) → GoesOn first came ended → length (kept' ++ ahead') ≤ length (kept ++ ahead) + length came → (link.tells → (u.received ≡ t.received ++ came) × (u.given ≡ t.given) × NoneFailed t u × (u.sent ≡ t.sent)) → Goes link came [] old (new u failed)
+  goes u failed came was over fewer told = record {
     over = over;
     received = λ h. (told h).0;
     given = λ h. (told h).1;
@@ -75,6 +76,7 @@ module _ (link : Link) (state : State) (asked : List Asked) (t : Told) (kept ahe
     sent = λ h. omega (arith, ap length (told h).3);
     said = λ h. omega (arith, ap length (ap (λ s. s ++ unsent) (told h).3));
     untaken = fewer;
+    at_hand = was;
     asked = λ h. sym (append-nil asked);
     rule = refl;
   }
@@ -89,7 +91,7 @@ module _ (link : Link) (state : State) (asked : List Asked) (t : Told) (kept ahe
   none_left : (came : List ℕ) → kept' ++ ahead' ≡ (kept ++ ahead) ++ came → length (kept' ++ ahead') ≤ length (kept ++ ahead) + length came
   none_left came all = omega (arith, ap length all, length-append (kept ++ ahead) came)
 
-  module _ (u : Told) (came : List ℕ) (over : GoesOn first came ended) where
+  module _ (u : Told) (came : List ℕ) (over : GoesOn first came ended) (was : link.tells → IsGiven t → IsGiven u) where
     -- no more is left than lay ahead and came
     fewer_left : kept' ≡ [] → length ahead' ≤ length ahead + length came → length (kept' ++ ahead') ≤ length (kept ++ ahead) + length came
     fewer_left none shrinks = omega (arith, shrinks, ap length (ap (λ k. k ++ ahead') none), length-append kept ahead)
@@ -100,7 +102,7 @@ module _ (link : Link) (state : State) (asked : List Asked) (t : Told) (kept ahe
       leads = record {
         came = came;
         answered = [];
-        goes = goes u failed came over (fewer_left none shrinks) (input_told u came told);
+        goes = goes u failed came was over (fewer_left none shrinks) (input_told u came told);
         plays = λ h resumes room more e outcomes fit on.
             let s : Standing = standing old (came ++ more) e outcomes in
             let k : Result Response FtpError → Standing → Played = λ a x. play room (next a) x in
@@ -133,7 +135,7 @@ module _ (link : Link) (state : State) (asked : List Asked) (t : Told) (kept ahe
     leads_on told all = record {
       came = came;
       answered = [];
-      goes = goes u false came over (none_left came all) told;
+      goes = goes u false came was over (none_left came all) told;
       plays = λ h resumes room more e outcomes fit on. ap (λ s. play room (Hear codes next) s) (stays_on told all h more e outcomes);
     }
 
@@ -154,7 +156,7 @@ module _ (link : Link) (state : State) (asked : List Asked) (t : Told) (kept ahe
             failed = refl;
           },
           inr (record { codes = codes; next = next; is = refl; unended = unended; none_ahead = none; dry = dry }),
-          record { came = came; goes = goes u false came over (none_left came all') told'; failed = refl; stays = stays_on told' all' },
+          record { came = came; goes = goes u false came was over (none_left came all') told'; failed = refl; stays = stays_on told' all' },
         )
 
     fails_off : (kind : ErrorKind) → link.reads kind → kept' ++ ahead' ≡ (kept ++ ahead) ++ came → (link.tells → HasFailed kind (after_input came ended t) u) → AbortsRead link codes next (fault.ConnectionError (connection.Io kind)) old (new u true)
@@ -164,23 +166,23 @@ module _ (link : Link) (state : State) (asked : List Asked) (t : Told) (kept ahe
         let same : link.tells → now ≡ after_input came ended t = λ h. ap F (told h).same in
         record {
           at = new now false;
-          leads = at_now now all same;
+          leads = at_now now (λ h is. let g = was h is in record { ahead = g.ahead; front = g.front; over = g.over }) all same;
           state = refl;
           going = refl;
           cause = inl (record {
             kind = kind;
             is = refl;
-            may = inl may;
+            may = may;
             same = refl;
             failed = λ h. record { same = refl; counts = (told h).counts };
           });
         }
       where
-        at_now : (v : Told) → kept' ++ ahead' ≡ (kept ++ ahead) ++ came → (link.tells → v ≡ after_input came ended t) → Leads link (Hear codes next) (Hear codes next) old (new v false)
-        at_now v all same = record {
+        at_now : (v : Told) → (link.tells → IsGiven t → IsGiven v) → kept' ++ ahead' ≡ (kept ++ ahead) ++ came → (link.tells → v ≡ after_input came ended t) → Leads link (Hear codes next) (Hear codes next) old (new v false)
+        at_now v at_hand all same = record {
           came = came;
           answered = [];
-          goes = goes v false came over (none_left came all) (input_told v came same);
+          goes = goes v false came at_hand over (none_left came all) (input_told v came same);
           plays = λ h resumes room more e outcomes fit on.
               let s : Standing = standing old (came ++ more) e outcomes in
               ap (λ x. play room (Hear codes next) x)
@@ -198,31 +200,31 @@ module _ (link : Link) (state : State) (asked : List Asked) (t : Told) (kept ahe
       cause = inr (refl, refl, record { said = λ h. ap (λ x. x.sent ++ unsent) (told h); untaken = all });
     }
 
-  hears : (u : Told) (result : Result Outcome Broken) → MayBreak link.reads result → ReadsReply link.tells (is_among codes System) old.channel (new u (fails_by result)).channel result → Hears link codes next old (new u (fails_by result)) (answer_of codes result)
-  hears u (Ok (Whole reply code)) may reads =
+  hears : (u : Told) (result : Result Outcome Broken) → MayBreak link.reads result → (link.tells → IsGiven t → IsGiven u) → ReadsReply link.tells (is_among codes System) old.channel (new u (fails_by result)).channel result → Hears link codes next old (new u (fails_by result)) (answer_of codes result)
+  hears u (Ok (Whole reply code)) may was reads =
       let told : link.tells → u ≡ after_input reads.came ended t = λ h. tells_input (Whole reply code) reads.came ended t u (reads.told h) in
       let answer : Response = record { status = status_of code; body = reply } in
-      let moves = settles u reads.came reads.over false (Whole reply code) (expected_reply codes answer) told reads.leaves.0 reads.past (λ s k. refl) reads.stays in
+      let moves = settles u reads.came reads.over was false (Whole reply code) (expected_reply codes answer) told reads.leaves.0 reads.past (λ s k. refl) reads.stays in
       let takes : Takes link (Hear codes next) old (new u false) = λ h resumes. omega (arith, reads.takes resumes, length-append (kept ++ ahead) reads.came, ap length (ap (λ x. x.received) (told h)), length-append t.received reads.came) in
       elim (is_among codes (status_of code)) as (λ among. Moves link (Hear codes next) (next (cond among (Ok answer) (Err (fault.UnexpectedResponse answer)))) old (new u false) → Hears link codes next old (new u false) (Ready (cond among (Ok answer) (Err (fault.UnexpectedResponse answer))))) [
         | true ↦ λ m. (record { moves = m; failed = refl }, takes)
         | false ↦ λ m. inl (m, λ e. let clash : fault.UnexpectedResponse answer ≡ fault.OutOfMemory = e in cc)
       ] moves
-  hears u (Ok (Bad line)) may reads =
+  hears u (Ok (Bad line)) may was reads =
       let told : link.tells → u ≡ after_input reads.came ended t = λ h. tells_input (Bad line) reads.came ended t u (reads.told h) in
-      inl (settles u reads.came reads.over false (Bad line) (Err fault.BadResponse) told reads.leaves.0 reads.past (λ s k. refl) reads.stays, λ e. let clash : fault.BadResponse ≡ fault.OutOfMemory = e in cc)
-  hears u (Ok TooLarge) may reads =
+      inl (settles u reads.came reads.over was false (Bad line) (Err fault.BadResponse) told reads.leaves.0 reads.past (λ s k. refl) reads.stays, λ e. let clash : fault.BadResponse ≡ fault.OutOfMemory = e in cc)
+  hears u (Ok TooLarge) may was reads =
       let told : link.tells → u ≡ after_input reads.came ended t = λ h. tells_input TooLarge reads.came ended t u (reads.told h) in
-      inl (settles u reads.came reads.over true TooLarge (Err (fault.ConnectionError connection.ReplyTooLarge)) told reads.leaves.0 reads.past (λ s k. refl) reads.stays, λ e. let clash : fault.ConnectionError connection.ReplyTooLarge ≡ fault.OutOfMemory = e in cc)
-  hears u (Ok Ended) may reads =
+      inl (settles u reads.came reads.over was true TooLarge (Err (fault.ConnectionError connection.ReplyTooLarge)) told reads.leaves.0 reads.past (λ s k. refl) reads.stays, λ e. let clash : fault.ConnectionError connection.ReplyTooLarge ≡ fault.OutOfMemory = e in cc)
+  hears u (Ok Ended) may was reads =
       let told : link.tells → u ≡ after_input reads.came ended t = λ h. tells_input Ended reads.came ended t u (reads.told h) in
-      inl (settles u reads.came reads.over true Ended (Err (fault.ConnectionError connection.UnexpectedEof)) told reads.leaves.0 reads.past (λ s k. refl) reads.stays, λ e. let clash : fault.ConnectionError connection.UnexpectedEof ≡ fault.OutOfMemory = e in cc)
-  hears u (Ok Waits) may reads =
+      inl (settles u reads.came reads.over was true Ended (Err (fault.ConnectionError connection.UnexpectedEof)) told reads.leaves.0 reads.past (λ s k. refl) reads.stays, λ e. let clash : fault.ConnectionError connection.UnexpectedEof ≡ fault.OutOfMemory = e in cc)
+  hears u (Ok Waits) may was reads =
       let told : link.tells → u ≡ after_input reads.came ended t = λ h. tells_input Waits reads.came ended t u (reads.told h) in
-      waits_on u reads.came reads.over told reads.leaves.0 reads.leaves.1 (reads.unended refl)
+      waits_on u reads.came reads.over was told reads.leaves.0 reads.leaves.1 (reads.unended refl)
       (λ r. rw (reads.leaves.0, ← reads.unended refl) (sym (reads.answer r))) (λ h. (reads.told h).1)
-  hears u (Err (Connection kind)) may reads = inr (fails_off u reads.came reads.over kind may reads.leaves reads.told)
-  hears u (Err OutOfMemory) may reads = inr (lacks_memory u reads.came reads.over reads.leaves reads.told)
+  hears u (Err (Connection kind)) may was reads = inr (fails_off u reads.came reads.over was kind may reads.leaves reads.told)
+  hears u (Err OutOfMemory) may was reads = inr (lacks_memory u reads.came reads.over was reads.leaves reads.told)
 
 -- a reply is heard
 pub reply_heard : (link : Link) (state : State) (asked : List Asked) (a b : Channel) (codes : List Status) (answer : Poll (Result Response FtpError)) → a.failed ≡ false → AnswersRead link.tells link.reads codes a b answer → (next : Result Response FtpError → Tree) → Hears link codes next (record { channel = a; state = state; asked = asked }) (record { channel = b; state = state; asked = asked }) answer
@@ -235,5 +237,5 @@ reply_heard link state asked a b codes answer going read next =
     let S : Bool → Type 0 = λ f. ReadsReply link.tells (is_among codes System) (record a { failed = f }) (N f) result → Hears link codes next (V (record a { failed = f })) (V (N f)) (answer_of codes result) in
     subst P (sym read.is)
     (subst Q (sym read.reads.same)
-    (subst S (sym going) (hears link state asked a.told a.kept a.ahead a.unsent a.ended a.rule codes next b.kept b.ahead b.ended b.told result read.fault))
+    (subst S (sym going) (hears link state asked a.told a.kept a.ahead a.unsent a.ended a.rule codes next b.kept b.ahead b.ended b.told result read.fault read.given))
     read.reads)

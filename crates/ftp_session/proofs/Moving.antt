@@ -1,6 +1,7 @@
 -- Lemmas on the steps of a dialogue.
 use Rattle.std.proofs.Common.{◌≡◌, ℕ, ◌+◌, ◌≤◌, Bool, true, false, List, [], ◌++◌, length, length-append, ◌<◌, Option, None, Result, Ok, Err, inl, inr, ◌⊎◌, refl, ap, sym, ◌∙◌, subst, append_assoc, append-nil, arith}
 use Rattle.std.proofs.lemmas.Bool.{le-leb}
+use Rattle.std.proofs.lemmas.List.{append_cancel_right}
 use Rattle.ftp_base.specs.declared.types.fault.FtpError.{FtpError}
 use Rattle.ftp_base.specs.declared.types.fault.FtpError.TheVariants.{ConnectionError, OutOfMemory}
 use Rattle.ftp_base.specs.declared.types.fault.ConnectionError.{ConnectionError as Cause}
@@ -12,6 +13,7 @@ use Rattle.ftp_control.specs.Asking.{outcomes_of}
 use Rattle.ftp_control.proofs.Asking.{outcomes-append}
 use Rattle.futures.specs.declared.task.Poll.{Poll}
 use Rattle.futures.specs.declared.task.Poll.TheVariants as poll
+use Rattle.ftp_control.specs.Memory.{IsGiven}
 use Rattle.ftp_control.specs.Told.{Told, HasRoomFor, NoneFailed}
 use Rattle.ftp_control.specs.Reading.{GoesOn}
 use Rattle.ftp_control.specs.Channel.{Channel, untaken}
@@ -26,8 +28,8 @@ use Rattle.ftp_session.specs.State.{SessionValue}
 use Rattle.ftp_session.specs.Dialogue.{Tree, Say, Leaf}
 use Rattle.ftp_session.specs.Play.{play, fits, said_then}
 use Rattle.ftp_session.specs.Run.{Resumes, Silent}
-use Rattle.ftp_session.specs.Promises.{standing, Goes, Leads, Fails, Touched, Untouched, LacksMemory, Aborts, failed_from}
-use Rattle.ftp_session.specs.Steps.Moving.{Keeps, Shrinks, Calm, Moves, Advances, Ends, WaitsFor, Steps, TakesLine, after_line, step_of}
+use Rattle.ftp_session.specs.Promises.{IsFault, standing, Rests, Goes, Leads, Fails, Touched, Untouched, LacksMemory, Aborts, failed_from}
+use Rattle.ftp_session.specs.Steps.Moving.{NothingTouched, Keeps, Shrinks, Calm, Moves, Advances, Ends, WaitsFor, Steps, TakesLine, after_line, step_of}
 use Rattle.ftp_session.specs.Link.{Link}
 
 pub play-Say : (room : Room) (line : List ℕ) (next : Tree) (s : Standing) → play room (Say (Ok line) next) s ≡ said_then room line s (λ t. play room next t)
@@ -61,6 +63,7 @@ nothing_goes link v = record {
   sent = λ h. omega arith;
   said = λ h. omega arith;
   untaken = omega arith;
+  at_hand = λ h is. is;
   asked = λ h. sym (append-nil v.asked);
   rule = refl;
 }
@@ -112,6 +115,7 @@ module _ (link : Link) (state : State) (asked : List Asked) (a : Channel) (told 
     sent = sends;
     said = grows;
     untaken = omega arith;
+    at_hand = λ h is. (let P : Told → Type 0 = IsGiven in subst P (sym (nothing h)) (record { ahead = is.ahead; front = is.front; over = is.over }));
     asked = λ h. sym (append-nil asked);
     rule = refl;
   }
@@ -195,7 +199,7 @@ said_aborts link state asked a told unsent failed line line' begun next fault go
       cause = inl (record {
         kind = says.leaves.kind;
         is = says.leaves.is;
-        may = inr says.leaves.may;
+        may = says.leaves.may;
         same = ap P says.leaves.failed;
         failed = λ h. record { same = refl; counts = says.leaves.counts h };
       });
@@ -206,6 +210,7 @@ pub line_taken : (link : Link) (state : State) (asked : List Asked) (a b : Chann
 line_taken link state asked a b line line' answer says = record {
   whole = says.whole;
   gone = gone answer says.leaves;
+  stays = λ same h. ([], ap (λ t. t.received) (says.hears_nothing h) ∙ sym (append-nil a.told.received), append_cancel_right (said b) (said a) (due line) (ap (λ l. said b ++ due l) (sym same) ∙ says.said h), (let F : Channel → List ℕ = untaken in ap F says.same ∙ sym (append-nil (untaken a))));
   begins = λ none. begins says.some none;
 }
   where
@@ -233,8 +238,8 @@ line_said link state asked a b line line' answer going says begun next =
 -- A dialogue ends
 
 -- a leaf was reached, and only the state changes
-pub leaf_ends : (link : Link) (tree : Tree) (answer : Answer) (old mid new : SessionValue) → Moves link tree (Leaf answer new.state) old mid → new.channel ≡ mid.channel → new.asked ≡ mid.asked → Ends link tree answer old new
-leaf_ends link tree answer old mid new moves channel asked =
+pub leaf_ends : (link : Link) (tree : Tree) (answer : Answer) (old mid new : SessionValue) → Moves link tree (Leaf answer new.state) old mid → (mid.channel.failed ≡ true → (old.channel.failed ≡ true) ⊎ IsFault answer) → new.channel ≡ mid.channel → new.asked ≡ mid.asked → Ends link tree answer old new
+leaf_ends link tree answer old mid new moves fails channel asked =
     let F : Channel → List Asked → SessionValue = λ c a. record { channel = c; state = new.state; asked = a } in
     let same : new ≡ record mid { state = new.state } = ap (λ c. F c new.asked) channel ∙ ap (λ a. F mid.channel a) asked in
     let P : SessionValue → Type 0 = λ v. Ends link tree answer old v in
@@ -242,10 +247,11 @@ leaf_ends link tree answer old mid new moves channel asked =
       completes = record {
         came = moves.leads.came;
         answered = moves.leads.answered;
-        goes = record { over = moves.leads.goes.over; received = moves.leads.goes.received; given = moves.leads.goes.given; failures = moves.leads.goes.failures; sent = moves.leads.goes.sent; said = moves.leads.goes.said; untaken = moves.leads.goes.untaken; asked = moves.leads.goes.asked; rule = moves.leads.goes.rule };
+        goes = record { over = moves.leads.goes.over; received = moves.leads.goes.received; given = moves.leads.goes.given; failures = moves.leads.goes.failures; sent = moves.leads.goes.sent; said = moves.leads.goes.said; untaken = moves.leads.goes.untaken; at_hand = moves.leads.goes.at_hand; asked = moves.leads.goes.asked; rule = moves.leads.goes.rule };
         plays = λ h resumes room more ended outcomes fit on.
             moves.leads.plays h resumes room more ended outcomes fit on ∙ play-Leaf room answer new.state (standing mid more ended outcomes);
       };
+      fails = fails;
       keeps = moves.keeps tt;
       calm = moves.calm tt;
       shrinks = moves.shrinks;
@@ -260,6 +266,7 @@ refused_line link cause next v = record {
     goes = nothing_goes link v;
     plays = λ h resumes room more ended outcomes fit on. play-Refused room cause next _;
   };
+  fails = λ f. inl f;
   keeps = inr (refl, refl, refl, tt);
   calm = inr (refl, refl, refl, tt);
   shrinks = nothing_shrinks (length v.channel.ahead);
@@ -310,6 +317,7 @@ joined_goes link one two asked more a b c first second = record {
   sent = λ h. omega (arith, first.sent h, second.sent h);
   said = λ h. omega (arith, first.said h, second.said h);
   untaken = omega (arith, first.untaken, second.untaken, length-append one two);
+  at_hand = λ h is. second.at_hand h (first.at_hand h is);
   asked = λ h. second.asked h ∙ ap (λ r. r ++ more) (first.asked h) ∙ append_assoc a.asked asked more;
   rule = second.rule ∙ first.rule;
 }
@@ -336,6 +344,24 @@ shrinks_after one two a b c first second = omega (arith, first, second, length-a
 pub fitted : (room : Room) (m n : ℕ) → m ≤ n → HasRoomFor room n → HasRoomFor room m
 fitted Any m n less fit = tt
 fitted (UpTo most) m n less fit = omega (arith, less, fit)
+
+-- nothing was said or taken in two steps
+pub untouched_after : (link : Link) (a b c : SessionValue) → NothingTouched link a b → NothingTouched link b c → NothingTouched link a c
+untouched_after link a b c first second = λ h.
+    let one = first h in
+    let two = second h in
+    (one.0 ++ two.0, two.1 ∙ ap (λ r. r ++ two.0) one.1 ∙ append_assoc a.channel.told.received one.0 two.0, two.2 ∙ one.2, two.3 ∙ ap (λ r. r ++ two.0) one.3 ∙ append_assoc (untaken a.channel) one.0 two.0)
+
+pub untouched : (link : Link) (v : SessionValue) → NothingTouched link v v
+untouched link v = λ h. ([], sym (append-nil v.channel.told.received), refl, sym (append-nil (untaken v.channel)))
+
+-- a read that waits takes nothing
+pub rests_untouched : (link : Link) (old new : SessionValue) → Rests link old new → NothingTouched link old new
+rests_untouched link old new rests = λ h.
+    let same = rests.stays h [] false [] in
+    let bytes : untaken old.channel ++ (rests.came ++ []) ≡ untaken new.channel ++ [] = ap (λ s. s.bytes) same in
+    let whole : untaken new.channel ≡ untaken old.channel ++ rests.came = sym (append-nil (untaken new.channel)) ∙ sym bytes ∙ ap (λ c. untaken old.channel ++ c) (append-nil rests.came) in
+    (rests.came, rests.goes.received h, sym (ap (λ s. s.said ++ s.unsent) same), whole)
 
 -- what was said or taken stays so
 pub touched_on : (link : Link) (tree : Tree) (a b c : SessionValue) (came : List ℕ) (answered : List Asked) → Goes link came answered b c → Touched link tree a b → Touched link tree a c
@@ -384,8 +410,9 @@ module _ (link : Link) (tree tree' : Tree) (a b c : SessionValue) (first : Moves
   }
 
   -- the answer after others
-  pub ends_on : (answer : Answer) → Ends link tree' answer b c → Ends link tree answer a c
-  ends_on answer second = record {
+  pub ends_on : (answer : Answer) → b.channel.failed ≡ a.channel.failed → Ends link tree' answer b c → Ends link tree answer a c
+  ends_on answer same second = record {
+    fails = λ f. failing (second.fails f);
     completes = record {
       came = first.leads.came ++ second.completes.came;
       answered = first.leads.answered ++ second.completes.answered;
@@ -398,6 +425,10 @@ module _ (link : Link) (tree tree' : Tree) (a b c : SessionValue) (first : Moves
     calm = keeps_after (Calm tree) (Calm tree') first.leads.came second.completes.came a b c first.calm second.calm;
     shrinks = shrinks_after first.leads.came second.completes.came a b c first.shrinks second.shrinks;
   }
+    where
+      failing : (b.channel.failed ≡ true) ⊎ IsFault answer → (a.channel.failed ≡ true) ⊎ IsFault answer
+      failing (inl was) = inl (sym same ∙ was)
+      failing (inr fault) = inr fault
 
   -- a dialogue that is aborted after it has begun
   pub aborts_on : (begun begun' : Bool) (answer : Answer) → (begun' ≡ true → (begun ≡ true) ⊎ Touched link tree a b) → begun' ≡ true → Aborts link begun' tree' answer b c → Aborts link begun tree answer a c
@@ -423,7 +454,7 @@ module _ (link : Link) (tree tree' : Tree) (a b c : SessionValue) (first : Moves
             ∙ second.leads.plays h (first.resumes resumes) room more ended outcomes fit on;
       }
 
-      go : Fails link second.fault second.at c ⊎ LacksMemory link begun' tree' second.leads.came second.fault b second.at c → Fails link second.fault second.at c ⊎ LacksMemory link begun tree leads_at.came second.fault a second.at c
+      go : Fails link second.place second.fault second.at c ⊎ LacksMemory link begun' tree' second.leads.came second.fault b second.at c → Fails link second.place second.fault second.at c ⊎ LacksMemory link begun tree leads_at.came second.fault a second.at c
       go (inl fails) = inl fails
       go (inr lacks) = inr (record { is = lacks.is; leaves = inr (lost lacks.leaves, begins (touched has)) })
         where

@@ -18,7 +18,7 @@ use Rattle.ftp_session.specs.declared.session.stage.Step.TheVariants.{Next}
 use Rattle.ftp_session.specs.Link.{Link}
 use Rattle.ftp_session.specs.State.{SessionValue}
 use Rattle.ftp_session.specs.Promises.{Touched}
-use Rattle.ftp_session.specs.Steps.Moving.{TakesLine, HasBegun}
+use Rattle.ftp_session.specs.Steps.Moving.{TakesLine, HasBegun, NothingTouched}
 
 and_false : (b : Bool) → b && false ≡ false
 and_false true = refl
@@ -87,8 +87,16 @@ module _ (link : Link) (line line' : Option (List ℕ)) (a : Awaits) (old new : 
 
   -- a line that waits for room
   pub line_begins : (tree : Tree) → HasBegun link (begun_at (Saying line a)) (begun_at (Saying line' a)) tree old new
-  line_begins tree has = go line' refl takes.whole has
+  line_begins tree = (λ has. go line' refl takes.whole has, λ none. back line' refl takes.whole none)
     where
+      back : (l : Option (List ℕ)) → line' ≡ l → (line' ≡ line) ⊎ (line' ≡ None) → begun_at (Saying line' a) ≡ false → (begun_at (Saying line a) ≡ false) × NothingTouched link old new
+      back None is whole none =
+          let P : Option (List ℕ) → Type 0 = λ x. begun_at (Saying x a) ≡ false in
+          let clash : true ≡ false = subst P is none in
+          cc
+      back (Some l) is (inl same) none = (let P : Option (List ℕ) → Type 0 = λ x. begun_at (Saying x a) ≡ false in subst P same none, takes.stays same)
+      back (Some l) is (inr gone) none = let clash : Some l ≡ None = sym is ∙ gone in cc
+
       go : (l : Option (List ℕ)) → line' ≡ l → (line' ≡ line) ⊎ (line' ≡ None) → begun_at (Saying line' a) ≡ true → (begun_at (Saying line a) ≡ true) ⊎ Touched link tree old new
       go None is whole has = taken_begins is tree
       go (Some l) is (inl same) has = inl (let P : Option (List ℕ) → Type 0 = λ x. begun_at (Saying x a) ≡ true in subst P same has)

@@ -1,5 +1,5 @@
 -- Lemmas on the machine's steps and polls.
-use Rattle.std.proofs.Common.{◌≡◌, ℕ, Bool, true, false, cond, Option, Some, None, List, [], Result, Ok, Err, inl, inr, ◌⊎◌, refl, ap, sym, ◌∙◌, subst}
+use Rattle.std.proofs.Common.{◌∷◌, ◌≡◌, ℕ, Bool, true, false, cond, Option, Some, None, List, [], Result, Ok, Err, inl, inr, ◌⊎◌, refl, ap, sym, ◌∙◌, subst}
 use Rattle.std.specs.Prelude.{IfOk}
 use Rattle.std.specs.declared.alloc.AllocError.{AllocError}
 use Rattle.futures.specs.declared.task.Poll.{Poll}
@@ -27,10 +27,10 @@ use Rattle.ftp_session.specs.State.{SessionValue}
 use Rattle.ftp_session.specs.Coding.{Coding}
 use Rattle.ftp_session.specs.Exchanges.{exchange_of, statuses, is_read}
 use Rattle.ftp_session.specs.Dialogue.{Tree, Say, Hear, Leaf, saying, awaiting, accepted, later, from_turn, dialogue}
-use Rattle.ftp_session.specs.Promises.{Aborts, Fails, Touched, Untouched, LacksMemory, Plays, Reads, Rests, failed_from}
+use Rattle.ftp_session.specs.Promises.{IsFault, HasFault, Aborts, Fails, Touched, Untouched, LacksMemory, Plays, Reads, Rests, failed_from}
 use Rattle.ftp_session.specs.Steps.Stages.{is_second, remaining, awaited, begun_at, StageOf, line_of}
-use Rattle.ftp_session.specs.Steps.Moving.{Moves, Advances, Ends, Steps, PollSteps, Hears, BeginsExchange, Concludes, NothingYet, Quiet, HasBegun, Takes, Tracks, wants_memory, withheld, after_fault}
-use Rattle.ftp_session.proofs.Moving.{leaf_ends, refused_line, lacks_memory_first, lacks_memory_at, stays_put, moves_on, ends_on, aborts_on, touched_on, touched_later}
+use Rattle.ftp_session.specs.Steps.Moving.{Moves, Advances, Ends, Steps, PollSteps, Hears, BeginsExchange, Concludes, NothingTouched, NothingYet, Quiet, HasBegun, Takes, Tracks, wants_memory, withheld, after_fault}
+use Rattle.ftp_session.proofs.Moving.{leaf_ends, refused_line, lacks_memory_first, lacks_memory_at, stays_put, moves_on, ends_on, aborts_on, touched_on, touched_later, untouched, untouched_after}
 use Rattle.ftp_session.specs.Link.{Link}
 
 -- An exchange begins
@@ -76,7 +76,9 @@ exchange_is_quiet coding call turn stage' old new Pending begins = tt
 exchange_is_quiet coding call turn stage' old new (Done answer) begins = tt
 
 pub exchange_tracks : (link : Link) (coding : Coding) (call : Call) (turn : Turn) (stage' : Stage) (tree : Tree) (old new : SessionValue) (step : Step) → BeginsExchange coding call turn stage' old new step → Tracks link (is_second turn) (begun_at stage') tree old new step
-exchange_tracks link coding call turn stage' tree old new Next begins = λ has. inl (sym begins.1.begun ∙ has)
+exchange_tracks link coding call turn stage' tree old new Next begins =
+    let P : SessionValue → Type 0 = λ v. NothingTouched link old v in
+    (λ has. inl (sym begins.1.begun ∙ has), λ none. (sym begins.1.begun ∙ none, subst P (sym begins.0) (untouched link old)))
 exchange_tracks link coding call turn stage' tree old new Pending begins = absurd begins
 exchange_tracks link coding call turn stage' tree old new (Done answer) begins = tt
 
@@ -93,20 +95,20 @@ concludes link coding call a reply stage' old mid new Pending going heard takes 
 concludes link coding call a reply stage' old mid new (Done answer) going heard takes (inl ends) =
     let leaf : accepted coding a.ending old.state reply (later coding call a.turn) ≡ Leaf answer new.state = ap (λ s. accepted coding a.ending s reply (later coding call a.turn)) (sym heard.moves.state) ∙ ends.leaf in
     let T : Tree → Type 0 = λ t. Moves link (awaited coding call old.state a) t old mid in
-    inl (leaf_ends link (awaited coding call old.state a) answer old mid new (subst T leaf heard.moves) ends.channel ends.asked)
+    inl (leaf_ends link (awaited coding call old.state a) answer old mid new (subst T leaf heard.moves) (λ f. inl (sym heard.failed ∙ f)) ends.channel ends.asked)
 concludes link coding call a reply stage' old mid new (Done answer) going heard takes (inr lacks) =
     let A : Answer → Type 0 = λ x. Aborts link a.begun (awaited coding call old.state a) x old new in
     let V : SessionValue → Type 0 = λ v. Aborts link a.begun (awaited coding call old.state a) (Fault OutOfMemory) old v in
     inr (subst A (sym lacks.0) (subst V (sym lacks.1) (lacks_memory_at link a.begun (awaited coding call old.state a) (accepted coding a.ending old.state reply (later coding call a.turn)) old mid (inr (λ h resumes. inr (takes h resumes))) heard.moves (heard.failed ∙ going))))
 
 -- a dialogue that goes on after a reply has begun with it
-pub accepted_begins : (link : Link) (coding : Coding) (call : Call) (a : Awaits) (reply : Response) (stage' : Stage) (old mid new : SessionValue) (step : Step) → Takes link (awaited coding call old.state a) old mid → Concludes coding call a reply stage' mid new step → Tracks link a.begun (begun_at stage') (awaited coding call old.state a) old new step
-accepted_begins link coding call a reply stage' old mid new Next takes done = λ has.
+pub accepted_begins : (link : Link) (coding : Coding) (call : Call) (a : Awaits) (reply : Response) (stage' : Stage) (old mid new : SessionValue) (step : Step) → Takes link (awaited coding call old.state a) old mid → (step ≡ Next → begun_at stage' ≡ true) → Concludes coding call a reply stage' mid new step → Tracks link a.begun (begun_at stage') (awaited coding call old.state a) old new step
+accepted_begins link coding call a reply stage' old mid new Next takes on done =
     let P : SessionValue → Type 0 = λ v. Takes link (awaited coding call old.state a) old v in
     let here = subst P (sym done.0) takes in
-    inr (λ h resumes. inr (here h resumes))
-accepted_begins link coding call a reply stage' old mid new Pending takes done = absurd done
-accepted_begins link coding call a reply stage' old mid new (Done answer) takes done = tt
+    (λ has. inr (λ h resumes. inr (here h resumes)), λ none. let clash : true ≡ false = sym (on refl) ∙ none in cc)
+accepted_begins link coding call a reply stage' old mid new Pending takes on done = absurd done
+accepted_begins link coding call a reply stage' old mid new (Done answer) takes on done = tt
 
 not_memory : (fault : FtpError) → (fault ≡ OutOfMemory → ⊥) → wants_memory fault ≡ false
 not_memory (ConnectionError cause) other = refl
@@ -124,10 +126,10 @@ fault_ends link codes next begun fault old mid leaf (inl (moves, other)) =
     let T : Tree → Type 0 = λ t. Moves link (Hear codes next) t old mid in
     let L : State → Tree = λ s. Leaf (Fault fault) s in
     let here : next (Err fault) ≡ Leaf (Fault fault) mid.state = leaf ∙ ap L (sym moves.state) in
-    rw (not_memory fault other) (inl (leaf_ends link (Hear codes next) (Fault fault) old mid mid (subst T here moves) refl refl))
+    rw (not_memory fault other) (inl (leaf_ends link (Hear codes next) (Fault fault) old mid mid (subst T here moves) (λ f. inr tt) refl refl))
 fault_ends link codes next begun fault old mid leaf (inr aborts) = inr (go aborts.cause)
   where
-    go : Fails link fault aborts.at mid ⊎ ((fault ≡ OutOfMemory) × (mid ≡ aborts.at) × Untouched link aborts.leads.came old aborts.at) → Aborts link begun (Hear codes next) (Fault fault) old (after_fault begun fault mid)
+    go : Fails link (Hear codes next) fault aborts.at mid ⊎ ((fault ≡ OutOfMemory) × (mid ≡ aborts.at) × Untouched link aborts.leads.came old aborts.at) → Aborts link begun (Hear codes next) (Fault fault) old (after_fault begun fault mid)
     go (inl fails) =
         let io : wants_memory fault ≡ false = ap wants_memory fails.is in
         rw io (record { place = Hear codes next; at = aborts.at; leads = aborts.leads; state = aborts.state; going = aborts.going; fault = fault; is = refl; cause = inl fails })
@@ -166,7 +168,7 @@ nothing_so_far link coding call stage v stage_of = record {
   moved = stays_put link (remaining coding call v.state stage) (remaining coding call v.state stage) v refl;
   quiet = λ begun. record { same = refl; begun = begun; tree = λ state. refl };
   stage_of = stage_of;
-  begun = λ has. inl has;
+  begun = (λ has. inl has, λ none. (none, untouched link v));
   asked = refl;
 }
 
@@ -184,14 +186,19 @@ read_is_quiet call (Hearing a) stage_of read = go a.begun refl
 module _ (link : Link) (coding : Coding) (call : Call) (stage stage' : Stage) (a b : SessionValue) (so_far : SoFar link coding call stage stage' a b) where
   -- what has begun after a step had begun before it, or begins with it
   pub begun_on : (stage'' : Stage) (c : SessionValue) → Moves link (remaining coding call b.state stage') (remaining coding call b.state stage'') b c → HasBegun link (begun_at stage') (begun_at stage'') (remaining coding call b.state stage') b c → HasBegun link (begun_at stage) (begun_at stage'') (remaining coding call a.state stage) a c
-  begun_on stage'' c moves second = λ has. go (second has)
+  begun_on stage'' c moves second = (λ has. go (second.0 has), λ none. back (second.1 none))
     where
+      back : (begun_at stage' ≡ false) × NothingTouched link b c → (begun_at stage ≡ false) × NothingTouched link a c
+      back later =
+          let first = so_far.begun.1 later.0 in
+          (first.0, untouched_after link a b c first.1 later.1)
+
       before : (begun_at stage ≡ true) ⊎ Touched link (remaining coding call a.state stage) a b → (begun_at stage ≡ true) ⊎ Touched link (remaining coding call a.state stage) a c
       before (inl was) = inl was
       before (inr here) = inr (touched_on link (remaining coding call a.state stage) a b c moves.leads.came moves.leads.answered moves.leads.goes here)
 
       go : (begun_at stage' ≡ true) ⊎ Touched link (remaining coding call b.state stage') b c → (begun_at stage ≡ true) ⊎ Touched link (remaining coding call a.state stage) a c
-      go (inl was) = before (so_far.begun was)
+      go (inl was) = before (so_far.begun.0 was)
       go (inr here) =
           let P : State → Type 0 = λ s. Touched link (remaining coding call s stage') b c in
           let first = so_far.moved.moves in
@@ -218,7 +225,7 @@ module _ (link : Link) (coding : Coding) (call : Call) (stage stage' : Stage) (a
       tree' = remaining coding call a.state stage'
 
       aborted : (x : Bool) → begun_at stage' ≡ x → Aborts link (begun_at stage') (remaining coding call a.state stage') answer b c → Aborts link (begun_at stage) (remaining coding call a.state stage) answer a c
-      aborted true has aborts = aborts_on link (remaining coding call a.state stage) (remaining coding call a.state stage') a b c so_far.moved.moves (begun_at stage) (begun_at stage') answer so_far.begun has aborts
+      aborted true has aborts = aborts_on link (remaining coding call a.state stage) (remaining coding call a.state stage') a b c so_far.moved.moves (begun_at stage) (begun_at stage') answer so_far.begun.0 has aborts
       aborted false has aborts =
           let quiet = so_far.quiet has in
           let P : SessionValue → Type 0 = λ v. Aborts link (begun_at stage) (remaining coding call a.state stage) answer v c in
@@ -227,7 +234,7 @@ module _ (link : Link) (coding : Coding) (call : Call) (stage stage' : Stage) (a
           subst P quiet.same (subst Q (quiet.tree a.state) (subst R (has ∙ sym quiet.begun) aborts))
 
       go : (x : Bool) → begun_at stage' ≡ x → Ends link (remaining coding call a.state stage') answer b c ⊎ Aborts link (begun_at stage') (remaining coding call a.state stage') answer b c → Ends link (remaining coding call a.state stage) answer a c ⊎ Aborts link (begun_at stage) (remaining coding call a.state stage) answer a c
-      go x has (inl ends) = inl (ends_on link (remaining coding call a.state stage) (remaining coding call a.state stage') a b c so_far.moved.moves answer ends)
+      go x has (inl ends) = inl (ends_on link (remaining coding call a.state stage) (remaining coding call a.state stage') a b c so_far.moved.moves answer so_far.moved.failed ends)
       go x has (inr aborts) = inr (aborted x has aborts)
 
   -- the connection waits
@@ -272,7 +279,7 @@ hears_reads link codes next old new (poll.Ready (Err fault)) (inr aborts) = inr 
   cause = go aborts.cause;
 })
   where
-    go : Fails link fault aborts.at new ⊎ ((fault ≡ OutOfMemory) × (new ≡ aborts.at) × Untouched link aborts.leads.came old aborts.at) → Fails link fault aborts.at new ⊎ LacksMemory link false (Hear codes next) aborts.leads.came fault old aborts.at new
+    go : Fails link (Hear codes next) fault aborts.at new ⊎ ((fault ≡ OutOfMemory) × (new ≡ aborts.at) × Untouched link aborts.leads.came old aborts.at) → Fails link (Hear codes next) fault aborts.at new ⊎ LacksMemory link false (Hear codes next) aborts.leads.came fault old aborts.at new
     go (inl fails) = inl fails
     go (inr lacks) = inr (record { is = lacks.0; leaves = inl (lacks.1, refl, lacks.2) })
 hears_reads link codes next old new poll.Pending heard = (heard.0.moves.leads, heard.2)
@@ -284,3 +291,17 @@ end_on first second third t u same one two e = go (two e)
     go : (second ≡ true) ⊎ (u.given.closed ≡ true) → (first ≡ true) ⊎ (t.given.closed ≡ true)
     go (inl met) = one met
     go (inr told) = inr (ap (λ g. g.closed) (sym same) ∙ told)
+
+-- a poll fails the session only where its call fails
+abbrev pub given_by : Poll Answer → List Answer
+given_by (poll.Ready answer) = answer ∷ []
+given_by poll.Pending = []
+
+pub polls_fail : (link : Link) (begun : Bool) (tree tree' : Tree) (old new : SessionValue) (result : Poll Answer) → PollSteps link begun tree tree' old new result → new.channel.failed ≡ true → (old.channel.failed ≡ true) ⊎ HasFault (given_by result)
+polls_fail link begun tree tree' old new (poll.Ready answer) (inl ends) failed = go (ends.fails failed)
+  where
+    go : (old.channel.failed ≡ true) ⊎ IsFault answer → (old.channel.failed ≡ true) ⊎ HasFault (answer ∷ [])
+    go (inl was) = inl was
+    go (inr fault) = inr (inl fault)
+polls_fail link begun tree tree' old new (poll.Ready answer) (inr aborts) failed = inr (inl (let P : Answer → Type 0 = IsFault in subst P (sym aborts.is) tt))
+polls_fail link begun tree tree' old new poll.Pending (moved, waits) failed = inl (sym moved.failed ∙ failed)

@@ -21,7 +21,8 @@ use Rattle.ftp_control.specs.declared.transport.room.Room.{Room}
 use Rattle.ftp_control.specs.declared.transport.request.RequestOutcome.{RequestOutcome}
 use Rattle.ftp_control.specs.declared.transport.request.Asked.{Asked}
 use Rattle.ftp_control.specs.Asking.{requests_of, outcomes_of}
-use Rattle.ftp_control.specs.Told.{HasRoomFor, HasFailed, NoneFailed}
+use Rattle.ftp_control.specs.Told.{Told, HasRoomFor, HasFailed, NoneFailed}
+use Rattle.ftp_control.specs.Memory.{IsGiven}
 use Rattle.ftp_control.specs.Reading.{GoesOn as GoesBeyond}
 use Rattle.ftp_control.specs.Channel.{untaken}
 use Rattle.ftp_control.specs.Saying.{said}
@@ -40,7 +41,7 @@ use Rattle.ftp_session.specs.declared.model.Ran.TheVariants.{Finished}
 use Rattle.ftp_session.specs.State.{SessionValue}
 use Rattle.ftp_session.specs.Coding.{Coding}
 use Rattle.ftp_session.specs.Exchanges.{exchange_of, statuses}
-use Rattle.ftp_session.specs.Dialogue.{Tree, Hear, dialogue}
+use Rattle.ftp_session.specs.Dialogue.{Tree, Say, Hear, Ask, Leaf, dialogue}
 use Rattle.ftp_session.specs.Play.{play}
 use Rattle.ftp_session.specs.Run.{run, before, OneView, Resumes}
 use Rattle.ftp_session.specs.Link.{Link}
@@ -109,7 +110,7 @@ However old came answered new Holds =
     → Holds room (standing old (came ++ more) ended (outcomes_of answered ++ outcomes)) (standing new more ended outcomes)
 
 -- these bytes came, these requests were answered, other bytes may have gone out, and no call failed; what was said
--- stays said, and no more is untaken than was and came
+-- stays said, no more is untaken than was and came, and what is received was at hand, if it was before
 pub record Goes (link : Link) (came : List ℕ) (answered : List Asked) (old new : SessionValue) : Type 0 where
   pub over : GoesBeyond old.channel.ended came new.channel.ended
   pub received : link.tells → new.channel.told.received ≡ old.channel.told.received ++ came
@@ -118,6 +119,7 @@ pub record Goes (link : Link) (came : List ℕ) (answered : List Asked) (old new
   pub sent : link.tells → length old.channel.told.sent ≤ length new.channel.told.sent
   pub said : link.tells → length (said old.channel) ≤ length (said new.channel)
   pub untaken : length (untaken new.channel) ≤ length (untaken old.channel) + length came
+  pub at_hand : link.tells → IsGiven old.channel.told → IsGiven new.channel.told
   pub asked : link.tells → new.asked ≡ old.asked ++ answered
   pub rule : new.channel.rule ≡ old.channel.rule
 
@@ -135,11 +137,18 @@ pub record Completes (link : Link) (tree : Tree) (answer : Answer) (old new : Se
   pub goes : Goes link came answered old new
   pub plays : link.tells → Resumes old.channel.rule old.channel.kept tree → However old came answered new (λ room s t. play room tree s ≡ played.Done answer t)
 
--- the connection failed with a fault that it may answer, which was counted and is told, and nothing else happened
-pub record Fails (link : Link) (fault : FtpError) (at new : SessionValue) : Type 0 where
+-- a node fails where a line is said or a reply is read, with a fault that the connection may answer there
+abbrev pub MayFailAt : Link → Tree → Told → ErrorKind → Type 0
+MayFailAt link (Say line next) told kind = link.tells → link.writes told kind
+MayFailAt link (Hear codes next) told kind = link.reads kind
+MayFailAt link (Ask request next) told kind = ⊥
+MayFailAt link (Leaf answer state) told kind = ⊥
+
+-- the connection failed at this node, which was counted and is told, and nothing else happened
+pub record Fails (link : Link) (place : Tree) (fault : FtpError) (at new : SessionValue) : Type 0 where
   pub kind : ErrorKind
   pub is : fault ≡ ConnectionError (Io kind)
-  pub may : link.reads kind ⊎ link.writes kind
+  pub may : MayFailAt link place at.channel.told kind
   pub same : new ≡ record at { channel = record at.channel { told = new.channel.told; failed = true } }
   pub failed : link.tells → HasFailed kind at.channel.told new.channel.told
 
@@ -171,7 +180,7 @@ pub record Aborts (link : Link) (begun : Bool) (tree : Tree) (answer : Answer) (
   pub going : at.channel.failed ≡ false
   pub fault : FtpError
   pub is : answer ≡ Fault fault
-  pub cause : Fails link fault at new ⊎ LacksMemory link begun tree leads.came fault old at new
+  pub cause : Fails link place fault at new ⊎ LacksMemory link begun tree leads.came fault old at new
 
 -- a call, whole: it fails with `SessionFailed` where the session has failed, else its dialogue comes to its answer
 -- or is aborted
@@ -235,6 +244,16 @@ pub record RunsTo (link : Link) (coding : Coding) (calls : List Call) (old new :
   pub answered : List Asked
   pub goes : Goes link came answered old new
   pub runs : link.tells → Agrees coding old calls → However old came answered new (λ room s t. run room coding calls s ≡ Finished answers t)
+
+-- a call failed
+abbrev pub IsFault : Answer → Type 0
+IsFault answers.Unit = ⊥
+IsFault (answers.Reply reply) = ⊥
+IsFault (Fault fault) = Unit {0}
+
+abbrev pub HasFault : List Answer → Type 0
+HasFault [] = ⊥
+HasFault (answer ∷ answers) = IsFault answer ⊎ HasFault answers
 
 -- each is refused, since the session has failed
 abbrev pub AllRefused : List Answer → Type 0

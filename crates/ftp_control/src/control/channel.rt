@@ -54,8 +54,9 @@ impl<C: Tells + Drop> Model for ControlChannel<C> {
 
 impl<C: Tells + Drop> ControlChannel<C> {
     ghost use Rattle.std.specs.Prelude.{◌<◌, IfErr, length};
+    ghost use Rattle.ftp_control.specs.Memory.{IsGiven};
     ghost use Rattle.ftp_control.specs.Reading.{MayBreak};
-    ghost use Rattle.ftp_control.specs.Told.{EndsAsTold, begun};
+    ghost use Rattle.ftp_control.specs.Told.{EndsAsTold, before_fault, begun};
     ghost use Rattle.ftp_control.specs.Channel.{Channel, IsIdle, IsSound, ReadsReply, FlushesTail, untaken};
 
     /// Reads a reply as far as it has come, and consumes exactly its bytes. Returns `Waits` where the connection
@@ -75,6 +76,7 @@ impl<C: Tells + Drop> ControlChannel<C> {
         ensures end { C.Tells.tells → C.may_wait →
             EndsAsTold self.old.ended self.new.ended self.old.told }
         ensures fault { MayBreak C.read_faults result }
+        ensures given { C.Tells.tells → IsGiven self.old.told → IsGiven self.new.told }
         ensures reads { ReadsReply C.Tells.tells system self.old self.new result }
     {
         let result = hear(
@@ -166,7 +168,8 @@ impl<C: Tells + Drop> ControlChannel<C> {
     where
         C: PollConn<W>,
         ensures waits { result ≡ Ok poll.Pending → C.may_wait }
-        ensures fault { IfErr result (λ kind. C.write_faults kind) }
+        ensures fault { C.Tells.tells → IfErr result (λ kind.
+            C.write_faults (before_fault self.old.told self.new.told) kind) }
         ensures flushes { FlushesTail C.Tells.tells self.old self.new result }
     {
         let result = flush(&mut self.conn, &mut self.outbox, w);

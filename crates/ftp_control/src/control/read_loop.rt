@@ -9,6 +9,7 @@ ghost use Rattle.ftp_control.specs.declared.control.outcome.Outcome.TheVariants 
 ghost use Rattle.ftp_control.specs.Inside.UnderWay.{IsUnderWay};
 ghost use Rattle.ftp_control.specs.Inside.ReadLoop.{ByteTells, CanSeek, Hears, says_of};
 ghost use Rattle.ftp_control.specs.Told.{EndsAsTold};
+ghost use Rattle.ftp_control.specs.Memory.{IsGiven};
 ghost use Rattle.ftp_control.specs.Reading.{MayBreak};
 
 use super::reply_buffer::ReplyBuffer;
@@ -41,6 +42,8 @@ pub(crate) fn hear<W, C: PollConn<W>>(
     ensures end { C.Tells.tells → C.may_wait →
         EndsAsTold ended.old ended.new (C.Tells.told conn.old) }
     ensures fault { MayBreak C.read_faults result }
+    ensures given { C.Tells.tells → IsGiven (C.Tells.told conn.old) →
+        IsGiven (C.Tells.told conn.new) }
     ensures heard { Hears C.Tells.tells (says_of rule sought) reply.old.bytes.items
         reply.new.bytes.items ended.old ended.new (C.Tells.told conn.old) (C.Tells.told conn.new)
         result }
@@ -68,6 +71,8 @@ fn poll_byte<W, C: PollConn<W>>(conn: &mut C, w: &mut W) -> Result<Poll<Option<u
     ensures end { C.Tells.tells → C.may_wait → result ≡ Ok (poll.Ready None) →
         (C.Tells.told conn.old).given.closed ≡ true }
     ensures fault { IfErr result (λ kind. C.read_faults kind) }
+    ensures given { C.Tells.tells → IsGiven (C.Tells.told conn.old) →
+        IsGiven (C.Tells.told conn.new) }
     ensures told { C.Tells.tells → ByteTells result (C.Tells.told conn.old)
         (C.Tells.told conn.new) }
 {

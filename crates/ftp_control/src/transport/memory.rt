@@ -218,13 +218,15 @@ impl Tells for MemoryConn {
 impl Conn for MemoryConn {
     ghost blocking_read_faults = { λ kind. ⊥ };
 
-    ghost blocking_write_faults = { λ kind. (kind ≡ kinds.OutOfMemory) ⊎ (kind ≡ kinds.WouldBlock) };
+    ghost blocking_write_faults = { λ told kind. (kind ≡ kinds.OutOfMemory) ⊎
+        ((kind ≡ kinds.WouldBlock) × IsFull told) };
 
     fn read(&mut self, buffer: &mut [u8]) -> Result<usize, ErrorKind> {
         let count = self.give(buffer);
         if count == 0 {
             self.ended = true;
         }
+        self.unread();
         Ok(count)
     }
 
@@ -242,17 +244,19 @@ impl PollConn<()> for MemoryConn {
 
     ghost read_faults = { λ kind. ⊥ };
 
-    ghost write_faults = { λ kind. kind ≡ kinds.OutOfMemory };
+    ghost write_faults = { λ told kind. kind ≡ kinds.OutOfMemory };
 
     fn poll_read(&mut self, _w: &mut (), buffer: &mut [u8]) -> Result<Poll<usize>, ErrorKind> {
         let count = self.give(buffer);
         if count > 0 {
+            self.unread();
             return Ok(Poll::Ready(count));
         }
         if !self.closed {
             return Ok(Poll::Pending);
         }
         self.ended = true;
+        self.unread();
         Ok(Poll::Ready(0))
     }
 

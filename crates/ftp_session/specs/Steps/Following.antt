@@ -22,8 +22,8 @@ use Rattle.ftp_session.specs.State.{SessionValue}
 use Rattle.ftp_session.specs.Coding.{Coding}
 use Rattle.ftp_session.specs.Exchanges.{is_read}
 use Rattle.ftp_session.specs.Run.{Resumes}
-use Rattle.ftp_session.specs.Scripted.{IsFrontOf, Stands, SaysOrTakes, Reaches}
-use Rattle.ftp_session.specs.Promises.{AllRefused, Aborts, Rests}
+use Rattle.ftp_session.specs.Scripted.{SaysFrontOf, SaysNothing, SaysOrTakes, Stands, Reaches}
+use Rattle.ftp_session.specs.Promises.{HasFault, AllRefused, Aborts, Rests}
 use Rattle.ftp_session.specs.Steps.Stages.{remaining, begun_at, StageOf}
 use Rattle.ftp_session.specs.Steps.Moving.{HasBegun, PollSteps}
 use Rattle.ftp_session.specs.declared.model.Script.{Script}
@@ -40,6 +40,7 @@ pub record Since (coding : Coding) (old : SessionValue) (items : List Call) (ans
   pub said : length (said start.channel) ≤ length (said v.channel)
   pub taken : length before + length (untaken v.channel) ≤ length came + length (untaken start.channel)
   pub has_begun : begun ≡ true → SaysOrTakes before came start v
+  pub not_begun : begun ≡ false → SaysNothing later start v
 
 -- a call that was polled; of a plain read no trace is left where it is dropped
 pub record UnderWay (coding : Coding) (old : SessionValue) (s : Script) (came : List ℕ) (v : SessionValue) (call : Call) (stage : Stage) : Type 0 where
@@ -72,7 +73,8 @@ pub record Follows (coding : Coding) (old : SessionValue) (s : Script) (v : Sess
   pub ended : s.ended ≡ is_over v.channel.told
   pub room : s.room ≡ v.channel.told.given.room
   pub sent : s.sent ≡ v.channel.told.sent
-  pub said : IsFrontOf (said v.channel) s.said
+  pub said : SaysFrontOf v.channel s.said
+  pub received : v.channel.told.received ≡ old.channel.told.received ++ came
   pub unsent : MayCancel call s.polled → s.unsent ≡ v.channel.unsent
   pub untaken : s.untaken ≡ untaken v.channel ++ unread v.channel.told
   pub seen : s.seen ≡ length v.channel.kept
@@ -119,6 +121,10 @@ pub record AbortsCall (coding : Coding) (call : Call) (stage : Stage) (v w : Ses
 -- a session that has failed fails no more, and refuses what it answers
 abbrev pub FailedStays : SessionValue → SessionValue → Option Answer → Type 0
 FailedStays v w answer = v.channel.failed ≡ true → (w.channel.failed ≡ true) × (w.channel.told.failures ≡ v.channel.told.failures) × AllRefused (given_answer answer)
+
+-- a session fails only where a call does
+abbrev pub FailsWith : SessionValue → SessionValue → List Answer → Type 0
+FailsWith v w answers = w.channel.failed ≡ true → (v.channel.failed ≡ true) ⊎ HasFault answers
 
 -- only a Feed may need memory
 pub record IsFeed (event : Event) : Type 0 where

@@ -1,6 +1,6 @@
 -- What a step of a dialogue does: whatever the server still sends, and whatever room there is, the tree before it and
 -- the tree after it come to the same. Beside what is promised it keeps how much is kept of a reply under way.
-use Rattle.std.specs.Prelude.{◌≡◌, ◌<◌, ◌≤◌, ◌+◌, ◌⊎◌, ℕ, Bool, true, false, ◌&&◌, if◌then◌else◌, Option, None, List, [], length, Result, Ok, Err}
+use Rattle.std.specs.Prelude.{◌++◌, ◌≡◌, ◌<◌, ◌≤◌, ◌+◌, ◌⊎◌, ℕ, Bool, true, false, ◌&&◌, if◌then◌else◌, Option, None, List, [], length, Result, Ok, Err}
 use Rattle.futures.specs.declared.task.Poll.{Poll}
 use Rattle.futures.specs.declared.task.Poll.TheVariants as poll
 use Rattle.ftp_base.specs.declared.status.Status.{Status}
@@ -9,7 +9,7 @@ use Rattle.ftp_base.specs.declared.types.fault.FtpError.{FtpError}
 use Rattle.ftp_base.specs.declared.types.fault.FtpError.TheVariants.{ConnectionError, SecureError, UnexpectedResponse, BadResponse, InvalidAddress, DataConnectionAlreadyOpen, OutOfMemory, SessionFailed}
 use Rattle.ftp_control.specs.Told.{IsDry, IsFull}
 use Rattle.ftp_control.specs.Channel.{untaken}
-use Rattle.ftp_control.specs.Saying.{due}
+use Rattle.ftp_control.specs.Saying.{due, said}
 use Rattle.ftp_session.specs.declared.session.state.State.{State}
 use Rattle.ftp_session.specs.declared.session.call.Answer.{Answer}
 use Rattle.ftp_session.specs.declared.session.call.Answer.TheVariants.{Fault}
@@ -29,7 +29,7 @@ use Rattle.ftp_control.specs.Refusal.{IsRefusalOf}
 use Rattle.ftp_session.specs.Exchanges.{exchange_of, gives_reply}
 use Rattle.ftp_session.specs.Dialogue.{Tree, Say, Hear, Ask, Leaf, accepted, later, dialogue}
 use Rattle.ftp_session.specs.Run.{Resumes, Silent}
-use Rattle.ftp_session.specs.Promises.{Leads, Completes, Aborts, Fails, Touched, Untouched, Rests, IsRefused, failed_from}
+use Rattle.ftp_session.specs.Promises.{IsFault, Leads, Completes, Aborts, Fails, Touched, Untouched, Rests, IsRefused, failed_from}
 use Rattle.ftp_session.specs.Steps.Stages.{Begun, remaining, begun_at, is_second, line_of}
 use Rattle.ftp_session.specs.Link.{Link}
 
@@ -65,6 +65,7 @@ pub record Advances (link : Link) (tree tree' : Tree) (old new : SessionValue) :
 -- a tree comes to its answer
 pub record Ends (link : Link) (tree : Tree) (answer : Answer) (old new : SessionValue) : Type 0 where
   pub completes : Completes link tree answer old new
+  pub fails : new.channel.failed ≡ true → (old.channel.failed ≡ true) ⊎ IsFault answer
   pub keeps : Keeps (Silent tree) completes.came old new
   pub calm : Keeps (Calm tree) completes.came old new
   pub shrinks : Shrinks completes.came old new
@@ -121,10 +122,16 @@ abbrev pub Takes : Link → Tree → SessionValue → SessionValue → Type 0
 Takes link tree old new =
     link.tells → Resumes old.channel.rule old.channel.kept tree → length old.channel.told.received + length (untaken new.channel) < length new.channel.told.received + length (untaken old.channel)
 
+-- nothing was said and no reply was taken: what came is untaken
+abbrev pub NothingTouched : Link → SessionValue → SessionValue → Type 0
+NothingTouched link old new =
+    link.tells → (came : List ℕ) × (new.channel.told.received ≡ old.channel.told.received ++ came) × (said new.channel ≡ said old.channel) × (untaken new.channel ≡ untaken old.channel ++ came)
+
 -- a line that was taken to go out: it was before, or it was said, and a line isn't empty
 pub record TakesLine (link : Link) (line line' : Option (List ℕ)) (old new : SessionValue) (result : Step) : Type 0 where
   pub whole : (line' ≡ line) ⊎ (line' ≡ None)
   pub gone : result ≡ Next → line' ≡ None
+  pub stays : line' ≡ line → NothingTouched link old new
   pub begins : line' ≡ None → (line ≡ None) ⊎ ((tree : Tree) → Touched link tree old new)
 
 -- a read is aborted: the connection failed, which was counted; or memory ran out, and nothing is lost
@@ -133,7 +140,7 @@ pub record AbortsRead (link : Link) (codes : List Status) (next : Result Respons
   pub leads : Leads link (Hear codes next) (Hear codes next) old at
   pub state : at.state ≡ old.state
   pub going : at.channel.failed ≡ false
-  pub cause : Fails link fault at new ⊎ ((fault ≡ OutOfMemory) × (new ≡ at) × Untouched link leads.came old at)
+  pub cause : Fails link (Hear codes next) fault at new ⊎ ((fault ≡ OutOfMemory) × (new ≡ at) × Untouched link leads.came old at)
 
 -- a reply is heard, or a fault in its place; or it is waited for, or the read is aborted
 abbrev pub Hears : Link → List Status → (Result Response FtpError → Tree) → SessionValue → SessionValue → Poll (Result Response FtpError) → Type 0
@@ -167,9 +174,10 @@ pub record NothingYet (coding : Coding) (call : Call) (stage stage' : Stage) (ol
   pub begun : begun_at stage ≡ false
   pub tree : (state : State) → remaining coding call state stage' ≡ remaining coding call state stage
 
--- a dialogue that has begun had begun before, or something was said or taken
+-- a dialogue that has begun had begun before, or something was said or taken; where it hasn't, nothing was
 abbrev pub HasBegun : Link → Bool → Bool → Tree → SessionValue → SessionValue → Type 0
-HasBegun link begun begun' tree old new = begun' ≡ true → (begun ≡ true) ⊎ Touched link tree old new
+HasBegun link begun begun' tree old new =
+    (begun' ≡ true → (begun ≡ true) ⊎ Touched link tree old new) × (begun' ≡ false → (begun ≡ false) × NothingTouched link old new)
 
 abbrev pub Tracks : Link → Bool → Bool → Tree → SessionValue → SessionValue → Step → Type 0
 Tracks link begun begun' tree old new Next = HasBegun link begun begun' tree old new

@@ -1,3 +1,4 @@
+use Rattle.std.proofs.Common.{◌≡◌, true, false, sym, ap, ◌∙◌}
 use Rattle.ftp_session.specs.Steps.Stages.{awaited, begun_at}
 use Rattle.ftp_session.specs.declared.session.stage.Stage.TheVariants.{Saying}
 use Rattle.ftp_session.proofs.Stages.{line_begins, line_gone}
@@ -9,8 +10,10 @@ returns-in-Next-clause-steps g c = λ coding call.
     rw c.begun.ensures (said (begun_at (Saying c.args.line c.args.awaits)) (awaited coding call c.args.self.now.state c.args.awaits))
 
 pub returns-in-Next-clause-begun : goal.returns-in-Next-clause-begun
-returns-in-Next-clause-begun g c = λ tree has.
-    line_gone _ c.args.line _ c.args.awaits _ _ _ (c.say.ensures.takes) c.in-Next.is tree
+returns-in-Next-clause-begun g c = λ tree. (
+  λ has. line_gone _ c.args.line _ c.args.awaits _ _ _ c.say.ensures.takes c.in-Next.is tree,
+  λ none. let clash : true ≡ false = sym (ap (λ a. a.begun) c.begun.ensures) ∙ none in cc,
+)
 
 pub returns-in-Pending-clause-steps : goal.returns-in-Pending-clause-steps
 returns-in-Pending-clause-steps g c = λ coding call.
@@ -18,4 +21,4 @@ returns-in-Pending-clause-steps g c = λ coding call.
     said (begun_at (Saying c.args.line c.args.awaits)) (awaited coding call c.args.self.now.state c.args.awaits)
 
 pub returns-in-Pending-clause-begun : goal.returns-in-Pending-clause-begun
-returns-in-Pending-clause-begun g c = λ tree has. line_begins _ c.args.line _ c.args.awaits _ _ _ c.say.ensures.takes tree has
+returns-in-Pending-clause-begun g c = λ tree. line_begins _ c.args.line _ c.args.awaits _ _ _ c.say.ensures.takes tree
