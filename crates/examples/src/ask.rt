@@ -14,8 +14,11 @@ where
 {
     let alloc = rt.alloc();
     let conn = TcpConn::new(TcpStream::connect(rt, address)?);
-    let mut session: Session<TcpTransport> =
-        Session::connect_with_stream(alloc, TcpTransport, conn)?;
+    let mut session: Session<TcpTransport> = Session::connect_with_stream(
+        alloc,
+        TcpTransport,
+        conn,
+    )?;
     session.login(alloc, "anonymous", "guest@example.org")?;
     session.cwd(alloc, "pub")?;
     let reply = session.custom_command(alloc, "SYST", &[Status::Name])?;

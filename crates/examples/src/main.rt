@@ -5,15 +5,17 @@
 mod ask;
 mod listing;
 
-use std::env;
-use std::io;
 use std::process::ExitCode;
 use std::rt::Env;
+use std::{env, io};
 
 fn main(rt: HostRuntime) -> ExitCode {
     match words(&rt) {
         Ok(words) if words.len() == 1 => ask::print_system(&rt, words[0].as_str()),
-        Ok(words) if words.len() == 2 && words[0].as_str() == "entry" => listing::print_entry(&rt, words[1].as_str()),
+        Ok(words) if words.len() == 2 && words[0].as_str() == "entry" => listing::print_entry(
+            &rt,
+            words[1].as_str(),
+        ),
         _ => {
             let _ = rt.eprintln("usage: examples ADDRESS | examples entry LINE");
             ExitCode::from(2)
