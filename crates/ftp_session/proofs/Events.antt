@@ -18,7 +18,8 @@ use Rattle.ftp_session.specs.declared.model.Script.{Script}
 use Rattle.ftp_session.specs.State.{SessionValue}
 use Rattle.ftp_session.specs.Coding.{Coding}
 use Rattle.ftp_session.specs.Script.{unread, is_over, start_of, script_of, after_event, start_script, MayCancel, MayPoll, poll_script}
-use Rattle.ftp_session.specs.Steps.Following.{FailsWith, Place, Follows, Starts, PollsHere, AbortsCall}
+use Rattle.ftp_session.specs.Steps.Following.{Place, Follows, Starts, PollsHere, AbortsCall}
+use Rattle.ftp_session.specs.Promises.{FailsWith}
 use Rattle.ftp_control.specs.Saying.{said}
 use Rattle.ftp_session.specs.Scripted.{Stands}
 use Rattle.futures.specs.declared.task.Poll.{Poll}

@@ -21,7 +21,7 @@ use Rattle.ftp_session.specs.Coding.{Coding}
 use Rattle.ftp_session.specs.Dialogue.{dialogue}
 use Rattle.ftp_session.specs.Play.{play, play_call}
 use Rattle.ftp_session.specs.Run.{run, before, and_then, OneView, Silent}
-use Rattle.ftp_session.specs.Promises.{standing, before_all, Completes, Agrees, AllRefused, Makes, RanTo, RunsTo, RunAborts, Runs, Aborts, Plays, Wired, IsSuccess, IsRefused, IsPlayed}
+use Rattle.ftp_session.specs.Promises.{FailsWith, HasFault, IsFault, standing, before_all, Completes, Agrees, AllRefused, Makes, RanTo, RunsTo, RunAborts, Runs, Aborts, Plays, Wired, IsSuccess, IsRefused, IsPlayed}
 use Rattle.ftp_session.specs.Steps.Moving.{Keeps, Ends, Made}
 use Rattle.ftp_session.proofs.Hearing.{nothing_resumes}
 use Rattle.ftp_session.proofs.Wired.{wired}
@@ -50,20 +50,51 @@ pub before_all-Waiting : (answers later : List Answer) (wait : Wait) (s : Standi
 before_all-Waiting [] later wait s = refl
 before_all-Waiting (answer ∷ answers) later wait s = ap (before answer) (before_all-Waiting answers later wait s)
 
+-- A session fails only where a call does
+
+fault_before : (first second : List Answer) → HasFault first → HasFault (first ++ second)
+fault_before [] second one = absurd one
+fault_before (answer ∷ first) second (inl here) = inl here
+fault_before (answer ∷ first) second (inr later) = inr (fault_before first second later)
+
+fault_after : (first second : List Answer) → HasFault second → HasFault (first ++ second)
+fault_after [] second two = two
+fault_after (answer ∷ first) second two = inr (fault_after first second two)
+
+-- a session fails only where a call of one event more does
+pub fails_more : (old v w : SessionValue) (first second all : List Answer) → all ≡ first ++ second → FailsWith old v first → FailsWith v w second → FailsWith old w all
+fails_more old v w first second all is before here =
+    let P : List Answer → Type 0 = FailsWith old w in
+    subst P (sym is) (λ failed. go (here failed))
+  where
+    earlier : (old.channel.failed ≡ true) ⊎ HasFault first → (old.channel.failed ≡ true) ⊎ HasFault (first ++ second)
+    earlier (inl was) = inl was
+    earlier (inr fault) = inr (fault_before first second fault)
+
+    go : (v.channel.failed ≡ true) ⊎ HasFault second → (old.channel.failed ≡ true) ⊎ HasFault (first ++ second)
+    go (inl was) = earlier (before was)
+    go (inr fault) = inr (fault_after first second fault)
+
 -- what is made of a call is its dialogue
 pub made_plays : (link : Link) (coding : Coding) (call : Call) (old new : SessionValue) (answer : Answer) → Made link coding call old new answer → Plays link coding call old new answer
 made_plays link coding call old new answer (inl refused) = record {
   wired = λ success. let P : Answer → Type 0 = IsSuccess in absurd (subst P refused.is success);
   made = inl refused;
+  fails = λ failed. inl refused.failed;
 }
 made_plays link coding call old new answer (inr made) = record {
   wired = λ success. words success made.plays;
   made = inr (record { going = made.going; plays = go made.plays });
+  fails = λ failed. fails made.plays failed;
 }
   where
     go : Ends link (dialogue coding call old.state) answer old new ⊎ Aborts link false (dialogue coding call old.state) answer old new → Completes link (dialogue coding call old.state) answer old new ⊎ Aborts link false (dialogue coding call old.state) answer old new
     go (inl ends) = inl ends.completes
     go (inr aborts) = inr aborts
+
+    fails : Ends link (dialogue coding call old.state) answer old new ⊎ Aborts link false (dialogue coding call old.state) answer old new → new.channel.failed ≡ true → (old.channel.failed ≡ true) ⊎ IsFault answer
+    fails (inl ends) failed = ends.fails failed
+    fails (inr aborts) failed = let P : Answer → Type 0 = IsFault in inr (subst P (sym aborts.is) tt)
 
     words : IsSuccess answer → Ends link (dialogue coding call old.state) answer old new ⊎ Aborts link false (dialogue coding call old.state) answer old new → Wired link coding call old new
     words success (inl ends) = wired link coding call old new answer ends.completes success
@@ -232,6 +263,14 @@ aborted_more link coding calls to_make call old mid new answers answer broke pla
     go (inr played) failed so_far =
         let clash : true ≡ false = sym failed ∙ sym (ap (λ v. v.channel.failed) so_far.0) ∙ played.going in
         cc
+
+-- what is made of a call fails the session only where the call fails
+pub made_fails : (link : Link) (coding : Coding) (call : Call) (old new : SessionValue) (answer : Answer) → Made link coding call old new answer → FailsWith old new (answer ∷ [])
+made_fails link coding call old new answer made failed = go ((made_plays link coding call old new answer made).fails failed)
+  where
+    go : (old.channel.failed ≡ true) ⊎ IsFault answer → (old.channel.failed ≡ true) ⊎ HasFault (answer ∷ [])
+    go (inl was) = inl was
+    go (inr fault) = inr (inl fault)
 
 -- no call is left
 ran_all : (link : Link) (coding : Coding) (calls : List Call) (old new : SessionValue) (answers : List Answer) → Reached link coding calls [] old new answers → RunsTo link coding calls old new answers

@@ -1,5 +1,5 @@
 -- Lemmas on lists of events.
-use Rattle.std.proofs.Common.{true, ◌≡◌, Bool, false, ℕ, zero, suc, ◌+◌, ◌<◌, ◌≤◌, Option, Some, None, List, [], ◌∷◌, ◌++◌, length, take, drop, get_or, inl, inr, ◌⊎◌, refl, ap, sym, ◌∙◌, subst, append_assoc, arith}
+use Rattle.std.proofs.Common.{◌≡◌, Bool, false, ℕ, zero, suc, ◌+◌, ◌<◌, ◌≤◌, Option, Some, None, List, [], ◌∷◌, ◌++◌, length, take, drop, get_or, inl, inr, ◌⊎◌, refl, ap, sym, ◌∙◌, subst, append_assoc, arith}
 use Rattle.std.specs.Prelude.{OnErr, Result, Ok, Err}
 use Rattle.std.proofs.lemmas.List.{drop_more, take_more, take_all, take-append-drop}
 use Rattle.ftp_control.specs.declared.control.outcome.Outcome.TheVariants.{Waits}
@@ -17,10 +17,10 @@ use Rattle.ftp_session.specs.declared.model.Script.{Script}
 use Rattle.ftp_session.specs.State.{SessionValue}
 use Rattle.ftp_session.specs.Coding.{Coding}
 use Rattle.ftp_session.specs.Script.{script, start_of, script_of, after_event, Lawful, IsLawful, MayCancel}
-use Rattle.ftp_session.specs.Promises.{HasFault, AllRefused}
+use Rattle.ftp_session.specs.Promises.{AllRefused}
 use Rattle.ftp_session.specs.Scripted.{ScriptHolds, ScriptAborts, ScriptsHold, IsScripted, Stops, StopsAtFeed}
 use Rattle.ftp_session.specs.Steps.Stages.{begun_at, remaining}
-use Rattle.ftp_session.specs.Steps.Following.{FailsWith, Follows, FailedStays, Happens, AbortsCall, IsFeed, given_answer}
+use Rattle.ftp_session.specs.Steps.Following.{Follows, FailedStays, Happens, AbortsCall, IsFeed, given_answer}
 use Rattle.ftp_session.proofs.Events.{begins}
 use Rattle.ftp_session.proofs.Following.{left_of}
 
@@ -70,29 +70,6 @@ module _ (coding : Coding) where
         rule = f.rule;
         failures = f.failures;
       }
-
-  fault_before : (first second : List Answer) → HasFault first → HasFault (first ++ second)
-  fault_before [] second one = absurd one
-  fault_before (answer ∷ first) second (inl here) = inl here
-  fault_before (answer ∷ first) second (inr later) = inr (fault_before first second later)
-
-  fault_after : (first second : List Answer) → HasFault second → HasFault (first ++ second)
-  fault_after [] second two = two
-  fault_after (answer ∷ first) second two = inr (fault_after first second two)
-
-  -- a session fails only where a call of one event more does
-  pub fails_more : (old v w : SessionValue) (first second all : List Answer) → all ≡ first ++ second → FailsWith old v first → FailsWith v w second → FailsWith old w all
-  fails_more old v w first second all is before here =
-      let P : List Answer → Type 0 = FailsWith old w in
-      subst P (sym is) (λ failed. go (here failed))
-    where
-      earlier : (old.channel.failed ≡ true) ⊎ HasFault first → (old.channel.failed ≡ true) ⊎ HasFault (first ++ second)
-      earlier (inl was) = inl was
-      earlier (inr fault) = inr (fault_before first second fault)
-
-      go : (v.channel.failed ≡ true) ⊎ HasFault second → (old.channel.failed ≡ true) ⊎ HasFault (first ++ second)
-      go (inl was) = earlier (before was)
-      go (inr fault) = inr (fault_after first second fault)
 
   -- each is refused, and so is the next
   refused_more : (first second : List Answer) → AllRefused first → AllRefused second → AllRefused (first ++ second)

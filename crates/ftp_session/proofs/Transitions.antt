@@ -253,8 +253,8 @@ module _ (link : Link) (coding : Coding) (call : Call) (stage stage' : Stage) (a
 pub withheld_plays : (link : Link) (coding : Coding) (call : Call) (v : SessionValue) → Plays link coding call v v (Fault (withheld v))
 withheld_plays link coding call v =
     elim v.channel.failed as (λ b. v.channel.failed ≡ b → Plays link coding call v v (Fault (cond b SessionFailed OutOfMemory))) [
-      | true ↦ λ failed. record { wired = λ success. absurd success; made = inl (record { failed = failed; is = refl; unchanged = refl }) }
-      | false ↦ λ going. record { wired = λ success. absurd success; made = inr (record { going = going; plays = inr (lacks_memory_first link (dialogue coding call v.state) v going) }) }
+      | true ↦ λ failed. record { wired = λ success. absurd success; made = inl (record { failed = failed; is = refl; unchanged = refl }); fails = λ f. inl f }
+      | false ↦ λ going. record { wired = λ success. absurd success; made = inr (record { going = going; plays = inr (lacks_memory_first link (dialogue coding call v.state) v going) }); fails = λ f. inl f }
     ] refl
 
 -- what is made of a call whose arguments were copied

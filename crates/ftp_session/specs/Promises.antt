@@ -87,6 +87,12 @@ pub record Succeeds (coding : Coding) (call : Call) (s t : Standing) : Type 0 wh
   pub first : Exchanged coding (exchange_of call First) reply s between
   pub second : ExchangedIf (goes_on_with (exchange_of call First).ending reply) coding (exchange_of call Second) between t
 
+-- a call failed
+abbrev pub IsFault : Answer → Type 0
+IsFault answers.Unit = ⊥
+IsFault (answers.Reply reply) = ⊥
+IsFault (Fault fault) = Unit {0}
+
 -- where a run stands in a session, where these bytes are still to come, and these outcomes
 abbrev pub standing : SessionValue → List ℕ → Bool → List RequestOutcome → Standing
 standing v more ended outcomes = record {
@@ -203,6 +209,7 @@ pub record Wired (link : Link) (coding : Coding) (call : Call) (old new : Sessio
 pub record Plays (link : Link) (coding : Coding) (call : Call) (old new : SessionValue) (answer : Answer) : Type 0 where
   pub wired : IsSuccess answer → Wired link coding call old new
   pub made : IsRefused old new answer ⊎ IsPlayed link coding call old new answer
+  pub fails : new.channel.failed ≡ true → (old.channel.failed ≡ true) ⊎ IsFault answer
 
 -- a read that waits leaves a run where it stood: what came is untaken, and nothing else happened
 pub record Rests (link : Link) (old new : SessionValue) : Type 0 where
@@ -245,15 +252,14 @@ pub record RunsTo (link : Link) (coding : Coding) (calls : List Call) (old new :
   pub goes : Goes link came answered old new
   pub runs : link.tells → Agrees coding old calls → However old came answered new (λ room s t. run room coding calls s ≡ Finished answers t)
 
--- a call failed
-abbrev pub IsFault : Answer → Type 0
-IsFault answers.Unit = ⊥
-IsFault (answers.Reply reply) = ⊥
-IsFault (Fault fault) = Unit {0}
-
+-- some call failed
 abbrev pub HasFault : List Answer → Type 0
 HasFault [] = ⊥
 HasFault (answer ∷ answers) = IsFault answer ⊎ HasFault answers
+
+-- a session fails only where a call does
+abbrev pub FailsWith : SessionValue → SessionValue → List Answer → Type 0
+FailsWith v w answers = w.channel.failed ≡ true → (v.channel.failed ≡ true) ⊎ HasFault answers
 
 -- each is refused, since the session has failed
 abbrev pub AllRefused : List Answer → Type 0

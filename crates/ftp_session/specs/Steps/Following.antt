@@ -23,7 +23,7 @@ use Rattle.ftp_session.specs.Coding.{Coding}
 use Rattle.ftp_session.specs.Exchanges.{is_read}
 use Rattle.ftp_session.specs.Run.{Resumes}
 use Rattle.ftp_session.specs.Scripted.{SaysFrontOf, SaysNothing, SaysOrTakes, Stands, Reaches}
-use Rattle.ftp_session.specs.Promises.{HasFault, AllRefused, Aborts, Rests}
+use Rattle.ftp_session.specs.Promises.{AllRefused, Aborts, Rests}
 use Rattle.ftp_session.specs.Steps.Stages.{remaining, begun_at, StageOf}
 use Rattle.ftp_session.specs.Steps.Moving.{HasBegun, PollSteps}
 use Rattle.ftp_session.specs.declared.model.Script.{Script}
@@ -121,10 +121,6 @@ pub record AbortsCall (coding : Coding) (call : Call) (stage : Stage) (v w : Ses
 -- a session that has failed fails no more, and refuses what it answers
 abbrev pub FailedStays : SessionValue → SessionValue → Option Answer → Type 0
 FailedStays v w answer = v.channel.failed ≡ true → (w.channel.failed ≡ true) × (w.channel.told.failures ≡ v.channel.told.failures) × AllRefused (given_answer answer)
-
--- a session fails only where a call does
-abbrev pub FailsWith : SessionValue → SessionValue → List Answer → Type 0
-FailsWith v w answers = w.channel.failed ≡ true → (v.channel.failed ≡ true) ⊎ HasFault answers
 
 -- only a Feed may need memory
 pub record IsFeed (event : Event) : Type 0 where

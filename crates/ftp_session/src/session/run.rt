@@ -3,7 +3,7 @@
 ghost use Rattle.std.specs.Prelude.{◌≡◌, IfOk, IfErr, OnErr, length};
 ghost use Rattle.ftp_session.specs.Coding.{chosen, coding_of};
 ghost use Rattle.ftp_session.specs.Link.{link};
-ghost use Rattle.ftp_session.specs.Promises.{Runs};
+ghost use Rattle.ftp_session.specs.Promises.{FailsWith, Runs};
 ghost use Rattle.ftp_session.specs.Sound.{Sound};
 
 use super::client::Session;
@@ -28,6 +28,8 @@ where
             Runs (link Tr.Conn.tells Tr.Conn.blocking_read_faults Tr.Conn.blocking_write_faults) (chosen E.decoded E.encoded self.old.encoding.0) calls.now
             self.old.machine self.new.machine answers.items) }
         ensures count { IfOk result (λ answers. length answers.items ≡ length calls.now) }
+        ensures fails { IfOk result (λ answers.
+            FailsWith self.old.machine self.new.machine answers.items) }
         ensures encoding { self.new.encoding ≡ self.old.encoding }
         ensures memory { IfErr result (λ fault. fault ≡ FtpError.OutOfMemory) }
         ensures unchanged { OnErr result (self.new ≡ self.old) }
@@ -54,6 +56,7 @@ where
         ensures runs { IfOk result (λ answers.
             Runs (link Tr.Conn.tells Tr.Conn.blocking_read_faults Tr.Conn.blocking_write_faults) (coding_of E.decoded E.encoded encoding.now) calls.now self.old
             self.new answers.items) }
+        ensures fails { IfOk result (λ answers. FailsWith self.old self.new answers.items) }
         ensures count { IfOk result (λ answers. length answers.items ≡ length calls.now) }
         ensures memory { IfErr result (λ fault. fault ≡ FtpError.OutOfMemory) }
         ensures unchanged { OnErr result (self.new ≡ self.old) }

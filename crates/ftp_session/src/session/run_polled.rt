@@ -4,9 +4,10 @@ ghost use Rattle.std.specs.Prelude.{◌≡◌, ◌<◌, ◌≤◌, ◌++◌, IfO
 ghost use Rattle.ftp_control.specs.Channel.{IsSound};
 ghost use Rattle.ftp_control.specs.Memory.{IsGiven};
 ghost use Rattle.ftp_session.specs.Coding.{chosen, coding_of};
+ghost use Rattle.ftp_session.specs.Promises.{FailsWith};
 ghost use Rattle.ftp_session.specs.Scripted.{IsScripted, Stops};
 ghost use Rattle.ftp_session.specs.Sound.{Sound, SoundCounts};
-ghost use Rattle.ftp_session.specs.Steps.Following.{FailedStays, FailsWith, Happens, IsFeed, PollsHere, StageIn, Starts, given_answer};
+ghost use Rattle.ftp_session.specs.Steps.Following.{FailedStays, Happens, IsFeed, PollsHere, StageIn, Starts, given_answer};
 ghost use Rattle.ftp_session.specs.Steps.Stages.{StageOf};
 
 use super::client::Session;

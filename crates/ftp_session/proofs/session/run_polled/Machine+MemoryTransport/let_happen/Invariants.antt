@@ -1,6 +1,7 @@
 use Rattle.std.proofs.Common.{ℕ, ◌≤◌, option_map, length, take, vec_capacity}
 use Rattle.ftp_session.specs.Coding.{coding_of}
-use Rattle.ftp_session.specs.Steps.Following.{FailsWith, StageIn}
+use Rattle.ftp_session.specs.Steps.Following.{StageIn}
+use Rattle.ftp_session.specs.Promises.{FailsWith}
 use Rattle.ftp_session.proofs.Scripts.{Happened}
 use Rattle.ftp_session.proofs.session.run_polled.Machine+MemoryTransport.let_happen.Given as goal
 
