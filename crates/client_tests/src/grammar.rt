@@ -1,17 +1,18 @@
 //! The reader against the grammar computed plainly, over every front of a reply.
 
-use ftp_base::types::FtpResult;
+use crate::scene::conn_with;
+use ftp_base::status::Status;
+use ftp_base::types::{Bytes, FtpError, FtpResult, Response};
 use ftp_control::control::{ControlChannel, Outcome, ReplyRule};
 use ftp_control::plain;
-use ftp_control::transport::{MemoryConn, NeverWaits};
+use futures::task::Poll;
+use row_text::refusal;
 use std::alloc::Global;
 use std::test::Fail;
 
-const TWO_ENDS: &[u8] = b"200-a\r\n b\r\n250 done\r\n";
-
-/// The replies of the rows.
+/// Replies whole and broken, of one line and of several.
 const REPLIES: [&[u8]; 8] = [
-    TWO_ENDS,
+    b"200-a\r\n b\r\n250 done\r\n",
     b"220\r\n220 x\r\n",
     b"+22 hello\r\n220 ok\r\n",
     b"20\r\n200 ok\r\n",
@@ -21,101 +22,82 @@ const REPLIES: [&[u8]; 8] = [
     b"211-a\r\n212-b\r\n211-c\r\n",
 ];
 
-/// An outcome as a word and its bytes.
-fn shown(outcome: &Outcome) -> (&'static str, u32, &[u8]) {
-    match outcome {
-        Outcome::Whole(bytes, code) => ("whole", *code, bytes.as_slice()),
-        Outcome::Bad(line) => ("bad", 0, line.as_slice()),
-        Outcome::TooLarge => ("too large", 0, b"".as_slice()),
-        Outcome::Ended => ("ended", 0, b"".as_slice()),
-        Outcome::Waits => ("waits", 0, b"".as_slice()),
+/// Whether the input has ended after a front, and whether the reply may be one of a system status.
+const CASES: [(bool, bool); 4] = [(false, false), (false, true), (true, false), (true, true)];
+
+/// What a read comes to: a word, and the code and the bytes of a whole reply.
+type Heard = (&'static str, u32, Bytes);
+
+/// What the grammar says of these bytes.
+fn due(alloc: Global, bytes: &[u8], ended: bool, system: bool) -> FtpResult<Heard> {
+    let outcome = plain::outcome(alloc, ReplyRule::Lenient, system, bytes, ended)?;
+    Ok(match outcome {
+        Outcome::Whole(reply, code) => ("whole", Status::from(code).code(), reply),
+        Outcome::Bad(_line) => ("bad", 0, Bytes::new(alloc)),
+        Outcome::TooLarge => ("too large", 0, Bytes::new(alloc)),
+        Outcome::Ended => ("ended", 0, Bytes::new(alloc)),
+        Outcome::Waits => ("waits", 0, Bytes::new(alloc)),
+    })
+}
+
+/// What the reader answers.
+fn said(alloc: Global, answer: Poll<FtpResult<Response>>) -> Heard {
+    match answer {
+        Poll::Ready(Ok(reply)) => ("whole", reply.status.code(), reply.body),
+        Poll::Ready(Err(FtpError::UnexpectedResponse(reply))) => {
+            ("whole", reply.status.code(), reply.body)
+        }
+        Poll::Ready(Err(fault)) => (word(refusal(&fault)), 0, Bytes::new(alloc)),
+        Poll::Pending => ("waits", 0, Bytes::new(alloc)),
+    }
+}
+
+/// The word for a refusal of this number.
+fn word(number: u8) -> &'static str {
+    match number {
+        2 => "ended",
+        3 => "too large",
+        11 => "bad",
+        _ => "another fault",
     }
 }
 
 /// What the reader says of these bytes.
-fn read(alloc: Global, bytes: &[u8], ended: bool, system: bool) -> FtpResult<Outcome> {
-    let mut channel = ControlChannel::new(alloc, MemoryConn::new(alloc));
-    channel.feed(bytes)?;
-    let heard = if ended {
-        channel.poll_outcome(alloc, system, &mut NeverWaits)
+fn read(alloc: Global, bytes: &[u8], ended: bool, system: bool) -> FtpResult<Heard> {
+    let mut channel = ControlChannel::new(alloc, conn_with(alloc, bytes)?);
+    let expected = [if system {
+        Status::System
     } else {
-        channel.poll_outcome(alloc, system, &mut ())
+        Status::CommandOk
+    }];
+    let answer = if ended {
+        Poll::Ready(channel.read_response_in(alloc, &expected))
+    } else {
+        channel.poll_read_response_in(alloc, &expected, &mut ())
     };
-    Ok(heard.unwrap_or(Outcome::Waits))
+    Ok(said(alloc, answer))
+}
+
+/// Whether the reader says of these bytes what the grammar says.
+fn agrees(alloc: Global, bytes: &[u8], ended: bool, system: bool) -> FtpResult<bool> {
+    let due = due(alloc, bytes, ended, system)?;
+    let said = read(alloc, bytes, ended, system)?;
+    let same = said.0 == due.0 && said.1 == due.1;
+    Ok(same && said.2.as_slice() == due.2.as_slice())
 }
 
 #[test]
 fn the_reader_says_what_the_grammar_says(rt: HostRuntime) -> Result<(), Fail> {
-    let alloc = rt.alloc();
     for reply in REPLIES {
         for count in 0..=reply.len() {
-            for (ended, system) in [(false, false), (false, true), (true, false), (true, true)] {
-                let front = reply.get(..count).unwrap_or(b"".as_slice());
-                let due = plain::outcome(alloc, ReplyRule::Lenient, system, front, ended)?;
-                let said = read(alloc, front, ended, system)?;
-                assert_eq!(rt; shown(&said), shown(&due), "{count} {ended} {system}");
+            let front = reply.get(..count).unwrap_or(b"".as_slice());
+            for (ended, system) in CASES {
+                assert!(rt;
+                    agrees(rt.alloc(), front, ended, system)?,
+                    "{count} {ended} {system}"
+                );
             }
         }
-    }
-    Ok(())
-}
-
-#[test]
-fn the_grammar_computes_the_rows(rt: HostRuntime) -> Result<(), Fail> {
-    let alloc = rt.alloc();
-    let rows: [(&[u8], bool, bool, (&'static str, u32, &[u8])); 9] = [
-        (TWO_ENDS, false, false, ("whole", 250, TWO_ENDS)),
-        (
-            b"220\r\n220 x\r\n",
-            false,
-            false,
-            ("whole", 220, b"220\r\n220 x\r\n"),
-        ),
-        (
-            b"+22 hello\r\n220 ok\r\n",
-            false,
-            false,
-            ("whole", 220, b"+22 hello\r\n220 ok\r\n"),
-        ),
-        (b"20\r\n200 ok\r\n", false, false, ("bad", 0, b"20\r\n")),
-        (
-            b"211-a\r\n b\r\n211 end\r\n",
-            false,
-            true,
-            ("whole", 211, b"211-a\r\n"),
-        ),
-        (b" b\r\n211 end\r\n", false, false, ("bad", 0, b" b\r\n")),
-        (b"200 ok", true, false, ("whole", 200, b"200 ok")),
-        (b"200 ok", false, false, ("waits", 0, b"")),
-        (b"", true, false, ("ended", 0, b"")),
-    ];
-    for (bytes, ended, system, due) in rows {
-        let said = plain::outcome(alloc, ReplyRule::Lenient, system, bytes, ended)?;
-        assert_eq!(rt; shown(&said), due);
-    }
-    Ok(())
-}
-
-#[test]
-fn every_front_of_a_reply_of_two_ends(rt: HostRuntime) -> Result<(), Fail> {
-    let alloc = rt.alloc();
-    for count in 0..=TWO_ENDS.len() {
-        let front = TWO_ENDS.get(..count).unwrap_or(b"".as_slice());
-        let said = plain::outcome(alloc, ReplyRule::Lenient, false, front, true)?;
-        let word = match count {
-            0 => "ended",
-            1..=4 => "bad",
-            5..=14 => "ended",
-            _ => "whole",
-        };
-        assert_eq!(rt; shown(&said).0, word, "{count}");
-        let open = plain::outcome(alloc, ReplyRule::Lenient, false, front, false)?;
-        let word = if count == TWO_ENDS.len() {
-            "whole"
-        } else {
-            "waits"
-        };
-        assert_eq!(rt; shown(&open).0, word, "{count}");
     }
     Ok(())
 }

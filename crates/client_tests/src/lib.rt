@@ -2,16 +2,13 @@
 #![tactic(auto)]
 
 #[cfg(test)]
-mod channel_reads;
-pub mod first_use;
+mod channel;
 #[cfg(test)]
 mod grammar;
 #[cfg(test)]
-mod long_replies;
-#[cfg(test)]
-mod memory;
-#[cfg(test)]
 mod reads;
+#[cfg(test)]
+mod room;
 #[cfg(test)]
 mod scene;
 #[cfg(test)]

@@ -1,75 +1,63 @@
-//! What the tests share: a session over memory, and the number of a refusal.
+//! What the tests share: a connection over memory, a session that was greeted, and answers as text.
 
-ghost use Rattle.std.specs.Prelude.{◌<◌};
-
-use ftp_base::types::{ConnectionError, FtpError, FtpResult};
+use ftp_base::types::{FtpError, FtpResult, Response};
 use ftp_control::transport::{MemoryConn, MemoryTransport};
 use ftp_session::session::Session;
+use futures::task::Poll;
+use row_text::{refusal, shown};
 use std::alloc::{AllocError, Global};
 
-/// The sizes of the pieces in which the server's bytes come: one by one, and whole.
-pub const PIECES: [usize; 2] = [1, 1_000_000];
-
-/// A connection that the server's bytes came on, in pieces of so many bytes.
-pub fn conn_with(alloc: Global, input: &[u8], piece: usize) -> Result<MemoryConn, AllocError>
-    requires { 0 < piece }
-{
+/// A connection that the server's bytes came on.
+pub fn conn_with(alloc: Global, input: &[u8]) -> Result<MemoryConn, AllocError> {
     let mut conn = MemoryConn::new(alloc);
-    for part in input.chunks(piece) {
-        conn.feed(part)?;
-    }
+    conn.feed(input)?;
     Ok(conn)
 }
 
-/// A session that was greeted by `220 r`, on which the server's further bytes came.
-pub fn greeted(alloc: Global, input: &[u8], piece: usize) -> FtpResult<Session<MemoryTransport>>
-    requires { 0 < piece }
-{
-    let mut all = Vec::from_slice(alloc, b"220 r\r\n")?;
-    all.extend_from_slice(input)?;
-    let conn = conn_with(alloc, all.as_slice(), piece)?;
-    Session::connect_with_stream(alloc, MemoryTransport, conn)
+/// A session whose server sent these bytes, the greeting first.
+pub fn greeted(alloc: Global, input: &[u8]) -> FtpResult<Session<MemoryTransport>> {
+    Session::connect_with_stream(alloc, MemoryTransport, conn_with(alloc, input)?)
 }
 
-/// The number of a refusal; 0 where there is none.
-pub fn refusal<T: Drop>(answer: &FtpResult<T>) -> u8 {
+/// The number of a fault; 0 where there is none.
+pub fn number<T: Drop>(answer: &FtpResult<T>) -> u8 {
     match answer {
         Ok(_) => 0,
-        Err(FtpError::ConnectionError(cause)) => connection_refusal(cause),
-        Err(FtpError::SecureError(_)) => 9,
-        Err(FtpError::UnexpectedResponse(_)) => 10,
-        Err(FtpError::BadResponse) => 11,
-        Err(FtpError::DataConnectionAlreadyOpen) => 12,
-        Err(FtpError::OutOfMemory) => 13,
-        Err(FtpError::SessionFailed) => 14,
-        Err(FtpError::InvalidAddress) => 15,
+        Err(fault) => refusal(fault),
     }
 }
 
-/// The number of a connection's fault.
-fn connection_refusal(cause: &ConnectionError) -> u8 {
-    match cause {
-        ConnectionError::Io(_) => 1,
-        ConnectionError::UnexpectedEof => 2,
-        ConnectionError::ReplyTooLarge => 3,
-        ConnectionError::LineBreak => 4,
-        ConnectionError::EncodedWithoutCrlf => 5,
-        ConnectionError::EncodedLineBreak => 6,
-        ConnectionError::Encoding(_) => 7,
-        ConnectionError::TimedOut => 8,
-        ConnectionError::NoAddress => 16,
-        ConnectionError::SourceTooLarge => 17,
-        ConnectionError::NotOwed => 18,
-    }
-}
-
-/// The code and the bytes of the reply that an answer refuses.
-pub fn unexpected<T: Drop>(answer: &FtpResult<T>) -> Option<(u32, &[u8])> {
+/// What a poll returned: `waits`, or the reply as [`reply_text`] has it.
+pub fn poll_text(alloc: Global, answer: Poll<FtpResult<Response>>) -> Result<String, AllocError> {
     match answer {
-        Err(FtpError::UnexpectedResponse(reply)) => Some((
-            reply.status.code(),
-            reply.body.as_slice(),
-        )),
-        _ => None,
+        Poll::Ready(answer) => reply_text(alloc, &answer),
+        Poll::Pending => String::from_str(alloc, "waits"),
     }
+}
+
+/// The code and the bytes of a reply, or the fault as [`fault_text`] has it.
+fn reply_text(alloc: Global, answer: &FtpResult<Response>) -> Result<String, AllocError> {
+    match answer {
+        Ok(reply) => code_and_bytes(alloc, reply),
+        Err(fault) => fault_text(alloc, fault),
+    }
+}
+
+/// The number of a fault, with the code and the bytes of an unexpected reply.
+pub fn fault_text(alloc: Global, fault: &FtpError) -> Result<String, AllocError> {
+    let number = refusal(fault);
+    match fault {
+        FtpError::UnexpectedResponse(reply) => {
+            let reply = code_and_bytes(alloc, reply)?;
+            format!(in alloc; "E{number} {reply}")
+        }
+        _ => format!(in alloc; "E{number}"),
+    }
+}
+
+/// The code and the bytes of a reply.
+fn code_and_bytes(alloc: Global, reply: &Response) -> Result<String, AllocError> {
+    let code = reply.status.code();
+    let body = shown(alloc, reply.body.as_slice())?;
+    format!(in alloc; "{code} {body}")
 }

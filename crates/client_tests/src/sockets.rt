@@ -1,43 +1,36 @@
-//! Servers on loopback sockets that break off.
+//! Servers on loopback sockets that break off, and the program's fault.
 
-use crate::scene::refusal;
+use crate::scene::number;
 use ftp_base::types::{FtpError, FtpResult};
 use ftp_control::transport::{TcpConn, TcpTransport};
 use ftp_session::session::Session;
 use std::io::Write;
-use std::net::{TcpListener, TcpStream};
+use std::net::{Net, TcpListener, TcpStream};
 use std::test::Fail;
 
-#[test]
-fn a_server_that_closes_early(rt: HostRuntime) -> Result<(), Fail> {
-    let listener = TcpListener::bind(&rt, "127.0.0.1:0")?;
-    let client = TcpStream::connect(&rt, listener.local_addr()?)?;
+/// What a session returns whose server sends these bytes and closes.
+fn greet<R>(rt: &R, greeting: &[u8]) -> Result<u8, Fail>
+where
+    R: Net<Listener = TcpListener, Stream = TcpStream> + AllocGlobal,
+{
+    let listener = TcpListener::bind(rt, "127.0.0.1:0")?;
+    let client = TcpStream::connect(rt, listener.local_addr()?)?;
     let (mut server, _peer) = listener.accept()?;
-    server.write_all(b"220-re")?;
+    server.write_all(greeting)?;
     drop(server);
-    let conn = TcpConn::new(client);
     let answer: FtpResult<Session<TcpTransport>> = Session::connect_with_stream(
         rt.alloc(),
         TcpTransport,
-        conn,
+        TcpConn::new(client),
     );
-    assert_eq!(rt; refusal(&answer), 2);
-    Ok(())
+    Ok(number(&answer))
 }
 
 #[test]
-fn a_server_that_sends_no_digits(rt: HostRuntime) -> Result<(), Fail> {
-    let listener = TcpListener::bind(&rt, "127.0.0.1:0")?;
-    let client = TcpStream::connect(&rt, listener.local_addr()?)?;
-    let (mut server, _peer) = listener.accept()?;
-    server.write_all(b"hello\r\n")?;
-    let conn = TcpConn::new(client);
-    let answer: FtpResult<Session<TcpTransport>> = Session::connect_with_stream(
-        rt.alloc(),
-        TcpTransport,
-        conn,
-    );
-    assert_eq!(rt; refusal(&answer), 11);
+fn greetings_of_servers_that_close(rt: HostRuntime) -> Result<(), Fail> {
+    for (greeting, due) in [(b"220-re".as_slice(), 2), (b"hello\r\n", 11)] {
+        assert_eq!(rt; greet(&rt, greeting)?, due);
+    }
     Ok(())
 }
 

@@ -1,43 +1,59 @@
 //! What a session keeps beside its channel.
 
 use crate::scene::greeted;
-use ftp_base::types::{ActivePeerCheck, Mode};
+use ftp_base::types::FtpResult;
 use ftp_control::transport::{MemoryConn, MemoryTransport};
-use ftp_session::session::{Counts, Session};
+use ftp_session::session::{Counts, Session, Settings};
+use std::alloc::{AllocError, Global};
 use std::test::Fail;
-use std::time::Duration;
 
-#[test]
-fn a_session_begins_passive_and_of_text(rt: HostRuntime) -> Result<(), Fail> {
-    let alloc = rt.alloc();
-    let session: Session<MemoryTransport> = Session::new(
-        alloc,
-        MemoryTransport,
-        MemoryConn::new(alloc),
-    )?;
-    let settings = &session.state().settings;
-    assert_eq!(rt; settings.mode, Mode::Passive);
-    assert!(rt; !settings.passive_nat_workaround);
-    assert_eq!(rt; settings.active_peer_check, ActivePeerCheck::ControlPeer);
-    assert_eq!(rt; settings.active_deadline, Duration::from_secs(60));
-    assert!(rt; settings.text);
-    assert!(rt; !settings.secure);
-    assert_eq!(rt; settings.restart_offset, 0);
-    assert!(rt; session.state().welcome.is_none());
-    Ok(())
+/// What a session was told to do, how many transfers it opened, and what the server greeted with.
+fn text_of(alloc: Global, session: &Session<MemoryTransport>) -> Result<String, AllocError> {
+    let welcome = match session.get_welcome_msg() {
+        Some(text) => text,
+        None => "none",
+    };
+    let state = session.state();
+    let settings = settings_text(alloc, &state.settings)?;
+    let opened = state.counts.opened();
+    format!(in alloc; "{settings} {opened} {welcome}")
+}
+
+/// What a session was told to do.
+fn settings_text(alloc: Global, settings: &Settings) -> Result<String, AllocError> {
+    let mode = settings.mode;
+    let workaround = settings.passive_nat_workaround;
+    let check = &settings.active_peer_check;
+    let seconds = settings.active_deadline.as_secs();
+    let text = settings.text;
+    let secure = settings.secure;
+    let offset = settings.restart_offset;
+    format!(in alloc; "{mode:?} {workaround} {check:?} {seconds} {text} {secure} {offset}")
+}
+
+/// A session whose server sent this greeting, or one that read none.
+fn begun(alloc: Global, greeting: Option<&[u8]>) -> FtpResult<Session<MemoryTransport>> {
+    match greeting {
+        Some(greeting) => greeted(alloc, greeting),
+        None => Session::new(alloc, MemoryTransport, MemoryConn::new(alloc)),
+    }
 }
 
 #[test]
-fn a_greeting_changes_the_welcome_alone(rt: HostRuntime) -> Result<(), Fail> {
-    let session = greeted(rt.alloc(), b"", 1)?;
-    let state = session.state();
-    let text = match &state.welcome {
-        Some(welcome) => welcome.text(),
-        None => "none",
-    };
-    assert_eq!(rt; text, "220 r");
-    assert_eq!(rt; state.settings.mode, Mode::Passive);
-    assert_eq!(rt; state.counts.opened(), 0);
+fn a_session_begins_passive_and_a_greeting_changes_the_welcome(
+    rt: HostRuntime,
+) -> Result<(), Fail> {
+    for (greeting, due) in [
+        (None, "Passive false ControlPeer 60 true false 0 0 none"),
+        (
+            Some(b"220 r\r\n".as_slice()),
+            "Passive false ControlPeer 60 true false 0 0 220 r",
+        ),
+    ] {
+        let session = begun(rt.alloc(), greeting)?;
+        let text = text_of(rt.alloc(), &session)?;
+        assert_eq!(rt; text.as_str(), due);
+    }
     Ok(())
 }
 

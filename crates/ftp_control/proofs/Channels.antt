@@ -7,7 +7,7 @@ use Rattle.ftp_control.specs.declared.control.broken.Broken.{Broken}
 use Rattle.ftp_control.specs.declared.control.broken.Broken.TheVariants.{Connection, OutOfMemory}
 use Rattle.ftp_control.specs.declared.control.outcome.Outcome.{Outcome}
 use Rattle.ftp_control.specs.declared.control.outcome.Outcome.TheVariants.{Whole, Bad, TooLarge, Ended, Waits}
-use Rattle.ftp_control.specs.Told.{Told, HasRoomFor, IsFresh}
+use Rattle.ftp_control.specs.Told.{Told, HasRoomFor}
 use Rattle.ftp_control.proofs.Outcomes.{nothing_under_way}
 use Rattle.ftp_control.proofs.WireLines.{line_behind}
 use Rattle.ftp_control.specs.Inside.UnderWay.{IsUnderWay}
@@ -84,16 +84,16 @@ fresh_fits Any sent none = tt
 fresh_fits (UpTo most) sent none = rw none (omega arith)
 
 -- a channel begins
-pub idle_holds : (tells : Type 0) (t : Told) (rule : ReplyRule) → (tells → IsFresh t) → Holds tells t [] 0 [] 0 false false rule
-idle_holds tells t rule fresh = record {
+pub idle_holds : (tells : Type 0) (t : Told) (rule : ReplyRule) → (tells → (t.ended ≡ false) × (t.sent ≡ [])) → Holds tells t [] 0 [] 0 false false rule
+idle_holds tells t rule begins = record {
   under_way = nothing_under_way rule;
   within = omega arith;
   sound = record {
     waits = (nothing_under_way rule).waits;
     kept = λ h. record { front = t.received; is = sym (append-nil t.received) };
-    lines = λ h. let P : List ℕ → Type 0 = λ s. IsLines (s ++ []) [] in subst P (sym (fresh h).sent) (record { whole = refl; lines = tt; end_of_last = omega arith });
-    ended = λ h. (fresh h).ended;
-    fits = λ h. fresh_fits t.given.room t.sent (fresh h).sent;
+    lines = λ h. let P : List ℕ → Type 0 = λ s. IsLines (s ++ []) [] in subst P (sym (begins h).1) (record { whole = refl; lines = tt; end_of_last = omega arith });
+    ended = λ h. (begins h).0;
+    fits = λ h. fresh_fits t.given.room t.sent (begins h).1;
   };
 }
 

@@ -80,14 +80,14 @@ module _ (tells : Type 0) (says : List ℕ → Bool → Outcome) (kept now : Lis
 
 -- the read fails, and nothing is lost
 module _ (tells : Type 0) (says : List ℕ → Bool → Outcome) (first ended : Bool) (kept now : List ℕ) (t u : Told) (so_far : SoFar tells says kept now first ended t u) where
-  pub fails_hears : (kind : ErrorKind) (v : Told) → (tells → HasFailed u v) → Hears tells says kept now first ended t v (Err (Connection kind))
+  pub fails_hears : (kind : ErrorKind) (v : Told) → (tells → HasFailed kind u v) → Hears tells says kept now first ended t v (Err (Connection kind))
   fails_hears kind v told = record {
     came = so_far.came;
     over = so_far.over;
     unended = λ w. let clash : Err (Connection kind) ≡ Ok Waits = w in cc;
     all = so_far.grown;
     answer = λ w. tt;
-    told = λ h. let P : Told → Type 0 = λ x. HasFailed x v in subst P (so_far.told h) (told h);
+    told = λ h. let P : Told → Type 0 = λ x. HasFailed kind x v in subst P (so_far.told h) (told h);
   }
 
   pub memory_hears : Hears tells says kept now first ended t u (Err OutOfMemory)

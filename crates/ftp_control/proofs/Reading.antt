@@ -1,5 +1,5 @@
 -- A run of the read loop is a read of the channel, and leaves what its contract says.
-use Rattle.std.proofs.Common.{◌≡◌, ℕ, ◌+◌, ◌≤◌, Bool, true, false, ◌||◌, List, [], ◌++◌, length, drop, Result, Ok, Err, refl, ap, sym, ◌∙◌, subst, append-nil, arith}
+use Rattle.std.proofs.Common.{◌≡◌, ℕ, ◌+◌, ◌≤◌, ◌<◌, Bool, true, false, ◌||◌, List, [], ◌∷◌, ◌++◌, length, drop, Result, Ok, Err, refl, ap, sym, ◌∙◌, subst, append-nil, arith}
 use Rattle.std.proofs.Math.Seq.{drop-append_seam, drop-length}
 use Rattle.ftp_control.specs.declared.control.rule.ReplyRule.{ReplyRule}
 use Rattle.ftp_control.specs.declared.control.broken.Broken.{Broken}
@@ -8,7 +8,7 @@ use Rattle.ftp_control.specs.declared.control.outcome.Outcome.TheVariants.{Whole
 use Rattle.ftp_control.specs.Grammar.{outcome, line_outcome, whole_lines, reply_limit}
 use Rattle.ftp_control.specs.Reading.{AnswersOutcome}
 use Rattle.ftp_control.specs.Inside.ReadLoop.{TakesAll, Hears}
-use Rattle.ftp_control.specs.Channel.{Channel, untaken, fails_by, LeavesBytes, StaysSettled, ReadsReply, ReadsLine}
+use Rattle.ftp_control.specs.Channel.{Channel, untaken, fails_by, LeavesBytes, StaysSettled, TakesSome, ReadsReply, ReadsLine}
 use Rattle.ftp_control.proofs.Law.{answer_stays, ended_last}
 use Rattle.ftp_control.proofs.Outcomes.{line_waits_on}
 
@@ -53,6 +53,26 @@ stays_settled rule system bytes left ended (Ok Ended) kept none all is = λ more
 stays_settled rule system bytes left ended (Ok Waits) kept none all is = tt
 stays_settled rule system bytes left ended (Err broken) kept none all is = tt
 
+-- nothing settles nothing
+empty_clash : (rule : ReplyRule) (system ended : Bool) (heard : Outcome) → heard ≡ outcome rule system [] ended → (heard ≡ Ended → ⊥) → (heard ≡ Waits → ⊥) → ⊥
+unfolding outcome
+empty_clash rule system true heard is other waits = other is
+empty_clash rule system false heard is other waits = waits is
+
+some_taken : (bytes left : List ℕ) → left ≡ [] → (bytes ≡ [] → ⊥) → length left < length bytes
+some_taken [] left none some = absurd (some refl)
+some_taken (b ∷ bytes) left none some = rw none (omega arith)
+
+takes_some : (rule : ReplyRule) (system : Bool) (bytes left : List ℕ) (ended : Bool) (result : Result Outcome Broken) (kept : List ℕ) → (kept ≡ [] → left ≡ []) → TakesAll result bytes kept → AnswersOutcome result (outcome rule system bytes ended) → TakesSome result bytes left
+takes_some rule system bytes left ended (Ok (Whole reply code)) kept none all is =
+    some_taken bytes left (none all.1) (λ e. let P : List ℕ → Type 0 = λ bs. Whole reply code ≡ outcome rule system bs ended in empty_clash rule system ended (Whole reply code) (subst P e is) (λ w. let clash : Whole reply code ≡ Ended = w in cc) (λ w. let clash : Whole reply code ≡ Waits = w in cc))
+takes_some rule system bytes left ended (Ok (Bad line)) kept none all is =
+    some_taken bytes left (none all.1) (λ e. let P : List ℕ → Type 0 = λ bs. Bad line ≡ outcome rule system bs ended in empty_clash rule system ended (Bad line) (subst P e is) (λ w. let clash : Bad line ≡ Ended = w in cc) (λ w. let clash : Bad line ≡ Waits = w in cc))
+takes_some rule system bytes left ended (Ok TooLarge) kept none all is = rw (none all.1) (omega (arith, all.0))
+takes_some rule system bytes left ended (Ok Ended) kept none all is = tt
+takes_some rule system bytes left ended (Ok Waits) kept none all is = tt
+takes_some rule system bytes left ended (Err broken) kept none all is = tt
+
 module _ (tells : Type 0) (old new : Channel) (result : Result Outcome Broken) (before : old.ahead ≡ []) (after : new.ahead ≡ []) (same : new ≡ record old { told = new.told; kept = new.kept; ahead = new.ahead; ended = new.ended; failed = old.failed || fails_by result }) where
   -- a read of a reply
   pub reads_reply : (system : Bool) → Hears tells (outcome old.rule system) old.kept new.kept old.ended new.ended old.told new.told result → ReadsReply tells system old new result
@@ -63,6 +83,7 @@ module _ (tells : Type 0) (old new : Channel) (result : Result Outcome Broken) (
         unended = heard.unended;
         leaves = leaves_bytes result (untaken old ++ heard.came) new after all;
         past = let P : List ℕ → Type 0 = λ a. length a ≤ length old.ahead + length heard.came in subst P (sym after) (omega arith);
+        takes = λ w. takes_some old.rule system (untaken old ++ heard.came) (untaken new) new.ended result new.kept (λ none. untaken_kept new after ∙ none) all (answer w);
         answer = answer;
         stays = λ w. stays_settled old.rule system (untaken old ++ heard.came) (untaken new) new.ended result new.kept (λ none. untaken_kept new after ∙ none) all (answer w);
         last = λ w. ended_last old.rule system (untaken old ++ heard.came) new.ended result (answer w);

@@ -1,9 +1,9 @@
 -- Lemmas on what goes out.
-use Rattle.std.proofs.Common.{◌≡◌, ℕ, List, [], ◌++◌, take, drop, Ok, Err, refl, sym, ◌∙◌, subst, append_assoc, append-nil}
+use Rattle.std.proofs.Common.{◌≡◌, ℕ, List, [], ◌++◌, take, drop, Ok, Err, refl, ap, sym, ◌∙◌, subst, append_assoc, append-nil}
 use Rattle.std.specs.declared.io.ErrorKind.{ErrorKind}
 use Rattle.futures.specs.declared.task.Poll.TheVariants.{Ready, Pending}
 use Rattle.std.proofs.lemmas.List.{take-append-drop}
-use Rattle.ftp_control.specs.Told.{Told, Fits, IsFull, HasFailed, after_write}
+use Rattle.ftp_control.specs.Told.{Told, Fits, IsFull, HasFailed, after_write, before_fault}
 use Rattle.ftp_control.specs.Sending.{Flushes}
 
 -- bytes went out
@@ -38,11 +38,18 @@ module _ (tells : Type 0) (unsent now : List ℕ) (t u : Told) (so_far : SentSoF
     fits = λ h f. let P : Told → Type 0 = Fits in subst P (sym (told h).0) (so_far.fits h f);
   }
 
-  pub write_failed : (kind : ErrorKind) (v : Told) → (tells → HasFailed u v) → Flushes tells unsent now t v (Err kind)
+  -- the record before a write that failed
+  pub before_failure : (kind : ErrorKind) (v : Told) → tells → HasFailed kind u v → u ≡ before_fault t v
+  before_failure kind v h failed =
+      let F : Told → Told = before_fault t in
+      let counts : u ≡ before_fault t u = (let P : Told → Type 0 = λ x. x ≡ before_fault t x in subst P (sym (so_far.told h)) refl) in
+      counts ∙ sym (ap F failed.same)
+
+  pub write_failed : (kind : ErrorKind) (v : Told) → (tells → HasFailed kind u v) → Flushes tells unsent now t v (Err kind)
   write_failed kind v told = record {
     part = so_far.part;
     split = so_far.split;
     leaves = tt;
-    told = λ h. let P : Told → Type 0 = λ x. HasFailed x v in subst P (so_far.told h) (told h);
+    told = λ h. let P : Told → Type 0 = λ x. HasFailed kind x v in subst P (so_far.told h) (told h);
     fits = λ h f. let P : Told → Type 0 = Fits in subst P (sym (told h).same) (so_far.fits h f);
   }

@@ -1,5 +1,5 @@
 -- Lemmas on wire lines.
-use Rattle.std.proofs.Common.{◌≡◌, ℕ, ◌-◌, Bool, true, false, cond, not, ◌||◌, List, [], ◌∷◌, ◌++◌, length, take, drop, Option, Some, None, Ok, Err, MatchOption, subst, refl, ap, sym, ◌∙◌, arith, length-append, nat_eq, ◌&&◌, append_assoc}
+use Rattle.std.proofs.Common.{◌≡◌, ℕ, ◌-◌, Bool, true, false, cond, not, ◌||◌, List, [], ◌∷◌, ◌++◌, length, take, drop, Option, Some, None, Ok, Err, MatchOption, subst, refl, ap, sym, ◌∙◌, arith, length-append, nat_eq, ◌&&◌, append_assoc, ◌<◌}
 use Rattle.std.specs.Cmp.Lexicographic.{same_text}
 use Rattle.std.specs.Cmp.Derive.{both_true}
 use Rattle.std.proofs.Math.Seq.{take-append_seam, drop-append_seam}
@@ -134,3 +134,8 @@ line_behind said line lines is =
       lines = let P : List (List ℕ) → Type 0 = AreWireLines in subst P (sym all) (lines-snoc (whole_lines said) line lines.lines is);
       end_of_last = rw (all, last_length-snoc (whole_lines said) line) (omega arith);
     }
+
+-- a wire line isn't empty
+pub line_some : (line : List ℕ) → is_wire_line line ≡ true → 0 < length line
+line_some [] is = let clash : false ≡ true = is in cc
+line_some (b ∷ line) is = omega arith

@@ -1,6 +1,7 @@
 -- What a read of a reply answers: RFC 959, section 4.2.
 use Rattle.std.specs.Prelude.{◌≡◌, Bool, List, ◌==◌, Result, Ok, Err, if◌then◌else◌}
 use Rattle.std.specs.List.{list_any}
+use Rattle.std.specs.declared.io.ErrorKind.{ErrorKind}
 use Rattle.futures.specs.declared.task.Poll.{Poll}
 use Rattle.futures.specs.declared.task.Poll.TheVariants.{Ready, Pending}
 use Rattle.ftp_base.specs.declared.status.Status.{Status}
@@ -14,6 +15,8 @@ use Rattle.ftp_control.specs.declared.control.broken.Broken.{Broken}
 use Rattle.ftp_control.specs.declared.control.broken.Broken.TheVariants.{Connection, OutOfMemory}
 use Rattle.ftp_control.specs.declared.control.outcome.Outcome.{Outcome}
 use Rattle.ftp_control.specs.declared.control.outcome.Outcome.TheVariants.{Whole, Bad, TooLarge, Ended, Waits}
+use Rattle.ftp_control.specs.Memory.{IsGiven}
+use Rattle.ftp_control.specs.Reading.{MayBreak}
 use Rattle.ftp_control.specs.Channel.{Channel, ReadsReply}
 
 -- a status is among these
@@ -35,7 +38,9 @@ answer_of expected (Err (Connection kind)) = Ready (Err (fault.ConnectionError (
 answer_of expected (Err OutOfMemory) = Ready (Err fault.OutOfMemory)
 
 -- a read that expects these: what was read, and its answer
-pub record AnswersRead (tells : Type 0) (expected : List Status) (old new : Channel) (answer : Poll (Result Response FtpError)) : Type 0 where
+pub record AnswersRead (tells : Type 0) (faults : ErrorKind → Type 0) (expected : List Status) (old new : Channel) (answer : Poll (Result Response FtpError)) : Type 0 where
   pub result : Result Outcome Broken
   pub reads : ReadsReply tells (is_among expected System) old new result
+  pub fault : MayBreak faults result
+  pub given : tells → IsGiven old.told → IsGiven new.told
   pub is : answer ≡ answer_of expected result

@@ -1,5 +1,5 @@
 -- The control channel as one value, and what always holds of it.
-use Rattle.std.specs.Prelude.{◌≡◌, ℕ, ◌+◌, ◌≤◌, length, Bool, true, false, ◌||◌, List, [], ◌++◌, Result, Ok, Err}
+use Rattle.std.specs.Prelude.{◌≡◌, ℕ, ◌+◌, ◌≤◌, ◌<◌, length, Bool, true, false, ◌||◌, List, [], ◌++◌, Result, Ok, Err}
 use Rattle.std.specs.declared.io.ErrorKind.{ErrorKind}
 use Rattle.futures.specs.declared.task.Poll.{Poll}
 use Rattle.ftp_control.specs.declared.control.rule.ReplyRule.{ReplyRule}
@@ -72,6 +72,15 @@ StaysSettled (Ok Waits) says bytes left ended = Unit {0}
 StaysSettled (Err broken) says bytes left ended = Unit {0}
 StaysSettled (Ok heard) says bytes left ended = (more : List ℕ) (e : Bool) → GoesOn ended more e → (says (bytes ++ more) e ≡ heard) × (left_by heard (bytes ++ more) ≡ left ++ more)
 
+-- a settled outcome takes at least a byte; an end of input may take none
+abbrev pub TakesSome : Result Outcome Broken → List ℕ → List ℕ → Type 0
+TakesSome (Ok (Whole reply code)) bytes left = length left < length bytes
+TakesSome (Ok (Bad line)) bytes left = length left < length bytes
+TakesSome (Ok TooLarge) bytes left = length left < length bytes
+TakesSome (Ok Ended) bytes left = Unit {0}
+TakesSome (Ok Waits) bytes left = Unit {0}
+TakesSome (Err broken) bytes left = Unit {0}
+
 -- a read of a reply
 pub record ReadsReply (tells : Type 0) (system : Bool) (old new : Channel) (result : Result Outcome Broken) : Type 0 where
   pub came : List ℕ
@@ -79,6 +88,7 @@ pub record ReadsReply (tells : Type 0) (system : Bool) (old new : Channel) (resu
   pub unended : result ≡ Ok Waits → new.ended ≡ false
   pub leaves : LeavesBytes result (untaken old ++ came) new
   pub past : length new.ahead ≤ length old.ahead + length came
+  pub takes : outcome old.rule system old.kept false ≡ Waits → TakesSome result (untaken old ++ came) (untaken new)
   pub answer : outcome old.rule system old.kept false ≡ Waits → AnswersOutcome result (outcome old.rule system (untaken old ++ came) new.ended)
   pub stays : outcome old.rule system old.kept false ≡ Waits → StaysSettled result (outcome old.rule system) (untaken old ++ came) (untaken new) new.ended
   pub last : outcome old.rule system old.kept false ≡ Waits → result ≡ Ok Ended → new.ended ≡ true

@@ -9,6 +9,9 @@ use Rattle.ftp_control.specs.declared.control.broken.Broken.{Broken}
 use Rattle.ftp_control.specs.declared.control.broken.Broken.TheVariants.{Connection, OutOfMemory}
 use Rattle.ftp_control.specs.declared.control.outcome.Outcome.{Outcome}
 use Rattle.ftp_control.specs.declared.control.outcome.Outcome.TheVariants.{Whole, Bad, TooLarge, Ended, Waits}
+use Rattle.std.specs.declared.io.ErrorKind.{ErrorKind}
+use Rattle.ftp_control.specs.Memory.{IsGiven}
+use Rattle.ftp_control.specs.Reading.{MayBreak}
 use Rattle.ftp_control.specs.Channel.{Channel, ReadsLine}
 
 -- the answer of a read of one line
@@ -22,7 +25,9 @@ line_answer (Err (Connection kind)) = Ready (Err (fault.ConnectionError (connect
 line_answer (Err OutOfMemory) = Ready (Err fault.OutOfMemory)
 
 -- a read of one line: what was read, and its answer
-pub record AnswersLine (tells : Type 0) (old new : Channel) (answer : Poll (Result (List ℕ) FtpError)) : Type 0 where
+pub record AnswersLine (tells : Type 0) (faults : ErrorKind → Type 0) (old new : Channel) (answer : Poll (Result (List ℕ) FtpError)) : Type 0 where
   pub result : Result Outcome Broken
   pub reads : ReadsLine tells old new result
+  pub fault : MayBreak faults result
+  pub given : tells → IsGiven old.told → IsGiven new.told
   pub is : answer ≡ line_answer result

@@ -1,12 +1,12 @@
 -- What happens to a connection over memory from the outside.
-use Rattle.std.specs.Prelude.{◌≡◌, ℕ, ◌+◌, ◌||◌, true, false, List, [], ◌++◌, length, if◌then◌else◌, min}
+use Rattle.std.specs.Prelude.{◌≡◌, ℕ, ◌+◌, ◌||◌, true, false, None, List, [], ◌++◌, length, if◌then◌else◌, min}
 use Rattle.ftp_control.specs.declared.transport.room.Room.{Room}
 use Rattle.ftp_control.specs.declared.transport.room.Room.TheVariants.{Any, UpTo}
 use Rattle.ftp_control.specs.Told.{Told}
 
 -- no byte came, and there is room for any number
 abbrev pub fresh_memory : Told
-fresh_memory = record { received = []; ended = false; sent = []; failures = 0; given = record { bytes = []; closed = false; room = Any } }
+fresh_memory = record { received = []; ended = false; sent = []; failures = 0; last_fault = None; given = record { bytes = []; closed = false; room = Any } }
 
 -- bytes came, where the end wasn't told and wasn't met
 abbrev pub fed : List ℕ → Told → Told

@@ -30,7 +30,7 @@ pub record IsLines (said unsent : List ℕ) : Type 0 where
 abbrev pub FlushTells : Result (Poll (Unit {0})) ErrorKind → List ℕ → Told → Told → Type 0
 FlushTells (Ok (Ready done)) part t u = u ≡ after_write part t
 FlushTells (Ok Pending) part t u = (u ≡ after_write part t) × IsFull u
-FlushTells (Err kind) part t u = HasFailed (after_write part t) u
+FlushTells (Err kind) part t u = HasFailed kind (after_write part t) u
 
 -- what is unsent after a flush: nothing, or something that waits for room
 abbrev pub FlushLeaves : Result (Poll (Unit {0})) ErrorKind → List ℕ → Type 0

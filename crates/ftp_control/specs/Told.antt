@@ -1,5 +1,5 @@
 -- What a connection tells of itself.
-use Rattle.std.specs.Prelude.{◌≡◌, ℕ, ◌≤◌, ◌<◌, ◌==◌, ◌⊎◌, Bool, true, false, List, [], ◌++◌, length, take, Result, Ok, Err, if◌then◌else◌}
+use Rattle.std.specs.Prelude.{◌≡◌, ℕ, ◌≤◌, ◌<◌, ◌-◌, ◌==◌, ◌⊎◌, Bool, true, false, List, [], ◌++◌, length, take, drop, Option, Some, Result, Ok, Err, if◌then◌else◌}
 use Rattle.std.specs.declared.io.ErrorKind.{ErrorKind}
 use Rattle.ftp_control.specs.declared.transport.room.Room.{Room}
 use Rattle.ftp_control.specs.declared.transport.room.Room.TheVariants.{Any, UpTo}
@@ -13,12 +13,13 @@ pub record Given : Type 0 where
   pub room : Room
 
 -- what went over a connection since its channel began: the bytes that reads gave, whether one met the end, the
--- bytes that writes took, and how many calls failed
+-- bytes that writes took; how many calls failed, and the last with which fault; and what is at hand
 pub record Told : Type 0 where
   pub received : List ℕ
   pub ended : Bool
   pub sent : List ℕ
   pub failures : ℕ
+  pub last_fault : Option ErrorKind
   pub given : Given
 
 -- so many bytes are within the room
@@ -30,11 +31,21 @@ HasRoomFor (UpTo most) count = count ≤ most
 abbrev pub Fits : Told → Type 0
 Fits t = HasRoomFor t.given.room (length t.sent)
 
--- a channel begins
-pub record IsFresh (t : Told) : Type 0 where
-  pub received : t.received ≡ []
-  pub ended : t.ended ≡ false
-  pub sent : t.sent ≡ []
+-- the room that is left after so many bytes
+abbrev pub room_after : ℕ → Room → Room
+room_after sent Any = Any
+room_after sent (UpTo most) = UpTo (most - sent)
+
+-- a channel begins on a connection: what came and wasn't read is still to come, and what room was left is left
+abbrev pub begun : Told → Told
+begun t = record {
+  received = [];
+  ended = false;
+  sent = [];
+  failures = t.failures;
+  last_fault = t.last_fault;
+  given = record { bytes = drop (length t.received) t.given.bytes; closed = t.given.closed; room = room_after (length t.sent) t.given.room };
+}
 
 abbrev pub after_read : List ℕ → Told → Told
 after_read bytes t = record t { received = t.received ++ bytes }
@@ -58,16 +69,29 @@ HasNoRoom (UpTo most) count = most ≤ count
 abbrev pub IsFull : Told → Type 0
 IsFull t = HasNoRoom t.given.room (length t.sent)
 
--- a call failed and was counted, and nothing else happened; a count stays at its greatest value
-pub record HasFailed (t u : Told) : Type 0 where
-  pub same : u ≡ record t { failures = u.failures }
-  pub counted : (t.failures < u.failures) ⊎ (u.failures ≡ 18446744073709551615)
+-- a failure was counted, with its fault; a count stays at its greatest value
+abbrev pub HasCounted : ErrorKind → Told → Told → Type 0
+HasCounted kind t u = ((t.failures < u.failures) ⊎ (u.failures ≡ 18446744073709551615)) × (u.last_fault ≡ Some kind)
+
+-- a call failed with this fault and was counted, and nothing else happened
+pub record HasFailed (kind : ErrorKind) (t u : Told) : Type 0 where
+  pub same : u ≡ record t { failures = u.failures; last_fault = u.last_fault }
+  pub counts : HasCounted kind t u
+
+-- the record as it was before a failure
+abbrev pub before_fault : Told → Told → Told
+before_fault t u = record u { failures = t.failures; last_fault = t.last_fault }
+
+-- no call failed
+pub record NoneFailed (t u : Told) : Type 0 where
+  pub failures : u.failures ≡ t.failures
+  pub last_fault : u.last_fault ≡ t.last_fault
 
 -- what a read that was given room tells: bytes, the end, that it waits, or a failure
 abbrev pub ReadTells : Result (Poll ℕ) ErrorKind → List ℕ → Told → Told → Type 0
 ReadTells (Ok (Ready count)) buffer t u = u ≡ (if count == 0 then after_end t else after_read (take count buffer) t)
 ReadTells (Ok Pending) buffer t u = (u ≡ t) × IsDry t
-ReadTells (Err kind) buffer t u = HasFailed t u
+ReadTells (Err kind) buffer t u = HasFailed kind t u
 
 -- the end is met only where it was told
 abbrev pub EndsAsTold : Bool → Bool → Told → Type 0
@@ -77,7 +101,7 @@ EndsAsTold ended ended' t = ended' ≡ true → (ended ≡ true) ⊎ (t.given.cl
 abbrev pub WriteTells : Result (Poll ℕ) ErrorKind → List ℕ → Told → Told → Type 0
 WriteTells (Ok (Ready count)) bytes t u = (u ≡ after_write (take count bytes) t) × (Fits t → Fits u)
 WriteTells (Ok Pending) bytes t u = (u ≡ t) × IsFull t
-WriteTells (Err kind) bytes t u = HasFailed t u
+WriteTells (Err kind) bytes t u = HasFailed kind t u
 
 -- a read gives at most what there is room for
 abbrev pub ReadsAtMost : Result (Poll ℕ) ErrorKind → ℕ → Type 0

@@ -17,9 +17,15 @@ use Rattle.ftp_session.specs.declared.session.state.State.{State}
 use Rattle.ftp_session.specs.declared.model.Script.{Script}
 use Rattle.ftp_session.specs.State.{SessionValue}
 use Rattle.ftp_session.specs.Coding.{Coding}
-use Rattle.ftp_session.specs.Exchanges.{is_read}
 use Rattle.ftp_session.specs.Script.{unread, is_over, start_of, script_of, after_event, start_script, MayCancel, MayPoll, poll_script}
-use Rattle.ftp_session.specs.Steps.Following.{Stands, UnderWay, Started, Place, Follows, Starts, PollsHere, AbortsCall}
+use Rattle.ftp_session.specs.Steps.Following.{Place, Follows, Starts, PollsHere, AbortsCall}
+use Rattle.ftp_session.specs.Promises.{FailsWith}
+use Rattle.ftp_control.specs.Saying.{said}
+use Rattle.ftp_session.specs.Scripted.{Stands}
+use Rattle.futures.specs.declared.task.Poll.{Poll}
+use Rattle.ftp_session.specs.Link.{over_memory}
+use Rattle.ftp_session.specs.Steps.Stages.{begun_at, remaining}
+use Rattle.ftp_session.proofs.Transitions.{given_by, polls_fail}
 use Rattle.ftp_session.proofs.Following.{unread_is, poll_follows}
 
 module _ (coding : Coding) where
@@ -40,12 +46,12 @@ module _ (coding : Coding) where
       go : (call : Option Call) (stage : Stage) → Place coding old s came v call stage → Place coding old s came (with_given v given) call stage
       go None stage place = place
       go (Some call) stage (inl place) = inl (record { at = place.at; unpolled = place.unpolled; stands = place.stands })
-      go (Some call) stage (inr place) = inr (record { polled = place.polled; going = place.going; reaches = place.reaches; resumes = place.resumes; read = place.read })
+      go (Some call) stage (inr place) = inr (record { polled = place.polled; going = place.going; reaches = place.reaches; resumes = place.resumes; read = place.read; since = record { start = place.since.start; before = place.since.before; later = place.since.later; split = place.since.split; stands = place.since.stands; said = place.since.said; taken = place.since.taken; has_begun = place.since.has_begun; not_begun = place.since.not_begun } })
 
       back : (call : Option Call) (stage : Stage) → Place coding old (record s { items = t.items; answers = t.answers; polled = t.polled }) came (with_given v given) call stage → Place coding old t came (with_given v given) call stage
       back None stage place = place
       back (Some call) stage (inl place) = inl (record { at = place.at; unpolled = place.unpolled; stands = place.stands })
-      back (Some call) stage (inr place) = inr (record { polled = place.polled; going = place.going; reaches = place.reaches; resumes = place.resumes; read = place.read })
+      back (Some call) stage (inr place) = inr (record { polled = place.polled; going = place.going; reaches = place.reaches; resumes = place.resumes; read = place.read; since = record { start = place.since.start; before = place.since.before; later = place.since.later; split = place.since.split; stands = place.since.stands; said = place.since.said; taken = place.since.taken; has_begun = place.since.has_begun; not_begun = place.since.not_begun } })
 
   -- what is fed is unread
   fed_unread : (t : Told) (more : List ℕ) → IsGiven t → drop (length t.received) (t.given.bytes ++ more) ≡ unread t ++ more
@@ -72,6 +78,8 @@ module _ (coding : Coding) where
           ended = f.ended ∙ ap (λ g. g.closed || t.ended) (sym is);
           room = f.room ∙ ap (λ g. g.room) (sym is);
           sent = f.sent;
+          said = record { rest = f.said.rest; is = f.said.is; whole = f.said.whole };
+          received = f.received;
           unsent = f.unsent;
           untaken = ap (λ b. b ++ more) f.untaken ∙ append_assoc (untaken v.channel) (unread t) more ∙ ap (λ u. untaken v.channel ++ u) (sym unread');
           seen = f.seen;
@@ -112,6 +120,8 @@ module _ (coding : Coding) where
           ended = refl;
           room = f.room;
           sent = f.sent;
+          said = record { rest = f.said.rest; is = f.said.is; whole = f.said.whole };
+          received = f.received;
           unsent = f.unsent;
           untaken = f.untaken;
           seen = f.seen;
@@ -140,6 +150,8 @@ module _ (coding : Coding) where
           ended = f.ended;
           room = ap (λ x. more_room more (length x) s.room) f.sent ∙ ap (λ r. more_room more (length t.sent) r) f.room;
           sent = f.sent;
+          said = record { rest = f.said.rest; is = f.said.is; whole = f.said.whole };
+          received = f.received;
           unsent = f.unsent;
           untaken = f.untaken;
           seen = f.seen;
@@ -171,6 +183,8 @@ module _ (coding : Coding) where
         ended = f.ended;
         room = f.room;
         sent = f.sent;
+        said = record { rest = f.said.rest; is = f.said.is; whole = f.said.whole };
+        received = f.received;
         unsent = λ may. f.unsent tt;
         untaken = f.untaken;
         seen = f.seen;
@@ -199,6 +213,8 @@ module _ (coding : Coding) where
     ended = f.ended;
     room = f.room;
     sent = f.sent;
+    said = record { rest = f.said.rest; is = f.said.is; whole = f.said.whole };
+    received = f.received;
     unsent = λ may. f.unsent (let P : Option Call → Type 0 = λ c. MayCancel c s.polled in subst P f.call_is dropped);
     untaken = f.untaken;
     seen = f.seen;
@@ -228,6 +244,8 @@ module _ (coding : Coding) where
     ended = refl;
     room = refl;
     sent = refl;
+    said = record { rest = []; is = sym (append-nil (said v.channel)); whole = inl refl };
+    received = sym (append-nil v.channel.told.received);
     unsent = λ may. refl;
     untaken = refl;
     seen = refl;
@@ -239,18 +257,18 @@ module _ (coding : Coding) where
   }
 
   -- a poll of the call under way
-  pub polled_ready : (old : SessionValue) (s : Script) (v w : SessionValue) (under_way : Option Call) (call : Call) (stage stage' : Stage) (answers : List Answer) (answer : Answer) → under_way ≡ Some call → Follows coding old s v under_way stage answers → MayPoll (start_of old) s.call s → PollsHere coding call stage stage' v w (Ready answer) → Follows coding old (poll_script coding (start_of old) s.call s) w None stage' (answers ++ answer ∷ []) ⊎ AbortsCall coding call stage v w (Some answer)
+  pub polled_ready : (old : SessionValue) (s : Script) (v w : SessionValue) (under_way : Option Call) (call : Call) (stage stage' : Stage) (answers : List Answer) (answer : Answer) → under_way ≡ Some call → Follows coding old s v under_way stage answers → MayPoll coding (start_of old) s.call s → PollsHere coding call stage stage' v w (Ready answer) → Follows coding old (poll_script coding (start_of old) s.call s) w None stage' (answers ++ answer ∷ []) ⊎ AbortsCall coding call stage v w (Some answer)
   polled_ready old s v w under_way call stage stage' answers answer is f may here =
       let F : Option Call → Type 0 = λ c. Follows coding old s v c stage answers in
-      let M : Option Call → Type 0 = λ c. MayPoll (start_of old) c s in
+      let M : Option Call → Type 0 = λ c. MayPoll coding (start_of old) c s in
       let R : Option Call → Type 0 = λ c. Follows coding old (poll_script coding (start_of old) c s) w None stage' (answers ++ answer ∷ []) ⊎ AbortsCall coding call stage v w (Some answer) in
       let named : s.call ≡ Some call = f.call_is ∙ is in
       subst R (sym named) (poll_follows coding old s v w call stage stage' answers (Ready answer) (subst F is f) (subst M named may) here)
 
-  pub polled_pending : (old : SessionValue) (s : Script) (v w : SessionValue) (under_way : Option Call) (call : Call) (stage stage' : Stage) (answers : List Answer) → under_way ≡ Some call → Follows coding old s v under_way stage answers → MayPoll (start_of old) s.call s → PollsHere coding call stage stage' v w Pending → Follows coding old (poll_script coding (start_of old) s.call s) w under_way stage' (answers ++ [])
+  pub polled_pending : (old : SessionValue) (s : Script) (v w : SessionValue) (under_way : Option Call) (call : Call) (stage stage' : Stage) (answers : List Answer) → under_way ≡ Some call → Follows coding old s v under_way stage answers → MayPoll coding (start_of old) s.call s → PollsHere coding call stage stage' v w Pending → Follows coding old (poll_script coding (start_of old) s.call s) w under_way stage' (answers ++ [])
   polled_pending old s v w under_way call stage stage' answers is f may here =
       let F : Option Call → Type 0 = λ c. Follows coding old s v c stage answers in
-      let M : Option Call → Type 0 = λ c. MayPoll (start_of old) c s in
+      let M : Option Call → Type 0 = λ c. MayPoll coding (start_of old) c s in
       let R : Option Call → Type 0 = λ c. Follows coding old (poll_script coding (start_of old) c s) w under_way stage' (answers ++ []) in
       let U : Option Call → Type 0 = λ c. Follows coding old (poll_script coding (start_of old) (Some call) s) w c stage' (answers ++ []) in
       let A : List Answer → Type 0 = λ a. Follows coding old (poll_script coding (start_of old) (Some call) s) w (Some call) stage' a in
@@ -288,3 +306,15 @@ module _ (coding : Coding) where
       let P : Bool → Type 0 = λ b. (cond b t (record t { given = record t.given { bytes = t.given.bytes ++ more } })).failures ≡ t.failures in
       let go : (b : Bool) → P b = λ b. elim b as P [ true ↦ refl | false ↦ refl ] in
       go (is_over t)
+
+  -- a poll over memory fails the session only where its call fails
+  pub polls_here_fail : (call : Call) (stage stage' : Stage) (v w : SessionValue) (result : Poll Answer) → PollsHere coding call stage stage' v w result → FailsWith v w (given_by result)
+  polls_here_fail call stage stage' v w result here =
+      elim v.channel.failed as (λ t. v.channel.failed ≡ t → FailsWith v w (given_by result)) [
+        | true ↦ λ was failed. inl was
+        | false ↦ λ going. polls_fail over_memory (begun_at stage) (remaining coding call v.state stage) (remaining coding call v.state stage') v w result (here.polls going)
+      ] refl
+
+  -- what doesn't fail a session
+  pub still_fails : (v w : SessionValue) → w.channel.failed ≡ v.channel.failed → FailsWith v w []
+  still_fails v w same = λ failed. inl (sym same ∙ failed)

@@ -22,7 +22,8 @@ use Rattle.ftp_control.specs.Asking.{outcomes_of}
 use Rattle.ftp_control.specs.Told.{Told, HasRoomFor, HasNoRoom, IsDry, IsFull, EndsAsTold}
 use Rattle.ftp_control.specs.Memory.{IsGiven}
 use Rattle.ftp_control.specs.Reading.{GoesOn}
-use Rattle.ftp_control.specs.Channel.{IsSound, untaken}
+use Rattle.ftp_control.specs.Channel.{Channel, IsSound, untaken}
+use Rattle.ftp_control.specs.Saying.{said}
 use Rattle.ftp_control.specs.declared.control.outcome.Outcome.TheVariants.{Waits}
 use Rattle.ftp_control.specs.Grammar.{outcome}
 use Rattle.ftp_control.specs.Answer.{is_among}
@@ -32,7 +33,6 @@ use Rattle.ftp_session.specs.declared.session.call.Answer.TheVariants.{Fault}
 use Rattle.ftp_session.specs.declared.session.call.Call.{Call}
 use Rattle.ftp_session.specs.declared.session.exchange.Turn.TheVariants.{First}
 use Rattle.ftp_session.specs.declared.session.stage.Stage.{Stage}
-use Rattle.ftp_session.specs.declared.session.stage.Stage.TheVariants.{At}
 use Rattle.ftp_session.specs.declared.model.Standing.{Standing}
 use Rattle.ftp_session.specs.declared.model.Wait.{Wait}
 use Rattle.ftp_session.specs.declared.model.Wait.TheVariants as wait
@@ -46,15 +46,16 @@ use Rattle.ftp_session.specs.Exchanges.{exchange_of, statuses, is_read}
 use Rattle.ftp_session.specs.Dialogue.{Tree, Say, Hear, saying, awaiting, later, dialogue}
 use Rattle.ftp_session.specs.Play.{play, fits, heard_then}
 use Rattle.ftp_session.specs.Run.{run, and_then, Resumes, Silent}
-use Rattle.ftp_session.specs.Promises.{standing, before_all, Goes, Leads, Rests, Aborts}
+use Rattle.ftp_session.specs.Promises.{standing, before_all, Goes, Leads, Rests, Aborts, Touched}
 use Rattle.ftp_session.specs.Script.{unread, is_over, start_of, front, seen_in, seen_at, system_at, hears_system, polled_as, poll_script, MayCancel, MayPoll}
-use Rattle.ftp_session.specs.Scripted.{Reaches, LeftOf}
+use Rattle.ftp_session.specs.Scripted.{SaysFrontOf, SaysNothing, Stands, SaysOrTakes, CallHasBegun, Reaches, LeftOf}
 use Rattle.ftp_session.specs.Steps.Stages.{remaining, begun_at}
-use Rattle.ftp_session.specs.Steps.Moving.{Keeps, Shrinks, Calm, Moves, Advances, Ends, PollSteps, WaitsFor, WaitsToSay, WaitsToHear}
-use Rattle.ftp_session.specs.Steps.Following.{Stands, UnderWay, Started, Place, Follows, PollsHere, AbortsCall}
+use Rattle.ftp_session.specs.Steps.Moving.{HasBegun, NothingTouched, Keeps, Shrinks, Calm, Advances, Ends, PollSteps, WaitsFor}
+use Rattle.ftp_session.specs.Steps.Following.{Since, UnderWay, Place, Follows, PollsHere, AbortsCall}
 use Rattle.ftp_session.proofs.Moving.{goes_after, fitted, play-Say}
 use Rattle.ftp_session.proofs.Hearing.{play-Hear, nothing_says}
 use Rattle.ftp_session.proofs.Running.{run-nil, run-cons, before_all-snoc, before_all-Finished, before_all-Waiting, refuses_on}
+use Rattle.ftp_session.specs.Link.{over_memory}
 
 -- Bytes
 
@@ -103,14 +104,14 @@ none_answered : (asked answered : List Asked) → asked ≡ asked ++ answered �
 none_answered asked answered is = append_cancel_left asked answered [] (sym is ∙ sym (append-nil asked))
 
 module _ (v w : SessionValue) (same : w.asked ≡ v.asked) where
-  plain_ends : (tree : Tree) (answer : Answer) (ends : Ends (Unit {0}) tree answer v w) → Resumes v.channel.rule v.channel.kept tree → (room : Room) (more : List ℕ) (ended : Bool) → HasRoomFor room (length w.channel.told.sent) → GoesOn w.channel.ended more ended → play room tree (standing v (ends.completes.came ++ more) ended []) ≡ played.Done answer (standing w more ended [])
+  plain_ends : (tree : Tree) (answer : Answer) (ends : Ends over_memory tree answer v w) → Resumes v.channel.rule v.channel.kept tree → (room : Room) (more : List ℕ) (ended : Bool) → HasRoomFor room (length w.channel.told.sent) → GoesOn w.channel.ended more ended → play room tree (standing v (ends.completes.came ++ more) ended []) ≡ played.Done answer (standing w more ended [])
   plain_ends tree answer ends resumes room more ended fit on =
       let done = ends.completes in
       let none : done.answered ≡ [] = none_answered v.asked done.answered (sym same ∙ done.goes.asked tt) in
       let P : List Asked → Type 0 = λ a. play room tree (standing v (done.came ++ more) ended (outcomes_of a ++ [])) ≡ played.Done answer (standing w more ended []) in
       subst P none (done.plays tt resumes room more ended [] fit on)
 
-  plain_leads : (tree tree' : Tree) (leads : Leads (Unit {0}) tree tree' v w) → Resumes v.channel.rule v.channel.kept tree → (room : Room) (more : List ℕ) (ended : Bool) → HasRoomFor room (length w.channel.told.sent) → GoesOn w.channel.ended more ended → play room tree (standing v (leads.came ++ more) ended []) ≡ play room tree' (standing w more ended [])
+  plain_leads : (tree tree' : Tree) (leads : Leads over_memory tree tree' v w) → Resumes v.channel.rule v.channel.kept tree → (room : Room) (more : List ℕ) (ended : Bool) → HasRoomFor room (length w.channel.told.sent) → GoesOn w.channel.ended more ended → play room tree (standing v (leads.came ++ more) ended []) ≡ play room tree' (standing w more ended [])
   plain_leads tree tree' leads resumes room more ended fit on =
       let none : leads.answered ≡ [] = none_answered v.asked leads.answered (sym same ∙ leads.goes.asked tt) in
       let P : List Asked → Type 0 = λ a. play room tree (standing v (leads.came ++ more) ended (outcomes_of a ++ [])) ≡ play room tree' (standing w more ended []) in
@@ -163,6 +164,7 @@ full_room (UpTo most) sent unsent line fit full some =
 -- what a poll leaves of a connection
 pub record Carried (v w : SessionValue) (came : List ℕ) : Type 0 where
   pub rule : w.channel.rule ≡ v.channel.rule
+  pub received : w.channel.told.received ≡ v.channel.told.received ++ came
   pub failures : w.channel.told.failures ≡ v.channel.told.failures
   pub split : unread v.channel.told ≡ came ++ unread w.channel.told
   pub given : w.channel.told.given ≡ v.channel.told.given
@@ -170,10 +172,11 @@ pub record Carried (v w : SessionValue) (came : List ℕ) : Type 0 where
   pub has : IsGiven w.channel.told
   pub sound : IsSound (Unit {0}) w.channel
 
-pub carried : (v w : SessionValue) (came : List ℕ) (answered : List Asked) → Goes (Unit {0}) came answered v w → IsSound (Unit {0}) v.channel → EndsAsTold v.channel.ended w.channel.ended v.channel.told → IsGiven w.channel.told → IsSound (Unit {0}) w.channel → Carried v w came
+pub carried : (v w : SessionValue) (came : List ℕ) (answered : List Asked) → Goes over_memory came answered v w → IsSound (Unit {0}) v.channel → EndsAsTold v.channel.ended w.channel.ended v.channel.told → IsGiven w.channel.told → IsSound (Unit {0}) w.channel → Carried v w came
 carried v w came answered goes sound end given sound' = record {
   rule = goes.rule;
-  failures = goes.failures tt;
+  received = goes.received tt;
+  failures = (goes.failures tt).failures;
   split = unread_split v.channel.told w.channel.told came given (goes.given tt) (goes.received tt);
   given = goes.given tt;
   over = same_over v.channel.told w.channel.told (goes.given tt) (λ e. sound'.ended tt ∙ goes.over.over (sym (sound.ended tt) ∙ e)) (λ e. go (end (sym (sound'.ended tt) ∙ e)));
@@ -191,6 +194,13 @@ PollFollows coding old s v w call stage stage' answers (Ready answer) =
     Follows coding old (poll_script coding (start_of old) (Some call) s) w None stage' (answers ++ answer ∷ []) ⊎ AbortsCall coding call stage v w (Some answer)
 PollFollows coding old s v w call stage stage' answers Pending = Follows coding old (poll_script coding (start_of old) (Some call) s) w (Some call) stage' answers
 
+-- what went out and is unsent begins what is said with the next line
+line_front : (c : Channel) (line : List ℕ) → (c.unsent ≡ [] → ⊥) → SaysFrontOf c ((c.told.sent ++ c.unsent ++ line) ++ [])
+line_front c line some = record { rest = line; is = append-nil (c.told.sent ++ c.unsent ++ line); whole = inr some }
+
+all_said : (c : Channel) → SaysFrontOf c (said c)
+all_said c = record { rest = []; is = sym (append-nil (said c)); whole = inl refl }
+
 module _ (coding : Coding) where
   -- Runs
 
@@ -205,7 +215,7 @@ module _ (coding : Coding) where
 
   module _ (old v w : SessionValue) (same : w.asked ≡ v.asked) (items : List Call) (came : List ℕ) (answers : List Answer) (call : Call) where
     -- the call has its answer
-    reaches_stands : (tree : Tree) (answer : Answer) → Reaches coding old items came v answers call tree → (ends : Ends (Unit {0}) tree answer v w) → Resumes v.channel.rule v.channel.kept tree → Stands coding old (items ++ call ∷ []) (came ++ ends.completes.came) w (answers ++ answer ∷ [])
+    reaches_stands : (tree : Tree) (answer : Answer) → Reaches coding old items came v answers call tree → (ends : Ends over_memory tree answer v w) → Resumes v.channel.rule v.channel.kept tree → Stands coding old (items ++ call ∷ []) (came ++ ends.completes.came) w (answers ++ answer ∷ [])
     reaches_stands tree answer reaches ends resumes = λ later room more ended fit on.
         let done = ends.completes in
         let next : Standing → Ran = λ t. run room coding later t in
@@ -216,7 +226,7 @@ module _ (coding : Coding) where
         ∙ sym (before_all-snoc answers answer (run room coding later (standing w more ended []))))
 
     -- more of it is left
-    reaches_on : (tree tree' : Tree) → Reaches coding old items came v answers call tree → (leads : Leads (Unit {0}) tree tree' v w) → Resumes v.channel.rule v.channel.kept tree → Reaches coding old items (came ++ leads.came) w answers call tree'
+    reaches_on : (tree tree' : Tree) → Reaches coding old items came v answers call tree → (leads : Leads over_memory tree tree' v w) → Resumes v.channel.rule v.channel.kept tree → Reaches coding old items (came ++ leads.came) w answers call tree'
     reaches_on tree tree' reaches leads resumes = λ later room more ended fit on.
         let next : Standing → Ran = λ t. run room coding later t in
         let first = reaches later room (leads.came ++ more) ended (fitted room _ _ (leads.goes.sent tt) fit) (goes_after v.channel.ended leads.came more w.channel.ended ended leads.goes.over on) in
@@ -232,7 +242,7 @@ module _ (coding : Coding) where
       ∙ sym (before_all-snoc answers (Fault SessionFailed) (run room coding later (standing v more ended []))))
 
   -- a plain read that waits leaves no trace
-  stands_rests : (old v w : SessionValue) (items : List Call) (came : List ℕ) (answers : List Answer) → Stands coding old items came v answers → (rests : Rests (Unit {0}) v w) → Stands coding old items (came ++ rests.came) w answers
+  stands_rests : (old v w : SessionValue) (items : List Call) (came : List ℕ) (answers : List Answer) → Stands coding old items came v answers → (rests : Rests over_memory v w) → Stands coding old items (came ++ rests.came) w answers
   stands_rests old v w items came answers stands rests = λ later room more ended fit on.
       let first = stands later room (rests.came ++ more) ended (fitted room _ _ (rests.goes.sent tt) fit) (goes_after v.channel.ended rests.came more w.channel.ended ended rests.goes.over on) in
       rw (append_assoc came rests.came more)
@@ -267,6 +277,9 @@ module _ (coding : Coding) where
 
     fits_here : HasRoomFor s.room (length w.channel.told.sent)
     fits_here = let P : Room → Type 0 = λ room. HasRoomFor room (length w.channel.told.sent) in subst P (sym (f.room ∙ ap (λ g. g.room) (sym c.given))) (c.sound.fits tt)
+
+    all_received : w.channel.told.received ≡ old.channel.told.received ++ (f.came ++ came)
+    all_received = c.received ∙ ap (λ x. x ++ came) f.received ∙ append_assoc old.channel.told.received f.came came
 
     over_is : s.ended ≡ is_over w.channel.told
     over_is = f.ended ∙ sym c.over
@@ -303,6 +316,8 @@ module _ (coding : Coding) where
           ended = over_is;
           room = f.room ∙ ap (λ g. g.room) (sym c.given);
           sent = front_fits s.room w.channel.told.sent fits_here;
+          said = all_said w.channel;
+          received = all_received;
           unsent = λ may. refl;
           untaken = refl;
           seen = seen_kept P s v w came f.seen f.untaken c.split shrinks keeps;
@@ -315,8 +330,8 @@ module _ (coding : Coding) where
         subst Q (sym ran) follows
 
     -- the call waits
-    wait_on : (tree : Tree) (stage' : Stage) (wait : Wait) (t : Standing) → Reaches coding old s.items (f.came ++ came) w s.answers call tree → play s.room tree here ≡ played.Pending wait t → front s.room t.said ≡ w.channel.told.sent → t.bytes ≡ untaken w.channel ++ unread w.channel.told → seen_at wait s t.bytes ≡ length w.channel.kept → outcome w.channel.rule (system_at wait s) w.channel.kept false ≡ Waits → t.state ≡ w.state → t.failed ≡ w.channel.failed → (MayCancel (Some call) true → s.unsent ≡ w.channel.unsent) → Place coding old (polled_as (Waiting s.answers wait t) call s) (f.came ++ came) w (Some call) stage' → Follows coding old (poll_script coding (start_of old) (Some call) s) w (Some call) stage' answers
-    wait_on tree stage' wait t reaches waits sent bytes seen says_nothing state failed unsent place =
+    wait_on : (tree : Tree) (stage' : Stage) (wait : Wait) (t : Standing) → Reaches coding old s.items (f.came ++ came) w s.answers call tree → play s.room tree here ≡ played.Pending wait t → front s.room t.said ≡ w.channel.told.sent → SaysFrontOf w.channel (t.said ++ t.unsent) → t.bytes ≡ untaken w.channel ++ unread w.channel.told → seen_at wait s t.bytes ≡ length w.channel.kept → outcome w.channel.rule (system_at wait s) w.channel.kept false ≡ Waits → t.state ≡ w.state → t.failed ≡ w.channel.failed → (MayCancel (Some call) true → s.unsent ≡ w.channel.unsent) → Place coding old (polled_as (Waiting s.answers wait t) call s) (f.came ++ came) w (Some call) stage' → Follows coding old (poll_script coding (start_of old) (Some call) s) w (Some call) stage' answers
+    wait_on tree stage' wait t reaches waits sent begins bytes seen says_nothing state failed unsent place =
         let next : Standing → Ran = λ u. run s.room coding [] u in
         let ran : run s.room coding (s.items ++ call ∷ []) (record (start_of old) { bytes = s.bytes; ended = s.ended }) ≡ Waiting s.answers wait t =
         from_start (s.items ++ call ∷ [])
@@ -336,6 +351,8 @@ module _ (coding : Coding) where
           ended = over_is;
           room = f.room ∙ ap (λ g. g.room) (sym c.given);
           sent = sent;
+          said = begins;
+          received = all_received;
           unsent = unsent;
           untaken = bytes;
           seen = seen;
@@ -373,16 +390,63 @@ module _ (coding : Coding) where
         ∙ resumes in
         play-Hear s.room codes next here ∙ ap (λ h. heard_then h codes here (λ heard u. play s.room (next heard) u)) more
 
+  -- how a call goes on since the calls before it were done
+  since_start : (old : SessionValue) (items : List Call) (answers : List Answer) (came : List ℕ) (v : SessionValue) → Stands coding old items came v answers → Since coding old items answers came v false
+  since_start old items answers came v stands = record {
+    start = v;
+    before = came;
+    later = [];
+    split = sym (append-nil came);
+    stands = stands;
+    said = omega arith;
+    taken = omega arith;
+    has_begun = λ has. let clash : false ≡ true = has in cc;
+    not_begun = λ none. (refl, sym (append-nil (untaken v.channel)));
+  }
+
+  since_on : (old : SessionValue) (items : List Call) (answers : List Answer) (came : List ℕ) (v w : SessionValue) (begun begun' : Bool) (tree : Tree) (since : Since coding old items answers came v begun) → Resumes v.channel.rule v.channel.kept tree → (more : List ℕ) (answered : List Asked) → Goes over_memory more answered v w → HasBegun over_memory begun begun' tree v w → Since coding old items answers (came ++ more) w begun'
+  since_on old items answers came v w begun begun' tree since resumes more answered goes here = record {
+    start = since.start;
+    before = since.before;
+    later = since.later ++ more;
+    split = ap (λ c. c ++ more) since.split ∙ append_assoc since.before since.later more;
+    stands = since.stands;
+    said = omega (arith, since.said, goes.said tt);
+    taken = omega (arith, since.taken, goes.untaken, length-append came more);
+    has_begun = λ has. go (here.0 has);
+    not_begun = λ none. back (here.1 none);
+  }
+    where
+      back : (begun ≡ false) × NothingTouched over_memory v w → SaysNothing (since.later ++ more) since.start w
+      back none =
+          let first = since.not_begun none.0 in
+          let here = none.1 tt in
+          let same : here.0 ≡ more = append_cancel_left v.channel.told.received here.0 more (sym here.1 ∙ goes.received tt) in
+          (here.2 ∙ first.0, here.3 ∙ ap (λ x. x ++ here.0) first.1 ∙ append_assoc (untaken since.start.channel) since.later here.0 ∙ ap (λ x. untaken since.start.channel ++ (since.later ++ x)) same)
+
+      before_this : SaysOrTakes since.before came since.start v → SaysOrTakes since.before (came ++ more) since.start w
+      before_this (inl said_more) = inl (omega (arith, said_more, goes.said tt))
+      before_this (inr taken_more) = inr (omega (arith, taken_more, goes.untaken, length-append came more))
+
+      in_this : (length (said v.channel) < length (said w.channel)) ⊎ (length v.channel.told.received + length (untaken w.channel) < length w.channel.told.received + length (untaken v.channel)) → SaysOrTakes since.before (came ++ more) since.start w
+      in_this (inl said_more) = inl (omega (arith, said_more, since.said))
+      in_this (inr taken_more) = inr (omega (arith, taken_more, since.taken, ap length (goes.received tt), length-append v.channel.told.received more, length-append came more))
+
+      go : (begun ≡ true) ⊎ Touched over_memory tree v w → SaysOrTakes since.before (came ++ more) since.start w
+      go (inl has) = before_this (since.has_begun has)
+      go (inr touched) = in_this (touched tt resumes)
+
   -- where a poll begins
   pub record Resumed (old : SessionValue) (s : Script) (came : List ℕ) (v : SessionValue) (call : Call) (stage : Stage) : Type 0 where
     pub reaches : Reaches coding old s.items came v s.answers call (remaining coding call v.state stage)
     pub resumes : Resumes v.channel.rule v.channel.kept (remaining coding call v.state stage)
     pub read : is_read call ≡ true → Stands coding old s.items came v s.answers
+    pub since : Since coding old s.items s.answers came v (begun_at stage)
 
   module _ (old : SessionValue) (s : Script) (v w : SessionValue) (same : w.asked ≡ v.asked) (call : Call) (stage : Stage) (answers : List Answer) (f : Follows coding old s v (Some call) stage answers) (going : v.channel.failed ≡ false) (from : Resumed old s f.came v call stage) where
     -- a poll that waits
-    pending : (stage' : Stage) (moves : Advances (Unit {0}) (remaining coding call v.state stage) (remaining coding call v.state stage') v w) → WaitsFor (Unit {0}) (remaining coding call v.state stage') w → (is_read call ≡ true → Rests (Unit {0}) v w) → Carried v w moves.moves.leads.came → Follows coding old (poll_script coding (start_of old) (Some call) s) w (Some call) stage' answers
-    pending stage' advances waits rests c = go waits
+    pending : (stage' : Stage) (moves : Advances over_memory (remaining coding call v.state stage) (remaining coding call v.state stage') v w) → WaitsFor over_memory (remaining coding call v.state stage') w → (is_read call ≡ true → Rests over_memory v w) → HasBegun over_memory (begun_at stage) (begun_at stage') (remaining coding call v.state stage) v w → Carried v w moves.moves.leads.came → Follows coding old (poll_script coding (start_of old) (Some call) s) w (Some call) stage' answers
+    pending stage' advances waits rests begun c = go waits
       where
         tree' : Tree
         tree' = remaining coding call v.state stage'
@@ -411,9 +475,10 @@ module _ (coding : Coding) where
           reaches = let P : State → Type 0 = λ state. Reaches coding old s.items (f.came ++ advances.moves.leads.came) w s.answers call (remaining coding call state stage') in subst P (sym advances.moves.state) reaches';
           resumes = let P : State → Type 0 = λ state. Resumes w.channel.rule w.channel.kept (remaining coding call state stage') in subst P (sym advances.moves.state) resumes';
           read = read';
+          since = since_on old s.items s.answers f.came v w (begun_at stage) (begun_at stage') (remaining coding call v.state stage) from.since from.resumes advances.moves.leads.came advances.moves.leads.answered advances.moves.leads.goes begun;
         }
 
-        go : WaitsFor (Unit {0}) (remaining coding call v.state stage') w → Follows coding old (poll_script coding (start_of old) (Some call) s) w (Some call) stage' answers
+        go : WaitsFor over_memory (remaining coding call v.state stage') w → Follows coding old (poll_script coding (start_of old) (Some call) s) w (Some call) stage' answers
         go (inl says) =
             let moves = advances.moves in
             let P : Tree → Type 0 = λ x. Reaches coding old s.items (f.came ++ moves.leads.came) w s.answers call x in
@@ -423,7 +488,7 @@ module _ (coding : Coding) where
             let calm = moves.calm (subst C (sym says.is) tt) in
             let seen = seen_kept (Calm (remaining coding call v.state stage)) s v w moves.leads.came f.seen f.untaken c.split moves.shrinks calm in
             let says_nothing = waits_kept (Calm (remaining coding call v.state stage)) s v w moves.leads.came c.rule f.waits calm in
-            wait_on old s v w call stage answers f moves.leads.came c (Say (Ok says.line) says.next) stage' wait.Room t (subst P says.is reaches') stuck.0 stuck.1 refl seen says_nothing refl refl unsent' (inr (under_way t wait.Room))
+            wait_on old s v w call stage answers f moves.leads.came c (Say (Ok says.line) says.next) stage' wait.Room t (subst P says.is reaches') stuck.0 stuck.1 (line_front w.channel says.line says.some) refl seen says_nothing refl refl unsent' (inr (under_way t wait.Room))
         go (inr hears) =
             let moves = advances.moves in
             let P : Tree → Type 0 = λ x. Reaches coding old s.items (f.came ++ moves.leads.came) w s.answers call x in
@@ -434,10 +499,10 @@ module _ (coding : Coding) where
             let seen : length (untaken w.channel ++ unread w.channel.told) ≡ length w.channel.kept = ap length (all_read old s v w call stage answers f moves.leads.came c hears.none_ahead (hears.dry tt)) in
             let sent = front_fits s.room w.channel.told.sent (fits_here old s v w call stage answers f moves.leads.came c) in
             let b : Wait = wait.Bytes (is_among hears.codes System) in
-            wait_on old s v w call stage answers f moves.leads.came c (Hear hears.codes hears.next) stage' b t (subst P hears.is reaches') stuck sent refl seen resumed refl refl unsent' (inr (under_way t b))
+            wait_on old s v w call stage answers f moves.leads.came c (Hear hears.codes hears.next) stage' b t (subst P hears.is reaches') stuck sent (all_said w.channel) refl seen resumed refl refl unsent' (inr (under_way t b))
 
     -- a poll that completes the call
-    completed : (stage' : Stage) (answer : Answer) (ends : Ends (Unit {0}) (remaining coding call v.state stage) answer v w) → Carried v w ends.completes.came → Follows coding old (poll_script coding (start_of old) (Some call) s) w None stage' (answers ++ answer ∷ [])
+    completed : (stage' : Stage) (answer : Answer) (ends : Ends over_memory (remaining coding call v.state stage) answer v w) → Carried v w ends.completes.came → Follows coding old (poll_script coding (start_of old) (Some call) s) w None stage' (answers ++ answer ∷ [])
     completed stage' answer ends c =
         finish old s v w call stage answers f ends.completes.came c (Silent (remaining coding call v.state stage)) stage' answer
         (reaches_stands old v w same s.items f.came s.answers call (remaining coding call v.state stage) answer from.reaches ends from.resumes)
@@ -446,24 +511,28 @@ module _ (coding : Coding) where
   -- a session that has failed refuses the call
   refused_poll : (old : SessionValue) (s : Script) (v : SessionValue) (call : Call) (stage stage' : Stage) (answers : List Answer) (f : Follows coding old s v (Some call) stage answers) → v.channel.failed ≡ true → Stands coding old s.items f.came v s.answers → Follows coding old (poll_script coding (start_of old) (Some call) s) v None stage' (answers ++ Fault SessionFailed ∷ [])
   refused_poll old s v call stage stage' answers f failed stands =
-      finish old s v v call stage answers f [] (record { rule = refl; failures = refl; split = refl; given = refl; over = refl; has = f.given; sound = f.sound }) (Unit {0}) stage' (Fault SessionFailed)
+      finish old s v v call stage answers f [] (record { rule = refl; received = sym (append-nil v.channel.told.received); failures = refl; split = refl; given = refl; over = refl; has = f.given; sound = f.sound }) (Unit {0}) stage' (Fault SessionFailed)
       (stands_refused old v s.items f.came s.answers call failed stands)
       (omega arith)
       (inr (refl, refl, refl, tt))
 
   -- where a poll of the call under way begins
-  placed : (old : SessionValue) (s : Script) (v : SessionValue) (call : Call) (stage : Stage) (answers : List Answer) (f : Follows coding old s v (Some call) stage answers) → MayPoll (start_of old) (Some call) s → (v.channel.failed ≡ false → Resumed old s f.came v call stage) × (v.channel.failed ≡ true → Stands coding old s.items f.came v s.answers)
+  placed : (old : SessionValue) (s : Script) (v : SessionValue) (call : Call) (stage : Stage) (answers : List Answer) (f : Follows coding old s v (Some call) stage answers) → MayPoll coding (start_of old) (Some call) s → (v.channel.failed ≡ false → Resumed old s f.came v call stage) × (v.channel.failed ≡ true → Stands coding old s.items f.came v s.answers)
   placed old s v call stage answers f may = go f.place
     where
       kept : take s.seen s.untaken ≡ v.channel.kept
       kept = ap (λ n. take n s.untaken) f.seen ∙ ap (λ u. take (length v.channel.kept) u) (f.untaken ∙ append_assoc v.channel.kept v.channel.ahead (unread v.channel.told)) ∙ take-append_seam v.channel.kept (v.channel.ahead ++ unread v.channel.told)
 
-      resumes : s.polled ≡ false → Resumes v.channel.rule v.channel.kept (dialogue coding call v.state)
-      resumes new = resumes_dialogue v.channel.rule v.channel.kept call v.state (pick (may new))
+      resumes : s.polled ≡ false → v.channel.failed ≡ false → Resumes v.channel.rule v.channel.kept (dialogue coding call v.state)
+      resumes new going = pick (may new (f.failed ∙ going))
         where
-          pick : (hears_system call ≡ s.system) ⊎ (outcome old.channel.rule (hears_system call) (take s.seen s.untaken) false ≡ Waits) → outcome v.channel.rule (hears_system call) v.channel.kept false ≡ Waits
-          pick (inl same) = ap (λ b. outcome v.channel.rule b v.channel.kept false) same ∙ f.waits
-          pick (inr waits) = ap (λ r. outcome r (hears_system call) v.channel.kept false) f.rule ∙ ap (λ k. outcome old.channel.rule (hears_system call) k false) (sym kept) ∙ waits
+          pick : (hears_system call ≡ s.system) ⊎ Resumes old.channel.rule (take s.seen s.untaken) (dialogue coding call s.state) → Resumes v.channel.rule v.channel.kept (dialogue coding call v.state)
+          pick (inl same) = resumes_dialogue v.channel.rule v.channel.kept call v.state (ap (λ b. outcome v.channel.rule b v.channel.kept false) same ∙ f.waits)
+          pick (inr waits) =
+              let P : State → Type 0 = λ state. Resumes old.channel.rule (take s.seen s.untaken) (dialogue coding call state) in
+              let Q : List ℕ → Type 0 = λ k. Resumes old.channel.rule k (dialogue coding call v.state) in
+              let R : ReplyRule → Type 0 = λ r. Resumes r v.channel.kept (dialogue coding call v.state) in
+              subst R (sym f.rule) (subst Q kept (subst P f.state waits))
 
       go : Place coding old s f.came v (Some call) stage → (v.channel.failed ≡ false → Resumed old s f.came v call stage) × (v.channel.failed ≡ true → Stands coding old s.items f.came v s.answers)
       go (inl started) = (
@@ -471,21 +540,22 @@ module _ (coding : Coding) where
             let P : Stage → Type 0 = λ x. Resumed old s f.came v call x in
             subst P (sym started.at) (record {
               reaches = stands_reaches old v s.items f.came s.answers call going started.stands;
-              resumes = resumes started.unpolled;
+              resumes = resumes started.unpolled going;
               read = λ is. started.stands;
+              since = since_start old s.items s.answers f.came v started.stands;
             }),
         λ failed. started.stands,
       )
       go (inr u) = (
-        λ going. record { reaches = u.reaches; resumes = u.resumes; read = u.read },
+        λ going. record { reaches = u.reaches; resumes = u.resumes; read = u.read; since = u.since },
         λ failed. let clash : true ≡ false = sym failed ∙ u.going in cc,
       )
 
-  pub poll_follows : (old : SessionValue) (s : Script) (v w : SessionValue) (call : Call) (stage stage' : Stage) (answers : List Answer) (result : Poll Answer) → Follows coding old s v (Some call) stage answers → MayPoll (start_of old) (Some call) s → PollsHere coding call stage stage' v w result → PollFollows coding old s v w call stage stage' answers result
+  pub poll_follows : (old : SessionValue) (s : Script) (v w : SessionValue) (call : Call) (stage stage' : Stage) (answers : List Answer) (result : Poll Answer) → Follows coding old s v (Some call) stage answers → MayPoll coding (start_of old) (Some call) s → PollsHere coding call stage stage' v w result → PollFollows coding old s v w call stage stage' answers result
   poll_follows old s v w call stage stage' answers result f may here =
       elim v.channel.failed as (λ t. v.channel.failed ≡ t → PollFollows coding old s v w call stage stage' answers result) [
         | true ↦ λ failed. refused failed
-        | false ↦ λ going. go result going (here.polls going) here.rests
+        | false ↦ λ going. go result going (here.polls going) here.rests here.begun
       ] refl
     where
       refused : v.channel.failed ≡ true → PollFollows coding old s v w call stage stage' answers result
@@ -498,15 +568,15 @@ module _ (coding : Coding) where
       from : v.channel.failed ≡ false → Resumed old s f.came v call stage
       from going = (placed old s v call stage answers f may).0 going
 
-      carry : (came : List ℕ) (answered : List Asked) → Goes (Unit {0}) came answered v w → Carried v w came
+      carry : (came : List ℕ) (answered : List Asked) → Goes over_memory came answered v w → Carried v w came
       carry came answered goes = carried v w came answered goes f.sound here.end here.given here.sound
 
-      go : (r : Poll Answer) → v.channel.failed ≡ false → PollSteps (Unit {0}) (begun_at stage) (remaining coding call v.state stage) (remaining coding call v.state stage') v w r → (r ≡ Pending → is_read call ≡ true → Rests (Unit {0}) v w) → PollFollows coding old s v w call stage stage' answers r
-      go (Ready answer) going (inl ends) rests = inl (completed old s v w here.asked call stage answers f going (from going) stage' answer ends (carry ends.completes.came ends.completes.answered ends.completes.goes))
-      go (Ready answer) going (inr aborts) rests =
-          let P : Answer → Type 0 = λ a. Aborts (Unit {0}) (begun_at stage) (remaining coding call v.state stage) a v w in
+      go : (r : Poll Answer) → v.channel.failed ≡ false → PollSteps over_memory (begun_at stage) (remaining coding call v.state stage) (remaining coding call v.state stage') v w r → (r ≡ Pending → is_read call ≡ true → Rests over_memory v w) → (r ≡ Pending → HasBegun over_memory (begun_at stage) (begun_at stage') (remaining coding call v.state stage) v w) → PollFollows coding old s v w call stage stage' answers r
+      go (Ready answer) going (inl ends) rests begun = inl (completed old s v w here.asked call stage answers f going (from going) stage' answer ends (carry ends.completes.came ends.completes.answered ends.completes.goes))
+      go (Ready answer) going (inr aborts) rests begun =
+          let P : Answer → Type 0 = λ a. Aborts over_memory (begun_at stage) (remaining coding call v.state stage) a v w in
           inr (record { fault = aborts.fault; is = ap Some aborts.is; going = going; aborts = subst P aborts.is aborts; given = here.given; sound = here.sound })
-      go Pending going polls rests = pending old s v w here.asked call stage answers f going (from going) stage' polls.0 polls.1 (rests refl) (carry polls.0.moves.leads.came polls.0.moves.leads.answered polls.0.moves.leads.goes)
+      go Pending going polls rests begun = pending old s v w here.asked call stage answers f going (from going) stage' polls.0 polls.1 (rests refl) (begun refl) (carry polls.0.moves.leads.came polls.0.moves.leads.answered polls.0.moves.leads.goes)
 
   -- what is left of the call under way
   pub left_of : (old : SessionValue) (s : Script) (v : SessionValue) (call : Call) (stage : Stage) (answers : List Answer) → (f : Follows coding old s v (Some call) stage answers) → v.channel.failed ≡ false → LeftOf coding old s v call (begun_at stage) (remaining coding call v.state stage)
@@ -516,7 +586,7 @@ module _ (coding : Coding) where
     came = f.came;
     bytes = f.bytes;
     reaches = reaches f.place;
-    fresh = fresh f.place;
+    since = since f.place;
   }
     where
       reaches : Place coding old s f.came v (Some call) stage → Reaches coding old s.items f.came v s.answers call (remaining coding call v.state stage)
@@ -525,6 +595,14 @@ module _ (coding : Coding) where
           subst P (sym started.at) (stands_reaches old v s.items f.came s.answers call going started.stands)
       reaches (inr u) = u.reaches
 
-      fresh : Place coding old s f.came v (Some call) stage → s.polled ≡ false → begun_at stage ≡ false
-      fresh (inl started) new = ap begun_at started.at
-      fresh (inr u) new = let clash : true ≡ false = sym u.polled ∙ new in cc
+      since : Place coding old s f.came v (Some call) stage → CallHasBegun coding old s f.came v (begun_at stage)
+      since (inl started) = record {
+        start = v;
+        before = f.came;
+        later = [];
+        split = sym (append-nil f.came);
+        stands = started.stands;
+        has_begun = λ has. let clash : false ≡ true = sym (ap begun_at started.at) ∙ has in cc;
+        not_begun = λ none. (refl, sym (append-nil (untaken v.channel)));
+      }
+      since (inr u) = record { start = u.since.start; before = u.since.before; later = u.since.later; split = u.since.split; stands = u.since.stands; has_begun = u.since.has_begun; not_begun = u.since.not_begun }

@@ -1,10 +1,10 @@
 -- Lemmas on the steps of a dialogue.
-use Rattle.std.proofs.Common.{◌≡◌, ℕ, ◌+◌, ◌≤◌, Bool, true, false, cond, List, [], ◌++◌, length, length-append, Option, Some, None, Result, Ok, Err, inl, inr, ◌⊎◌, refl, ap, sym, ◌∙◌, subst, append_assoc, append-nil, arith}
+use Rattle.std.proofs.Common.{◌≡◌, ℕ, ◌+◌, ◌≤◌, Bool, true, false, List, [], ◌++◌, length, length-append, ◌<◌, Option, None, Result, Ok, Err, inl, inr, ◌⊎◌, refl, ap, sym, ◌∙◌, subst, append_assoc, append-nil, arith}
 use Rattle.std.proofs.lemmas.Bool.{le-leb}
+use Rattle.std.proofs.lemmas.List.{append_cancel_right}
 use Rattle.ftp_base.specs.declared.types.fault.FtpError.{FtpError}
-use Rattle.ftp_base.specs.declared.types.fault.FtpError.TheVariants.{ConnectionError, SecureError, UnexpectedResponse, BadResponse, InvalidAddress, DataConnectionAlreadyOpen, OutOfMemory, SessionFailed}
+use Rattle.ftp_base.specs.declared.types.fault.FtpError.TheVariants.{ConnectionError, OutOfMemory}
 use Rattle.ftp_base.specs.declared.types.fault.ConnectionError.{ConnectionError as Cause}
-use Rattle.ftp_base.specs.declared.types.reply.Response.{Response}
 use Rattle.ftp_control.specs.declared.transport.room.Room.{Room}
 use Rattle.ftp_control.specs.declared.transport.room.Room.TheVariants.{Any, UpTo}
 use Rattle.ftp_control.specs.declared.transport.request.RequestOutcome.{RequestOutcome}
@@ -13,10 +13,11 @@ use Rattle.ftp_control.specs.Asking.{outcomes_of}
 use Rattle.ftp_control.proofs.Asking.{outcomes-append}
 use Rattle.futures.specs.declared.task.Poll.{Poll}
 use Rattle.futures.specs.declared.task.Poll.TheVariants as poll
-use Rattle.ftp_control.specs.Told.{Told, HasRoomFor}
+use Rattle.ftp_control.specs.Memory.{IsGiven}
+use Rattle.ftp_control.specs.Told.{Told, HasRoomFor, NoneFailed}
 use Rattle.ftp_control.specs.Reading.{GoesOn}
 use Rattle.ftp_control.specs.Channel.{Channel, untaken}
-use Rattle.ftp_control.specs.Saying.{SaysLine, due}
+use Rattle.ftp_control.specs.Saying.{SaysLine, SayLeaves, due, said}
 use Rattle.ftp_session.specs.declared.session.state.State.{State}
 use Rattle.ftp_session.specs.declared.session.call.Answer.{Answer}
 use Rattle.ftp_session.specs.declared.session.call.Answer.TheVariants.{Fault}
@@ -24,11 +25,12 @@ use Rattle.ftp_session.specs.declared.session.stage.Step.TheVariants.{Next, Pend
 use Rattle.ftp_session.specs.declared.model.Standing.{Standing}
 use Rattle.ftp_session.specs.declared.model.Played.TheVariants as played
 use Rattle.ftp_session.specs.State.{SessionValue}
-use Rattle.ftp_session.specs.Dialogue.{Tree, Say, Hear, Leaf}
+use Rattle.ftp_session.specs.Dialogue.{Tree, Say, Leaf}
 use Rattle.ftp_session.specs.Play.{play, fits, said_then}
 use Rattle.ftp_session.specs.Run.{Resumes, Silent}
-use Rattle.ftp_session.specs.Promises.{standing, Goes, Leads, Completes, Fails, Untouched, LacksMemory, Aborts, failed_from}
-use Rattle.ftp_session.specs.Steps.Moving.{Keeps, Shrinks, Calm, Moves, Advances, Ends, WaitsFor, Steps, after_line, step_of}
+use Rattle.ftp_session.specs.Promises.{IsFault, standing, Rests, Goes, Leads, Fails, Touched, Untouched, LacksMemory, Aborts, failed_from}
+use Rattle.ftp_session.specs.Steps.Moving.{NothingTouched, Keeps, Shrinks, Calm, Moves, Advances, Ends, WaitsFor, Steps, TakesLine, after_line, step_of}
+use Rattle.ftp_session.specs.Link.{Link}
 
 pub play-Say : (room : Room) (line : List ℕ) (next : Tree) (s : Standing) → play room (Say (Ok line) next) s ≡ said_then room line s (λ t. play room next t)
 unfolding play
@@ -52,13 +54,16 @@ joined_whole sent sent' unsent unsent' line line' none nothing is =
     sym (append-nil sent') ∙ sym (append-nil (sent' ++ [])) ∙ whole
 
 -- nothing happens
-pub nothing_goes : (tells : Type 0) (v : SessionValue) → Goes tells [] [] v v
-nothing_goes tells v = record {
+pub nothing_goes : (link : Link) (v : SessionValue) → Goes link [] [] v v
+nothing_goes link v = record {
   over = record { nothing = λ e. refl; over = λ e. e };
   received = λ h. sym (append-nil v.channel.told.received);
   given = λ h. refl;
-  failures = λ h. refl;
+  failures = λ h. record { failures = refl; last_fault = refl };
   sent = λ h. omega arith;
+  said = λ h. omega arith;
+  untaken = omega arith;
+  at_hand = λ h is. is;
   asked = λ h. sym (append-nil v.asked);
   rule = refl;
 }
@@ -66,22 +71,22 @@ nothing_goes tells v = record {
 pub nothing_shrinks : (n : ℕ) → n ≤ n + 0
 nothing_shrinks n = omega arith
 
-pub nothing_leads : (tells : Type 0) (tree : Tree) (v : SessionValue) → Leads tells tree tree v v
-nothing_leads tells tree v = record {
+pub nothing_leads : (link : Link) (tree : Tree) (v : SessionValue) → Leads link tree tree v v
+nothing_leads link tree v = record {
   came = [];
   answered = [];
-  goes = nothing_goes tells v;
+  goes = nothing_goes link v;
   plays = λ h resumes room more ended outcomes fit on. refl;
 }
 
 -- nothing happens, and the same is left
-pub stays_put : (tells : Type 0) (tree tree' : Tree) (v : SessionValue) → tree' ≡ tree → Advances tells tree tree' v v
+pub stays_put : (link : Link) (tree tree' : Tree) (v : SessionValue) → tree' ≡ tree → Advances link tree tree' v v
 unfolding nothing_leads
-stays_put tells tree tree' v same =
-    let P : Tree → Type 0 = λ t. Advances tells tree t v v in
+stays_put link tree tree' v same =
+    let P : Tree → Type 0 = λ t. Advances link tree t v v in
     subst P (sym same) (record {
       moves = record {
-        leads = nothing_leads tells tree v;
+        leads = nothing_leads link tree v;
         state = refl;
         resumes = λ r. r;
         keeps = λ silent. inr (refl, refl, refl, silent);
@@ -93,7 +98,7 @@ stays_put tells tree tree' v same =
 
 -- A line is said
 
-module _ (tells : Type 0) (state : State) (asked : List Asked) (a : Channel) (told : Told) (unsent : List ℕ) (failed : Bool) where
+module _ (link : Link) (state : State) (asked : List Asked) (a : Channel) (told : Told) (unsent : List ℕ) (failed : Bool) where
   abbrev before : SessionValue
   before = record { channel = a; state = state; asked = asked }
 
@@ -101,26 +106,38 @@ module _ (tells : Type 0) (state : State) (asked : List Asked) (a : Channel) (to
   after = record { channel = record a { told = told; unsent = unsent; failed = failed }; state = state; asked = asked }
 
   -- what a line leaves as it was
-  said_goes : (tells → told ≡ record a.told { sent = told.sent; failures = told.failures }) → (tells → told.failures ≡ a.told.failures) → (tells → length a.told.sent ≤ length told.sent) → Goes tells [] [] before after
-  said_goes nothing counted sends = record {
+  said_goes : (link.tells → told ≡ record a.told { sent = told.sent; failures = told.failures; last_fault = told.last_fault }) → (link.tells → NoneFailed a.told told) → (link.tells → length a.told.sent ≤ length told.sent) → (link.tells → length (a.told.sent ++ a.unsent) ≤ length (told.sent ++ unsent)) → Goes link [] [] before after
+  said_goes nothing counted sends grows = record {
     over = record { nothing = λ e. refl; over = λ e. e };
     received = λ h. ap (λ t. t.received) (nothing h) ∙ sym (append-nil a.told.received);
     given = λ h. ap (λ t. t.given) (nothing h);
     failures = counted;
     sent = sends;
+    said = grows;
+    untaken = omega arith;
+    at_hand = λ h is. (let P : Told → Type 0 = IsGiven in subst P (sym (nothing h)) (record { ahead = is.ahead; front = is.front; over = is.over }));
     asked = λ h. sym (append-nil asked);
     rule = refl;
   }
 
+  -- what was said stays said
+  said_grows : (line line' : Option (List ℕ)) → (line' ≡ line) ⊎ (line' ≡ None) → (told.sent ++ unsent) ++ due line' ≡ (a.told.sent ++ a.unsent) ++ due line → length (a.told.sent ++ a.unsent) ≤ length (told.sent ++ unsent)
+  said_grows line line' (inl same) said =
+      let all = ap length said in
+      omega (arith, all, length-append (told.sent ++ unsent) (due line'), length-append (a.told.sent ++ a.unsent) (due line), ap length (ap due same))
+  said_grows line line' (inr none) said =
+      let all = ap length said in
+      omega (arith, all, length-append (told.sent ++ unsent) (due line'), length-append (a.told.sent ++ a.unsent) (due line), ap length (ap due none))
+
   module _ (line line' : Option (List ℕ)) (next : Tree) where
     -- all of it went out
-    said_whole : SaysLine tells a after.channel line line' (poll.Ready (Ok tt)) → Advances tells (Say (Ok (due line)) next) next before after
+    said_whole : SaysLine link.tells link.writes a after.channel line line' (poll.Ready (Ok tt)) → Advances link (Say (Ok (due line)) next) next before after
     said_whole says = record {
       moves = record {
         leads = record {
           came = [];
           answered = [];
-          goes = said_goes says.hears_nothing says.leaves.3 says.sends;
+          goes = said_goes says.hears_nothing says.leaves.3 says.sends (λ h. said_grows line line' says.whole (says.said h));
           plays = λ h resumes room more ended outcomes fit on.
               let all : told.sent ≡ a.told.sent ++ a.unsent ++ due line = joined_whole a.told.sent told.sent a.unsent unsent (due line) (due line') says.leaves.0 (ap due says.leaves.1) (says.said h) in
               let room_for = room_fits room told.sent fit in
@@ -136,7 +153,7 @@ module _ (tells : Type 0) (state : State) (asked : List Asked) (a : Channel) (to
     }
 
     -- a front of it went out
-    said_part : failed ≡ a.failed → (tells → told.sent ++ unsent ++ due line' ≡ a.told.sent ++ a.unsent ++ due line) → Goes tells [] [] before after → Leads tells (Say (Ok (due line)) next) (Say (Ok (due line')) next) before after
+    said_part : failed ≡ a.failed → (link.tells → told.sent ++ unsent ++ due line' ≡ a.told.sent ++ a.unsent ++ due line) → Goes link [] [] before after → Leads link (Say (Ok (due line)) next) (Say (Ok (due line')) next) before after
     said_part going said goes = record {
       came = [];
       answered = [];
@@ -147,12 +164,12 @@ module _ (tells : Type 0) (state : State) (asked : List Asked) (a : Channel) (to
     }
 
     -- the connection waits for room
-    said_waits : SaysLine tells a after.channel line line' poll.Pending → Advances tells (Say (Ok (due line)) next) (Say (Ok (due line')) next) before after × WaitsFor tells (Say (Ok (due line')) next) after
+    said_waits : SaysLine link.tells link.writes a after.channel line line' poll.Pending → Advances link (Say (Ok (due line)) next) (Say (Ok (due line')) next) before after × WaitsFor link (Say (Ok (due line')) next) after
     unfolding said_part
     said_waits says = (
       record {
         moves = record {
-          leads = said_part says.leaves.2 says.said (said_goes says.hears_nothing says.leaves.3 says.sends);
+          leads = said_part says.leaves.2 says.said (said_goes says.hears_nothing says.leaves.3 says.sends (λ h. said_grows line line' says.whole (says.said h)));
           state = refl;
           resumes = λ r. r;
           keeps = λ silent. inr (refl, refl, refl, silent);
@@ -165,94 +182,116 @@ module _ (tells : Type 0) (state : State) (asked : List Asked) (a : Channel) (to
     )
 
 -- the connection failed
-said_aborts : (tells : Type 0) (state : State) (asked : List Asked) (a : Channel) (told : Told) (unsent : List ℕ) (failed : Bool) (line line' : Option (List ℕ)) (begun : Bool) (next : Tree) (fault : FtpError) → a.failed ≡ false → SaysLine tells a (record a { told = told; unsent = unsent; failed = failed }) line line' (poll.Ready (Err fault)) → Aborts tells begun (Say (Ok (due line)) next) (Fault fault) (record { channel = a; state = state; asked = asked }) (record { channel = record a { told = told; unsent = unsent; failed = failed }; state = state; asked = asked })
-said_aborts tells state asked a told unsent failed line line' begun next fault going says =
-    let now : Told = record told { failures = a.told.failures } in
+said_aborts : (link : Link) (state : State) (asked : List Asked) (a : Channel) (told : Told) (unsent : List ℕ) (failed : Bool) (line line' : Option (List ℕ)) (begun : Bool) (next : Tree) (fault : FtpError) → a.failed ≡ false → SaysLine link.tells link.writes a (record a { told = told; unsent = unsent; failed = failed }) line line' (poll.Ready (Err fault)) → Aborts link begun (Say (Ok (due line)) next) (Fault fault) (record { channel = a; state = state; asked = asked }) (record { channel = record a { told = told; unsent = unsent; failed = failed }; state = state; asked = asked })
+said_aborts link state asked a told unsent failed line line' begun next fault going says =
+    let now : Told = record told { failures = a.told.failures; last_fault = a.told.last_fault } in
     let at : SessionValue = record { channel = record a { told = now; unsent = unsent }; state = state; asked = asked } in
     let P : Bool → SessionValue = λ f. record { channel = record a { told = told; unsent = unsent; failed = f }; state = state; asked = asked } in
     record {
       place = Say (Ok (due line')) next;
       at = at;
-      leads = said_part tells state asked a now unsent a.failed line line' next refl says.said
-          (said_goes tells state asked a now unsent a.failed (λ h. let F : Told → Told = λ t. record t { failures = a.told.failures } in ap F (says.hears_nothing h)) (λ h. refl) says.sends);
+      leads = said_part link state asked a now unsent a.failed line line' next refl says.said
+          (said_goes link state asked a now unsent a.failed (λ h. let F : Told → Told = λ t. record t { failures = a.told.failures; last_fault = a.told.last_fault } in ap F (says.hears_nothing h)) (λ h. record { failures = refl; last_fault = refl }) says.sends (λ h. said_grows link state asked a now unsent a.failed line line' says.whole (says.said h)));
       state = refl;
       going = going;
       fault = fault;
       is = refl;
       cause = inl (record {
-        kind = says.leaves.0.kind;
-        is = says.leaves.0.is;
-        same = ap P says.leaves.1;
-        failed = λ h. record { same = refl; counted = says.leaves.2 h };
+        kind = says.leaves.kind;
+        is = says.leaves.is;
+        may = says.leaves.may;
+        same = ap P says.leaves.failed;
+        failed = λ h. record { same = refl; counts = says.leaves.counts h };
       });
     }
 
-said_step : (tells : Type 0) (state : State) (asked : List Asked) (a : Channel) (told : Told) (unsent : List ℕ) (failed : Bool) (line line' : Option (List ℕ)) (begun : Bool) (next : Tree) → a.failed ≡ false → (answer : Poll (Result (Unit {0}) FtpError)) → SaysLine tells a (record a { told = told; unsent = unsent; failed = failed }) line line' answer → Steps tells begun (Say (Ok (due line)) next) (after_line (step_of answer) line' next) (record { channel = a; state = state; asked = asked }) (record { channel = record a { told = told; unsent = unsent; failed = failed }; state = state; asked = asked }) (step_of answer)
-said_step tells state asked a told unsent failed line line' begun next going (poll.Ready (Ok done)) says = said_whole tells state asked a told unsent failed line line' next says
-said_step tells state asked a told unsent failed line line' begun next going (poll.Ready (Err fault)) says = inr (said_aborts tells state asked a told unsent failed line line' begun next fault going says)
-said_step tells state asked a told unsent failed line line' begun next going poll.Pending says = said_waits tells state asked a told unsent failed line line' next says
+-- a line that was taken to go out was said
+pub line_taken : (link : Link) (state : State) (asked : List Asked) (a b : Channel) (line line' : Option (List ℕ)) (answer : Poll (Result (Unit {0}) FtpError)) → SaysLine link.tells link.writes a b line line' answer → TakesLine link line line' (record { channel = a; state = state; asked = asked }) (record { channel = b; state = state; asked = asked }) (step_of answer)
+line_taken link state asked a b line line' answer says = record {
+  whole = says.whole;
+  gone = gone answer says.leaves;
+  stays = λ same h. ([], ap (λ t. t.received) (says.hears_nothing h) ∙ sym (append-nil a.told.received), append_cancel_right (said b) (said a) (due line) (ap (λ l. said b ++ due l) (sym same) ∙ says.said h), (let F : Channel → List ℕ = untaken in ap F says.same ∙ sym (append-nil (untaken a))));
+  begins = λ none. begins says.some none;
+}
+  where
+    gone : (result : Poll (Result (Unit {0}) FtpError)) → SayLeaves result link.tells link.writes a b line' → step_of result ≡ Next → line' ≡ None
+    gone (poll.Ready (Ok done)) leaves is = leaves.1
+    gone (poll.Ready (Err fault)) leaves is = let clash : Done (Fault fault) ≡ Next = is in cc
+    gone poll.Pending leaves is = let clash : Pending ≡ Next = is in cc
+
+    begins : (line ≡ None) ⊎ (line' ≡ line) ⊎ (0 < length (due line)) → line' ≡ None → (line ≡ None) ⊎ ((tree : Tree) → Touched link tree (record { channel = a; state = state; asked = asked }) (record { channel = b; state = state; asked = asked }))
+    begins (inl none) is = inl none
+    begins (inr (inl same)) is = inl (sym same ∙ is)
+    begins (inr (inr some)) is = inr (λ tree h resumes. inl (omega (arith, some, ap length (says.said h), length-append (said b) (due line'), length-append (said a) (due line), ap length (ap due is))))
+
+said_step : (link : Link) (state : State) (asked : List Asked) (a : Channel) (told : Told) (unsent : List ℕ) (failed : Bool) (line line' : Option (List ℕ)) (begun : Bool) (next : Tree) → a.failed ≡ false → (answer : Poll (Result (Unit {0}) FtpError)) → SaysLine link.tells link.writes a (record a { told = told; unsent = unsent; failed = failed }) line line' answer → Steps link begun (Say (Ok (due line)) next) (after_line (step_of answer) line' next) (record { channel = a; state = state; asked = asked }) (record { channel = record a { told = told; unsent = unsent; failed = failed }; state = state; asked = asked }) (step_of answer)
+said_step link state asked a told unsent failed line line' begun next going (poll.Ready (Ok done)) says = said_whole link state asked a told unsent failed line line' next says
+said_step link state asked a told unsent failed line line' begun next going (poll.Ready (Err fault)) says = inr (said_aborts link state asked a told unsent failed line line' begun next fault going says)
+said_step link state asked a told unsent failed line line' begun next going poll.Pending says = said_waits link state asked a told unsent failed line line' next says
 
 -- a line is said
-pub line_said : (tells : Type 0) (state : State) (asked : List Asked) (a b : Channel) (line line' : Option (List ℕ)) (answer : Poll (Result (Unit {0}) FtpError)) → a.failed ≡ false → SaysLine tells a b line line' answer → (begun : Bool) (next : Tree) → Steps tells begun (Say (Ok (due line)) next) (after_line (step_of answer) line' next) (record { channel = a; state = state; asked = asked }) (record { channel = b; state = state; asked = asked }) (step_of answer)
-line_said tells state asked a b line line' answer going says begun next =
-    let P : Channel → Type 0 = λ c. SaysLine tells a c line line' answer → Steps tells begun (Say (Ok (due line)) next) (after_line (step_of answer) line' next) (record { channel = a; state = state; asked = asked }) (record { channel = c; state = state; asked = asked }) (step_of answer) in
-    subst P (sym says.same) (said_step tells state asked a b.told b.unsent b.failed line line' begun next going answer) says
+pub line_said : (link : Link) (state : State) (asked : List Asked) (a b : Channel) (line line' : Option (List ℕ)) (answer : Poll (Result (Unit {0}) FtpError)) → a.failed ≡ false → SaysLine link.tells link.writes a b line line' answer → (begun : Bool) (next : Tree) → Steps link begun (Say (Ok (due line)) next) (after_line (step_of answer) line' next) (record { channel = a; state = state; asked = asked }) (record { channel = b; state = state; asked = asked }) (step_of answer)
+line_said link state asked a b line line' answer going says begun next =
+    let P : Channel → Type 0 = λ c. SaysLine link.tells link.writes a c line line' answer → Steps link begun (Say (Ok (due line)) next) (after_line (step_of answer) line' next) (record { channel = a; state = state; asked = asked }) (record { channel = c; state = state; asked = asked }) (step_of answer) in
+    subst P (sym says.same) (said_step link state asked a b.told b.unsent b.failed line line' begun next going answer) says
 
 -- A dialogue ends
 
 -- a leaf was reached, and only the state changes
-pub leaf_ends : (tells : Type 0) (tree : Tree) (answer : Answer) (old mid new : SessionValue) → Moves tells tree (Leaf answer new.state) old mid → new.channel ≡ mid.channel → new.asked ≡ mid.asked → Ends tells tree answer old new
-leaf_ends tells tree answer old mid new moves channel asked =
+pub leaf_ends : (link : Link) (tree : Tree) (answer : Answer) (old mid new : SessionValue) → Moves link tree (Leaf answer new.state) old mid → (mid.channel.failed ≡ true → (old.channel.failed ≡ true) ⊎ IsFault answer) → new.channel ≡ mid.channel → new.asked ≡ mid.asked → Ends link tree answer old new
+leaf_ends link tree answer old mid new moves fails channel asked =
     let F : Channel → List Asked → SessionValue = λ c a. record { channel = c; state = new.state; asked = a } in
     let same : new ≡ record mid { state = new.state } = ap (λ c. F c new.asked) channel ∙ ap (λ a. F mid.channel a) asked in
-    let P : SessionValue → Type 0 = λ v. Ends tells tree answer old v in
+    let P : SessionValue → Type 0 = λ v. Ends link tree answer old v in
     subst P (sym same) (record {
       completes = record {
         came = moves.leads.came;
         answered = moves.leads.answered;
-        goes = record { over = moves.leads.goes.over; received = moves.leads.goes.received; given = moves.leads.goes.given; failures = moves.leads.goes.failures; sent = moves.leads.goes.sent; asked = moves.leads.goes.asked; rule = moves.leads.goes.rule };
+        goes = record { over = moves.leads.goes.over; received = moves.leads.goes.received; given = moves.leads.goes.given; failures = moves.leads.goes.failures; sent = moves.leads.goes.sent; said = moves.leads.goes.said; untaken = moves.leads.goes.untaken; at_hand = moves.leads.goes.at_hand; asked = moves.leads.goes.asked; rule = moves.leads.goes.rule };
         plays = λ h resumes room more ended outcomes fit on.
             moves.leads.plays h resumes room more ended outcomes fit on ∙ play-Leaf room answer new.state (standing mid more ended outcomes);
       };
+      fails = fails;
       keeps = moves.keeps tt;
       calm = moves.calm tt;
       shrinks = moves.shrinks;
     })
 
 -- a command that has no line is the answer
-pub refused_line : (tells : Type 0) (cause : Cause) (next : Tree) (v : SessionValue) → Ends tells (Say (Err cause) next) (Fault (ConnectionError cause)) v v
-refused_line tells cause next v = record {
+pub refused_line : (link : Link) (cause : Cause) (next : Tree) (v : SessionValue) → Ends link (Say (Err cause) next) (Fault (ConnectionError cause)) v v
+refused_line link cause next v = record {
   completes = record {
     came = [];
     answered = [];
-    goes = nothing_goes tells v;
+    goes = nothing_goes link v;
     plays = λ h resumes room more ended outcomes fit on. play-Refused room cause next _;
   };
+  fails = λ f. inl f;
   keeps = inr (refl, refl, refl, tt);
   calm = inr (refl, refl, refl, tt);
   shrinks = nothing_shrinks (length v.channel.ahead);
 }
 
-nothing_touched : (tells : Type 0) (v : SessionValue) → Untouched tells [] v v
-nothing_touched tells v = record { said = λ h. refl; untaken = sym (append-nil (untaken v.channel)) }
+nothing_touched : (link : Link) (v : SessionValue) → Untouched link [] v v
+nothing_touched link v = record { said = λ h. refl; untaken = sym (append-nil (untaken v.channel)) }
 
 -- memory ran out before anything happened
-pub lacks_memory_first : (tells : Type 0) (tree : Tree) (v : SessionValue) → v.channel.failed ≡ false → Aborts tells false tree (Fault OutOfMemory) v v
+pub lacks_memory_first : (link : Link) (tree : Tree) (v : SessionValue) → v.channel.failed ≡ false → Aborts link false tree (Fault OutOfMemory) v v
 unfolding nothing_leads
-lacks_memory_first tells tree v going = record {
+lacks_memory_first link tree v going = record {
   place = tree;
   at = v;
-  leads = nothing_leads tells tree v;
+  leads = nothing_leads link tree v;
   state = refl;
   going = going;
   fault = OutOfMemory;
   is = refl;
-  cause = inr (record { is = refl; leaves = inl (refl, refl, nothing_touched tells v) });
+  cause = inr (record { is = refl; leaves = inl (refl, refl, nothing_touched link v) });
 }
 
 -- memory ran out at some place, and the session has failed
-pub lacks_memory_at : (tells : Type 0) (begun : Bool) (tree tree' : Tree) (old mid : SessionValue) → Moves tells tree tree' old mid → mid.channel.failed ≡ false → Aborts tells begun tree (Fault OutOfMemory) old (failed_from mid)
-lacks_memory_at tells begun tree tree' old mid moves going = record {
+pub lacks_memory_at : (link : Link) (begun : Bool) (tree tree' : Tree) (old mid : SessionValue) → (begun ≡ true) ⊎ Touched link tree old mid → Moves link tree tree' old mid → mid.channel.failed ≡ false → Aborts link begun tree (Fault OutOfMemory) old (failed_from mid)
+lacks_memory_at link begun tree tree' old mid begins moves going = record {
   place = tree';
   at = mid;
   leads = moves.leads;
@@ -260,22 +299,25 @@ lacks_memory_at tells begun tree tree' old mid moves going = record {
   going = going;
   fault = OutOfMemory;
   is = refl;
-  cause = inr (record { is = refl; leaves = inr refl });
+  cause = inr (record { is = refl; leaves = inr (refl, begins) });
 }
 
 -- One after another
 
 -- bytes that came after others
-pub joined_goes : (tells : Type 0) (one two : List ℕ) (asked more : List Asked) (a b c : SessionValue) → Goes tells one asked a b → Goes tells two more b c → Goes tells (one ++ two) (asked ++ more) a c
-joined_goes tells one two asked more a b c first second = record {
+pub joined_goes : (link : Link) (one two : List ℕ) (asked more : List Asked) (a b c : SessionValue) → Goes link one asked a b → Goes link two more b c → Goes link (one ++ two) (asked ++ more) a c
+joined_goes link one two asked more a b c first second = record {
   over = record {
     nothing = λ e. rw (first.over.nothing e) (second.over.nothing (first.over.over e));
     over = λ e. second.over.over (first.over.over e);
   };
   received = λ h. second.received h ∙ ap (λ r. r ++ two) (first.received h) ∙ append_assoc a.channel.told.received one two;
   given = λ h. second.given h ∙ first.given h;
-  failures = λ h. second.failures h ∙ first.failures h;
+  failures = λ h. record { failures = (second.failures h).failures ∙ (first.failures h).failures; last_fault = (second.failures h).last_fault ∙ (first.failures h).last_fault };
   sent = λ h. omega (arith, first.sent h, second.sent h);
+  said = λ h. omega (arith, first.said h, second.said h);
+  untaken = omega (arith, first.untaken, second.untaken, length-append one two);
+  at_hand = λ h is. second.at_hand h (first.at_hand h is);
   asked = λ h. second.asked h ∙ ap (λ r. r ++ more) (first.asked h) ∙ append_assoc a.asked asked more;
   rule = second.rule ∙ first.rule;
 }
@@ -303,26 +345,60 @@ pub fitted : (room : Room) (m n : ℕ) → m ≤ n → HasRoomFor room n → Has
 fitted Any m n less fit = tt
 fitted (UpTo most) m n less fit = omega (arith, less, fit)
 
-module _ (tells : Type 0) (tree tree' : Tree) (a b c : SessionValue) (first : Moves tells tree tree' a b) where
+-- nothing was said or taken in two steps
+pub untouched_after : (link : Link) (a b c : SessionValue) → NothingTouched link a b → NothingTouched link b c → NothingTouched link a c
+untouched_after link a b c first second = λ h.
+    let one = first h in
+    let two = second h in
+    (one.0 ++ two.0, two.1 ∙ ap (λ r. r ++ two.0) one.1 ∙ append_assoc a.channel.told.received one.0 two.0, two.2 ∙ one.2, two.3 ∙ ap (λ r. r ++ two.0) one.3 ∙ append_assoc (untaken a.channel) one.0 two.0)
+
+pub untouched : (link : Link) (v : SessionValue) → NothingTouched link v v
+untouched link v = λ h. ([], sym (append-nil v.channel.told.received), refl, sym (append-nil (untaken v.channel)))
+
+-- a read that waits takes nothing
+pub rests_untouched : (link : Link) (old new : SessionValue) → Rests link old new → NothingTouched link old new
+rests_untouched link old new rests = λ h.
+    let same = rests.stays h [] false [] in
+    let bytes : untaken old.channel ++ (rests.came ++ []) ≡ untaken new.channel ++ [] = ap (λ s. s.bytes) same in
+    let whole : untaken new.channel ≡ untaken old.channel ++ rests.came = sym (append-nil (untaken new.channel)) ∙ sym bytes ∙ ap (λ c. untaken old.channel ++ c) (append-nil rests.came) in
+    (rests.came, rests.goes.received h, sym (ap (λ s. s.said ++ s.unsent) same), whole)
+
+-- what was said or taken stays so
+pub touched_on : (link : Link) (tree : Tree) (a b c : SessionValue) (came : List ℕ) (answered : List Asked) → Goes link came answered b c → Touched link tree a b → Touched link tree a c
+touched_on link tree a b c came answered goes here = λ h resumes. go h (here h resumes)
+  where
+    go : link.tells → (length (said a.channel) < length (said b.channel)) ⊎ (length a.channel.told.received + length (untaken b.channel) < length b.channel.told.received + length (untaken a.channel)) → (length (said a.channel) < length (said c.channel)) ⊎ (length a.channel.told.received + length (untaken c.channel) < length c.channel.told.received + length (untaken a.channel))
+    go h (inl more) = inl (omega (arith, more, goes.said h))
+    go h (inr fewer) = inr (omega (arith, fewer, goes.untaken, ap length (goes.received h), length-append b.channel.told.received came))
+
+-- what is said or taken after a step is said or taken after both
+pub touched_later : (link : Link) (tree tree' : Tree) (a b c : SessionValue) (came : List ℕ) (answered : List Asked) → Goes link came answered a b → (Resumes a.channel.rule a.channel.kept tree → Resumes b.channel.rule b.channel.kept tree') → Touched link tree' b c → Touched link tree a c
+touched_later link tree tree' a b c came answered goes resumes here = λ h r. go h (here h (resumes r))
+  where
+    go : link.tells → (length (said b.channel) < length (said c.channel)) ⊎ (length b.channel.told.received + length (untaken c.channel) < length c.channel.told.received + length (untaken b.channel)) → (length (said a.channel) < length (said c.channel)) ⊎ (length a.channel.told.received + length (untaken c.channel) < length c.channel.told.received + length (untaken a.channel))
+    go h (inl more) = inl (omega (arith, more, goes.said h))
+    go h (inr fewer) = inr (omega (arith, fewer, goes.untaken, ap length (goes.received h), length-append a.channel.told.received came))
+
+module _ (link : Link) (tree tree' : Tree) (a b c : SessionValue) (first : Moves link tree tree' a b) where
   -- the first part of two
-  first_plays : (two : List ℕ) (asked : List Asked) → Goes tells two asked b c → tells → Resumes a.channel.rule a.channel.kept tree → (room : Room) (more : List ℕ) (ended : Bool) (outcomes : List RequestOutcome) → HasRoomFor room (length c.channel.told.sent) → GoesOn c.channel.ended more ended → play room tree (standing a ((first.leads.came ++ two) ++ more) ended (outcomes_of (first.leads.answered ++ asked) ++ outcomes)) ≡ play room tree' (standing b (two ++ more) ended (outcomes_of asked ++ outcomes))
+  first_plays : (two : List ℕ) (asked : List Asked) → Goes link two asked b c → link.tells → Resumes a.channel.rule a.channel.kept tree → (room : Room) (more : List ℕ) (ended : Bool) (outcomes : List RequestOutcome) → HasRoomFor room (length c.channel.told.sent) → GoesOn c.channel.ended more ended → play room tree (standing a ((first.leads.came ++ two) ++ more) ended (outcomes_of (first.leads.answered ++ asked) ++ outcomes)) ≡ play room tree' (standing b (two ++ more) ended (outcomes_of asked ++ outcomes))
   first_plays two asked goes h resumes room more ended outcomes fit on =
       rw (append_assoc first.leads.came two more, outcomes-append first.leads.answered asked, append_assoc (outcomes_of first.leads.answered) (outcomes_of asked) outcomes)
       (first.leads.plays h resumes room (two ++ more) ended (outcomes_of asked ++ outcomes) (fitted room _ _ (goes.sent h) fit) (goes_after b.channel.ended two more c.channel.ended ended goes.over on))
 
   -- a lead after a step
-  pub leads_on : (last : Tree) → Leads tells tree' last b c → Leads tells tree last a c
+  pub leads_on : (last : Tree) → Leads link tree' last b c → Leads link tree last a c
   leads_on last second = record {
     came = first.leads.came ++ second.came;
     answered = first.leads.answered ++ second.answered;
-    goes = joined_goes tells first.leads.came second.came first.leads.answered second.answered a b c first.leads.goes second.goes;
+    goes = joined_goes link first.leads.came second.came first.leads.answered second.answered a b c first.leads.goes second.goes;
     plays = λ h resumes room more ended outcomes fit on.
         first_plays second.came second.answered second.goes h resumes room more ended outcomes fit on
         ∙ second.plays h (first.resumes resumes) room more ended outcomes fit on;
   }
 
   -- a step after others
-  pub moves_on : (last : Tree) → Moves tells tree' last b c → Moves tells tree last a c
+  pub moves_on : (last : Tree) → Moves link tree' last b c → Moves link tree last a c
   unfolding leads_on
   moves_on last second = record {
     leads = leads_on last second.leads;
@@ -334,12 +410,13 @@ module _ (tells : Type 0) (tree tree' : Tree) (a b c : SessionValue) (first : Mo
   }
 
   -- the answer after others
-  pub ends_on : (answer : Answer) → Ends tells tree' answer b c → Ends tells tree answer a c
-  ends_on answer second = record {
+  pub ends_on : (answer : Answer) → b.channel.failed ≡ a.channel.failed → Ends link tree' answer b c → Ends link tree answer a c
+  ends_on answer same second = record {
+    fails = λ f. failing (second.fails f);
     completes = record {
       came = first.leads.came ++ second.completes.came;
       answered = first.leads.answered ++ second.completes.answered;
-      goes = joined_goes tells first.leads.came second.completes.came first.leads.answered second.completes.answered a b c first.leads.goes second.completes.goes;
+      goes = joined_goes link first.leads.came second.completes.came first.leads.answered second.completes.answered a b c first.leads.goes second.completes.goes;
       plays = λ h resumes room more ended outcomes fit on.
           first_plays second.completes.came second.completes.answered second.completes.goes h resumes room more ended outcomes fit on
           ∙ second.completes.plays h (first.resumes resumes) room more ended outcomes fit on;
@@ -348,10 +425,14 @@ module _ (tells : Type 0) (tree tree' : Tree) (a b c : SessionValue) (first : Mo
     calm = keeps_after (Calm tree) (Calm tree') first.leads.came second.completes.came a b c first.calm second.calm;
     shrinks = shrinks_after first.leads.came second.completes.came a b c first.shrinks second.shrinks;
   }
+    where
+      failing : (b.channel.failed ≡ true) ⊎ IsFault answer → (a.channel.failed ≡ true) ⊎ IsFault answer
+      failing (inl was) = inl (sym same ∙ was)
+      failing (inr fault) = inr fault
 
   -- a dialogue that is aborted after it has begun
-  pub aborts_on : (begun begun' : Bool) (answer : Answer) → begun' ≡ true → Aborts tells begun' tree' answer b c → Aborts tells begun tree answer a c
-  aborts_on begun begun' answer has second = record {
+  pub aborts_on : (begun begun' : Bool) (answer : Answer) → (begun' ≡ true → (begun ≡ true) ⊎ Touched link tree a b) → begun' ≡ true → Aborts link begun' tree' answer b c → Aborts link begun tree answer a c
+  aborts_on begun begun' answer touched has second = record {
     place = second.place;
     at = second.at;
     leads = leads_at;
@@ -362,21 +443,25 @@ module _ (tells : Type 0) (tree tree' : Tree) (a b c : SessionValue) (first : Mo
     cause = go second.cause;
   }
     where
-      leads_at : Leads tells tree second.place a second.at
+      leads_at : Leads link tree second.place a second.at
       leads_at = record {
         came = first.leads.came ++ second.leads.came;
         answered = first.leads.answered ++ second.leads.answered;
-        goes = joined_goes tells first.leads.came second.leads.came first.leads.answered second.leads.answered a b second.at first.leads.goes second.leads.goes;
+        goes = joined_goes link first.leads.came second.leads.came first.leads.answered second.leads.answered a b second.at first.leads.goes second.leads.goes;
         plays = λ h resumes room more ended outcomes fit on.
             rw (append_assoc first.leads.came second.leads.came more, outcomes-append first.leads.answered second.leads.answered, append_assoc (outcomes_of first.leads.answered) (outcomes_of second.leads.answered) outcomes)
             (first.leads.plays h resumes room (second.leads.came ++ more) ended (outcomes_of second.leads.answered ++ outcomes) (fitted room _ _ (second.leads.goes.sent h) fit) (goes_after b.channel.ended second.leads.came more second.at.channel.ended ended second.leads.goes.over on))
             ∙ second.leads.plays h (first.resumes resumes) room more ended outcomes fit on;
       }
 
-      go : Fails tells second.fault second.at c ⊎ LacksMemory tells begun' second.leads.came second.fault b second.at c → Fails tells second.fault second.at c ⊎ LacksMemory tells begun leads_at.came second.fault a second.at c
+      go : Fails link second.place second.fault second.at c ⊎ LacksMemory link begun' tree' second.leads.came second.fault b second.at c → Fails link second.place second.fault second.at c ⊎ LacksMemory link begun tree leads_at.came second.fault a second.at c
       go (inl fails) = inl fails
-      go (inr lacks) = inr (record { is = lacks.is; leaves = inr (lost lacks.leaves) })
+      go (inr lacks) = inr (record { is = lacks.is; leaves = inr (lost lacks.leaves, begins (touched has)) })
         where
-          lost : ((c ≡ second.at) × (begun' ≡ false) × Untouched tells second.leads.came b second.at) ⊎ (c ≡ failed_from second.at) → c ≡ failed_from second.at
+          lost : ((c ≡ second.at) × (begun' ≡ false) × Untouched link second.leads.came b second.at) ⊎ ((c ≡ failed_from second.at) × ((begun' ≡ true) ⊎ Touched link tree' b second.at)) → c ≡ failed_from second.at
           lost (inl quiet) = let clash : true ≡ false = sym has ∙ quiet.1 in cc
-          lost (inr failed) = failed
+          lost (inr failed) = failed.0
+
+          begins : (begun ≡ true) ⊎ Touched link tree a b → (begun ≡ true) ⊎ Touched link tree a second.at
+          begins (inl before) = inl before
+          begins (inr here) = inr (touched_on link tree a b second.at second.leads.came second.leads.answered second.leads.goes here)

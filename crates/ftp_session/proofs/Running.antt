@@ -1,11 +1,10 @@
 -- Lemmas on lists of calls.
 use Rattle.std.proofs.lemmas.List.{drop_more}
 use Rattle.std.proofs.Math.ListN.{drop_of_length-le}
-use Rattle.std.proofs.Common.{◌≡◌, ℕ, ◌+◌, ◌<◌, ◌≤◌, drop, get_or, Bool, true, false, cond, List, [], ◌∷◌, ◌++◌, length, inl, inr, ◌⊎◌, refl, ap, sym, ◌∙◌, subst, append_assoc, append-nil}
+use Rattle.std.proofs.Common.{◌≡◌, ℕ, ◌+◌, ◌<◌, ◌≤◌, drop, get_or, Bool, true, false, cond, List, [], ◌∷◌, ◌++◌, length, length-append, inl, inr, ◌⊎◌, refl, ap, sym, ◌∙◌, subst, append_assoc, append-nil}
 use Rattle.ftp_base.specs.declared.types.fault.FtpError.TheVariants.{SessionFailed}
 use Rattle.ftp_control.specs.declared.control.rule.ReplyRule.{ReplyRule}
 use Rattle.ftp_control.specs.declared.transport.room.Room.{Room}
-use Rattle.ftp_control.specs.declared.transport.request.Asked.{Asked}
 use Rattle.ftp_control.specs.Asking.{outcomes_of}
 use Rattle.ftp_control.proofs.Asking.{outcomes-append}
 use Rattle.ftp_session.specs.declared.session.state.State.{State}
@@ -22,11 +21,12 @@ use Rattle.ftp_session.specs.Coding.{Coding}
 use Rattle.ftp_session.specs.Dialogue.{dialogue}
 use Rattle.ftp_session.specs.Play.{play, play_call}
 use Rattle.ftp_session.specs.Run.{run, before, and_then, OneView, Silent}
-use Rattle.ftp_session.specs.Promises.{standing, before_all, Completes, Agrees, AllRefused, Makes, RanTo, RunsTo, RunAborts, Runs, Aborts, Plays, Wired, IsSuccess, IsRefused, IsPlayed}
+use Rattle.ftp_session.specs.Promises.{FailsWith, HasFault, IsFault, standing, before_all, Completes, Agrees, AllRefused, Makes, RanTo, RunsTo, RunAborts, Runs, Aborts, Plays, Wired, IsSuccess, IsRefused, IsPlayed}
 use Rattle.ftp_session.specs.Steps.Moving.{Keeps, Ends, Made}
 use Rattle.ftp_session.proofs.Hearing.{nothing_resumes}
 use Rattle.ftp_session.proofs.Wired.{wired}
 use Rattle.ftp_session.proofs.Moving.{nothing_goes, joined_goes, goes_after, fitted}
+use Rattle.ftp_session.specs.Link.{Link}
 
 module _ (coding : Coding) where
   pub run-nil : (room : Room) (s : Standing) → run room coding [] s ≡ Finished [] s
@@ -50,23 +50,54 @@ pub before_all-Waiting : (answers later : List Answer) (wait : Wait) (s : Standi
 before_all-Waiting [] later wait s = refl
 before_all-Waiting (answer ∷ answers) later wait s = ap (before answer) (before_all-Waiting answers later wait s)
 
+-- A session fails only where a call does
+
+fault_before : (first second : List Answer) → HasFault first → HasFault (first ++ second)
+fault_before [] second one = absurd one
+fault_before (answer ∷ first) second (inl here) = inl here
+fault_before (answer ∷ first) second (inr later) = inr (fault_before first second later)
+
+fault_after : (first second : List Answer) → HasFault second → HasFault (first ++ second)
+fault_after [] second two = two
+fault_after (answer ∷ first) second two = inr (fault_after first second two)
+
+-- a session fails only where a call of one event more does
+pub fails_more : (old v w : SessionValue) (first second all : List Answer) → all ≡ first ++ second → FailsWith old v first → FailsWith v w second → FailsWith old w all
+fails_more old v w first second all is before here =
+    let P : List Answer → Type 0 = FailsWith old w in
+    subst P (sym is) (λ failed. go (here failed))
+  where
+    earlier : (old.channel.failed ≡ true) ⊎ HasFault first → (old.channel.failed ≡ true) ⊎ HasFault (first ++ second)
+    earlier (inl was) = inl was
+    earlier (inr fault) = inr (fault_before first second fault)
+
+    go : (v.channel.failed ≡ true) ⊎ HasFault second → (old.channel.failed ≡ true) ⊎ HasFault (first ++ second)
+    go (inl was) = earlier (before was)
+    go (inr fault) = inr (fault_after first second fault)
+
 -- what is made of a call is its dialogue
-pub made_plays : (tells : Type 0) (coding : Coding) (call : Call) (old new : SessionValue) (answer : Answer) → Made tells coding call old new answer → Plays tells coding call old new answer
-made_plays tells coding call old new answer (inl refused) = record {
+pub made_plays : (link : Link) (coding : Coding) (call : Call) (old new : SessionValue) (answer : Answer) → Made link coding call old new answer → Plays link coding call old new answer
+made_plays link coding call old new answer (inl refused) = record {
   wired = λ success. let P : Answer → Type 0 = IsSuccess in absurd (subst P refused.is success);
   made = inl refused;
+  fails = λ failed. inl refused.failed;
 }
-made_plays tells coding call old new answer (inr made) = record {
+made_plays link coding call old new answer (inr made) = record {
   wired = λ success. words success made.plays;
   made = inr (record { going = made.going; plays = go made.plays });
+  fails = λ failed. fails made.plays failed;
 }
   where
-    go : Ends tells (dialogue coding call old.state) answer old new ⊎ Aborts tells false (dialogue coding call old.state) answer old new → Completes tells (dialogue coding call old.state) answer old new ⊎ Aborts tells false (dialogue coding call old.state) answer old new
+    go : Ends link (dialogue coding call old.state) answer old new ⊎ Aborts link false (dialogue coding call old.state) answer old new → Completes link (dialogue coding call old.state) answer old new ⊎ Aborts link false (dialogue coding call old.state) answer old new
     go (inl ends) = inl ends.completes
     go (inr aborts) = inr aborts
 
-    words : IsSuccess answer → Ends tells (dialogue coding call old.state) answer old new ⊎ Aborts tells false (dialogue coding call old.state) answer old new → Wired tells coding call old new
-    words success (inl ends) = wired tells coding call old new answer ends.completes success
+    fails : Ends link (dialogue coding call old.state) answer old new ⊎ Aborts link false (dialogue coding call old.state) answer old new → new.channel.failed ≡ true → (old.channel.failed ≡ true) ⊎ IsFault answer
+    fails (inl ends) failed = ends.fails failed
+    fails (inr aborts) failed = let P : Answer → Type 0 = IsFault in inr (subst P (sym aborts.is) tt)
+
+    words : IsSuccess answer → Ends link (dialogue coding call old.state) answer old new ⊎ Aborts link false (dialogue coding call old.state) answer old new → Wired link coding call old new
+    words success (inl ends) = wired link coding call old new answer ends.completes success
     words success (inr aborts) = let P : Answer → Type 0 = IsSuccess in absurd (subst P aborts.is success)
 
 module _ (coding : Coding) where
@@ -94,36 +125,49 @@ module _ (coding : Coding) where
   views_on call later came mid new state rule (inr same) view = rw (same.0, rule) ((view state).1 same.3)
 
 -- a run that got so far, with the view of the calls that are left
-pub record Reached (tells : Type 0) (coding : Coding) (calls to_make : List Call) (old new : SessionValue) (answers : List Answer) : Type 0 where
-  pub ran : RanTo tells coding calls to_make old new answers
+pub record Reached (link : Link) (coding : Coding) (calls to_make : List Call) (old new : SessionValue) (answers : List Answer) : Type 0 where
+  pub ran : RanTo link coding calls to_make old new answers
   pub agrees : Agrees coding old calls → Agrees coding new to_make
 
-pub ran_nothing : (tells : Type 0) (coding : Coding) (calls : List Call) (v : SessionValue) → Reached tells coding calls calls v v []
-ran_nothing tells coding calls v = record {
+pub ran_nothing : (link : Link) (coding : Coding) (calls : List Call) (v : SessionValue) → Reached link coding calls calls v v []
+ran_nothing link coding calls v = record {
   ran = record {
+    done = [];
+    split = refl;
+    count = refl;
     came = [];
     answered = [];
-    goes = nothing_goes tells v;
+    goes = nothing_goes link v;
     runs = λ h agrees room more ended outcomes fit on. refl;
   };
   agrees = λ a. a;
 }
 
 -- a run so far, where these are left to make
-abbrev pub RunsSoFar : Type 0 → Coding → List Call → List Call → SessionValue → SessionValue → List Answer → Type 0
-RunsSoFar tells coding calls to_make old new answers = Reached tells coding calls to_make old new answers ⊎ RunAborts tells coding calls to_make old new answers
+abbrev pub RunsSoFar : Link → Coding → List Call → List Call → SessionValue → SessionValue → List Answer → Type 0
+RunsSoFar link coding calls to_make old new answers = Reached link coding calls to_make old new answers ⊎ RunAborts link coding calls to_make old new answers
 
-module _ (tells : Type 0) (coding : Coding) (calls later : List Call) (call : Call) (old mid new : SessionValue) (answers : List Answer) (answer : Answer) (reached : Reached tells coding calls (call ∷ later) old mid answers) where
+module _ (link : Link) (coding : Coding) (calls later : List Call) (call : Call) (old mid new : SessionValue) (answers : List Answer) (answer : Answer) (reached : Reached link coding calls (call ∷ later) old mid answers) where
+  -- one call more is done
+  split_more : (done : List Call) → calls ≡ done ++ call ∷ later → calls ≡ (done ++ call ∷ []) ++ later
+  split_more done is = is ∙ sym (append_assoc done (call ∷ []) later)
+
+  counts_more : (done : List Call) (one : Answer) → length answers ≡ length done → length (answers ++ one ∷ []) ≡ length (done ++ call ∷ [])
+  counts_more done one is = length-append answers (one ∷ []) ∙ ap (λ n. n + 1) is ∙ sym (length-append done (call ∷ []))
+
   -- the next call is done
-  completes_next : mid.channel.failed ≡ false → Ends tells (dialogue coding call mid.state) answer mid new → Reached tells coding calls later old new (answers ++ answer ∷ [])
+  completes_next : mid.channel.failed ≡ false → Ends link (dialogue coding call mid.state) answer mid new → Reached link coding calls later old new (answers ++ answer ∷ [])
   completes_next going ends =
       let ran = reached.ran in
       let done = ends.completes in
       record {
         ran = record {
+          done = ran.done ++ call ∷ [];
+          split = split_more ran.done ran.split;
+          count = counts_more ran.done answer ran.count;
           came = ran.came ++ done.came;
           answered = ran.answered ++ done.answered;
-          goes = joined_goes tells ran.came done.came ran.answered done.answered old mid new ran.goes done.goes;
+          goes = joined_goes link ran.came done.came ran.answered done.answered old mid new ran.goes done.goes;
           runs = λ h agrees room more ended outcomes fit on.
               let first = ran.runs h agrees room (done.came ++ more) ended (outcomes_of done.answered ++ outcomes) (fitted room _ _ (done.goes.sent h) fit) (goes_after mid.channel.ended done.came more new.channel.ended ended done.goes.over on) in
               let played = done.plays h (reached.agrees agrees going mid.state).0 room more ended outcomes fit on in
@@ -136,15 +180,18 @@ module _ (tells : Type 0) (coding : Coding) (calls later : List Call) (call : Ca
       }
 
   -- the session has failed
-  refuses_next : IsRefused mid new answer → Reached tells coding calls later old new (answers ++ answer ∷ [])
+  refuses_next : IsRefused mid new answer → Reached link coding calls later old new (answers ++ answer ∷ [])
   refuses_next refused =
       let ran = reached.ran in
-      let P : SessionValue → Type 0 = λ v. Reached tells coding calls later old v (answers ++ answer ∷ []) in
-      let Q : Answer → Type 0 = λ a. Reached tells coding calls later old mid (answers ++ a ∷ []) in
+      let P : SessionValue → Type 0 = λ v. Reached link coding calls later old v (answers ++ answer ∷ []) in
+      let Q : Answer → Type 0 = λ a. Reached link coding calls later old mid (answers ++ a ∷ []) in
       subst P (sym refused.unchanged)
       (subst Q (sym refused.is)
       (record {
         ran = record {
+          done = ran.done ++ call ∷ [];
+          split = split_more ran.done ran.split;
+          count = counts_more ran.done (Fault SessionFailed) ran.count;
           came = ran.came;
           answered = ran.answered;
           goes = ran.goes;
@@ -156,7 +203,7 @@ module _ (tells : Type 0) (coding : Coding) (calls later : List Call) (call : Ca
         agrees = λ agrees going. let clash : true ≡ false = sym refused.failed ∙ going in cc;
       }))
 
-  aborts_next : mid.channel.failed ≡ false → Aborts tells false (dialogue coding call mid.state) answer mid new → RunAborts tells coding calls later old new (answers ++ answer ∷ [])
+  aborts_next : mid.channel.failed ≡ false → Aborts link false (dialogue coding call mid.state) answer mid new → RunAborts link coding calls later old new (answers ++ answer ∷ [])
   aborts_next going aborts = record {
     first = answers;
     call = call;
@@ -166,18 +213,18 @@ module _ (tells : Type 0) (coding : Coding) (calls later : List Call) (call : Ca
     going = going;
     fault = aborts.fault;
     after = new;
-    aborts = let P : Answer → Type 0 = λ a. Aborts tells false (dialogue coding call mid.state) a mid new in subst P aborts.is aborts;
+    aborts = let P : Answer → Type 0 = λ a. Aborts link false (dialogue coding call mid.state) a mid new in subst P aborts.is aborts;
     later = [];
     answers_are = ap (λ a. answers ++ a ∷ []) aborts.is;
     makes = (refl, refl);
     failed = λ failed. (refl, tt);
   }
 
-  pub next_answer : Made tells coding call mid new answer → RunsSoFar tells coding calls later old new (answers ++ answer ∷ [])
+  pub next_answer : Made link coding call mid new answer → RunsSoFar link coding calls later old new (answers ++ answer ∷ [])
   next_answer (inl refused) = inl (refuses_next refused)
   next_answer (inr made) = go made.plays
     where
-      go : Ends tells (dialogue coding call mid.state) answer mid new ⊎ Aborts tells false (dialogue coding call mid.state) answer mid new → RunsSoFar tells coding calls later old new (answers ++ answer ∷ [])
+      go : Ends link (dialogue coding call mid.state) answer mid new ⊎ Aborts link false (dialogue coding call mid.state) answer mid new → RunsSoFar link coding calls later old new (answers ++ answer ∷ [])
       go (inl ends) = inl (completes_next made.going ends)
       go (inr aborts) = inr (aborts_next made.going aborts)
 
@@ -186,40 +233,48 @@ all_snoc [] answer all is = (is, tt)
 all_snoc (one ∷ first) answer all is = (all.0, all_snoc first answer all.1 is)
 
 -- one call more is made
-makes_more : (tells : Type 0) (coding : Coding) (made : List Call) (call : Call) (old mid new : SessionValue) (answers : List Answer) (answer : Answer) → Makes tells coding made old mid answers → Plays tells coding call mid new answer → Makes tells coding (made ++ call ∷ []) old new (answers ++ answer ∷ [])
-makes_more tells coding [] call old mid new answers answer so_far plays =
-    let P : SessionValue → Type 0 = λ v. Plays tells coding call v new answer in
+makes_more : (link : Link) (coding : Coding) (made : List Call) (call : Call) (old mid new : SessionValue) (answers : List Answer) (answer : Answer) → Makes link coding made old mid answers → Plays link coding call mid new answer → Makes link coding (made ++ call ∷ []) old new (answers ++ answer ∷ [])
+makes_more link coding [] call old mid new answers answer so_far plays =
+    let P : SessionValue → Type 0 = λ v. Plays link coding call v new answer in
     (new, answer, [], ap (λ a. a ++ answer ∷ []) so_far.1, subst P so_far.0 plays, (refl, refl))
-makes_more tells coding (first ∷ made) call old mid new answers answer so_far plays =
-    (so_far.0, so_far.1, so_far.2 ++ answer ∷ [], ap (λ a. a ++ answer ∷ []) so_far.3, so_far.4, makes_more tells coding made call so_far.0 mid new so_far.2 answer so_far.5 plays)
+makes_more link coding (first ∷ made) call old mid new answers answer so_far plays =
+    (so_far.0, so_far.1, so_far.2 ++ answer ∷ [], ap (λ a. a ++ answer ∷ []) so_far.3, so_far.4, makes_more link coding made call so_far.0 mid new so_far.2 answer so_far.5 plays)
 
 -- a call after one that was aborted
-aborted_more : (tells : Type 0) (coding : Coding) (calls to_make : List Call) (call : Call) (old mid new : SessionValue) (answers : List Answer) (answer : Answer) → RunAborts tells coding calls (call ∷ to_make) old mid answers → Plays tells coding call mid new answer → RunAborts tells coding calls to_make old new (answers ++ answer ∷ [])
-aborted_more tells coding calls to_make call old mid new answers answer broke plays = record {
+aborted_more : (link : Link) (coding : Coding) (calls to_make : List Call) (call : Call) (old mid new : SessionValue) (answers : List Answer) (answer : Answer) → RunAborts link coding calls (call ∷ to_make) old mid answers → Plays link coding call mid new answer → RunAborts link coding calls to_make old new (answers ++ answer ∷ [])
+aborted_more link coding calls to_make call old mid new answers answer broke plays = record {
   first = broke.first;
   call = broke.call;
   made = broke.made ++ call ∷ [];
   middle = broke.middle;
-  ran = let P : List Call → Type 0 = λ l. RanTo tells coding calls (broke.call ∷ l) old broke.middle broke.first in subst P (sym (append_assoc broke.made (call ∷ []) to_make)) broke.ran;
+  ran = let P : List Call → Type 0 = λ l. RanTo link coding calls (broke.call ∷ l) old broke.middle broke.first in subst P (sym (append_assoc broke.made (call ∷ []) to_make)) broke.ran;
   going = broke.going;
   fault = broke.fault;
   after = broke.after;
   aborts = broke.aborts;
   later = broke.later ++ answer ∷ [];
   answers_are = ap (λ a. a ++ answer ∷ []) broke.answers_are ∙ append_assoc broke.first (Fault broke.fault ∷ broke.later) (answer ∷ []);
-  makes = makes_more tells coding broke.made call broke.after mid new broke.later answer broke.makes plays;
+  makes = makes_more link coding broke.made call broke.after mid new broke.later answer broke.makes plays;
   failed = λ failed. go plays.made failed (broke.failed failed);
 }
   where
-    go : IsRefused mid new answer ⊎ IsPlayed tells coding call mid new answer → broke.after.channel.failed ≡ true → (mid ≡ broke.after) × AllRefused broke.later → (new ≡ broke.after) × AllRefused (broke.later ++ answer ∷ [])
+    go : IsRefused mid new answer ⊎ IsPlayed link coding call mid new answer → broke.after.channel.failed ≡ true → (mid ≡ broke.after) × AllRefused broke.later → (new ≡ broke.after) × AllRefused (broke.later ++ answer ∷ [])
     go (inl refused) failed so_far = (refused.unchanged ∙ so_far.0, all_snoc broke.later answer so_far.1 refused.is)
     go (inr played) failed so_far =
         let clash : true ≡ false = sym failed ∙ sym (ap (λ v. v.channel.failed) so_far.0) ∙ played.going in
         cc
 
+-- what is made of a call fails the session only where the call fails
+pub made_fails : (link : Link) (coding : Coding) (call : Call) (old new : SessionValue) (answer : Answer) → Made link coding call old new answer → FailsWith old new (answer ∷ [])
+made_fails link coding call old new answer made failed = go ((made_plays link coding call old new answer made).fails failed)
+  where
+    go : (old.channel.failed ≡ true) ⊎ IsFault answer → (old.channel.failed ≡ true) ⊎ HasFault (answer ∷ [])
+    go (inl was) = inl was
+    go (inr fault) = inr (inl fault)
+
 -- no call is left
-ran_all : (tells : Type 0) (coding : Coding) (calls : List Call) (old new : SessionValue) (answers : List Answer) → Reached tells coding calls [] old new answers → RunsTo tells coding calls old new answers
-ran_all tells coding calls old new answers reached = record {
+ran_all : (link : Link) (coding : Coding) (calls : List Call) (old new : SessionValue) (answers : List Answer) → Reached link coding calls [] old new answers → RunsTo link coding calls old new answers
+ran_all link coding calls old new answers reached = record {
   came = reached.ran.came;
   answered = reached.ran.answered;
   goes = reached.ran.goes;
@@ -231,23 +286,23 @@ ran_all tells coding calls old new answers reached = record {
 }
 
 -- the next of the calls
-pub next_of : (tells : Type 0) (coding : Coding) (calls : List Call) (i : ℕ) (call : Call) (old mid new : SessionValue) (answers answers' : List Answer) (answer : Answer) → i < length calls → call ≡ get_or calls i call → answers' ≡ answers ++ answer ∷ [] → RunsSoFar tells coding calls (drop i calls) old mid answers → Made tells coding call mid new answer → RunsSoFar tells coding calls (drop (i + 1) calls) old new answers'
-next_of tells coding calls i call old mid new answers answers' answer inside is pushed so_far made =
-    let P : List Answer → Type 0 = λ a. RunsSoFar tells coding calls (drop (i + 1) calls) old new a in
-    let Q : List Call → Type 0 = λ l. RunsSoFar tells coding calls l old mid answers in
+pub next_of : (link : Link) (coding : Coding) (calls : List Call) (i : ℕ) (call : Call) (old mid new : SessionValue) (answers answers' : List Answer) (answer : Answer) → i < length calls → call ≡ get_or calls i call → answers' ≡ answers ++ answer ∷ [] → RunsSoFar link coding calls (drop i calls) old mid answers → Made link coding call mid new answer → RunsSoFar link coding calls (drop (i + 1) calls) old new answers'
+next_of link coding calls i call old mid new answers answers' answer inside is pushed so_far made =
+    let P : List Answer → Type 0 = λ a. RunsSoFar link coding calls (drop (i + 1) calls) old new a in
+    let Q : List Call → Type 0 = λ l. RunsSoFar link coding calls l old mid answers in
     let left : drop i calls ≡ call ∷ drop (i + 1) calls = drop_more calls i call inside ∙ ap (λ c. c ∷ drop (i + 1) calls) (sym is) in
     subst P (sym pushed) (go (subst Q left so_far))
   where
-    go : RunsSoFar tells coding calls (call ∷ drop (i + 1) calls) old mid answers → RunsSoFar tells coding calls (drop (i + 1) calls) old new (answers ++ answer ∷ [])
-    go (inl reached) = next_answer tells coding calls (drop (i + 1) calls) call old mid new answers answer reached made
-    go (inr broke) = inr (aborted_more tells coding calls (drop (i + 1) calls) call old mid new answers answer broke (made_plays tells coding call mid new answer made))
+    go : RunsSoFar link coding calls (call ∷ drop (i + 1) calls) old mid answers → RunsSoFar link coding calls (drop (i + 1) calls) old new (answers ++ answer ∷ [])
+    go (inl reached) = next_answer link coding calls (drop (i + 1) calls) call old mid new answers answer reached made
+    go (inr broke) = inr (aborted_more link coding calls (drop (i + 1) calls) call old mid new answers answer broke (made_plays link coding call mid new answer made))
 
 -- no call is left, or one was aborted
-pub all_of : (tells : Type 0) (coding : Coding) (calls : List Call) (i : ℕ) (old new : SessionValue) (answers : List Answer) → length calls ≤ i → RunsSoFar tells coding calls (drop i calls) old new answers → Runs tells coding calls old new answers
-all_of tells coding calls i old new answers past so_far =
-    let P : List Call → Type 0 = λ l. RunsSoFar tells coding calls l old new answers in
+pub all_of : (link : Link) (coding : Coding) (calls : List Call) (i : ℕ) (old new : SessionValue) (answers : List Answer) → length calls ≤ i → RunsSoFar link coding calls (drop i calls) old new answers → Runs link coding calls old new answers
+all_of link coding calls i old new answers past so_far =
+    let P : List Call → Type 0 = λ l. RunsSoFar link coding calls l old new answers in
     go (subst P (drop_of_length-le calls {i = i} past) so_far)
   where
-    go : RunsSoFar tells coding calls [] old new answers → Runs tells coding calls old new answers
-    go (inl reached) = inl (ran_all tells coding calls old new answers reached)
+    go : RunsSoFar link coding calls [] old new answers → Runs link coding calls old new answers
+    go (inl reached) = inl (ran_all link coding calls old new answers reached)
     go (inr broke) = inr broke

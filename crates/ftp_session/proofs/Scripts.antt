@@ -18,9 +18,9 @@ use Rattle.ftp_session.specs.State.{SessionValue}
 use Rattle.ftp_session.specs.Coding.{Coding}
 use Rattle.ftp_session.specs.Script.{script, start_of, script_of, after_event, Lawful, IsLawful, MayCancel}
 use Rattle.ftp_session.specs.Promises.{AllRefused}
-use Rattle.ftp_session.specs.Scripted.{ScriptHolds, LeftOf, ScriptAborts, ScriptsHold, IsScripted, Stops, StopsAtFeed}
+use Rattle.ftp_session.specs.Scripted.{ScriptHolds, ScriptAborts, ScriptsHold, IsScripted, Stops, StopsAtFeed}
 use Rattle.ftp_session.specs.Steps.Stages.{begun_at, remaining}
-use Rattle.ftp_session.specs.Steps.Following.{Follows, FailedStays, Happens, AbortsCall, Place, Started, UnderWay, IsFeed, given_answer}
+use Rattle.ftp_session.specs.Steps.Following.{Follows, FailedStays, Happens, AbortsCall, IsFeed, given_answer}
 use Rattle.ftp_session.proofs.Events.{begins}
 use Rattle.ftp_session.proofs.Following.{left_of}
 
@@ -29,7 +29,7 @@ module _ (coding : Coding) where
   script-snoc start s [] event = refl
   script-snoc start s (first ∷ events) event = script-snoc start (after_event coding start s first) events event
 
-  lawful-snoc : (start : Standing) (s : Script) (events : List Event) (event : Event) → Lawful coding start s (events ++ event ∷ []) → Lawful coding start s events × IsLawful start (script coding start s events) event
+  lawful-snoc : (start : Standing) (s : Script) (events : List Event) (event : Event) → Lawful coding start s (events ++ event ∷ []) → Lawful coding start s events × IsLawful coding start (script coding start s events) event
   lawful-snoc start s [] event lawful = (tt, lawful.0)
   lawful-snoc start s (first ∷ events) event lawful = let later = lawful-snoc start (after_event coding start s first) events event lawful.1 in ((lawful.0, later.0), later.1)
 
@@ -54,6 +54,7 @@ module _ (coding : Coding) where
         at = record {
           answers_are = sym f.answers_are;
           sent = sym f.sent;
+          said = f.said;
           untaken = sym f.untaken;
           seen = sym f.seen;
           waits = f.waits;
@@ -63,6 +64,9 @@ module _ (coding : Coding) where
           state = sym f.state;
           failed = sym f.failed;
         };
+        came = f.came;
+        received = f.received;
+        bytes = f.bytes;
         rule = f.rule;
         failures = f.failures;
       }
@@ -128,7 +132,7 @@ module _ (coding : Coding) where
         let may = lawful-snoc (start_of old) (script_of old system) done event lawful in
         go (one_more depth) system may.1 (so_far system waits may.0)
       where
-        go : ((later : SessionValue) (done' : List Event) (rest : List Answer) → Happened depth later done' v call stage rest → Happened depth later (done' ++ event ∷ []) w call' stage' (rest ++ given_answer result)) → (system : Bool) → IsLawful (start_of old) (script coding (start_of old) (script_of old system) done) event → Follows coding old (script coding (start_of old) (script_of old system) done) v call stage answers ⊎ ScriptAborts (λ after later rest. Happened depth after later v call stage rest) coding old system done v answers → Follows coding old (script coding (start_of old) (script_of old system) (done ++ event ∷ [])) w call' stage' (answers ++ given_answer result) ⊎ ScriptAborts (λ after later rest. Happened depth after later w call' stage' rest) coding old system (done ++ event ∷ []) w (answers ++ given_answer result)
+        go : ((later : SessionValue) (done' : List Event) (rest : List Answer) → Happened depth later done' v call stage rest → Happened depth later (done' ++ event ∷ []) w call' stage' (rest ++ given_answer result)) → (system : Bool) → IsLawful coding (start_of old) (script coding (start_of old) (script_of old system) done) event → Follows coding old (script coding (start_of old) (script_of old system) done) v call stage answers ⊎ ScriptAborts (λ after later rest. Happened depth after later v call stage rest) coding old system done v answers → Follows coding old (script coding (start_of old) (script_of old system) (done ++ event ∷ [])) w call' stage' (answers ++ given_answer result) ⊎ ScriptAborts (λ after later rest. Happened depth after later w call' stage' rest) coding old system (done ++ event ∷ []) w (answers ++ given_answer result)
         go again system may (inl follows) = next (happens old (script coding (start_of old) (script_of old system) done) answers follows may)
           where
             next : Follows coding old (after_event coding (start_of old) (script coding (start_of old) (script_of old system) done) event) w call' stage' (answers ++ given_answer result) ⊎ (((under_way : Call) × (call ≡ Some under_way) × AbortsCall coding under_way stage v w result) × (call' ≡ None) × (event ≡ Poll)) → Follows coding old (script coding (start_of old) (script_of old system) (done ++ event ∷ [])) w call' stage' (answers ++ given_answer result) ⊎ ScriptAborts (λ after later rest. Happened depth after later w call' stage' rest) coding old system (done ++ event ∷ []) w (answers ++ given_answer result)

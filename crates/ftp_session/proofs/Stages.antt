@@ -1,22 +1,24 @@
 -- Lemmas on the stages of a call.
-use Rattle.std.proofs.Common.{◌≡◌, ℕ, ◌-◌, ◌<◌, Bool, true, false, ◌&&◌, Option, Some, None, is_none, List, Result, Ok, Err, refl, ap, sym, ◌∙◌, subst, arith}
+use Rattle.std.proofs.Common.{◌≡◌, ℕ, ◌-◌, ◌<◌, Bool, true, false, ◌&&◌, Option, Some, None, is_none, List, Result, Ok, inl, inr, ◌⊎◌, refl, ap, sym, ◌∙◌, subst, arith}
 use Rattle.ftp_base.specs.declared.command.Command.{Command}
-use Rattle.ftp_base.specs.Command.{text_of}
-use Rattle.ftp_base.specs.Wire.{wire}
 use Rattle.ftp_base.specs.declared.types.fault.ConnectionError.{ConnectionError as Cause}
 use Rattle.ftp_control.specs.Saying.{due}
-use Rattle.ftp_session.specs.declared.session.state.State.{State}
 use Rattle.ftp_session.specs.declared.session.call.Call.{Call}
 use Rattle.ftp_session.specs.declared.session.exchange.Turn.{Turn}
 use Rattle.ftp_session.specs.declared.session.exchange.Turn.TheVariants.{First, Second}
-use Rattle.ftp_session.specs.declared.session.exchange.Exchange.{Exchange}
 use Rattle.ftp_session.specs.declared.session.stage.Awaits.{Awaits}
 use Rattle.ftp_session.specs.declared.session.stage.Stage.{Stage}
 use Rattle.ftp_session.specs.declared.session.stage.Stage.TheVariants.{At, Saying, Hearing}
 use Rattle.ftp_session.specs.Coding.{Coding}
 use Rattle.ftp_session.specs.Exchanges.{exchange_of, statuses, gives_reply, is_read}
-use Rattle.ftp_session.specs.Dialogue.{Tree, Say, saying, awaiting, exchanging, later, from_turn}
-use Rattle.ftp_session.specs.Steps.Stages.{is_second, remaining, awaited, begun_at, nodes_from, nodes_left, StageOf, line_of, awaits_of, NodeOf, Begun}
+use Rattle.ftp_session.specs.Dialogue.{Tree, Say, saying, awaiting, later}
+use Rattle.ftp_session.specs.Steps.Stages.{is_second, begun_at, nodes_from, line_of, awaits_of, NodeOf, Begun}
+use Rattle.ftp_session.specs.declared.session.stage.Step.{Step}
+use Rattle.ftp_session.specs.declared.session.stage.Step.TheVariants.{Next}
+use Rattle.ftp_session.specs.Link.{Link}
+use Rattle.ftp_session.specs.State.{SessionValue}
+use Rattle.ftp_session.specs.Promises.{Touched}
+use Rattle.ftp_session.specs.Steps.Moving.{TakesLine, HasBegun, NothingTouched}
 
 and_false : (b : Bool) → b && false ≡ false
 and_false true = refl
@@ -42,17 +44,22 @@ no_read : (call : Call) (turn : Turn) → (is_second turn ≡ true → is_read c
 no_read call First read some = ap (λ b. gives_reply (exchange_of call First).ending && b) some ∙ and_false (gives_reply (exchange_of call First).ending)
 no_read call Second read some = read refl
 
+-- a line that hasn't begun to go out
+unbegun : (line : Option (List ℕ)) (a : Awaits) → is_none line ≡ false → begun_at (Saying line a) ≡ a.begun
+unbegun None a some = let clash : true ≡ false = some in cc
+unbegun (Some line) a some = refl
+
 -- the first node is all that is left of an exchange, and of what comes after it
 pub node_begins : (coding : Coding) (call : Call) (turn : Turn) (stage : Stage) → (is_second turn ≡ true → is_read call ≡ false) → NodeOf coding turn (exchange_of call turn) stage → Begun coding call turn stage
 node_begins coding call turn (At other) read node = absurd node
 node_begins coding call turn (Saying line a) read node =
     let e = exchange_of call turn in
     let P : Awaits → Type 0 = λ x. Begun coding call turn (Saying line x) in
-    subst P (sym node.2) (record {
-      same = λ state. said_first coding e.says (due line) (awaiting coding (statuses e.hears) e.ending state (later coding call turn)) node.1 node.0;
+    subst P (sym node.3) (record {
+      same = λ state. said_first coding e.says (due line) (awaiting coding (statuses e.hears) e.ending state (later coding call turn)) node.2 node.0;
       fewer = one_fewer turn;
-      stage_of = (refl, no_read call turn read node.1);
-      begun = refl;
+      stage_of = (refl, no_read call turn read node.2);
+      begun = unbegun line (awaits_of turn e) node.1;
     })
 node_begins coding call turn (Hearing a) read node =
     let e = exchange_of call turn in
@@ -63,3 +70,34 @@ node_begins coding call turn (Hearing a) read node =
       stage_of = (refl, read);
       begun = refl;
     })
+
+-- Whether a dialogue has begun
+
+module _ (link : Link) (line line' : Option (List ℕ)) (a : Awaits) (old new : SessionValue) (result : Step) (takes : TakesLine link line line' old new result) where
+  taken_begins : line' ≡ None → (tree : Tree) → (begun_at (Saying line a) ≡ true) ⊎ Touched link tree old new
+  taken_begins none tree = go (takes.begins none)
+    where
+      go : (line ≡ None) ⊎ ((tree : Tree) → Touched link tree old new) → (begun_at (Saying line a) ≡ true) ⊎ Touched link tree old new
+      go (inl before) = inl (let P : Option (List ℕ) → Type 0 = λ l. begun_at (Saying l a) ≡ true in subst P (sym before) refl)
+      go (inr touched) = inr (touched tree)
+
+  -- a line that went out
+  pub line_gone : result ≡ Next → (tree : Tree) → (begun_at (Saying line a) ≡ true) ⊎ Touched link tree old new
+  line_gone is tree = taken_begins (takes.gone is) tree
+
+  -- a line that waits for room
+  pub line_begins : (tree : Tree) → HasBegun link (begun_at (Saying line a)) (begun_at (Saying line' a)) tree old new
+  line_begins tree = (λ has. go line' refl takes.whole has, λ none. back line' refl takes.whole none)
+    where
+      back : (l : Option (List ℕ)) → line' ≡ l → (line' ≡ line) ⊎ (line' ≡ None) → begun_at (Saying line' a) ≡ false → (begun_at (Saying line a) ≡ false) × NothingTouched link old new
+      back None is whole none =
+          let P : Option (List ℕ) → Type 0 = λ x. begun_at (Saying x a) ≡ false in
+          let clash : true ≡ false = subst P is none in
+          cc
+      back (Some l) is (inl same) none = (let P : Option (List ℕ) → Type 0 = λ x. begun_at (Saying x a) ≡ false in subst P same none, takes.stays same)
+      back (Some l) is (inr gone) none = let clash : Some l ≡ None = sym is ∙ gone in cc
+
+      go : (l : Option (List ℕ)) → line' ≡ l → (line' ≡ line) ⊎ (line' ≡ None) → begun_at (Saying line' a) ≡ true → (begun_at (Saying line a) ≡ true) ⊎ Touched link tree old new
+      go None is whole has = taken_begins is tree
+      go (Some l) is (inl same) has = inl (let P : Option (List ℕ) → Type 0 = λ x. begun_at (Saying x a) ≡ true in subst P same has)
+      go (Some l) is (inr none) has = let clash : Some l ≡ None = sym is ∙ none in cc

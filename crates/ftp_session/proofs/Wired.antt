@@ -1,5 +1,5 @@
 -- What a call that succeeded did on the wire.
-use Rattle.std.proofs.Common.{◌≡◌, ℕ, Bool, true, false, cond, ◌==◌, eqb, Option, Some, None, List, [], ◌++◌, Result, Ok, Err, refl, ap, sym, ◌∙◌, subst, append-nil}
+use Rattle.std.proofs.Common.{◌≡◌, ℕ, Bool, true, false, cond, eqb, Option, Some, None, List, [], ◌++◌, Result, Ok, Err, refl, ap, sym, ◌∙◌, subst, append-nil}
 use Rattle.ftp_base.specs.declared.status.Status.{Status}
 use Rattle.ftp_base.specs.declared.status.Status.TheVariants.{System}
 use Rattle.ftp_base.specs.Status.{code_of, status_of}
@@ -28,15 +28,16 @@ use Rattle.ftp_session.specs.declared.session.exchange.Ending.TheVariants as end
 use Rattle.ftp_session.specs.declared.session.exchange.Exchange.{Exchange}
 use Rattle.ftp_session.specs.declared.model.Standing.{Standing}
 use Rattle.ftp_session.specs.declared.model.Played.{Played}
-use Rattle.ftp_session.specs.declared.model.Played.TheVariants.{Done, Pending}
+use Rattle.ftp_session.specs.declared.model.Played.TheVariants.{Done}
 use Rattle.ftp_session.specs.State.{SessionValue}
 use Rattle.ftp_session.specs.Coding.{Coding}
 use Rattle.ftp_session.specs.Exchanges.{exchange_of, statuses}
-use Rattle.ftp_session.specs.Dialogue.{Tree, Say, Hear, Leaf, saying, awaiting, concluded, accepted, exchanging, later, dialogue}
+use Rattle.ftp_session.specs.Dialogue.{Tree, Say, Leaf, saying, awaiting, concluded, accepted, exchanging, later, dialogue}
 use Rattle.ftp_session.specs.Play.{play, heard_then}
-use Rattle.ftp_session.specs.Promises.{standing, Completes, IsSuccess, Says, Exchanged, Follows, Succeeds, Wired, goes_on_with}
+use Rattle.ftp_session.specs.Promises.{standing, Completes, IsSuccess, Says, Exchanged, ExchangedIf, Succeeds, Wired, goes_on_with}
 use Rattle.ftp_session.proofs.Moving.{play-Say, play-Leaf, play-Refused}
 use Rattle.ftp_session.proofs.Hearing.{play-Hear}
+use Rattle.ftp_session.specs.Link.{Link}
 
 -- a fault is no success
 no_success : (found : FtpError) (answer : Answer) (s t : Standing) → Done (Fault found) s ≡ Done answer t → IsSuccess answer → ⊥
@@ -175,20 +176,20 @@ call_succeeds coding call answer s t state success is = record {
           }),
         )
 
-    go : (how : Ending) → play Any (accepted coding how state one.reply (later coding call First)) one.between ≡ Done answer t → Follows (goes_on_with how one.reply) coding (exchange_of call Second) one.between t
+    go : (how : Ending) → play Any (accepted coding how state one.reply (later coding call First)) one.between ≡ Done answer t → ExchangedIf (goes_on_with how one.reply) coding (exchange_of call Second) one.between t
     go ending.Done done = stays _ _ done
     go ending.GivesReply done = stays _ _ done
     go ending.Greets done = stays _ _ done
     go (ending.SetsText text) done = stays _ _ done
     go (ending.GoesOn status) done =
-        elim (eqb (code_of one.reply.status) (code_of status)) as (λ b. play Any (cond b (later coding call First state) (Leaf Unit state)) one.between ≡ Done answer t → Follows b coding (exchange_of call Second) one.between t) [
+        elim (eqb (code_of one.reply.status) (code_of status)) as (λ b. play Any (cond b (later coding call First state) (Leaf Unit state)) one.between ≡ Done answer t → ExchangedIf b coding (exchange_of call Second) one.between t) [
           | true ↦ λ done. last one.between done
           | false ↦ λ done. stays Unit state done
         ] done
 
 -- the calls of a session
-pub wired : (tells : Type 0) (coding : Coding) (call : Call) (old new : SessionValue) (answer : Answer) → Completes tells (dialogue coding call old.state) answer old new → IsSuccess answer → Wired tells coding call old new
-wired tells coding call old new answer done success = record {
+pub wired : (link : Link) (coding : Coding) (call : Call) (old new : SessionValue) (answer : Answer) → Completes link (dialogue coding call old.state) answer old new → IsSuccess answer → Wired link coding call old new
+wired link coding call old new answer done success = record {
   came = done.came;
   answered = done.answered;
   goes = done.goes;

@@ -1,8 +1,9 @@
 -- The calls of a session: each is its dialogue.
-use Rattle.std.specs.Prelude.{◌≡◌, false, Result, Ok, Err}
+use Rattle.std.specs.Prelude.{◌≡◌, List, Result, Ok, Err}
 use Rattle.ftp_base.specs.declared.types.reply.Response.{Response}
 use Rattle.ftp_base.specs.declared.types.fault.FtpError.{FtpError}
-use Rattle.ftp_control.specs.Told.{IsFresh}
+use Rattle.ftp_control.specs.Told.{Told, begun}
+use Rattle.ftp_control.specs.declared.transport.request.Asked.{Asked}
 use Rattle.ftp_control.specs.Channel.{IsIdle}
 use Rattle.ftp_session.specs.declared.session.call.Answer.{Answer}
 use Rattle.ftp_session.specs.declared.session.call.Answer.TheVariants.{Unit as Done, Reply, Fault}
@@ -10,6 +11,7 @@ use Rattle.ftp_session.specs.declared.session.call.Call.TheVariants.{Greet}
 use Rattle.ftp_session.specs.Coding.{Coding}
 use Rattle.ftp_session.specs.State.{SessionValue, IsFirst}
 use Rattle.ftp_session.specs.Promises.{Plays}
+use Rattle.ftp_session.specs.Link.{Link}
 
 -- the answer of a call that gives nothing
 abbrev pub unit_answer : Result (Unit {0}) FtpError → Answer
@@ -21,14 +23,20 @@ abbrev pub reply_answer : Result Response FtpError → Answer
 reply_answer (Ok reply) = Reply reply
 reply_answer (Err fault) = Fault fault
 
--- a session begins on a new connection and makes the greeting's dialogue
-pub record Connects (tells : Type 0) (coding : Coding) (new : SessionValue) (result : Result (Unit {0}) FtpError) : Type 0 where
+-- a session begins on a connection that told this, over a transport that was asked this: nothing is read or sent,
+-- and what came and wasn't read is still to come
+pub record Begins (tells : Type 0) (before : Told) (answered : List Asked) (new : SessionValue) : Type 0 where
+  pub idle : IsIdle new.channel
+  pub told : tells → new.channel.told ≡ begun before
+  pub first : IsFirst new.state
+  pub asked : new.asked ≡ answered
+
+-- a session begins and makes the greeting's dialogue
+pub record Connects (link : Link) (coding : Coding) (told : Told) (asked : List Asked) (new : SessionValue) (result : Result (Unit {0}) FtpError) : Type 0 where
   pub old : SessionValue
-  pub idle : IsIdle old.channel
-  pub fresh : tells → IsFresh old.channel.told
-  pub first : IsFirst old.state
-  pub greets : Plays tells coding Greet old new (unit_answer result)
+  pub begins : Begins link.tells told asked old
+  pub greets : Plays link coding Greet old new (unit_answer result)
 
 -- no session is connected, and this is why
-abbrev pub Fails : Type 0 → Coding → FtpError → Type 0
-Fails tells coding fault = (new : SessionValue) × Connects tells coding new (Err fault)
+abbrev pub FailsToConnect : Link → Coding → Told → List Asked → FtpError → Type 0
+FailsToConnect link coding told asked fault = (new : SessionValue) × Connects link coding told asked new (Err fault)

@@ -1,6 +1,6 @@
 -- The dialogues of a session as trees: RFC 959, sections 5.4 and 6. A tree says, hears and asks in turn, and ends
 -- in an answer with the change of state.
-use Rattle.std.specs.Prelude.{ℕ, Bool, List, ◌==◌, Option, Some, None, Result, Ok, Err, if◌then◌else◌}
+use Rattle.std.specs.Prelude.{ℕ, List, ◌==◌, Option, Some, None, Result, Ok, Err, if◌then◌else◌}
 use Rattle.ftp_base.specs.declared.status.Status.{Status}
 use Rattle.ftp_base.specs.Status.{code_of}
 use Rattle.ftp_base.specs.declared.types.reply.Response.{Response}

@@ -2,6 +2,7 @@ pub mod Calls
 pub mod Coding
 pub mod Dialogue
 pub mod Exchanges
+pub mod Link
 pub mod Play
 pub mod Promises
 pub mod Run

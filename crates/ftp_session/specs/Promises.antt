@@ -1,6 +1,6 @@
 -- What a session promises of a call and of a list of calls: what their definition says of all that the server sends,
 -- until the connection fails or memory runs out.
-use Rattle.std.specs.Prelude.{◌≡◌, ◌⊎◌, ◌≤◌, ◌==◌, ℕ, Bool, true, false, Option, Some, None, List, [], ◌∷◌, ◌++◌, length, Result, Ok, Err}
+use Rattle.std.specs.Prelude.{◌≡◌, ◌⊎◌, ◌≤◌, ◌<◌, ◌+◌, ◌==◌, ℕ, Bool, true, false, Option, Some, None, List, [], ◌∷◌, ◌++◌, length, Result, Ok, Err}
 use Rattle.std.specs.declared.io.ErrorKind.{ErrorKind}
 use Rattle.futures.specs.declared.task.Poll.{Poll}
 use Rattle.futures.specs.declared.task.Poll.TheVariants.{Ready, Pending}
@@ -21,7 +21,8 @@ use Rattle.ftp_control.specs.declared.transport.room.Room.{Room}
 use Rattle.ftp_control.specs.declared.transport.request.RequestOutcome.{RequestOutcome}
 use Rattle.ftp_control.specs.declared.transport.request.Asked.{Asked}
 use Rattle.ftp_control.specs.Asking.{requests_of, outcomes_of}
-use Rattle.ftp_control.specs.Told.{HasRoomFor, HasFailed}
+use Rattle.ftp_control.specs.Told.{Told, HasRoomFor, HasFailed, NoneFailed}
+use Rattle.ftp_control.specs.Memory.{IsGiven}
 use Rattle.ftp_control.specs.Reading.{GoesOn as GoesBeyond}
 use Rattle.ftp_control.specs.Channel.{untaken}
 use Rattle.ftp_control.specs.Saying.{said}
@@ -40,9 +41,10 @@ use Rattle.ftp_session.specs.declared.model.Ran.TheVariants.{Finished}
 use Rattle.ftp_session.specs.State.{SessionValue}
 use Rattle.ftp_session.specs.Coding.{Coding}
 use Rattle.ftp_session.specs.Exchanges.{exchange_of, statuses}
-use Rattle.ftp_session.specs.Dialogue.{Tree, Hear, dialogue}
+use Rattle.ftp_session.specs.Dialogue.{Tree, Say, Hear, Ask, Leaf, dialogue}
 use Rattle.ftp_session.specs.Play.{play}
 use Rattle.ftp_session.specs.Run.{run, before, OneView, Resumes}
+use Rattle.ftp_session.specs.Link.{Link}
 
 -- What a call that succeeded did on the wire
 
@@ -73,16 +75,23 @@ goes_on_with Greets reply = false
 goes_on_with (SetsText text) reply = false
 goes_on_with (GoesOn status) reply = code_of reply.status == code_of status
 
--- the first exchange of a call, and the second where the first reply goes on
-abbrev pub Follows : Bool → Coding → Exchange → Standing → Standing → Type 0
-Follows true coding exchange s t = (reply : Response) × Exchanged coding exchange reply s t
-Follows false coding exchange s t = (t.said ≡ s.said) × (t.unsent ≡ s.unsent) × (t.bytes ≡ s.bytes)
+-- an exchange where there is one, else nothing
+abbrev pub ExchangedIf : Bool → Coding → Exchange → Standing → Standing → Type 0
+ExchangedIf true coding exchange s t = (reply : Response) × Exchanged coding exchange reply s t
+ExchangedIf false coding exchange s t = (t.said ≡ s.said) × (t.unsent ≡ s.unsent) × (t.bytes ≡ s.bytes)
 
+-- a call that succeeded: its first exchange, and its second where the first reply goes on
 pub record Succeeds (coding : Coding) (call : Call) (s t : Standing) : Type 0 where
   pub reply : Response
   pub between : Standing
   pub first : Exchanged coding (exchange_of call First) reply s between
-  pub second : Follows (goes_on_with (exchange_of call First).ending reply) coding (exchange_of call Second) between t
+  pub second : ExchangedIf (goes_on_with (exchange_of call First).ending reply) coding (exchange_of call Second) between t
+
+-- a call failed
+abbrev pub IsFault : Answer → Type 0
+IsFault answers.Unit = ⊥
+IsFault (answers.Reply reply) = ⊥
+IsFault (Fault fault) = Unit {0}
 
 -- where a run stands in a session, where these bytes are still to come, and these outcomes
 abbrev pub standing : SessionValue → List ℕ → Bool → List RequestOutcome → Standing
@@ -106,61 +115,78 @@ However old came answered new Holds =
     → HasRoomFor room (length new.channel.told.sent) → GoesBeyond new.channel.ended more ended
     → Holds room (standing old (came ++ more) ended (outcomes_of answered ++ outcomes)) (standing new more ended outcomes)
 
--- these bytes came, these requests were answered, other bytes may have gone out, and no call failed
-pub record Goes (tells : Type 0) (came : List ℕ) (answered : List Asked) (old new : SessionValue) : Type 0 where
+-- these bytes came, these requests were answered, other bytes may have gone out, and no call failed; what was said
+-- stays said, no more is untaken than was and came, and what is received was at hand, if it was before
+pub record Goes (link : Link) (came : List ℕ) (answered : List Asked) (old new : SessionValue) : Type 0 where
   pub over : GoesBeyond old.channel.ended came new.channel.ended
-  pub received : tells → new.channel.told.received ≡ old.channel.told.received ++ came
-  pub given : tells → new.channel.told.given ≡ old.channel.told.given
-  pub failures : tells → new.channel.told.failures ≡ old.channel.told.failures
-  pub sent : tells → length old.channel.told.sent ≤ length new.channel.told.sent
-  pub asked : tells → new.asked ≡ old.asked ++ answered
+  pub received : link.tells → new.channel.told.received ≡ old.channel.told.received ++ came
+  pub given : link.tells → new.channel.told.given ≡ old.channel.told.given
+  pub failures : link.tells → NoneFailed old.channel.told new.channel.told
+  pub sent : link.tells → length old.channel.told.sent ≤ length new.channel.told.sent
+  pub said : link.tells → length (said old.channel) ≤ length (said new.channel)
+  pub untaken : length (untaken new.channel) ≤ length (untaken old.channel) + length came
+  pub at_hand : link.tells → IsGiven old.channel.told → IsGiven new.channel.told
+  pub asked : link.tells → new.asked ≡ old.asked ++ answered
   pub rule : new.channel.rule ≡ old.channel.rule
 
 -- one tree is left of another
-pub record Leads (tells : Type 0) (tree tree' : Tree) (old new : SessionValue) : Type 0 where
+pub record Leads (link : Link) (tree tree' : Tree) (old new : SessionValue) : Type 0 where
   pub came : List ℕ
   pub answered : List Asked
-  pub goes : Goes tells came answered old new
-  pub plays : tells → Resumes old.channel.rule old.channel.kept tree → However old came answered new (λ room s t. play room tree s ≡ play room tree' t)
+  pub goes : Goes link came answered old new
+  pub plays : link.tells → Resumes old.channel.rule old.channel.kept tree → However old came answered new (λ room s t. play room tree s ≡ play room tree' t)
 
 -- a tree comes to its answer
-pub record Completes (tells : Type 0) (tree : Tree) (answer : Answer) (old new : SessionValue) : Type 0 where
+pub record Completes (link : Link) (tree : Tree) (answer : Answer) (old new : SessionValue) : Type 0 where
   pub came : List ℕ
   pub answered : List Asked
-  pub goes : Goes tells came answered old new
-  pub plays : tells → Resumes old.channel.rule old.channel.kept tree → However old came answered new (λ room s t. play room tree s ≡ played.Done answer t)
+  pub goes : Goes link came answered old new
+  pub plays : link.tells → Resumes old.channel.rule old.channel.kept tree → However old came answered new (λ room s t. play room tree s ≡ played.Done answer t)
 
--- the connection failed, which was counted, and nothing else happened
-pub record Fails (tells : Type 0) (fault : FtpError) (at new : SessionValue) : Type 0 where
+-- a node fails where a line is said or a reply is read, with a fault that the connection may answer there
+abbrev pub MayFailAt : Link → Tree → Told → ErrorKind → Type 0
+MayFailAt link (Say line next) told kind = link.tells → link.writes told kind
+MayFailAt link (Hear codes next) told kind = link.reads kind
+MayFailAt link (Ask request next) told kind = ⊥
+MayFailAt link (Leaf answer state) told kind = ⊥
+
+-- the connection failed at this node, which was counted and is told, and nothing else happened
+pub record Fails (link : Link) (place : Tree) (fault : FtpError) (at new : SessionValue) : Type 0 where
   pub kind : ErrorKind
   pub is : fault ≡ ConnectionError (Io kind)
+  pub may : MayFailAt link place at.channel.told kind
   pub same : new ≡ record at { channel = record at.channel { told = new.channel.told; failed = true } }
-  pub failed : tells → HasFailed at.channel.told new.channel.told
+  pub failed : link.tells → HasFailed kind at.channel.told new.channel.told
 
 -- nothing was said and no reply was taken
-pub record Untouched (tells : Type 0) (came : List ℕ) (old new : SessionValue) : Type 0 where
-  pub said : tells → said new.channel ≡ said old.channel
+pub record Untouched (link : Link) (came : List ℕ) (old new : SessionValue) : Type 0 where
+  pub said : link.tells → said new.channel ≡ said old.channel
   pub untaken : untaken new.channel ≡ untaken old.channel ++ came
+
+-- something was said, or a reply was taken: fewer bytes are untaken than were and came
+abbrev pub Touched : Link → Tree → SessionValue → SessionValue → Type 0
+Touched link tree old new =
+    link.tells → Resumes old.channel.rule old.channel.kept tree → (length (said old.channel) < length (said new.channel)) ⊎ (length old.channel.told.received + length (untaken new.channel) < length new.channel.told.received + length (untaken old.channel))
 
 abbrev pub failed_from : SessionValue → SessionValue
 failed_from v = record v { channel = record v.channel { failed = true } }
 
--- memory ran out: before anything of the dialogue was said or taken nothing happened; afterwards the session has
--- failed
-pub record LacksMemory (tells : Type 0) (begun : Bool) (came : List ℕ) (fault : FtpError) (old at new : SessionValue) : Type 0 where
+-- memory ran out: where nothing of the dialogue was said or taken, nothing happened; where something was, in this
+-- poll or before, the session has failed
+pub record LacksMemory (link : Link) (begun : Bool) (tree : Tree) (came : List ℕ) (fault : FtpError) (old at new : SessionValue) : Type 0 where
   pub is : fault ≡ OutOfMemory
-  pub leaves : ((new ≡ at) × (begun ≡ false) × Untouched tells came old at) ⊎ (new ≡ failed_from at)
+  pub leaves : ((new ≡ at) × (begun ≡ false) × Untouched link came old at) ⊎ ((new ≡ failed_from at) × ((begun ≡ true) ⊎ Touched link tree old at))
 
 -- a dialogue is aborted at some place of its tree; it may have begun before
-pub record Aborts (tells : Type 0) (begun : Bool) (tree : Tree) (answer : Answer) (old new : SessionValue) : Type 0 where
+pub record Aborts (link : Link) (begun : Bool) (tree : Tree) (answer : Answer) (old new : SessionValue) : Type 0 where
   pub place : Tree
   pub at : SessionValue
-  pub leads : Leads tells tree place old at
+  pub leads : Leads link tree place old at
   pub state : at.state ≡ old.state
   pub going : at.channel.failed ≡ false
   pub fault : FtpError
   pub is : answer ≡ Fault fault
-  pub cause : Fails tells fault at new ⊎ LacksMemory tells begun leads.came fault old at new
+  pub cause : Fails link place fault at new ⊎ LacksMemory link begun tree leads.came fault old at new
 
 -- a call, whole: it fails with `SessionFailed` where the session has failed, else its dialogue comes to its answer
 -- or is aborted
@@ -169,35 +195,35 @@ pub record IsRefused (old new : SessionValue) (answer : Answer) : Type 0 where
   pub is : answer ≡ Fault SessionFailed
   pub unchanged : new ≡ old
 
-pub record IsPlayed (tells : Type 0) (coding : Coding) (call : Call) (old new : SessionValue) (answer : Answer) : Type 0 where
+pub record IsPlayed (link : Link) (coding : Coding) (call : Call) (old new : SessionValue) (answer : Answer) : Type 0 where
   pub going : old.channel.failed ≡ false
-  pub plays : Completes tells (dialogue coding call old.state) answer old new ⊎ Aborts tells false (dialogue coding call old.state) answer old new
+  pub plays : Completes link (dialogue coding call old.state) answer old new ⊎ Aborts link false (dialogue coding call old.state) answer old new
 
---
 -- what a call that succeeded did on the wire comes first: these lines were said, these replies were consumed
-pub record Wired (tells : Type 0) (coding : Coding) (call : Call) (old new : SessionValue) : Type 0 where
+pub record Wired (link : Link) (coding : Coding) (call : Call) (old new : SessionValue) : Type 0 where
   pub came : List ℕ
   pub answered : List Asked
-  pub goes : Goes tells came answered old new
-  pub succeeds : tells → Resumes old.channel.rule old.channel.kept (dialogue coding call old.state) → Succeeds coding call (standing old came new.channel.ended (outcomes_of answered)) (standing new [] new.channel.ended [])
+  pub goes : Goes link came answered old new
+  pub succeeds : link.tells → Resumes old.channel.rule old.channel.kept (dialogue coding call old.state) → Succeeds coding call (standing old came new.channel.ended (outcomes_of answered)) (standing new [] new.channel.ended [])
 
-pub record Plays (tells : Type 0) (coding : Coding) (call : Call) (old new : SessionValue) (answer : Answer) : Type 0 where
-  pub wired : IsSuccess answer → Wired tells coding call old new
-  pub made : IsRefused old new answer ⊎ IsPlayed tells coding call old new answer
+pub record Plays (link : Link) (coding : Coding) (call : Call) (old new : SessionValue) (answer : Answer) : Type 0 where
+  pub wired : IsSuccess answer → Wired link coding call old new
+  pub made : IsRefused old new answer ⊎ IsPlayed link coding call old new answer
+  pub fails : new.channel.failed ≡ true → (old.channel.failed ≡ true) ⊎ IsFault answer
 
 -- a read that waits leaves a run where it stood: what came is untaken, and nothing else happened
-pub record Rests (tells : Type 0) (old new : SessionValue) : Type 0 where
+pub record Rests (link : Link) (old new : SessionValue) : Type 0 where
   pub came : List ℕ
-  pub goes : Goes tells came [] old new
+  pub goes : Goes link came [] old new
   pub failed : new.channel.failed ≡ old.channel.failed
-  pub stays : tells → (more : List ℕ) (ended : Bool) (outcomes : List RequestOutcome) → standing old (came ++ more) ended outcomes ≡ standing new more ended outcomes
+  pub stays : link.tells → (more : List ℕ) (ended : Bool) (outcomes : List RequestOutcome) → standing old (came ++ more) ended outcomes ≡ standing new more ended outcomes
 
 -- a read of one reply: it is heard, or a fault in its place; or the read is aborted, or waits
-abbrev pub Reads : Type 0 → List Status → (Result Response FtpError → Tree) → SessionValue → SessionValue → Poll (Result Response FtpError) → Type 0
-Reads tells codes next old new (Ready (Ok reply)) = Leads tells (Hear codes next) (next (Ok reply)) old new
-Reads tells codes next old new (Ready (Err fault)) =
-    Leads tells (Hear codes next) (next (Err fault)) old new ⊎ Aborts tells false (Hear codes next) (Fault fault) old new
-Reads tells codes next old new Pending = Leads tells (Hear codes next) (Hear codes next) old new × Rests tells old new
+abbrev pub Reads : Link → List Status → (Result Response FtpError → Tree) → SessionValue → SessionValue → Poll (Result Response FtpError) → Type 0
+Reads link codes next old new (Ready (Ok reply)) = Leads link (Hear codes next) (next (Ok reply)) old new
+Reads link codes next old new (Ready (Err fault)) =
+    Leads link (Hear codes next) (next (Err fault)) old new ⊎ Aborts link false (Hear codes next) (Fault fault) old new
+Reads link codes next old new Pending = Leads link (Hear codes next) (Hear codes next) old new × Rests link old new
 
 -- one view of System: what is kept is no whole reply under the first list that these calls hear under
 abbrev pub Agrees : Coding → SessionValue → List Call → Type 0
@@ -208,19 +234,32 @@ abbrev pub before_all : List Answer → Ran → Ran
 before_all [] ran = ran
 before_all (answer ∷ answers) ran = before answer (before_all answers ran)
 
--- a run that got so far: it comes to these answers, and to what is left of it from here
-pub record RanTo (tells : Type 0) (coding : Coding) (calls to_make : List Call) (old new : SessionValue) (answers : List Answer) : Type 0 where
+-- a run that got so far: these calls of it are done and come to these answers, and it comes to what is left of it
+-- from here
+pub record RanTo (link : Link) (coding : Coding) (calls to_make : List Call) (old new : SessionValue) (answers : List Answer) : Type 0 where
+  pub done : List Call
+  pub split : calls ≡ done ++ to_make
+  pub count : length answers ≡ length done
   pub came : List ℕ
   pub answered : List Asked
-  pub goes : Goes tells came answered old new
-  pub runs : tells → Agrees coding old calls → However old came answered new (λ room s t. run room coding calls s ≡ before_all answers (run room coding to_make t))
+  pub goes : Goes link came answered old new
+  pub runs : link.tells → Agrees coding old calls → However old came answered new (λ room s t. run room coding calls s ≡ before_all answers (run room coding to_make t))
 
 -- a run that came to its end: these are the answers, and here it stands, whatever else the server sends
-pub record RunsTo (tells : Type 0) (coding : Coding) (calls : List Call) (old new : SessionValue) (answers : List Answer) : Type 0 where
+pub record RunsTo (link : Link) (coding : Coding) (calls : List Call) (old new : SessionValue) (answers : List Answer) : Type 0 where
   pub came : List ℕ
   pub answered : List Asked
-  pub goes : Goes tells came answered old new
-  pub runs : tells → Agrees coding old calls → However old came answered new (λ room s t. run room coding calls s ≡ Finished answers t)
+  pub goes : Goes link came answered old new
+  pub runs : link.tells → Agrees coding old calls → However old came answered new (λ room s t. run room coding calls s ≡ Finished answers t)
+
+-- some call failed
+abbrev pub HasFault : List Answer → Type 0
+HasFault [] = ⊥
+HasFault (answer ∷ answers) = IsFault answer ⊎ HasFault answers
+
+-- a session fails only where a call does
+abbrev pub FailsWith : SessionValue → SessionValue → List Answer → Type 0
+FailsWith v w answers = w.channel.failed ≡ true → (v.channel.failed ≡ true) ⊎ HasFault answers
 
 -- each is refused, since the session has failed
 abbrev pub AllRefused : List Answer → Type 0
@@ -228,29 +267,29 @@ AllRefused [] = Unit {0}
 AllRefused (answer ∷ answers) = (answer ≡ Fault SessionFailed) × AllRefused answers
 
 -- calls made one after another: each is its dialogue, or is refused, or is aborted
-abbrev pub Makes : Type 0 → Coding → List Call → SessionValue → SessionValue → List Answer → Type 0
-Makes tells coding [] old new answers = (new ≡ old) × (answers ≡ [])
-Makes tells coding (call ∷ calls) old new answers =
-    (middle : SessionValue) × (answer : Answer) × (later : List Answer) × (answers ≡ answer ∷ later) × Plays tells coding call old middle answer × Makes tells coding calls middle new later
+abbrev pub Makes : Link → Coding → List Call → SessionValue → SessionValue → List Answer → Type 0
+Makes link coding [] old new answers = (new ≡ old) × (answers ≡ [])
+Makes link coding (call ∷ calls) old new answers =
+    (middle : SessionValue) × (answer : Answer) × (later : List Answer) × (answers ≡ answer ∷ later) × Plays link coding call old middle answer × Makes link coding calls middle new later
 
 -- a run in which a call was aborted, where these are left to make: the answers before it are the definition's, and
 -- each later call that was made is its dialogue again; where the session has failed, each is refused and changes
 -- nothing
-pub record RunAborts (tells : Type 0) (coding : Coding) (calls to_make : List Call) (old new : SessionValue) (answers : List Answer) : Type 0 where
+pub record RunAborts (link : Link) (coding : Coding) (calls to_make : List Call) (old new : SessionValue) (answers : List Answer) : Type 0 where
   pub first : List Answer
   pub call : Call
   pub made : List Call
   pub middle : SessionValue
-  pub ran : RanTo tells coding calls (call ∷ made ++ to_make) old middle first
+  pub ran : RanTo link coding calls (call ∷ made ++ to_make) old middle first
   pub going : middle.channel.failed ≡ false
   pub fault : FtpError
   pub after : SessionValue
-  pub aborts : Aborts tells false (dialogue coding call middle.state) (Fault fault) middle after
+  pub aborts : Aborts link false (dialogue coding call middle.state) (Fault fault) middle after
   pub later : List Answer
   pub answers_are : answers ≡ first ++ Fault fault ∷ later
-  pub makes : Makes tells coding made after new later
+  pub makes : Makes link coding made after new later
   pub failed : after.channel.failed ≡ true → (new ≡ after) × AllRefused later
 
 -- the run of a list of calls
-abbrev pub Runs : Type 0 → Coding → List Call → SessionValue → SessionValue → List Answer → Type 0
-Runs tells coding calls old new answers = RunsTo tells coding calls old new answers ⊎ RunAborts tells coding calls [] old new answers
+abbrev pub Runs : Link → Coding → List Call → SessionValue → SessionValue → List Answer → Type 0
+Runs link coding calls old new answers = RunsTo link coding calls old new answers ⊎ RunAborts link coding calls [] old new answers

@@ -15,15 +15,15 @@ use Rattle.ftp_session.specs.declared.model.Wait.TheVariants as wait
 use Rattle.ftp_session.specs.declared.model.Ran.{Ran}
 use Rattle.ftp_session.specs.declared.model.Ran.TheVariants.{Finished, Waiting}
 use Rattle.ftp_base.specs.declared.status.Status.TheVariants.{System}
-use Rattle.ftp_control.specs.declared.control.outcome.Outcome.TheVariants.{Waits}
-use Rattle.ftp_control.specs.Grammar.{outcome}
 use Rattle.ftp_control.specs.Answer.{is_among}
 use Rattle.ftp_session.specs.declared.session.exchange.Turn.TheVariants.{First}
 use Rattle.ftp_session.specs.Coding.{Coding}
 use Rattle.ftp_session.specs.Exchanges.{exchange_of, statuses, is_read}
-use Rattle.ftp_session.specs.Run.{run}
+use Rattle.ftp_session.specs.Dialogue.{dialogue}
+use Rattle.ftp_session.specs.Run.{run, Resumes}
 use Rattle.ftp_session.specs.Promises.{standing}
 use Rattle.ftp_control.specs.Channel.{untaken}
+use Rattle.ftp_control.specs.Saying.{said}
 use Rattle.ftp_session.specs.State.{SessionValue}
 
 -- what came on a connection and wasn't read yet
@@ -48,6 +48,7 @@ script_of v system = record {
   bytes = untaken v.channel ++ unread v.channel.told;
   ended = is_over v.channel.told;
   room = v.channel.told.given.room;
+  said = said v.channel;
   sent = v.channel.told.sent;
   unsent = v.channel.unsent;
   untaken = untaken v.channel ++ unread v.channel.told;
@@ -87,6 +88,7 @@ polled_as (Finished answers t) call s = record s {
   answers = answers;
   call = None;
   polled = false;
+  said = t.said ++ t.unsent;
   sent = front s.room t.said;
   unsent = t.unsent;
   untaken = t.bytes;
@@ -96,6 +98,7 @@ polled_as (Finished answers t) call s = record s {
 }
 polled_as (Waiting answers wait t) call s = record s {
   polled = true;
+  said = t.said ++ t.unsent;
   sent = front s.room t.said;
   untaken = t.bytes;
   seen = seen_at wait s t.bytes;
@@ -134,26 +137,26 @@ script coding start s (event ∷ events) = script coding start (after_event codi
 
 -- Lawful lists: a call is dropped before its first Poll, or it is a plain read; and a reply under way is resumed
 -- under a list that holds System where the one before did, and else doesn't, unless it is no whole reply under
--- either
+-- the call's list. Of a session that has failed, and of a call that is refused, nothing is asked
 
 abbrev pub MayCancel : Option Call → Bool → Type 0
 MayCancel None polled = Unit {0}
 MayCancel (Some call) polled = (polled ≡ false) ⊎ (is_read call ≡ true)
 
-abbrev pub MayPoll : Standing → Option Call → Script → Type 0
-MayPoll start None s = Unit {0}
-MayPoll start (Some call) s =
-    s.polled ≡ false → (hears_system call ≡ s.system) ⊎ (outcome start.rule (hears_system call) (take s.seen s.untaken) false ≡ Waits)
+abbrev pub MayPoll : Coding → Standing → Option Call → Script → Type 0
+MayPoll coding start None s = Unit {0}
+MayPoll coding start (Some call) s =
+    s.polled ≡ false → s.failed ≡ false → (hears_system call ≡ s.system) ⊎ Resumes start.rule (take s.seen s.untaken) (dialogue coding call s.state)
 
-abbrev pub IsLawful : Standing → Script → Event → Type 0
-IsLawful start s (event.Feed more) = Unit {0}
-IsLawful start s event.End = Unit {0}
-IsLawful start s (event.Room more) = Unit {0}
-IsLawful start s (event.Start call) = Unit {0}
-IsLawful start s event.Poll = MayPoll start s.call s
-IsLawful start s event.Cancel = MayCancel s.call s.polled
-IsLawful start s event.Leave = Unit {0}
+abbrev pub IsLawful : Coding → Standing → Script → Event → Type 0
+IsLawful coding start s (event.Feed more) = Unit {0}
+IsLawful coding start s event.End = Unit {0}
+IsLawful coding start s (event.Room more) = Unit {0}
+IsLawful coding start s (event.Start call) = Unit {0}
+IsLawful coding start s event.Poll = MayPoll coding start s.call s
+IsLawful coding start s event.Cancel = MayCancel s.call s.polled
+IsLawful coding start s event.Leave = Unit {0}
 
 abbrev pub Lawful : Coding → Standing → Script → List Event → Type 0
 Lawful coding start s [] = Unit {0}
-Lawful coding start s (event ∷ events) = IsLawful start s event × Lawful coding start (after_event coding start s event) events
+Lawful coding start s (event ∷ events) = IsLawful coding start s event × Lawful coding start (after_event coding start s event) events

@@ -1,12 +1,13 @@
 -- What a session promises of a list of events: what their script says, until the connection fails or memory runs out.
-use Rattle.std.specs.Prelude.{◌≡◌, ◌⊎◌, ℕ, zero, suc, Bool, true, false, Some, List, [], ◌∷◌, ◌++◌, length}
+use Rattle.std.specs.Prelude.{◌≡◌, ◌⊎◌, ◌<◌, ◌+◌, ℕ, zero, suc, Bool, true, false, Some, List, [], ◌∷◌, ◌++◌, length}
 use Rattle.ftp_base.specs.declared.types.fault.FtpError.{FtpError}
 use Rattle.ftp_control.specs.declared.transport.room.Room.{Room}
 use Rattle.ftp_control.specs.declared.control.outcome.Outcome.TheVariants.{Waits}
 use Rattle.ftp_control.specs.Grammar.{outcome}
 use Rattle.ftp_control.specs.Told.{HasRoomFor}
 use Rattle.ftp_control.specs.Reading.{GoesOn}
-use Rattle.ftp_control.specs.Channel.{untaken}
+use Rattle.ftp_control.specs.Channel.{Channel, untaken}
+use Rattle.ftp_control.specs.Saying.{said}
 use Rattle.ftp_session.specs.declared.session.call.Answer.{Answer}
 use Rattle.ftp_session.specs.declared.session.call.Answer.TheVariants.{Fault}
 use Rattle.ftp_session.specs.declared.session.call.Call.{Call}
@@ -20,11 +21,20 @@ use Rattle.ftp_session.specs.Play.{play}
 use Rattle.ftp_session.specs.Run.{run, and_then}
 use Rattle.ftp_session.specs.Promises.{standing, before_all, Aborts, AllRefused}
 use Rattle.ftp_session.specs.Script.{script, script_of, start_of, unread, is_over, Lawful, MayCancel}
+use Rattle.ftp_session.specs.Link.{over_memory}
+
+-- what was sent and what is unsent, joined, begin what was said; where they aren't all of it, the tail of an earlier
+-- line is still unsent
+pub record SaysFrontOf (c : Channel) (all : List ℕ) : Type 0 where
+  pub rest : List ℕ
+  pub is : all ≡ said c ++ rest
+  pub whole : (rest ≡ []) ⊎ (c.unsent ≡ [] → ⊥)
 
 -- the session stands where the script does, with these answers
 pub record StandsAt (s : Script) (new : SessionValue) (answers : List Answer) : Type 0 where
   pub answers_are : answers ≡ s.answers
   pub sent : new.channel.told.sent ≡ s.sent
+  pub said : SaysFrontOf new.channel s.said
   pub untaken : untaken new.channel ++ unread new.channel.told ≡ s.untaken
   pub seen : length new.channel.kept ≡ s.seen
   pub waits : outcome new.channel.rule s.system new.channel.kept false ≡ Waits
@@ -34,9 +44,13 @@ pub record StandsAt (s : Script) (new : SessionValue) (answers : List Answer) : 
   pub state : new.state ≡ s.state
   pub failed : new.channel.failed ≡ s.failed
 
--- the events come to their script; nothing fails, and which lines open and end a reply stays
+-- the events come to their script; what was received and what is unread are the bytes that came; nothing fails, and
+-- which lines open and end a reply stays
 pub record ScriptHolds (coding : Coding) (old : SessionValue) (system : Bool) (events : List Event) (new : SessionValue) (answers : List Answer) : Type 0 where
   pub at : StandsAt (script coding (start_of old) (script_of old system) events) new answers
+  pub came : List ℕ
+  pub received : new.channel.told.received ≡ old.channel.told.received ++ came
+  pub bytes : (script coding (start_of old) (script_of old system) events).bytes ≡ untaken old.channel ++ came ++ unread new.channel.told
   pub rule : new.channel.rule ≡ old.channel.rule
   pub failures : new.channel.told.failures ≡ old.channel.told.failures
 
@@ -47,6 +61,33 @@ Reaches coding old items came v answers call tree =
     → HasRoomFor room (length v.channel.told.sent) → GoesOn v.channel.ended more ended
     → run room coding (items ++ call ∷ later) (standing old (came ++ more) ended []) ≡ before_all answers (and_then (play room tree (standing v more ended [])) (λ t. run room coding later t))
 
+-- the calls that are done come to these answers, and to whatever comes after them from here
+abbrev pub Stands : Coding → SessionValue → List Call → List ℕ → SessionValue → List Answer → Type 0
+Stands coding old items came v answers =
+    (later : List Call) (room : Room) (more : List ℕ) (ended : Bool)
+    → HasRoomFor room (length v.channel.told.sent) → GoesOn v.channel.ended more ended
+    → run room coding (items ++ later) (standing old (came ++ more) ended []) ≡ before_all answers (run room coding later (standing v more ended []))
+
+-- something was said since, or a reply was taken: fewer bytes are untaken than were and came
+abbrev pub SaysOrTakes : List ℕ → List ℕ → SessionValue → SessionValue → Type 0
+SaysOrTakes before came start v =
+    (length (said start.channel) < length (said v.channel)) ⊎ (length before + length (untaken v.channel) < length came + length (untaken start.channel))
+
+-- nothing was said since, and no reply was taken: what came is untaken
+abbrev pub SaysNothing : List ℕ → SessionValue → SessionValue → Type 0
+SaysNothing later start v = (said v.channel ≡ said start.channel) × (untaken v.channel ≡ untaken start.channel ++ later)
+
+-- where the calls before it were done; since then something of a call was said, or a reply was taken, exactly if it has
+-- begun
+pub record CallHasBegun (coding : Coding) (old : SessionValue) (s : Script) (came : List ℕ) (v : SessionValue) (begun : Bool) : Type 0 where
+  pub start : SessionValue
+  pub before : List ℕ
+  pub later : List ℕ
+  pub split : came ≡ before ++ later
+  pub stands : Stands coding old s.items before start s.answers
+  pub has_begun : begun ≡ true → SaysOrTakes before came start v
+  pub not_begun : begun ≡ false → SaysNothing later start v
+
 -- a call was under way, and this is left of its dialogue
 pub record LeftOf (coding : Coding) (old : SessionValue) (s : Script) (v : SessionValue) (call : Call) (begun : Bool) (tree : Tree) : Type 0 where
   pub call_is : s.call ≡ Some call
@@ -54,7 +95,7 @@ pub record LeftOf (coding : Coding) (old : SessionValue) (s : Script) (v : Sessi
   pub came : List ℕ
   pub bytes : s.bytes ≡ untaken old.channel ++ came ++ unread v.channel.told
   pub reaches : Reaches coding old s.items came v s.answers call tree
-  pub fresh : s.polled ≡ false → begun ≡ false
+  pub since : CallHasBegun coding old s came v begun
 
 -- a call was aborted at a Poll, in a session that the events before had come to; the later events find no call under
 -- way, and come to `Later`
@@ -71,7 +112,7 @@ pub record ScriptAborts (Later : SessionValue → List Event → List Answer →
   pub under_way : LeftOf coding old (script coding (start_of old) (script_of old system) before) middle call begun tree
   pub fault : FtpError
   pub after : SessionValue
-  pub aborts : Aborts (Unit {0}) begun tree (Fault fault) middle after
+  pub aborts : Aborts over_memory begun tree (Fault fault) middle after
   pub others : List Answer
   pub answers_are : answers ≡ first ++ Fault fault ∷ others
   pub goes_on : Later after later others

@@ -75,6 +75,8 @@ pub struct Script {
     pub ended: bool,
     /// How much may be written.
     pub room: Room,
+    /// All that was said, the line that waits for room with it.
+    pub said: Bytes,
     /// The bytes that went out.
     pub sent: Bytes,
     /// The unsent tail of a line that was begun before.

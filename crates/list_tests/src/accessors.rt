@@ -1,11 +1,12 @@
 //! Accessors, clones, comparisons, hashes and texts.
+
+use crate::described::kind;
+use crate::tables::{Parser, read};
 use ftp_list::{File, FileType, ParseError, PosixPex, PosixPexQuery, Text};
 use jiff::Timestamp;
-use std::alloc::Global;
+use std::alloc::{AllocError, Global};
 use std::hash::{FoldHasher, Hash, Hasher};
-use std::process::Abort;
 use std::test::Fail;
-use std::time::Duration;
 
 fn some_file(alloc: Global) -> Result<File, Fail> {
     let now = Timestamp::from_second(0)?;
@@ -16,36 +17,40 @@ fn some_link(alloc: Global) -> Result<FileType, Fail> {
     Ok(FileType::Symlink(Text::new(String::from_str(alloc, "to")?)))
 }
 
+/// The kind of a file's type, and what it leads to.
+fn kind_text(alloc: Global, kind_of: &FileType) -> Result<String, AllocError> {
+    let kind = kind(
+        kind_of.is_file(),
+        kind_of.is_directory(),
+        kind_of.is_symlink(),
+    );
+    let target = kind_of.symlink().unwrap_or("-");
+    format!(in alloc; "{kind} [{target}]")
+}
+
 #[test]
 fn what_a_file_keeps(rt: HostRuntime) -> Result<(), Fail> {
-    let file = some_file(rt.alloc())?;
-    assert_eq!(rt; file.name(), "name");
-    assert!(rt; file.file_type().is_file());
-    assert_eq!(rt; file.size(), 9);
-    assert!(rt; file.modified() == Duration::from_secs(86_400));
-    assert_eq!(rt; file.uid(), Some(7));
-    assert_eq!(rt; file.gid(), Some(8));
+    let line = "-rwxr-x--x 1 7 8 9 Jan 2 1970 name";
+    let text = read(rt.alloc(), Parser::Line, line, 0)?;
+    assert_eq!(rt; text.as_str(), "file [name] [-] 9 86400.0 7 8 751");
     Ok(())
 }
 
 #[test]
-fn what_a_file_is(rt: HostRuntime) -> Result<(), Fail> {
+fn the_type_of_a_file(rt: HostRuntime) -> Result<(), Fail> {
     let file = some_file(rt.alloc())?;
-    assert!(rt; file.is_file() && !file.is_directory() && !file.is_symlink());
-    assert!(rt; file.symlink().is_none());
-    assert!(rt; file.can_read(PosixPexQuery::Group));
-    assert!(rt; !file.can_write(PosixPexQuery::Group));
-    assert!(rt; file.can_execute(PosixPexQuery::Others));
+    let text = kind_text(rt.alloc(), file.file_type())?;
+    assert_eq!(rt; text.as_str(), "file [-]");
     Ok(())
 }
 
 #[test]
 fn what_a_file_type_is(rt: HostRuntime) -> Result<(), Fail> {
     let link = some_link(rt.alloc())?;
-    assert_eq!(rt; link.symlink(), Some("to"));
-    assert!(rt; link.is_symlink() && !link.is_file() && !link.is_directory());
-    assert!(rt; FileType::Directory.is_directory());
-    assert!(rt; FileType::File.symlink().is_none());
+    for (kind_of, due) in [(&link, "link [to]"), (&FileType::Directory, "dir [-]")] {
+        let text = kind_text(rt.alloc(), kind_of)?;
+        assert_eq!(rt; text.as_str(), due);
+    }
     Ok(())
 }
 
@@ -81,52 +86,52 @@ fn a_clone_of_a_link_is_equal(rt: HostRuntime) -> Result<(), Fail> {
     Ok(())
 }
 
-fn is_shown(
-    rt: &(impl AllocGlobal + Abort),
-    fault: ParseError,
-    text: &str,
-    name: &str,
-) -> Result<(), Fail> {
-    assert_eq!(rt; format!(in rt.alloc(); "{fault}")?.as_str(), text);
-    assert_eq!(rt; format!(in rt.alloc(); "{fault:?}")?.as_str(), name);
-    Ok(())
+/// A refusal, as it is shown to a user and to a programmer.
+fn refusal_text(alloc: Global, fault: &ParseError) -> Result<String, AllocError> {
+    format!(in alloc; "{fault}: {fault:?}")
 }
 
 #[test]
 fn texts_of_refusals(rt: HostRuntime) -> Result<(), Fail> {
-    is_shown(
-        &rt,
-        ParseError::SyntaxError,
-        "syntax error in the listing line",
-        "SyntaxError",
-    )?;
-    is_shown(
-        &rt,
-        ParseError::InvalidDate,
-        "invalid date in the listing line",
-        "InvalidDate",
-    )?;
-    is_shown(
-        &rt,
-        ParseError::BadSize,
-        "invalid file size in the listing line",
-        "BadSize",
-    )?;
-    is_shown(&rt, ParseError::OutOfMemory, "out of memory", "OutOfMemory")
+    for (fault, due) in [
+        (
+            &ParseError::SyntaxError,
+            "syntax error in the listing line: SyntaxError",
+        ),
+        (
+            &ParseError::InvalidDate,
+            "invalid date in the listing line: InvalidDate",
+        ),
+        (
+            &ParseError::BadSize,
+            "invalid file size in the listing line: BadSize",
+        ),
+        (&ParseError::OutOfMemory, "out of memory: OutOfMemory"),
+    ] {
+        let text = refusal_text(rt.alloc(), fault)?;
+        assert_eq!(rt; text.as_str(), due);
+    }
+    Ok(())
+}
+
+/// A file's type, a permission and its holder as debug text.
+fn debug_text(
+    alloc: Global,
+    kind_of: &FileType,
+    permission: PosixPex,
+    holder: PosixPexQuery,
+) -> Result<String, AllocError> {
+    format!(in alloc; "{kind_of:?}, {permission:?}, {holder:?}")
 }
 
 #[test]
 fn debug_texts(rt: HostRuntime) -> Result<(), Fail> {
     let link = some_link(rt.alloc())?;
+    let text = debug_text(rt.alloc(), &link, PosixPex::from(5), PosixPexQuery::Owner)?;
     assert_eq!(rt;
-        format!(in rt.alloc(); "{link:?}")?.as_str(),
-        "Symlink(\"to\")"
+        text.as_str(),
+        "Symlink(\"to\"), PosixPex { read: true, write: false, execute: true }, Owner"
     );
-    let pex = PosixPex::from(5);
-    let shown = "PosixPex { read: true, write: false, execute: true }";
-    assert_eq!(rt; format!(in rt.alloc(); "{pex:?}")?.as_str(), shown);
-    let owner = PosixPexQuery::Owner;
-    assert_eq!(rt; format!(in rt.alloc(); "{owner:?}")?.as_str(), "Owner");
     Ok(())
 }
 

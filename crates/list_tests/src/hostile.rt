@@ -1,9 +1,11 @@
 //! Lines that no honest server sends.
-use super::{described, gives};
-use ftp_list::{File, ListParser};
-use jiff::Timestamp;
-use std::process::Abort;
+
+use crate::tables::{Parser, Table, gives, read};
+use std::alloc::Global;
 use std::test::Fail;
+
+/// 10 January 2024, midnight UTC.
+const NOW: i64 = 1_704_844_800;
 
 const LINES: [&str; 6] = [
     "-rw-r--r-- 1 user group 1234 Nov 5 2018 example.txt",
@@ -53,27 +55,31 @@ const FACTS: [(&str, &str); 5] = [
     ("unix.uid=\u{661}; x", "file [x] [-] 0 0.0 -1 -1 777"),
 ];
 
-fn is_read(rt: &(impl AllocGlobal + Abort), front: &str, now: Timestamp) -> Result<(), Fail> {
-    for answer in [
-        ListParser::parse_posix(rt.alloc(), front, now),
-        ListParser::parse_dos(rt.alloc(), front),
-        ListParser::parse_mlsd(rt.alloc(), front),
-        ListParser::parse_mlst(rt.alloc(), front),
-        File::from_line(rt.alloc(), front, now),
-    ] {
-        let shown = described(rt.alloc(), &answer)?;
-        assert_ne!(rt; shown.as_str(), "P4", "at {front}");
-    }
-    Ok(())
-}
+/// The functions that read every front of a line.
+const PARSERS: [Parser; 5] = [
+    Parser::Posix,
+    Parser::Dos,
+    Parser::Mlsd,
+    Parser::Mlst,
+    Parser::Line,
+];
+
+const PAST_ASCII: [Table; 3] = [
+    (NOW, &[Parser::Posix], &POSIX),
+    (NOW, &[Parser::Dos], &DOS),
+    (NOW, &[Parser::Mlsd], &FACTS),
+];
 
 #[test]
 fn every_front_gives_a_value_or_a_refusal(rt: HostRuntime) -> Result<(), Fail> {
-    let now = Timestamp::from_second(1_704_844_800)?;
     for line in LINES {
         for end in 0..100 {
-            if let Some(front) = line.get(..end) {
-                is_read(&rt, front, now)?;
+            let Some(front) = line.get(..end) else {
+                continue;
+            };
+            for parser in PARSERS {
+                let text = read(rt.alloc(), parser, front, NOW)?;
+                assert_ne!(rt; text.as_str(), "P4", "{parser:?} of {front}");
             }
         }
     }
@@ -81,55 +87,40 @@ fn every_front_gives_a_value_or_a_refusal(rt: HostRuntime) -> Result<(), Fail> {
 }
 
 #[test]
-fn posix_lines_past_ascii(rt: HostRuntime) -> Result<(), Fail> {
-    let now = Timestamp::from_second(1_704_844_800)?;
-    for (line, want) in POSIX {
-        gives(
-            &rt,
-            line,
-            &ListParser::parse_posix(rt.alloc(), line, now),
-            want,
-        )?;
+fn lines_past_ascii(rt: HostRuntime) -> Result<(), Fail> {
+    for table in PAST_ASCII {
+        gives(&rt, table)?;
     }
     Ok(())
 }
 
-#[test]
-fn dos_lines_past_ascii(rt: HostRuntime) -> Result<(), Fail> {
-    for (line, want) in DOS {
-        gives(&rt, line, &ListParser::parse_dos(rt.alloc(), line), want)?;
-    }
-    Ok(())
-}
-
-#[test]
-fn facts_past_ascii(rt: HostRuntime) -> Result<(), Fail> {
-    for (line, want) in FACTS {
-        gives(&rt, line, &ListParser::parse_mlsd(rt.alloc(), line), want)?;
-    }
-    Ok(())
-}
-
-fn long_line(rt: &impl AllocGlobal, piece: &str, count: usize) -> Result<String, Fail> {
-    let mut line = String::from_str(rt.alloc(), "-rw-r--r-- 1 u g ")?;
+/// The front of a POSIX line, and then so many pieces.
+fn long_line(alloc: Global, piece: &str, count: usize) -> Result<String, Fail> {
+    let mut line = String::from_str(alloc, "-rw-r--r-- 1 u g ")?;
     for _ in 0..count {
         line.push_str(piece)?;
     }
     Ok(line)
 }
 
+/// What a function makes of a long line.
+fn read_long_line(
+    alloc: Global,
+    parser: Parser,
+    piece: &str,
+    count: usize,
+) -> Result<String, Fail> {
+    let line = long_line(alloc, piece, count)?;
+    read(alloc, parser, line.as_str(), NOW)
+}
+
 #[test]
 fn long_lines(rt: HostRuntime) -> Result<(), Fail> {
-    let now = Timestamp::from_second(1_704_844_800)?;
     for (piece, count) in [("\t", 3_000), (" ", 10_000), ("1", 65_536), ("; ", 32_768)] {
-        let line = long_line(&rt, piece, count)?;
-        gives(
-            &rt,
-            piece,
-            &ListParser::parse_posix(rt.alloc(), line.as_str(), now),
-            "P1",
-        )?;
-        assert!(rt; File::from_line(rt.alloc(), line.as_str(), now)?.is_file());
+        for (parser, due) in [(Parser::Posix, "P1"), (Parser::Line, "file ")] {
+            let text = read_long_line(rt.alloc(), parser, piece, count)?;
+            assert!(rt; text.as_str().starts_with(due), "{parser:?} of {piece}");
+        }
     }
     Ok(())
 }

@@ -1,15 +1,9 @@
 //! Tests of the listing parsers, over lines as servers send them.
 #![tactic(auto)]
 
-use ftp_list::{File, ParseError, ParseResult, PosixPexQuery};
-use std::alloc::{AllocError, Global};
-#[cfg(test)]
-use std::process::Abort;
-#[cfg(test)]
-use std::test::Fail;
-
 #[cfg(test)]
 mod accessors;
+pub mod described;
 #[cfg(test)]
 mod hostile;
 #[cfg(test)]
@@ -18,58 +12,5 @@ mod real_lines;
 mod rows;
 #[cfg(test)]
 mod splits;
-
-/// What a parser answered, in one line: kind, name, target, size, time, owner, group, mode; or the
-/// refusal's number.
-pub fn described(alloc: Global, answer: &ParseResult<File>) -> Result<String, AllocError> {
-    match answer {
-        Ok(file) => described_file(alloc, file),
-        Err(ParseError::SyntaxError) => String::from_str(alloc, "P1"),
-        Err(ParseError::InvalidDate) => String::from_str(alloc, "P2"),
-        Err(ParseError::BadSize) => String::from_str(alloc, "P3"),
-        Err(ParseError::OutOfMemory) => String::from_str(alloc, "P4"),
-    }
-}
-
-fn described_file(alloc: Global, file: &File) -> Result<String, AllocError> {
-    let kind = if file.is_directory() {
-        "dir"
-    } else if file.is_symlink() {
-        "link"
-    } else {
-        "file"
-    };
-    let name = file.name();
-    let target = file.symlink().unwrap_or("-");
-    let size = file.size();
-    let seconds = file.modified().as_secs();
-    let nanoseconds = file.modified().subsec_nanos();
-    let uid = file.uid().map_or(-1, i64::from);
-    let gid = file.gid().map_or(-1, i64::from);
-    let owner = mode_digit(file, PosixPexQuery::Owner);
-    let group = mode_digit(file, PosixPexQuery::Group);
-    let others = mode_digit(file, PosixPexQuery::Others);
-    format!(in alloc;
-        "{kind} [{name}] [{target}] {size} {seconds}.{nanoseconds} {uid} {gid} {owner}{group}{others}"
-    )
-}
-
-fn mode_digit(file: &File, who: PosixPexQuery) -> u8 {
-    let read = if file.can_read(who) { 4 } else { 0 };
-    let write = if file.can_write(who) { 2 } else { 0 };
-    let execute = if file.can_execute(who) { 1 } else { 0 };
-    read + write + execute
-}
-
-/// Asserts what a parser answered.
 #[cfg(test)]
-pub fn gives(
-    rt: &(impl AllocGlobal + Abort),
-    line: &str,
-    answer: &ParseResult<File>,
-    want: &str,
-) -> Result<(), Fail> {
-    let shown = described(rt.alloc(), answer)?;
-    assert_eq!(rt; shown.as_str(), want, "at {line}");
-    Ok(())
-}
+mod tables;

@@ -1,7 +1,6 @@
 //! Lines as servers send them, and what they must give, worked out by hand.
-use super::gives;
-use ftp_list::File;
-use jiff::Timestamp;
+
+use crate::tables::{Parser, Table, gives};
 use std::test::Fail;
 
 /// 10 January 2024, midnight UTC.
@@ -171,58 +170,19 @@ const REFUSED_DOS: [(&str, &str); 7] = [
     ("06-15-20  01:00pm  1 x", "P1"),
 ];
 
-#[test]
-fn posix_lines_of_servers(rt: HostRuntime) -> Result<(), Fail> {
-    let now = Timestamp::from_second(NOW)?;
-    for (line, want) in POSIX {
-        gives(&rt, line, &File::from_line(rt.alloc(), line, now), want)?;
-    }
-    Ok(())
-}
+const TABLES: [Table; 6] = [
+    (NOW, &[Parser::Line], &POSIX),
+    (NOW, &[Parser::Line], &DOS),
+    (NOW, &[Parser::MlsxLine], &FACTS),
+    (NOW, &[Parser::MlsxLine], &REFUSED),
+    (NOW, &[Parser::PosixLine], &REFUSED_POSIX),
+    (NOW, &[Parser::DosLine], &REFUSED_DOS),
+];
 
 #[test]
-fn dos_lines_of_servers(rt: HostRuntime) -> Result<(), Fail> {
-    let now = Timestamp::from_second(NOW)?;
-    for (line, want) in DOS {
-        gives(&rt, line, &File::from_line(rt.alloc(), line, now), want)?;
-    }
-    Ok(())
-}
-
-#[test]
-fn lines_of_facts(rt: HostRuntime) -> Result<(), Fail> {
-    for (line, want) in FACTS {
-        gives(&rt, line, &File::from_mlsx_line(rt.alloc(), line), want)?;
-    }
-    Ok(())
-}
-
-#[test]
-fn refused_lines_of_facts(rt: HostRuntime) -> Result<(), Fail> {
-    for (line, want) in REFUSED {
-        gives(&rt, line, &File::from_mlsx_line(rt.alloc(), line), want)?;
-    }
-    Ok(())
-}
-
-#[test]
-fn refused_posix_lines(rt: HostRuntime) -> Result<(), Fail> {
-    let now = Timestamp::from_second(NOW)?;
-    for (line, want) in REFUSED_POSIX {
-        gives(
-            &rt,
-            line,
-            &File::from_posix_line(rt.alloc(), line, now),
-            want,
-        )?;
-    }
-    Ok(())
-}
-
-#[test]
-fn refused_dos_lines(rt: HostRuntime) -> Result<(), Fail> {
-    for (line, want) in REFUSED_DOS {
-        gives(&rt, line, &File::from_dos_line(rt.alloc(), line), want)?;
+fn lines_of_servers(rt: HostRuntime) -> Result<(), Fail> {
+    for table in TABLES {
+        gives(&rt, table)?;
     }
     Ok(())
 }

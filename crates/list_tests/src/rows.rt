@@ -1,7 +1,6 @@
 //! The worked rows of the listing parsers.
-use super::gives;
-use ftp_list::{File, ListParser, PosixPexQuery};
-use jiff::Timestamp;
+
+use crate::tables::{Parser, Table, gives};
 use std::test::Fail;
 
 /// 10 January 2024, midnight UTC.
@@ -50,6 +49,9 @@ const DOS: [(&str, &str); 6] = [
     ),
 ];
 
+/// There was no 29 February in the year before.
+const NO_LEAP_DAY: [(&str, &str); 1] = [("-rw-r--r-- 1 u g 1 Feb 29 10:00 x", "P2")];
+
 const MLSD: [(&str, &str); 8] = [
     ("", "file [] [-] 0 0.0 -1 -1 777"),
     ("type=dir", "dir [type=dir] [-] 0 0.0 -1 -1 777"),
@@ -70,101 +72,44 @@ const MLSD: [(&str, &str); 8] = [
     ),
 ];
 
+const MLST: [(&str, &str); 1] = [(
+    " type=file;size=8192;modify=20181105163248; omar.txt",
+    "file [omar.txt] [-] 8192 1541435568.0 -1 -1 777",
+)];
+
+/// A line that is neither POSIX nor DOS is the name of a file.
+const NO_FORM: &str = "-rw-r--r-- 1 u g 1 Feb 30 2018 x";
+
+const ANY: [(&str, &str); 2] = [
+    (
+        NO_FORM,
+        "file [-rw-r--r-- 1 u g 1 Feb 30 2018 x] [-] 0 0.0 -1 -1 777",
+    ),
+    (
+        "lrwxrwxrwx 1 0 0 7 Jan 2 1970 a -> b -> c",
+        "link [a] [b] 7 86400.0 0 0 777",
+    ),
+];
+
+const TABLES: [Table; 8] = [
+    (
+        JANUARY,
+        &[Parser::Posix, Parser::PosixLine, Parser::Line],
+        &POSIX,
+    ),
+    (JUNE, &[Parser::Posix], &NO_LEAP_DAY),
+    (JANUARY, &[Parser::Dos, Parser::DosLine], &DOS),
+    (JANUARY, &[Parser::Mlsd, Parser::MlsxLine], &MLSD),
+    (JANUARY, &[Parser::Mlst], &MLST),
+    (JANUARY, &[Parser::Posix], &[(NO_FORM, "P2")]),
+    (JANUARY, &[Parser::Dos], &[(NO_FORM, "P1")]),
+    (JANUARY, &[Parser::Line], &ANY),
+];
+
 #[test]
 fn rows_r8(rt: HostRuntime) -> Result<(), Fail> {
-    let now = Timestamp::from_second(JANUARY)?;
-    for (line, want) in POSIX {
-        gives(
-            &rt,
-            line,
-            &ListParser::parse_posix(rt.alloc(), line, now),
-            want,
-        )?;
-        gives(
-            &rt,
-            line,
-            &File::from_posix_line(rt.alloc(), line, now),
-            want,
-        )?;
-        gives(&rt, line, &File::from_line(rt.alloc(), line, now), want)?;
+    for table in TABLES {
+        gives(&rt, table)?;
     }
-    Ok(())
-}
-
-#[test]
-fn rows_r8_without_a_leap_day(rt: HostRuntime) -> Result<(), Fail> {
-    let line = "-rw-r--r-- 1 u g 1 Feb 29 10:00 x";
-    let now = Timestamp::from_second(JUNE)?;
-    gives(
-        &rt,
-        line,
-        &ListParser::parse_posix(rt.alloc(), line, now),
-        "P2",
-    )
-}
-
-#[test]
-fn rows_r8_of_dos(rt: HostRuntime) -> Result<(), Fail> {
-    for (line, want) in DOS {
-        gives(&rt, line, &ListParser::parse_dos(rt.alloc(), line), want)?;
-        gives(&rt, line, &File::from_dos_line(rt.alloc(), line), want)?;
-    }
-    Ok(())
-}
-
-#[test]
-fn rows_r8_of_facts(rt: HostRuntime) -> Result<(), Fail> {
-    for (line, want) in MLSD {
-        gives(&rt, line, &ListParser::parse_mlsd(rt.alloc(), line), want)?;
-        gives(&rt, line, &File::from_mlsx_line(rt.alloc(), line), want)?;
-    }
-    Ok(())
-}
-
-#[test]
-fn rows_r8_of_mlst(rt: HostRuntime) -> Result<(), Fail> {
-    let line = " type=file;size=8192;modify=20181105163248; omar.txt";
-    let want = "file [omar.txt] [-] 8192 1541435568.0 -1 -1 777";
-    gives(&rt, line, &ListParser::parse_mlst(rt.alloc(), line), want)
-}
-
-#[test]
-fn rows_r8_of_a_line_of_no_form(rt: HostRuntime) -> Result<(), Fail> {
-    let line = "-rw-r--r-- 1 u g 1 Feb 30 2018 x";
-    let now = Timestamp::from_second(JANUARY)?;
-    let whole = "file [-rw-r--r-- 1 u g 1 Feb 30 2018 x] [-] 0 0.0 -1 -1 777";
-    gives(
-        &rt,
-        line,
-        &ListParser::parse_posix(rt.alloc(), line, now),
-        "P2",
-    )?;
-    gives(&rt, line, &ListParser::parse_dos(rt.alloc(), line), "P1")?;
-    gives(&rt, line, &File::from_line(rt.alloc(), line, now), whole)
-}
-
-#[test]
-fn rows_r8_of_a_link(rt: HostRuntime) -> Result<(), Fail> {
-    let line = "lrwxrwxrwx 1 0 0 7 Jan 2 1970 a -> b -> c";
-    let now = Timestamp::from_second(JANUARY)?;
-    let link = File::from_line(rt.alloc(), line, now);
-    gives(&rt, line, &link, "link [a] [b] 7 86400.0 0 0 777")?;
-    let link = link?;
-    assert!(rt; link.is_symlink());
-    assert!(rt; !link.is_file());
-    assert_eq!(rt; link.symlink(), Some("b"));
-    Ok(())
-}
-
-#[test]
-fn rows_r8_of_permissions(rt: HostRuntime) -> Result<(), Fail> {
-    let now = Timestamp::from_second(JANUARY)?;
-    let line = "-rw-r--r-- 1 user group 1234 Nov 5 2018 example.txt";
-    let file = File::from_line(rt.alloc(), line, now)?;
-    assert!(rt; file.can_write(PosixPexQuery::Owner));
-    assert!(rt; !file.can_write(PosixPexQuery::Group));
-    assert!(rt; !file.can_execute(PosixPexQuery::Owner));
-    assert!(rt; file.can_read(PosixPexQuery::Others));
-    assert!(rt; file.symlink().is_none());
     Ok(())
 }

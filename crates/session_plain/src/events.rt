@@ -110,7 +110,6 @@ fn poll<E: Encoding>(
         Ran::Finished(answers, there) => finish(here, calls, answers, there),
         Ran::Waiting(_answers, wait, there) => suspend(here, wait, there),
     }
-    Ok(())
 }
 
 /// One call after these.
@@ -150,43 +149,52 @@ fn begun(first: &Standing, here: &Script) -> Result<Standing, AllocError>
 }
 
 /// All these calls have their answers: the run stands there.
-fn finish(here: &mut Script, calls: Items<Call>, answers: Items<Answer>, there: Standing)
-    ensures { here.new ≡ record here.old {
+fn finish(
+    here: &mut Script,
+    calls: Items<Call>,
+    answers: Items<Answer>,
+    there: Standing,
+) -> Result<(), AllocError>
+    ensures { OnOk result (here.new ≡ record here.old {
       items = calls;
       answers = answers;
       call = None;
       polled = false;
+      said = there.said ++ there.unsent;
       sent = front here.old.room there.said;
       unsent = there.unsent;
       untaken = there.bytes;
       seen = seen_in here.old there.bytes;
       state = there.state;
       failed = there.failed;
-    } }
+    }) }
 {
     here.items = calls;
     here.answers = answers;
     here.call = None;
     here.polled = false;
+    here.said = joined(&there.said, &there.unsent)?;
     here.sent = front(here.room, there.said);
     here.unsent = there.unsent;
     here.seen = seen_in(here, there.bytes.len());
     here.untaken = there.bytes;
     here.state = there.state;
     here.failed = there.failed;
+    Ok(())
 }
 
 /// The call under way waits: the run stands there.
-fn suspend(here: &mut Script, wait: Wait, there: Standing)
-    ensures { here.new ≡ record here.old {
+fn suspend(here: &mut Script, wait: Wait, there: Standing) -> Result<(), AllocError>
+    ensures { OnOk result (here.new ≡ record here.old {
       polled = true;
+      said = there.said ++ there.unsent;
       sent = front here.old.room there.said;
       untaken = there.bytes;
       seen = seen_at wait here.old there.bytes;
       system = system_at wait here.old;
       state = there.state;
       failed = there.failed;
-    } }
+    }) }
 {
     match wait {
         Wait::Room | Wait::Outcome => here.seen = seen_in(here, there.bytes.len()),
@@ -196,10 +204,21 @@ fn suspend(here: &mut Script, wait: Wait, there: Standing)
         }
     }
     here.polled = true;
+    here.said = joined(&there.said, &there.unsent)?;
     here.sent = front(here.room, there.said);
     here.untaken = there.bytes;
     here.state = there.state;
     here.failed = there.failed;
+    Ok(())
+}
+
+/// One after another.
+fn joined(one: &Bytes, other: &Bytes) -> Result<Bytes, AllocError>
+    ensures { IfOk result (λ all. all ≡ one.now ++ other.now) }
+{
+    let mut all = one.clone()?.into_vec();
+    all.extend_from_slice(other.as_slice())?;
+    Ok(Bytes::from_vec(all))
 }
 
 /// How many of so many untaken bytes were read before.

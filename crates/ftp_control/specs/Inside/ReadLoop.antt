@@ -18,7 +18,7 @@ abbrev pub ByteTells : Result (Poll (Option ℕ)) ErrorKind → Told → Told �
 ByteTells (Ok (Ready (Some byte))) t u = u ≡ after_read (byte ∷ []) t
 ByteTells (Ok (Ready None)) t u = u ≡ after_end t
 ByteTells (Ok Pending) t u = (u ≡ t) × IsDry t
-ByteTells (Err kind) t u = HasFailed t u
+ByteTells (Err kind) t u = HasFailed kind t u
 
 -- what all bytes since the read began say of what is sought
 abbrev pub says_of : ReplyRule → Sought → List ℕ → Bool → Outcome

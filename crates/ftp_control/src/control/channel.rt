@@ -53,8 +53,10 @@ impl<C: Tells + Drop> Model for ControlChannel<C> {
 }
 
 impl<C: Tells + Drop> ControlChannel<C> {
-    ghost use Rattle.std.specs.Prelude.{length};
-    ghost use Rattle.ftp_control.specs.Told.{EndsAsTold, IsFresh};
+    ghost use Rattle.std.specs.Prelude.{◌<◌, IfErr, length};
+    ghost use Rattle.ftp_control.specs.Memory.{IsGiven};
+    ghost use Rattle.ftp_control.specs.Reading.{MayBreak};
+    ghost use Rattle.ftp_control.specs.Told.{EndsAsTold, before_fault, begun};
     ghost use Rattle.ftp_control.specs.Channel.{Channel, IsIdle, IsSound, ReadsReply, FlushesTail, untaken};
 
     /// Reads a reply as far as it has come, and consumes exactly its bytes. Returns `Waits` where the connection
@@ -62,7 +64,7 @@ impl<C: Tells + Drop> ControlChannel<C> {
     ///
     /// # Errors
     /// A fault of the connection, after which the channel has failed, or out of memory. Neither loses a byte.
-    pub fn poll_outcome<W>(
+    pub(crate) fn poll_outcome<W>(
         &mut self,
         alloc: Global,
         system: bool,
@@ -73,6 +75,8 @@ impl<C: Tells + Drop> ControlChannel<C> {
         ensures waits { result ≡ Ok outcomes.Waits → C.may_wait }
         ensures end { C.Tells.tells → C.may_wait →
             EndsAsTold self.old.ended self.new.ended self.old.told }
+        ensures fault { MayBreak C.read_faults result }
+        ensures given { C.Tells.tells → IsGiven self.old.told → IsGiven self.new.told }
         ensures reads { ReadsReply C.Tells.tells system self.old self.new result }
     {
         let result = hear(
@@ -90,7 +94,7 @@ impl<C: Tells + Drop> ControlChannel<C> {
 
     /// A channel on a connection: nothing is read, nothing is sent.
     pub fn new(alloc: Global, mut conn: C) -> ControlChannel<C>
-        ensures fresh { C.tells → IsFresh result.told }
+        ensures begins { C.tells → result.told ≡ begun (C.told conn) }
         ensures idle { IsIdle result }
         ensures sound { IsSound C.tells result }
     {
@@ -160,10 +164,12 @@ impl<C: Tells + Drop> ControlChannel<C> {
     ///
     /// # Errors
     /// A fault of the connection, after which the channel has failed.
-    pub fn poll_flush<W>(&mut self, w: &mut W) -> Result<Poll<()>, ErrorKind>
+    pub(crate) fn poll_flush<W>(&mut self, w: &mut W) -> Result<Poll<()>, ErrorKind>
     where
         C: PollConn<W>,
         ensures waits { result ≡ Ok poll.Pending → C.may_wait }
+        ensures fault { C.Tells.tells → IfErr result (λ kind.
+            C.write_faults (before_fault self.old.told self.new.told) kind) }
         ensures flushes { FlushesTail C.Tells.tells self.old self.new result }
     {
         let result = flush(&mut self.conn, &mut self.outbox, w);
@@ -174,7 +180,8 @@ impl<C: Tells + Drop> ControlChannel<C> {
     /// Takes a line whole, to go out.
     pub(crate) fn push(&mut self, line: WireLine)
         requires { self.old.unsent ≡ [] }
-        ensures { self.new ≡ record self.old { unsent = line } }
+        ensures taken { self.new ≡ record self.old { unsent = line } }
+        ensures some { 0 < length line }
     {
         self.outbox = Outbox {
             line: line.into_vec(),

@@ -37,7 +37,7 @@ impl<C: Tells + Drop> ControlChannel<C> {
         ensures failed { self.old.failed ≡ true →
             (result ≡ poll.Ready (Err FtpError.SessionFailed)) × (self.new ≡ self.old) }
         ensures reads { self.old.failed ≡ false →
-            AnswersRead C.Tells.tells expected.now self.old self.new result }
+            AnswersRead C.Tells.tells C.read_faults expected.now self.old self.new result }
     {
         if self.failed() {
             return Poll::Ready(Err(FtpError::SessionFailed));
@@ -65,7 +65,7 @@ impl<C: Tells + Drop> ControlChannel<C> {
         ensures failed { self.old.failed ≡ true →
             (result ≡ poll.Ready (Err FtpError.SessionFailed)) × (self.new ≡ self.old) }
         ensures reads { self.old.failed ≡ false →
-            AnswersRead C.Tells.tells (expected ∷ []) self.old self.new result }
+            AnswersRead C.Tells.tells C.read_faults (expected ∷ []) self.old self.new result }
     {
         self.poll_read_response_in(alloc, &[expected], w)
     }
@@ -80,7 +80,7 @@ impl<C: Tells + Drop> ControlChannel<C> {
         ensures failed { self.old.failed ≡ true → (result ≡ Err FtpError.SessionFailed) ×
             (self.new ≡ self.old) }
         ensures reads { self.old.failed ≡ false →
-            AnswersRead C.Tells.tells expected.now self.old self.new (poll.Ready result) }
+            AnswersRead C.Tells.tells C.blocking_read_faults expected.now self.old self.new (poll.Ready result) }
     {
         match self.poll_read_response_in(alloc, expected, &mut NeverWaits) {
             Poll::Ready(answer) => answer,
@@ -98,7 +98,7 @@ impl<C: Tells + Drop> ControlChannel<C> {
         ensures failed { self.old.failed ≡ true → (result ≡ Err FtpError.SessionFailed) ×
             (self.new ≡ self.old) }
         ensures reads { self.old.failed ≡ false →
-            AnswersRead C.Tells.tells (expected ∷ []) self.old self.new (poll.Ready result) }
+            AnswersRead C.Tells.tells C.blocking_read_faults (expected ∷ []) self.old self.new (poll.Ready result) }
     {
         self.read_response_in(alloc, &[expected])
     }

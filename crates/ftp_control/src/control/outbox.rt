@@ -1,8 +1,9 @@
 //! The line that goes out, as far as it hasn't yet.
 
-ghost use Rattle.std.specs.Prelude.{◌≡◌, ◌≤◌, Ok, length, drop};
+ghost use Rattle.std.specs.Prelude.{◌≡◌, ◌≤◌, IfErr, Ok, length, drop};
 ghost use Rattle.futures.specs.declared.task.Poll.TheVariants as poll;
 ghost use Rattle.ftp_control.specs.Sending.{Flushes};
+ghost use Rattle.ftp_control.specs.Told.{before_fault};
 
 use crate::transport::PollConn;
 use futures::task::Poll;
@@ -27,6 +28,8 @@ pub(crate) fn flush<W, C: PollConn<W>>(
     requires { outbox.old.sent ≤ length outbox.old.line.items }
     ensures within { outbox.new.sent ≤ length outbox.new.line.items }
     ensures waits { result ≡ Ok poll.Pending → C.may_wait }
+    ensures fault { C.Tells.tells → IfErr result (λ kind.
+        C.write_faults (before_fault (C.Tells.told conn.old) (C.Tells.told conn.new)) kind) }
     ensures flushed { Flushes C.Tells.tells (drop outbox.old.sent outbox.old.line.items)
         (drop outbox.new.sent outbox.new.line.items) (C.Tells.told conn.old)
         (C.Tells.told conn.new) result }

@@ -3,12 +3,14 @@
 //! It reads byte by byte and stops with the byte that settles what is sought, so it consumes nothing that belongs
 //! to the next reply.
 
-ghost use Rattle.std.specs.Prelude.{◌≡◌, Ok, None, true};
+ghost use Rattle.std.specs.Prelude.{◌≡◌, IfErr, Ok, None, true};
 ghost use Rattle.futures.specs.declared.task.Poll.TheVariants as poll;
 ghost use Rattle.ftp_control.specs.declared.control.outcome.Outcome.TheVariants as outcomes;
 ghost use Rattle.ftp_control.specs.Inside.UnderWay.{IsUnderWay};
 ghost use Rattle.ftp_control.specs.Inside.ReadLoop.{ByteTells, CanSeek, Hears, says_of};
 ghost use Rattle.ftp_control.specs.Told.{EndsAsTold};
+ghost use Rattle.ftp_control.specs.Memory.{IsGiven};
+ghost use Rattle.ftp_control.specs.Reading.{MayBreak};
 
 use super::reply_buffer::ReplyBuffer;
 use super::sought::Sought;
@@ -39,6 +41,9 @@ pub(crate) fn hear<W, C: PollConn<W>>(
     ensures waits { result ≡ Ok outcomes.Waits → C.may_wait }
     ensures end { C.Tells.tells → C.may_wait →
         EndsAsTold ended.old ended.new (C.Tells.told conn.old) }
+    ensures fault { MayBreak C.read_faults result }
+    ensures given { C.Tells.tells → IsGiven (C.Tells.told conn.old) →
+        IsGiven (C.Tells.told conn.new) }
     ensures heard { Hears C.Tells.tells (says_of rule sought) reply.old.bytes.items
         reply.new.bytes.items ended.old ended.new (C.Tells.told conn.old) (C.Tells.told conn.new)
         result }
@@ -65,6 +70,9 @@ fn poll_byte<W, C: PollConn<W>>(conn: &mut C, w: &mut W) -> Result<Poll<Option<u
     ensures waits { result ≡ Ok poll.Pending → C.may_wait }
     ensures end { C.Tells.tells → C.may_wait → result ≡ Ok (poll.Ready None) →
         (C.Tells.told conn.old).given.closed ≡ true }
+    ensures fault { IfErr result (λ kind. C.read_faults kind) }
+    ensures given { C.Tells.tells → IsGiven (C.Tells.told conn.old) →
+        IsGiven (C.Tells.told conn.new) }
     ensures told { C.Tells.tells → ByteTells result (C.Tells.told conn.old)
         (C.Tells.told conn.new) }
 {

@@ -30,7 +30,7 @@ impl<C: Tells + Drop> ControlChannel<C> {
             (result ≡ poll.Ready (Err FtpError.SessionFailed)) × (self.new ≡ self.old) ×
             (line.new ≡ line.old) }
         ensures says { self.old.failed ≡ false →
-            SaysLine C.Tells.tells self.old self.new line.old line.new result }
+            SaysLine C.Tells.tells C.write_faults self.old self.new line.old line.new result }
     {
         if self.failed() {
             return Poll::Ready(Err(FtpError::SessionFailed));
@@ -68,7 +68,7 @@ impl<C: Tells + Drop> ControlChannel<C> {
         ensures failed { self.old.failed ≡ true → (result ≡ Err FtpError.SessionFailed) ×
             (self.new ≡ self.old) }
         ensures performs { self.old.failed ≡ false →
-            Performs C.Tells.tells (wire (E.encoded encoding.now) (text_of command.now)) self.old
+            Performs C.Tells.tells C.blocking_write_faults (wire (E.encoded encoding.now) (text_of command.now)) self.old
             self.new result }
     {
         if self.failed() {

@@ -33,7 +33,7 @@ impl<C: Tells + Drop> ControlChannel<C> {
         ensures under_way { self.old.failed ≡ false → whole_lines self.old.kept ≢ [] →
             (result ≡ poll.Ready (Err FtpError.BadResponse)) × (self.new ≡ self.old) }
         ensures reads { self.old.failed ≡ false → whole_lines self.old.kept ≡ [] →
-            AnswersLine C.Tells.tells self.old self.new result }
+            AnswersLine C.Tells.tells C.read_faults self.old self.new result }
     {
         if self.failed {
             return Poll::Ready(Err(FtpError::SessionFailed));
@@ -66,7 +66,7 @@ impl<C: Tells + Drop> ControlChannel<C> {
         ensures under_way { self.old.failed ≡ false → whole_lines self.old.kept ≢ [] →
             (result ≡ Err FtpError.BadResponse) × (self.new ≡ self.old) }
         ensures reads { self.old.failed ≡ false → whole_lines self.old.kept ≡ [] →
-            AnswersLine C.Tells.tells self.old self.new (poll.Ready result) }
+            AnswersLine C.Tells.tells C.blocking_read_faults self.old self.new (poll.Ready result) }
     {
         match self.poll_read_line(alloc, &mut NeverWaits) {
             Poll::Ready(answer) => answer,

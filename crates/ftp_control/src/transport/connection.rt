@@ -1,8 +1,10 @@
 //! What a connection does, and what it records of it.
 
-ghost use Rattle.std.specs.Prelude.{◌≡◌, ◌<◌, ◌≤◌, Ok, length, true};
+ghost use Rattle.std.specs.Prelude.{◌≡◌, ◌<◌, ◌≤◌, IfErr, Ok, length, true};
+ghost use Rattle.std.specs.declared.io.ErrorKind.{ErrorKind as Kind};
 ghost use Rattle.futures.specs.declared.task.Poll.TheVariants as poll;
-ghost use Rattle.ftp_control.specs.Told.{Told, IsFresh, ReadTells, WriteTells, ReadsAtMost, WritesSome, as_poll};
+ghost use Rattle.ftp_control.specs.Memory.{IsGiven};
+ghost use Rattle.ftp_control.specs.Told.{Told, ReadTells, WriteTells, ReadsAtMost, WritesSome, as_poll, begun};
 
 use futures::task::Poll;
 use std::io::ErrorKind;
@@ -15,9 +17,10 @@ pub trait Tells {
     /// What went over it since its channel began.
     ghost told: { Self → Told };
 
-    /// A channel begins on the connection: from now on the record is of this channel alone.
+    /// A channel begins on the connection: from now on the record is of this channel alone. What came and wasn't
+    /// read is still to come, and what room was left is left.
     fn begin(&mut self)
-        ensures { tells → IsFresh (told self.new) };
+        ensures { tells → told self.new ≡ begun (told self.old) };
 }
 
 /// A connection that may have to wait, and says so through a `W`: an event loop's context, or nothing.
@@ -25,11 +28,19 @@ pub trait PollConn<W>: Tells {
     /// Whether a call may have to wait.
     ghost may_wait: { Type 0 };
 
+    /// Which faults a read may answer.
+    ghost read_faults: { Kind → Type 0 };
+
+    /// Which faults a write may answer, by what the connection has recorded.
+    ghost write_faults: { Told → Kind → Type 0 };
+
     /// Reads bytes into the front of the buffer. 0 bytes are the end of the input.
     fn poll_read(&mut self, w: &mut W, buffer: &mut [u8]) -> Result<Poll<usize>, ErrorKind>
         requires { 0 < length buffer.old }
         ensures bound { ReadsAtMost result (length buffer.old) }
         ensures waits { result ≡ Ok poll.Pending → may_wait }
+        ensures fault { IfErr result (λ kind. read_faults kind) }
+        ensures given { Self.tells → IsGiven (Self.told self.old) → IsGiven (Self.told self.new) }
         ensures told { Self.tells → ReadTells result buffer.new (Self.told self.old)
             (Self.told self.new) }
         ensures end { Self.tells → may_wait → result ≡ Ok (poll.Ready 0) →
@@ -40,16 +51,25 @@ pub trait PollConn<W>: Tells {
         requires { 0 < length bytes.now }
         ensures bound { WritesSome result (length bytes.now) }
         ensures waits { result ≡ Ok poll.Pending → may_wait }
+        ensures fault { Self.tells → IfErr result (λ kind. write_faults (Self.told self.old) kind) }
         ensures told { Self.tells → WriteTells result bytes.now (Self.told self.old)
             (Self.told self.new) };
 }
 
 /// A connection whose calls return only when they are done.
 pub trait Conn: Tells {
+    /// Which faults a read may answer.
+    ghost blocking_read_faults: { Kind → Type 0 };
+
+    /// Which faults a write may answer, by what the connection has recorded.
+    ghost blocking_write_faults: { Told → Kind → Type 0 };
+
     /// Reads bytes into the front of the buffer. 0 bytes are the end of the input.
     fn read(&mut self, buffer: &mut [u8]) -> Result<usize, ErrorKind>
         requires { 0 < length buffer.old }
         ensures bound { ReadsAtMost (as_poll result) (length buffer.old) }
+        ensures fault { IfErr result (λ kind. blocking_read_faults kind) }
+        ensures given { Self.tells → IsGiven (Self.told self.old) → IsGiven (Self.told self.new) }
         ensures told { Self.tells → ReadTells (as_poll result) buffer.new (Self.told self.old)
             (Self.told self.new) };
 
@@ -57,6 +77,8 @@ pub trait Conn: Tells {
     fn write(&mut self, bytes: &[u8]) -> Result<usize, ErrorKind>
         requires { 0 < length bytes.now }
         ensures bound { WritesSome (as_poll result) (length bytes.now) }
+        ensures fault { Self.tells →
+            IfErr result (λ kind. blocking_write_faults (Self.told self.old) kind) }
         ensures told { Self.tells → WriteTells (as_poll result) bytes.now (Self.told self.old)
             (Self.told self.new) };
 }
@@ -67,6 +89,10 @@ pub struct NeverWaits;
 
 impl<C: Conn> PollConn<NeverWaits> for C {
     ghost may_wait = { ⊥ };
+
+    ghost read_faults = { λ kind. C.blocking_read_faults kind };
+
+    ghost write_faults = { λ told kind. C.blocking_write_faults told kind };
 
     fn poll_read(
         &mut self,

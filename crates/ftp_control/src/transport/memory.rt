@@ -1,6 +1,7 @@
 //! Connections over memory, which record all traffic.
 
-ghost use Rattle.std.specs.Prelude.{◌≡◌, ◌≤◌, ◌<◌, ◌+◌, OnOk, OnErr, [], length, take, drop, min};
+ghost use Rattle.std.specs.Prelude.{◌≡◌, ◌≤◌, ◌<◌, ◌+◌, ◌⊎◌, IfErr, OnOk, OnErr, [], length, take, drop, min};
+ghost use Rattle.std.specs.declared.io.ErrorKind.TheVariants as kinds;
 ghost use Rattle.ftp_control.specs.Told.{after_read, as_poll, Fits, HasFailed, HasRoomFor, IsFull, WritesSome, WriteTells};
 ghost use Rattle.ftp_control.specs.Memory.{fresh_memory, fed, closed_memory, widened, IsGiven};
 
@@ -24,6 +25,7 @@ pub struct MemoryConn {
     room: Room,
     sent: Vec<u8>,
     failures: u64,
+    last_fault: Option<ErrorKind>,
 }
 
 impl Model for MemoryConn {
@@ -37,6 +39,7 @@ impl Model for MemoryConn {
       ended = c.ended;
       sent = c.sent.items;
       failures = c.failures;
+      last_fault = c.last_fault;
       given = record {
         bytes = drop c.begun c.input.items;
         closed = c.closed;
@@ -62,6 +65,7 @@ impl MemoryConn {
             room: Room::Any,
             sent: Vec::new(alloc),
             failures: 0,
+            last_fault: None,
         }
     }
 
@@ -150,6 +154,7 @@ impl MemoryConn {
         requires fits { Fits self.old → HasRoomFor self.old.given.room
             (length self.old.sent + length bytes.now) }
         ensures bound { WritesSome (as_poll result) (length bytes.now) }
+        ensures fault { IfErr result (λ kind. kind ≡ kinds.OutOfMemory) }
         ensures told { WriteTells (as_poll result) bytes.now self.old self.new }
     {
         match self.sent.extend_from_slice(bytes) {
@@ -161,9 +166,10 @@ impl MemoryConn {
     /// A fault, which is counted.
     fn fault(&mut self, kind: ErrorKind) -> ErrorKind
         ensures kind { result ≡ kind }
-        ensures counted { HasFailed self.old self.new }
+        ensures counted { HasFailed kind self.old self.new }
     {
         self.failures = self.failures.saturating_add(1);
+        self.last_fault = Some(kind);
         kind
     }
 }
@@ -210,11 +216,17 @@ impl Tells for MemoryConn {
 }
 
 impl Conn for MemoryConn {
+    ghost blocking_read_faults = { λ kind. ⊥ };
+
+    ghost blocking_write_faults = { λ told kind. (kind ≡ kinds.OutOfMemory) ⊎
+        ((kind ≡ kinds.WouldBlock) × IsFull told) };
+
     fn read(&mut self, buffer: &mut [u8]) -> Result<usize, ErrorKind> {
         let count = self.give(buffer);
         if count == 0 {
             self.ended = true;
         }
+        self.unread();
         Ok(count)
     }
 
@@ -230,15 +242,21 @@ impl Conn for MemoryConn {
 impl PollConn<()> for MemoryConn {
     ghost may_wait = { Unit {0} };
 
+    ghost read_faults = { λ kind. ⊥ };
+
+    ghost write_faults = { λ told kind. kind ≡ kinds.OutOfMemory };
+
     fn poll_read(&mut self, _w: &mut (), buffer: &mut [u8]) -> Result<Poll<usize>, ErrorKind> {
         let count = self.give(buffer);
         if count > 0 {
+            self.unread();
             return Ok(Poll::Ready(count));
         }
         if !self.closed {
             return Ok(Poll::Pending);
         }
         self.ended = true;
+        self.unread();
         Ok(Poll::Ready(0))
     }
 

@@ -37,6 +37,10 @@ impl Tells for TcpConn {
 }
 
 impl Conn for TcpConn {
+    ghost blocking_read_faults = { λ _. Unit {0} };
+
+    ghost blocking_write_faults = { λ _ _. Unit {0} };
+
     fn read(&mut self, buffer: &mut [u8]) -> Result<usize, ErrorKind> {
         for _ in 0..INTERRUPTED_LIMIT {
             match self.stream.read(buffer) {

@@ -1,12 +1,11 @@
 -- How a session follows its script between two events.
-use Rattle.std.specs.Prelude.{◌≡◌, ◌⊎◌, ℕ, Bool, true, false, Option, Some, None, List, [], ◌∷◌, ◌++◌, length}
+use Rattle.std.specs.Prelude.{◌≤◌, ◌+◌, ◌≡◌, ◌⊎◌, ℕ, Bool, true, false, Option, Some, None, List, [], ◌∷◌, ◌++◌, length}
+use Rattle.ftp_control.specs.Saying.{said}
 use Rattle.futures.specs.declared.task.Poll.{Poll}
 use Rattle.futures.specs.declared.task.Poll.TheVariants.{Ready, Pending}
 use Rattle.ftp_base.specs.declared.types.fault.FtpError.{FtpError}
 use Rattle.ftp_base.specs.declared.types.fault.FtpError.TheVariants.{SessionFailed}
-use Rattle.ftp_control.specs.declared.transport.room.Room.{Room}
-use Rattle.ftp_control.specs.Told.{HasRoomFor, EndsAsTold}
-use Rattle.ftp_control.specs.Reading.{GoesOn}
+use Rattle.ftp_control.specs.Told.{EndsAsTold}
 use Rattle.ftp_control.specs.declared.control.outcome.Outcome.TheVariants.{Waits}
 use Rattle.ftp_control.specs.Grammar.{outcome}
 use Rattle.ftp_control.specs.Memory.{IsGiven}
@@ -22,20 +21,26 @@ use Rattle.ftp_session.specs.declared.session.stage.Stage.TheVariants.{At}
 use Rattle.ftp_session.specs.State.{SessionValue}
 use Rattle.ftp_session.specs.Coding.{Coding}
 use Rattle.ftp_session.specs.Exchanges.{is_read}
-use Rattle.ftp_session.specs.Run.{run, Resumes}
-use Rattle.ftp_session.specs.Scripted.{Reaches}
-use Rattle.ftp_session.specs.Promises.{standing, before_all, AllRefused, Aborts, Rests}
+use Rattle.ftp_session.specs.Run.{Resumes}
+use Rattle.ftp_session.specs.Scripted.{SaysFrontOf, SaysNothing, SaysOrTakes, Stands, Reaches}
+use Rattle.ftp_session.specs.Promises.{AllRefused, Aborts, Rests}
 use Rattle.ftp_session.specs.Steps.Stages.{remaining, begun_at, StageOf}
-use Rattle.ftp_session.specs.Steps.Moving.{PollSteps}
+use Rattle.ftp_session.specs.Steps.Moving.{HasBegun, PollSteps}
 use Rattle.ftp_session.specs.declared.model.Script.{Script}
 use Rattle.ftp_session.specs.Script.{unread, is_over, start_of, after_event, IsLawful, MayCancel}
+use Rattle.ftp_session.specs.Link.{over_memory}
 
--- the calls that are done come to these answers, and to whatever comes after them from here
-abbrev pub Stands : Coding → SessionValue → List Call → List ℕ → SessionValue → List Answer → Type 0
-Stands coding old items came v answers =
-    (later : List Call) (room : Room) (more : List ℕ) (ended : Bool)
-    → HasRoomFor room (length v.channel.told.sent) → GoesOn v.channel.ended more ended
-    → run room coding (items ++ later) (standing old (came ++ more) ended []) ≡ before_all answers (run room coding later (standing v more ended []))
+-- since the calls before it were done, no less of a call is said and taken than was; where it has begun, more is
+pub record Since (coding : Coding) (old : SessionValue) (items : List Call) (answers : List Answer) (came : List ℕ) (v : SessionValue) (begun : Bool) : Type 0 where
+  pub start : SessionValue
+  pub before : List ℕ
+  pub later : List ℕ
+  pub split : came ≡ before ++ later
+  pub stands : Stands coding old items before start answers
+  pub said : length (said start.channel) ≤ length (said v.channel)
+  pub taken : length before + length (untaken v.channel) ≤ length came + length (untaken start.channel)
+  pub has_begun : begun ≡ true → SaysOrTakes before came start v
+  pub not_begun : begun ≡ false → SaysNothing later start v
 
 -- a call that was polled; of a plain read no trace is left where it is dropped
 pub record UnderWay (coding : Coding) (old : SessionValue) (s : Script) (came : List ℕ) (v : SessionValue) (call : Call) (stage : Stage) : Type 0 where
@@ -44,6 +49,7 @@ pub record UnderWay (coding : Coding) (old : SessionValue) (s : Script) (came : 
   pub reaches : Reaches coding old s.items came v s.answers call (remaining coding call v.state stage)
   pub resumes : Resumes v.channel.rule v.channel.kept (remaining coding call v.state stage)
   pub read : is_read call ≡ true → Stands coding old s.items came v s.answers
+  pub since : Since coding old s.items s.answers came v (begun_at stage)
 
 -- a call that wasn't polled
 pub record Started (coding : Coding) (old : SessionValue) (s : Script) (came : List ℕ) (v : SessionValue) (stage : Stage) : Type 0 where
@@ -67,6 +73,8 @@ pub record Follows (coding : Coding) (old : SessionValue) (s : Script) (v : Sess
   pub ended : s.ended ≡ is_over v.channel.told
   pub room : s.room ≡ v.channel.told.given.room
   pub sent : s.sent ≡ v.channel.told.sent
+  pub said : SaysFrontOf v.channel s.said
+  pub received : v.channel.told.received ≡ old.channel.told.received ++ came
   pub unsent : MayCancel call s.polled → s.unsent ≡ v.channel.unsent
   pub untaken : s.untaken ≡ untaken v.channel ++ unread v.channel.told
   pub seen : s.seen ≡ length v.channel.kept
@@ -93,8 +101,9 @@ Starts call (Some other) call' stage stage' = (call' ≡ Some other) × (stage' 
 -- what a poll over memory does, and what holds then
 pub record PollsHere (coding : Coding) (call : Call) (stage stage' : Stage) (v w : SessionValue) (result : Poll Answer) : Type 0 where
   pub refused : v.channel.failed ≡ true → (result ≡ Ready (Fault SessionFailed)) × (w ≡ v)
-  pub polls : v.channel.failed ≡ false → PollSteps (Unit {0}) (begun_at stage) (remaining coding call v.state stage) (remaining coding call v.state stage') v w result
-  pub rests : result ≡ Pending → is_read call ≡ true → Rests (Unit {0}) v w
+  pub polls : v.channel.failed ≡ false → PollSteps over_memory (begun_at stage) (remaining coding call v.state stage) (remaining coding call v.state stage') v w result
+  pub rests : result ≡ Pending → is_read call ≡ true → Rests over_memory v w
+  pub begun : result ≡ Pending → HasBegun over_memory (begun_at stage) (begun_at stage') (remaining coding call v.state stage) v w
   pub asked : w.asked ≡ v.asked
   pub end : EndsAsTold v.channel.ended w.channel.ended v.channel.told
   pub given : IsGiven w.channel.told
@@ -105,7 +114,7 @@ pub record AbortsCall (coding : Coding) (call : Call) (stage : Stage) (v w : Ses
   pub fault : FtpError
   pub is : result ≡ Some (Fault fault)
   pub going : v.channel.failed ≡ false
-  pub aborts : Aborts (Unit {0}) (begun_at stage) (remaining coding call v.state stage) (Fault fault) v w
+  pub aborts : Aborts over_memory (begun_at stage) (remaining coding call v.state stage) (Fault fault) v w
   pub given : IsGiven w.channel.told
   pub sound : IsSound (Unit {0}) w.channel
 
@@ -121,4 +130,4 @@ pub record IsFeed (event : Event) : Type 0 where
 -- an event of a script: the session follows it, or the call under way is aborted
 abbrev pub Happens : Coding → SessionValue → SessionValue → Option Call → Option Call → Stage → Stage → Event → Option Answer → Type 0
 Happens coding v w call call' stage stage' event result =
-    (old : SessionValue) (s : Script) (answers : List Answer) → Follows coding old s v call stage answers → IsLawful (start_of old) s event → Follows coding old (after_event coding (start_of old) s event) w call' stage' (answers ++ given_answer result) ⊎ (((under_way : Call) × (call ≡ Some under_way) × AbortsCall coding under_way stage v w result) × (call' ≡ None) × (event ≡ Polling))
+    (old : SessionValue) (s : Script) (answers : List Answer) → Follows coding old s v call stage answers → IsLawful coding (start_of old) s event → Follows coding old (after_event coding (start_of old) s event) w call' stage' (answers ++ given_answer result) ⊎ (((under_way : Call) × (call ≡ Some under_way) × AbortsCall coding under_way stage v w result) × (call' ≡ None) × (event ≡ Polling))

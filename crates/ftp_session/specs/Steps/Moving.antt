@@ -1,6 +1,6 @@
 -- What a step of a dialogue does: whatever the server still sends, and whatever room there is, the tree before it and
 -- the tree after it come to the same. Beside what is promised it keeps how much is kept of a reply under way.
-use Rattle.std.specs.Prelude.{◌≡◌, ◌<◌, ◌≤◌, ◌+◌, ◌⊎◌, ℕ, Bool, true, false, ◌&&◌, if◌then◌else◌, Option, Some, None, List, [], ◌++◌, length, Result, Ok, Err}
+use Rattle.std.specs.Prelude.{◌++◌, ◌≡◌, ◌<◌, ◌≤◌, ◌+◌, ◌⊎◌, ℕ, Bool, true, false, ◌&&◌, if◌then◌else◌, Option, None, List, [], length, Result, Ok, Err}
 use Rattle.futures.specs.declared.task.Poll.{Poll}
 use Rattle.futures.specs.declared.task.Poll.TheVariants as poll
 use Rattle.ftp_base.specs.declared.status.Status.{Status}
@@ -9,9 +9,7 @@ use Rattle.ftp_base.specs.declared.types.fault.FtpError.{FtpError}
 use Rattle.ftp_base.specs.declared.types.fault.FtpError.TheVariants.{ConnectionError, SecureError, UnexpectedResponse, BadResponse, InvalidAddress, DataConnectionAlreadyOpen, OutOfMemory, SessionFailed}
 use Rattle.ftp_control.specs.Told.{IsDry, IsFull}
 use Rattle.ftp_control.specs.Channel.{untaken}
-use Rattle.ftp_control.specs.Saying.{due}
-use Rattle.ftp_control.specs.declared.transport.request.Request.{Request}
-use Rattle.ftp_control.specs.declared.transport.request.RequestOutcome.{RequestOutcome}
+use Rattle.ftp_control.specs.Saying.{due, said}
 use Rattle.ftp_session.specs.declared.session.state.State.{State}
 use Rattle.ftp_session.specs.declared.session.call.Answer.{Answer}
 use Rattle.ftp_session.specs.declared.session.call.Answer.TheVariants.{Fault}
@@ -26,11 +24,14 @@ use Rattle.ftp_session.specs.declared.session.stage.Step.{Step}
 use Rattle.ftp_session.specs.declared.session.stage.Step.TheVariants.{Next, Pending, Done}
 use Rattle.ftp_session.specs.State.{SessionValue}
 use Rattle.ftp_session.specs.Coding.{Coding}
-use Rattle.ftp_session.specs.Exchanges.{gives_reply}
+use Rattle.ftp_session.specs.declared.session.exchange.Turn.{Turn}
+use Rattle.ftp_control.specs.Refusal.{IsRefusalOf}
+use Rattle.ftp_session.specs.Exchanges.{exchange_of, gives_reply}
 use Rattle.ftp_session.specs.Dialogue.{Tree, Say, Hear, Ask, Leaf, accepted, later, dialogue}
 use Rattle.ftp_session.specs.Run.{Resumes, Silent}
-use Rattle.ftp_session.specs.Promises.{Leads, Completes, Aborts, Fails, Untouched, Rests, IsRefused, failed_from}
-use Rattle.ftp_session.specs.Steps.Stages.{remaining, begun_at}
+use Rattle.ftp_session.specs.Promises.{IsFault, Leads, Completes, Aborts, Fails, Touched, Untouched, Rests, IsRefused, failed_from}
+use Rattle.ftp_session.specs.Steps.Stages.{Begun, remaining, begun_at, is_second, line_of}
+use Rattle.ftp_session.specs.Link.{Link}
 
 -- what is kept afterwards: nothing, as after a reply; or what was, where none was read
 abbrev pub Keeps : Type 0 → List ℕ → SessionValue → SessionValue → Type 0
@@ -48,8 +49,8 @@ Calm (Ask request next) = Unit {0}
 Calm (Leaf answer state) = Unit {0}
 
 -- one tree is left of another
-pub record Moves (tells : Type 0) (tree tree' : Tree) (old new : SessionValue) : Type 0 where
-  pub leads : Leads tells tree tree' old new
+pub record Moves (link : Link) (tree tree' : Tree) (old new : SessionValue) : Type 0 where
+  pub leads : Leads link tree tree' old new
   pub state : new.state ≡ old.state
   pub resumes : Resumes old.channel.rule old.channel.kept tree → Resumes new.channel.rule new.channel.kept tree'
   pub keeps : Silent tree' → Keeps (Silent tree) leads.came old new
@@ -57,46 +58,47 @@ pub record Moves (tells : Type 0) (tree tree' : Tree) (old new : SessionValue) :
   pub shrinks : Shrinks leads.came old new
 
 -- the same, and the session goes on
-pub record Advances (tells : Type 0) (tree tree' : Tree) (old new : SessionValue) : Type 0 where
-  pub moves : Moves tells tree tree' old new
+pub record Advances (link : Link) (tree tree' : Tree) (old new : SessionValue) : Type 0 where
+  pub moves : Moves link tree tree' old new
   pub failed : new.channel.failed ≡ old.channel.failed
 
 -- a tree comes to its answer
-pub record Ends (tells : Type 0) (tree : Tree) (answer : Answer) (old new : SessionValue) : Type 0 where
-  pub completes : Completes tells tree answer old new
+pub record Ends (link : Link) (tree : Tree) (answer : Answer) (old new : SessionValue) : Type 0 where
+  pub completes : Completes link tree answer old new
+  pub fails : new.channel.failed ≡ true → (old.channel.failed ≡ true) ⊎ IsFault answer
   pub keeps : Keeps (Silent tree) completes.came old new
   pub calm : Keeps (Calm tree) completes.came old new
   pub shrinks : Shrinks completes.came old new
 
 -- a tree waits: for room, for the line that is begun; or for bytes, where all were read and more may come
-pub record WaitsToSay (tells : Type 0) (tree : Tree) (v : SessionValue) : Type 0 where
+pub record WaitsToSay (link : Link) (tree : Tree) (v : SessionValue) : Type 0 where
   pub line : List ℕ
   pub next : Tree
   pub is : tree ≡ Say (Ok line) next
   pub some : v.channel.unsent ≡ [] → ⊥
-  pub full : tells → IsFull v.channel.told
+  pub full : link.tells → IsFull v.channel.told
 
-pub record WaitsToHear (tells : Type 0) (tree : Tree) (v : SessionValue) : Type 0 where
+pub record WaitsToHear (link : Link) (tree : Tree) (v : SessionValue) : Type 0 where
   pub codes : List Status
   pub next : Result Response FtpError → Tree
   pub is : tree ≡ Hear codes next
   pub unended : v.channel.ended ≡ false
   pub none_ahead : v.channel.ahead ≡ []
-  pub dry : tells → IsDry v.channel.told
+  pub dry : link.tells → IsDry v.channel.told
 
-abbrev pub WaitsFor : Type 0 → Tree → SessionValue → Type 0
-WaitsFor tells tree v = WaitsToSay tells tree v ⊎ WaitsToHear tells tree v
+abbrev pub WaitsFor : Link → Tree → SessionValue → Type 0
+WaitsFor link tree v = WaitsToSay link tree v ⊎ WaitsToHear link tree v
 
 -- a step: the next node is reached, or the connection waits, or the dialogue has its answer or is aborted
-abbrev pub Steps : Type 0 → Bool → Tree → Tree → SessionValue → SessionValue → Step → Type 0
-Steps tells begun tree tree' old new Next = Advances tells tree tree' old new
-Steps tells begun tree tree' old new Pending = Advances tells tree tree' old new × WaitsFor tells tree' new
-Steps tells begun tree tree' old new (Done answer) = Ends tells tree answer old new ⊎ Aborts tells begun tree answer old new
+abbrev pub Steps : Link → Bool → Tree → Tree → SessionValue → SessionValue → Step → Type 0
+Steps link begun tree tree' old new Next = Advances link tree tree' old new
+Steps link begun tree tree' old new Pending = Advances link tree tree' old new × WaitsFor link tree' new
+Steps link begun tree tree' old new (Done answer) = Ends link tree answer old new ⊎ Aborts link begun tree answer old new
 
 -- a poll: the call has its answer or is aborted, or the connection waits
-abbrev pub PollSteps : Type 0 → Bool → Tree → Tree → SessionValue → SessionValue → Poll Answer → Type 0
-PollSteps tells begun tree tree' old new (poll.Ready answer) = Ends tells tree answer old new ⊎ Aborts tells begun tree answer old new
-PollSteps tells begun tree tree' old new poll.Pending = Advances tells tree tree' old new × WaitsFor tells tree' new
+abbrev pub PollSteps : Link → Bool → Tree → Tree → SessionValue → SessionValue → Poll Answer → Type 0
+PollSteps link begun tree tree' old new (poll.Ready answer) = Ends link tree answer old new ⊎ Aborts link begun tree answer old new
+PollSteps link begun tree tree' old new poll.Pending = Advances link tree tree' old new × WaitsFor link tree' new
 
 -- the result of sending a line
 abbrev pub step_of : Poll (Result (Unit {0}) FtpError) → Step
@@ -111,24 +113,41 @@ after_line Pending line next = Say (Ok (due line)) next
 after_line (Done answer) line next = next
 
 -- a line is said
-abbrev pub SaysNode : Type 0 → Option (List ℕ) → Option (List ℕ) → SessionValue → SessionValue → Step → Type 0
-SaysNode tells line line' old new result =
-    (begun : Bool) (next : Tree) → Steps tells begun (Say (Ok (due line)) next) (after_line result line' next) old new result
+abbrev pub SaysNode : Link → Option (List ℕ) → Option (List ℕ) → SessionValue → SessionValue → Step → Type 0
+SaysNode link line line' old new result =
+    (begun : Bool) (next : Tree) → Steps link begun (Say (Ok (due line)) next) (after_line result line' next) old new result
+
+-- a reply was taken: fewer bytes are untaken than were and came
+abbrev pub Takes : Link → Tree → SessionValue → SessionValue → Type 0
+Takes link tree old new =
+    link.tells → Resumes old.channel.rule old.channel.kept tree → length old.channel.told.received + length (untaken new.channel) < length new.channel.told.received + length (untaken old.channel)
+
+-- nothing was said and no reply was taken: what came is untaken
+abbrev pub NothingTouched : Link → SessionValue → SessionValue → Type 0
+NothingTouched link old new =
+    link.tells → (came : List ℕ) × (new.channel.told.received ≡ old.channel.told.received ++ came) × (said new.channel ≡ said old.channel) × (untaken new.channel ≡ untaken old.channel ++ came)
+
+-- a line that was taken to go out: it was before, or it was said, and a line isn't empty
+pub record TakesLine (link : Link) (line line' : Option (List ℕ)) (old new : SessionValue) (result : Step) : Type 0 where
+  pub whole : (line' ≡ line) ⊎ (line' ≡ None)
+  pub gone : result ≡ Next → line' ≡ None
+  pub stays : line' ≡ line → NothingTouched link old new
+  pub begins : line' ≡ None → (line ≡ None) ⊎ ((tree : Tree) → Touched link tree old new)
 
 -- a read is aborted: the connection failed, which was counted; or memory ran out, and nothing is lost
-pub record AbortsRead (tells : Type 0) (codes : List Status) (next : Result Response FtpError → Tree) (fault : FtpError) (old new : SessionValue) : Type 0 where
+pub record AbortsRead (link : Link) (codes : List Status) (next : Result Response FtpError → Tree) (fault : FtpError) (old new : SessionValue) : Type 0 where
   pub at : SessionValue
-  pub leads : Leads tells (Hear codes next) (Hear codes next) old at
+  pub leads : Leads link (Hear codes next) (Hear codes next) old at
   pub state : at.state ≡ old.state
   pub going : at.channel.failed ≡ false
-  pub cause : Fails tells fault at new ⊎ ((fault ≡ OutOfMemory) × (new ≡ at) × Untouched tells leads.came old at)
+  pub cause : Fails link (Hear codes next) fault at new ⊎ ((fault ≡ OutOfMemory) × (new ≡ at) × Untouched link leads.came old at)
 
 -- a reply is heard, or a fault in its place; or it is waited for, or the read is aborted
-abbrev pub Hears : Type 0 → List Status → (Result Response FtpError → Tree) → SessionValue → SessionValue → Poll (Result Response FtpError) → Type 0
-Hears tells codes next old new (poll.Ready (Ok reply)) = Advances tells (Hear codes next) (next (Ok reply)) old new
-Hears tells codes next old new (poll.Ready (Err fault)) =
-    (Moves tells (Hear codes next) (next (Err fault)) old new × (fault ≡ OutOfMemory → ⊥)) ⊎ AbortsRead tells codes next fault old new
-Hears tells codes next old new poll.Pending = Advances tells (Hear codes next) (Hear codes next) old new × WaitsFor tells (Hear codes next) new × Rests tells old new
+abbrev pub Hears : Link → List Status → (Result Response FtpError → Tree) → SessionValue → SessionValue → Poll (Result Response FtpError) → Type 0
+Hears link codes next old new (poll.Ready (Ok reply)) = Advances link (Hear codes next) (next (Ok reply)) old new × Takes link (Hear codes next) old new
+Hears link codes next old new (poll.Ready (Err fault)) =
+    (Moves link (Hear codes next) (next (Err fault)) old new × (fault ≡ OutOfMemory → ⊥)) ⊎ AbortsRead link codes next fault old new
+Hears link codes next old new poll.Pending = Advances link (Hear codes next) (Hear codes next) old new × WaitsFor link (Hear codes next) new × Rests link old new
 
 -- an accepted reply: the next exchange, or the answer with the change of state
 abbrev pub Accepts : Coding → Ending → Response → State → State → Accepted → Type 0
@@ -155,10 +174,32 @@ pub record NothingYet (coding : Coding) (call : Call) (stage stage' : Stage) (ol
   pub begun : begun_at stage ≡ false
   pub tree : (state : State) → remaining coding call state stage' ≡ remaining coding call state stage
 
+-- a dialogue that has begun had begun before, or something was said or taken; where it hasn't, nothing was
+abbrev pub HasBegun : Link → Bool → Bool → Tree → SessionValue → SessionValue → Type 0
+HasBegun link begun begun' tree old new =
+    (begun' ≡ true → (begun ≡ true) ⊎ Touched link tree old new) × (begun' ≡ false → (begun ≡ false) × NothingTouched link old new)
+
+abbrev pub Tracks : Link → Bool → Bool → Tree → SessionValue → SessionValue → Step → Type 0
+Tracks link begun begun' tree old new Next = HasBegun link begun begun' tree old new
+Tracks link begun begun' tree old new Pending = HasBegun link begun begun' tree old new
+Tracks link begun begun' tree old new (Done answer) = Unit {0}
+
 abbrev pub Quiet : Coding → Call → Stage → Stage → SessionValue → SessionValue → Step → Type 0
 Quiet coding call stage stage' old new Next = begun_at stage' ≡ false → NothingYet coding call stage stage' old new
 Quiet coding call stage stage' old new Pending = Unit {0}
 Quiet coding call stage stage' old new (Done answer) = Unit {0}
+
+-- an exchange begins, and nothing else happens; or its line is refused, or finds no memory
+pub record IsRefusedLine (coding : Coding) (call : Call) (turn : Turn) (old new : SessionValue) (answer : Answer) : Type 0 where
+  pub fault : FtpError
+  pub is : answer ≡ Fault fault
+  pub cause : IsRefusalOf (line_of coding (exchange_of call turn).says) fault
+  pub leaves : new ≡ after_fault (is_second turn) fault old
+
+abbrev pub BeginsExchange : Coding → Call → Turn → Stage → SessionValue → SessionValue → Step → Type 0
+BeginsExchange coding call turn stage old new Next = (new ≡ old) × Begun coding call turn stage
+BeginsExchange coding call turn stage old new Pending = ⊥
+BeginsExchange coding call turn stage old new (Done answer) = IsRefusedLine coding call turn old new answer
 
 -- the kind of an answer is its ending's
 abbrev pub AnswersAs : Ending → Accepted → Type 0
@@ -180,12 +221,12 @@ Concludes coding call a reply stage old new Pending = ⊥
 Concludes coding call a reply stage old new (Done answer) = EndsWith coding call a reply old new answer ⊎ ((answer ≡ Fault OutOfMemory) × (new ≡ failed_from old))
 
 -- a call, whole, with how much is kept afterwards
-pub record IsMade (tells : Type 0) (coding : Coding) (call : Call) (old new : SessionValue) (answer : Answer) : Type 0 where
+pub record IsMade (link : Link) (coding : Coding) (call : Call) (old new : SessionValue) (answer : Answer) : Type 0 where
   pub going : old.channel.failed ≡ false
-  pub plays : Ends tells (dialogue coding call old.state) answer old new ⊎ Aborts tells false (dialogue coding call old.state) answer old new
+  pub plays : Ends link (dialogue coding call old.state) answer old new ⊎ Aborts link false (dialogue coding call old.state) answer old new
 
-abbrev pub Made : Type 0 → Coding → Call → SessionValue → SessionValue → Answer → Type 0
-Made tells coding call old new answer = IsRefused old new answer ⊎ IsMade tells coding call old new answer
+abbrev pub Made : Link → Coding → Call → SessionValue → SessionValue → Answer → Type 0
+Made link coding call old new answer = IsRefused old new answer ⊎ IsMade link coding call old new answer
 
 -- why a call isn't made whose arguments found no memory
 abbrev pub withheld : SessionValue → FtpError

@@ -1,12 +1,10 @@
 -- The stages of a call: what of its dialogue is left at each.
-use Rattle.std.specs.Prelude.{◌≡◌, ◌<◌, ◌-◌, ℕ, Bool, true, false, Option, Some, None, is_none, List, [], ◌∷◌, Result, Ok, Err}
-use Rattle.std.specs.declared.io.ErrorKind.{ErrorKind}
+use Rattle.std.specs.Prelude.{◌≡◌, ◌<◌, ◌-◌, ℕ, Bool, true, false, Option, Some, None, is_none, List, [], Result, Ok, Err}
 use Rattle.futures.specs.declared.task.Poll.{Poll}
 use Rattle.futures.specs.declared.task.Poll.TheVariants.{Ready, Pending}
 use Rattle.ftp_base.specs.declared.command.Command.{Command}
 use Rattle.ftp_base.specs.Command.{text_of}
 use Rattle.ftp_base.specs.Wire.{wire}
-use Rattle.ftp_base.specs.declared.types.reply.Response.{Response}
 use Rattle.ftp_base.specs.declared.types.fault.FtpError.{FtpError}
 use Rattle.ftp_base.specs.declared.types.fault.ConnectionError.{ConnectionError as Cause}
 use Rattle.ftp_control.specs.Refusal.{IsRefusalOf}
@@ -23,7 +21,7 @@ use Rattle.ftp_session.specs.declared.session.stage.Stage.{Stage}
 use Rattle.ftp_session.specs.declared.session.stage.Stage.TheVariants.{At, Saying, Hearing}
 use Rattle.ftp_session.specs.declared.session.stage.Step.{Step}
 use Rattle.ftp_session.specs.declared.session.stage.Step.TheVariants as step
-use Rattle.ftp_session.specs.Coding.{Coding, coding_of}
+use Rattle.ftp_session.specs.Coding.{Coding}
 use Rattle.ftp_session.specs.Exchanges.{exchange_of, statuses, gives_reply, is_read}
 use Rattle.ftp_session.specs.Dialogue.{Tree, Say, awaiting, later, from_turn}
 
@@ -45,7 +43,8 @@ remaining coding call state (Hearing a) = awaited coding call state a
 -- something of the dialogue was said or taken
 abbrev pub begun_at : Stage → Bool
 begun_at (At turn) = is_second turn
-begun_at (Saying line a) = a.begun
+begun_at (Saying None a) = true
+begun_at (Saying (Some line) a) = a.begun
 begun_at (Hearing a) = a.begun
 
 -- the nodes that are left
@@ -75,7 +74,7 @@ awaits_of turn exchange = record { turn = turn; begun = is_second turn; hears = 
 
 abbrev pub NodeOf : Coding → Turn → Exchange → Stage → Type 0
 NodeOf coding turn exchange (At other) = ⊥
-NodeOf coding turn exchange (Saying line a) = (line_of coding exchange.says ≡ Ok (due line)) × (is_none exchange.says ≡ false) × (a ≡ awaits_of turn exchange)
+NodeOf coding turn exchange (Saying line a) = (line_of coding exchange.says ≡ Ok (due line)) × (is_none line ≡ false) × (is_none exchange.says ≡ false) × (a ≡ awaits_of turn exchange)
 NodeOf coding turn exchange (Hearing a) = (exchange.says ≡ None) × (a ≡ awaits_of turn exchange)
 
 abbrev pub FirstNode : Coding → Turn → Exchange → Result Stage FtpError → Type 0

@@ -1,12 +1,12 @@
 //! A session as its user holds it.
 
 ghost use Rattle.std.specs.Prelude.{◌≡◌, IsOk, IfOk, MatchResult, Ok, IfErr, OnOk, OnErr, Some, None, length, option_map};
-ghost use Rattle.ftp_control.specs.Channel.{IsIdle, IsSound, untaken};
-ghost use Rattle.ftp_control.specs.Told.{IsFresh};
-ghost use Rattle.ftp_session.specs.Calls.{Connects, Fails};
+ghost use Rattle.ftp_control.specs.Channel.{IsSound, untaken};
+ghost use Rattle.ftp_session.specs.Calls.{Begins, Connects, FailsToConnect};
 ghost use Rattle.ftp_session.specs.Coding.{chosen};
+ghost use Rattle.ftp_session.specs.Link.{link};
 ghost use Rattle.ftp_session.specs.Sound.{SoundCounts};
-ghost use Rattle.ftp_session.specs.State.{IsFirst, greeted_again};
+ghost use Rattle.ftp_session.specs.State.{greeted_again};
 
 use super::chosen::Chosen;
 use super::machine::Machine;
@@ -42,11 +42,9 @@ impl<Tr: Network, K: Drop, E: Encoding, B: Drop> Session<Tr, K, E, B> {
     /// None today: the result leaves room for a session that makes a buffer.
     pub fn new(alloc: Global, transport: Tr, conn: Tr::Conn) -> FtpResult<Session<Tr, K, E, B>>
         ensures succeeds { IsOk result }
-        ensures idle { IfOk result (λ session. IsIdle session.machine.channel) }
-        ensures fresh { IfOk result (λ session.
-            Tr.Conn.tells → IsFresh session.machine.channel.told) }
+        ensures begins { IfOk result (λ session.
+            Begins Tr.Conn.tells (Tr.Conn.told conn) (Tr.asked transport) session.machine) }
         ensures sound { IfOk result (λ session. IsSound Tr.Conn.tells session.machine.channel) }
-        ensures first { IfOk result (λ session. IsFirst session.machine.state) }
         ensures encoding { IfOk result (λ session. session.encoding.0 ≡ None) }
     {
         Ok(Session {
@@ -70,9 +68,10 @@ impl<Tr: Network, K: Drop, E: Encoding, B: Drop> Session<Tr, K, E, B> {
         Tr::Conn: Conn,
         ensures encoding { IfOk result (λ session. session.encoding.0 ≡ None) }
         ensures connects { MatchResult result
-            (λ session. Connects Tr.Conn.tells (chosen E.decoded E.encoded None) session.machine
-            (Ok tt))
-            (λ fault. Fails Tr.Conn.tells (chosen E.decoded E.encoded None) fault) }
+            (λ session. Connects (link Tr.Conn.tells Tr.Conn.blocking_read_faults Tr.Conn.blocking_write_faults) (chosen E.decoded E.encoded None) (Tr.Conn.told conn)
+            (Tr.asked transport) session.machine (Ok tt))
+            (λ fault. FailsToConnect (link Tr.Conn.tells Tr.Conn.blocking_read_faults Tr.Conn.blocking_write_faults) (chosen E.decoded E.encoded None) (Tr.Conn.told conn)
+            (Tr.asked transport) fault) }
     {
         let mut session = Session::new(alloc, transport, conn)?;
         match session.greet(alloc) {

@@ -8,6 +8,7 @@ ghost use Rattle.ftp_session.specs.declared.session.call.Call.{Call as Called};
 ghost use Rattle.ftp_session.specs.Calls.{reply_answer, unit_answer};
 ghost use Rattle.ftp_session.specs.Coding.{chosen};
 ghost use Rattle.ftp_session.specs.Dialogue.{Tree};
+ghost use Rattle.ftp_session.specs.Link.{link};
 ghost use Rattle.ftp_session.specs.Promises.{Plays, Reads};
 ghost use Rattle.ftp_session.specs.Steps.Moving.{withheld};
 ghost use Rattle.ftp_session.specs.Steps.Stages.{GivesNothing, GivesReply, MayAnswer};
@@ -29,7 +30,7 @@ where
     /// Reads the server's greeting (220).
     pub(super) fn greet(&mut self, alloc: Global) -> FtpResult<()>
         ensures encoding { self.new.encoding ≡ self.old.encoding }
-        ensures plays { Plays Tr.Conn.tells (chosen E.decoded E.encoded self.old.encoding.0) Call.Greet
+        ensures plays { Plays (link Tr.Conn.tells Tr.Conn.blocking_read_faults Tr.Conn.blocking_write_faults) (chosen E.decoded E.encoded self.old.encoding.0) Call.Greet
             self.old.machine self.new.machine (unit_answer result) }
     {
         unit(self.call(alloc, &Call::Greet))
@@ -41,7 +42,7 @@ where
     /// # Errors
     /// Those of a command and its reply: `LineBreak` where CR or LF stands in the user's name or the password.
     pub fn login(&mut self, alloc: Global, user: &str, password: &str) -> FtpResult<()>
-        ensures { Plays Tr.Conn.tells (chosen E.decoded E.encoded self.old.encoding.0) (Call.Login user.now password.now)
+        ensures { Plays (link Tr.Conn.tells Tr.Conn.blocking_read_faults Tr.Conn.blocking_write_faults) (chosen E.decoded E.encoded self.old.encoding.0) (Call.Login user.now password.now)
             self.old.machine self.new.machine (unit_answer result) }
     {
         self.perform(alloc, login_call(alloc, user, password))
@@ -52,7 +53,7 @@ where
     /// # Errors
     /// Those of a command and its reply.
     pub fn cwd(&mut self, alloc: Global, path: &str) -> FtpResult<()>
-        ensures { Plays Tr.Conn.tells (chosen E.decoded E.encoded self.old.encoding.0) (Call.Cwd path.now)
+        ensures { Plays (link Tr.Conn.tells Tr.Conn.blocking_read_faults Tr.Conn.blocking_write_faults) (chosen E.decoded E.encoded self.old.encoding.0) (Call.Cwd path.now)
             self.old.machine self.new.machine (unit_answer result) }
     {
         self.perform(alloc, cwd_call(alloc, path))
@@ -63,7 +64,7 @@ where
     /// # Errors
     /// Those of a command and its reply.
     pub fn cdup(&mut self, alloc: Global) -> FtpResult<()>
-        ensures { Plays Tr.Conn.tells (chosen E.decoded E.encoded self.old.encoding.0) Call.Cdup
+        ensures { Plays (link Tr.Conn.tells Tr.Conn.blocking_read_faults Tr.Conn.blocking_write_faults) (chosen E.decoded E.encoded self.old.encoding.0) Call.Cdup
             self.old.machine self.new.machine (unit_answer result) }
     {
         unit(self.call(alloc, &Call::Cdup))
@@ -74,7 +75,7 @@ where
     /// # Errors
     /// Those of a command and its reply.
     pub fn noop(&mut self, alloc: Global) -> FtpResult<()>
-        ensures { Plays Tr.Conn.tells (chosen E.decoded E.encoded self.old.encoding.0) Call.Noop
+        ensures { Plays (link Tr.Conn.tells Tr.Conn.blocking_read_faults Tr.Conn.blocking_write_faults) (chosen E.decoded E.encoded self.old.encoding.0) Call.Noop
             self.old.machine self.new.machine (unit_answer result) }
     {
         unit(self.call(alloc, &Call::Noop))
@@ -85,7 +86,7 @@ where
     /// # Errors
     /// Those of a command and its reply.
     pub fn eprt(&mut self, alloc: Global, address: SocketAddr) -> FtpResult<()>
-        ensures { Plays Tr.Conn.tells (chosen E.decoded E.encoded self.old.encoding.0) (Call.Eprt address)
+        ensures { Plays (link Tr.Conn.tells Tr.Conn.blocking_read_faults Tr.Conn.blocking_write_faults) (chosen E.decoded E.encoded self.old.encoding.0) (Call.Eprt address)
             self.old.machine self.new.machine (unit_answer result) }
     {
         unit(self.call(alloc, &Call::Eprt(address)))
@@ -96,7 +97,7 @@ where
     /// # Errors
     /// Those of a command and its reply.
     pub fn opts(&mut self, alloc: Global, option: &str, value: Option<&str>) -> FtpResult<()>
-        ensures { Plays Tr.Conn.tells (chosen E.decoded E.encoded self.old.encoding.0) (Call.Opts option.now (option_map (λ text. text.now) value.entry))
+        ensures { Plays (link Tr.Conn.tells Tr.Conn.blocking_read_faults Tr.Conn.blocking_write_faults) (chosen E.decoded E.encoded self.old.encoding.0) (Call.Opts option.now (option_map (λ text. text.now) value.entry))
             self.old.machine self.new.machine (unit_answer result) }
     {
         self.perform(alloc, opts_call(alloc, option, value))
@@ -107,7 +108,7 @@ where
     /// # Errors
     /// Those of a command and its reply.
     pub fn site(&mut self, alloc: Global, command: &str) -> FtpResult<Response>
-        ensures { Plays Tr.Conn.tells (chosen E.decoded E.encoded self.old.encoding.0) (Call.Site command.now)
+        ensures { Plays (link Tr.Conn.tells Tr.Conn.blocking_read_faults Tr.Conn.blocking_write_faults) (chosen E.decoded E.encoded self.old.encoding.0) (Call.Site command.now)
             self.old.machine self.new.machine (reply_answer result) }
     {
         self.perform_for_reply(alloc, site_call(alloc, command))
@@ -118,7 +119,7 @@ where
     /// # Errors
     /// Those of a command and its reply.
     pub fn transfer_type(&mut self, alloc: Global, kind: FileType) -> FtpResult<()>
-        ensures { Plays Tr.Conn.tells (chosen E.decoded E.encoded self.old.encoding.0) (Call.TransferType kind)
+        ensures { Plays (link Tr.Conn.tells Tr.Conn.blocking_read_faults Tr.Conn.blocking_write_faults) (chosen E.decoded E.encoded self.old.encoding.0) (Call.TransferType kind)
             self.old.machine self.new.machine (unit_answer result) }
     {
         unit(self.call(alloc, &Call::TransferType(kind)))
@@ -129,7 +130,7 @@ where
     /// # Errors
     /// Those of a command and its reply.
     pub fn mkdir(&mut self, alloc: Global, path: &str) -> FtpResult<()>
-        ensures { Plays Tr.Conn.tells (chosen E.decoded E.encoded self.old.encoding.0) (Call.Mkdir path.now)
+        ensures { Plays (link Tr.Conn.tells Tr.Conn.blocking_read_faults Tr.Conn.blocking_write_faults) (chosen E.decoded E.encoded self.old.encoding.0) (Call.Mkdir path.now)
             self.old.machine self.new.machine (unit_answer result) }
     {
         self.perform(alloc, mkdir_call(alloc, path))
@@ -140,7 +141,7 @@ where
     /// # Errors
     /// Those of a command and its reply.
     pub fn rmdir(&mut self, alloc: Global, path: &str) -> FtpResult<()>
-        ensures { Plays Tr.Conn.tells (chosen E.decoded E.encoded self.old.encoding.0) (Call.Rmdir path.now)
+        ensures { Plays (link Tr.Conn.tells Tr.Conn.blocking_read_faults Tr.Conn.blocking_write_faults) (chosen E.decoded E.encoded self.old.encoding.0) (Call.Rmdir path.now)
             self.old.machine self.new.machine (unit_answer result) }
     {
         self.perform(alloc, rmdir_call(alloc, path))
@@ -151,7 +152,7 @@ where
     /// # Errors
     /// Those of a command and its reply.
     pub fn rm(&mut self, alloc: Global, path: &str) -> FtpResult<()>
-        ensures { Plays Tr.Conn.tells (chosen E.decoded E.encoded self.old.encoding.0) (Call.Rm path.now)
+        ensures { Plays (link Tr.Conn.tells Tr.Conn.blocking_read_faults Tr.Conn.blocking_write_faults) (chosen E.decoded E.encoded self.old.encoding.0) (Call.Rm path.now)
             self.old.machine self.new.machine (unit_answer result) }
     {
         self.perform(alloc, rm_call(alloc, path))
@@ -162,7 +163,7 @@ where
     /// # Errors
     /// Those of a command and its reply.
     pub fn rename(&mut self, alloc: Global, from: &str, to: &str) -> FtpResult<()>
-        ensures { Plays Tr.Conn.tells (chosen E.decoded E.encoded self.old.encoding.0) (Call.Rename from.now to.now)
+        ensures { Plays (link Tr.Conn.tells Tr.Conn.blocking_read_faults Tr.Conn.blocking_write_faults) (chosen E.decoded E.encoded self.old.encoding.0) (Call.Rename from.now to.now)
             self.old.machine self.new.machine (unit_answer result) }
     {
         self.perform(alloc, rename_call(alloc, from, to))
@@ -173,7 +174,7 @@ where
     /// # Errors
     /// Those of a command and its reply.
     pub fn quit(&mut self, alloc: Global) -> FtpResult<()>
-        ensures { Plays Tr.Conn.tells (chosen E.decoded E.encoded self.old.encoding.0) Call.Quit
+        ensures { Plays (link Tr.Conn.tells Tr.Conn.blocking_read_faults Tr.Conn.blocking_write_faults) (chosen E.decoded E.encoded self.old.encoding.0) Call.Quit
             self.old.machine self.new.machine (unit_answer result) }
     {
         unit(self.call(alloc, &Call::Quit))
@@ -189,7 +190,7 @@ where
         line: &str,
         expected: &[Status],
     ) -> FtpResult<Response>
-        ensures { Plays Tr.Conn.tells (chosen E.decoded E.encoded self.old.encoding.0) (Call.CustomCommand line.now expected.now)
+        ensures { Plays (link Tr.Conn.tells Tr.Conn.blocking_read_faults Tr.Conn.blocking_write_faults) (chosen E.decoded E.encoded self.old.encoding.0) (Call.CustomCommand line.now expected.now)
             self.old.machine self.new.machine (reply_answer result) }
     {
         self.perform_for_reply(alloc, custom_call(alloc, line, expected))
@@ -200,7 +201,7 @@ where
     /// # Errors
     /// Those of a read of one reply.
     pub fn read_response(&mut self, alloc: Global, expected: Status) -> FtpResult<Response>
-        ensures { Plays Tr.Conn.tells (chosen E.decoded E.encoded self.old.encoding.0) (Call.ReadResponse expected)
+        ensures { Plays (link Tr.Conn.tells Tr.Conn.blocking_read_faults Tr.Conn.blocking_write_faults) (chosen E.decoded E.encoded self.old.encoding.0) (Call.ReadResponse expected)
             self.old.machine self.new.machine (reply_answer result) }
     {
         reply(self.call(alloc, &Call::ReadResponse(expected)))
@@ -211,7 +212,7 @@ where
     /// # Errors
     /// Those of a read of one reply.
     pub fn read_response_in(&mut self, alloc: Global, expected: &[Status]) -> FtpResult<Response>
-        ensures { Plays Tr.Conn.tells (chosen E.decoded E.encoded self.old.encoding.0) (Call.ReadResponseIn expected.now)
+        ensures { Plays (link Tr.Conn.tells Tr.Conn.blocking_read_faults Tr.Conn.blocking_write_faults) (chosen E.decoded E.encoded self.old.encoding.0) (Call.ReadResponseIn expected.now)
             self.old.machine self.new.machine (reply_answer result) }
     {
         self.perform_for_reply(alloc, read_call(alloc, expected))
@@ -221,7 +222,7 @@ where
     fn call(&mut self, alloc: Global, call: &Call) -> Answer
         ensures encoding { self.new.encoding ≡ self.old.encoding }
         ensures answers { MayAnswer call.now result }
-        ensures plays { Plays Tr.Conn.tells (chosen E.decoded E.encoded self.old.encoding.0)
+        ensures plays { Plays (link Tr.Conn.tells Tr.Conn.blocking_read_faults Tr.Conn.blocking_write_faults) (chosen E.decoded E.encoded self.old.encoding.0)
             call.now self.old.machine self.new.machine result }
     {
         self.machine.call(alloc, &self.encoding, call)
@@ -232,7 +233,7 @@ where
         requires { IfOk call GivesNothing }
         ensures encoding { self.new.encoding ≡ self.old.encoding }
         ensures plays { (made : Called) → IfOk call (λ c. c ≡ made) →
-            Plays Tr.Conn.tells (chosen E.decoded E.encoded self.old.encoding.0) made
+            Plays (link Tr.Conn.tells Tr.Conn.blocking_read_faults Tr.Conn.blocking_write_faults) (chosen E.decoded E.encoded self.old.encoding.0) made
             self.old.machine self.new.machine (unit_answer result) }
     {
         match call {
@@ -250,7 +251,7 @@ where
         requires { IfOk call GivesReply }
         ensures encoding { self.new.encoding ≡ self.old.encoding }
         ensures plays { (made : Called) → IfOk call (λ c. c ≡ made) →
-            Plays Tr.Conn.tells (chosen E.decoded E.encoded self.old.encoding.0) made
+            Plays (link Tr.Conn.tells Tr.Conn.blocking_read_faults Tr.Conn.blocking_write_faults) (chosen E.decoded E.encoded self.old.encoding.0) made
             self.old.machine self.new.machine (reply_answer result) }
     {
         match call {
@@ -290,7 +291,7 @@ impl<Tr: Network, K: Drop, E: Encoding, B: Drop> Session<Tr, K, E, B> {
             (result ≡ poll.Ready (Err FtpError.SessionFailed)) × (self.new ≡ self.old) }
         ensures reads { self.old.machine.channel.failed ≡ false →
             (next : Result Heard Faults → Tree) →
-            Reads Tr.Conn.tells expected.now next self.old.machine self.new.machine result }
+            Reads (link Tr.Conn.tells Tr.Conn.read_faults Tr.Conn.write_faults) expected.now next self.old.machine self.new.machine result }
     {
         if self.machine.channel.failed() {
             return Poll::Ready(Err(FtpError::SessionFailed));
@@ -315,7 +316,7 @@ impl<Tr: Network, K: Drop, E: Encoding, B: Drop> Session<Tr, K, E, B> {
             (result ≡ poll.Ready (Err FtpError.SessionFailed)) × (self.new ≡ self.old) }
         ensures reads { self.old.machine.channel.failed ≡ false →
             (next : Result Heard Faults → Tree) →
-            Reads Tr.Conn.tells (expected ∷ []) next self.old.machine self.new.machine result }
+            Reads (link Tr.Conn.tells Tr.Conn.read_faults Tr.Conn.write_faults) (expected ∷ []) next self.old.machine self.new.machine result }
     {
         self.poll_read_response_in(alloc, &[expected], w)
     }

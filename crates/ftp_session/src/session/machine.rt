@@ -24,17 +24,14 @@ impl<Tr: Network> Model for Machine<Tr> {
 
 impl<Tr: Network> Machine<Tr> {
     ghost use Rattle.std.specs.Prelude.{◌≡◌};
-    ghost use Rattle.ftp_control.specs.Channel.{IsIdle, IsSound};
-    ghost use Rattle.ftp_control.specs.Told.{IsFresh};
+    ghost use Rattle.ftp_control.specs.Channel.{IsSound};
+    ghost use Rattle.ftp_session.specs.Calls.{Begins};
     ghost use Rattle.ftp_session.specs.Sound.{Sound};
-    ghost use Rattle.ftp_session.specs.State.{IsFirst};
 
     /// A machine on a connection. Nothing is read and nothing is sent.
     pub(super) fn new(alloc: Global, transport: Tr, conn: Tr::Conn) -> Machine<Tr>
-        ensures idle { IsIdle result.channel }
-        ensures fresh { Tr.Conn.tells → IsFresh result.channel.told }
+        ensures begins { Begins Tr.Conn.tells (Tr.Conn.told conn) (Tr.asked transport) result }
         ensures sound { IsSound Tr.Conn.tells result.channel }
-        ensures first { IsFirst result.state }
     {
         Machine {
             transport,

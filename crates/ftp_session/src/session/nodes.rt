@@ -8,7 +8,8 @@ ghost use Rattle.ftp_control.specs.Told.{EndsAsTold};
 ghost use Rattle.ftp_session.specs.Coding.{coding_of};
 ghost use Rattle.ftp_session.specs.Dialogue.{Tree};
 ghost use Rattle.ftp_session.specs.Exchanges.{statuses};
-ghost use Rattle.ftp_session.specs.Steps.Moving.{Accepts, AnswersAs, Hears, SaysNode, step_of};
+ghost use Rattle.ftp_session.specs.Link.{link};
+ghost use Rattle.ftp_session.specs.Steps.Moving.{Accepts, AnswersAs, Hears, SaysNode, TakesLine, step_of};
 
 use super::exchange::{Codes, Ending};
 use super::machine::Machine;
@@ -34,7 +35,9 @@ impl<Tr: Network> Machine<Tr> {
             (fault : Faults) × (answer ≡ Answer.Fault fault) }
         ensures end { Tr.Conn.tells → Tr.Conn.may_wait →
             EndsAsTold self.old.channel.ended self.new.channel.ended self.old.channel.told }
-        ensures says { SaysNode Tr.Conn.tells line.old line.new self.old self.new result }
+        ensures takes { TakesLine (link Tr.Conn.tells Tr.Conn.read_faults Tr.Conn.write_faults) line.old line.new self.old
+            self.new result }
+        ensures says { SaysNode (link Tr.Conn.tells Tr.Conn.read_faults Tr.Conn.write_faults) line.old line.new self.old self.new result }
     {
         step_of(self.channel.poll_perform(line, w))
     }
@@ -54,7 +57,7 @@ impl<Tr: Network> Machine<Tr> {
         ensures end { Tr.Conn.tells → Tr.Conn.may_wait →
             EndsAsTold self.old.channel.ended self.new.channel.ended self.old.channel.told }
         ensures hears { (next : Result Heard Faults → Tree) →
-            Hears Tr.Conn.tells expected.now next self.old self.new result }
+            Hears (link Tr.Conn.tells Tr.Conn.read_faults Tr.Conn.write_faults) expected.now next self.old self.new result }
     {
         self.channel.poll_read_response_in(alloc, expected, w)
     }
@@ -74,7 +77,7 @@ impl<Tr: Network> Machine<Tr> {
         ensures end { Tr.Conn.tells → Tr.Conn.may_wait →
             EndsAsTold self.old.channel.ended self.new.channel.ended self.old.channel.told }
         ensures hears { (next : Result Heard Faults → Tree) →
-            Hears Tr.Conn.tells (statuses codes.now) next self.old self.new result }
+            Hears (link Tr.Conn.tells Tr.Conn.read_faults Tr.Conn.write_faults) (statuses codes.now) next self.old self.new result }
     {
         match codes {
             Codes::One(status) => self.hear(alloc, &[*status], w),

@@ -2,7 +2,8 @@
 
 ghost use Rattle.std.specs.Prelude.{◌≡◌, IfOk, IfErr, OnErr, length};
 ghost use Rattle.ftp_session.specs.Coding.{chosen, coding_of};
-ghost use Rattle.ftp_session.specs.Promises.{Runs};
+ghost use Rattle.ftp_session.specs.Link.{link};
+ghost use Rattle.ftp_session.specs.Promises.{FailsWith, Runs};
 ghost use Rattle.ftp_session.specs.Sound.{Sound};
 
 use super::client::Session;
@@ -24,9 +25,11 @@ where
     /// `OutOfMemory` where there is no memory for the answers, and nothing changes.
     pub fn run(&mut self, alloc: Global, calls: &[Call]) -> FtpResult<Vec<Answer>>
         ensures runs { IfOk result (λ answers.
-            Runs Tr.Conn.tells (chosen E.decoded E.encoded self.old.encoding.0) calls.now
+            Runs (link Tr.Conn.tells Tr.Conn.blocking_read_faults Tr.Conn.blocking_write_faults) (chosen E.decoded E.encoded self.old.encoding.0) calls.now
             self.old.machine self.new.machine answers.items) }
         ensures count { IfOk result (λ answers. length answers.items ≡ length calls.now) }
+        ensures fails { IfOk result (λ answers.
+            FailsWith self.old.machine self.new.machine answers.items) }
         ensures encoding { self.new.encoding ≡ self.old.encoding }
         ensures memory { IfErr result (λ fault. fault ≡ FtpError.OutOfMemory) }
         ensures unchanged { OnErr result (self.new ≡ self.old) }
@@ -51,8 +54,9 @@ where
         calls: &[Call],
     ) -> FtpResult<Vec<Answer>>
         ensures runs { IfOk result (λ answers.
-            Runs Tr.Conn.tells (coding_of E.decoded E.encoded encoding.now) calls.now self.old
+            Runs (link Tr.Conn.tells Tr.Conn.blocking_read_faults Tr.Conn.blocking_write_faults) (coding_of E.decoded E.encoded encoding.now) calls.now self.old
             self.new answers.items) }
+        ensures fails { IfOk result (λ answers. FailsWith self.old self.new answers.items) }
         ensures count { IfOk result (λ answers. length answers.items ≡ length calls.now) }
         ensures memory { IfErr result (λ fault. fault ≡ FtpError.OutOfMemory) }
         ensures unchanged { OnErr result (self.new ≡ self.old) }

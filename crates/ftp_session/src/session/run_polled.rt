@@ -4,6 +4,7 @@ ghost use Rattle.std.specs.Prelude.{◌≡◌, ◌<◌, ◌≤◌, ◌++◌, IfO
 ghost use Rattle.ftp_control.specs.Channel.{IsSound};
 ghost use Rattle.ftp_control.specs.Memory.{IsGiven};
 ghost use Rattle.ftp_session.specs.Coding.{chosen, coding_of};
+ghost use Rattle.ftp_session.specs.Promises.{FailsWith};
 ghost use Rattle.ftp_session.specs.Scripted.{IsScripted, Stops};
 ghost use Rattle.ftp_session.specs.Sound.{Sound, SoundCounts};
 ghost use Rattle.ftp_session.specs.Steps.Following.{FailedStays, Happens, IsFeed, PollsHere, StageIn, Starts, given_answer};
@@ -36,6 +37,8 @@ impl<K: Drop, E: Encoding, B: Drop> Session<MemoryTransport, K, E, B> {
         ensures memory { IfErr result (λ fault. fault ≡ FtpError.OutOfMemory) }
         ensures stops { OnErr result (Stops (chosen E.decoded E.encoded self.old.encoding.0)
             self.old.machine events.now self.new.machine) }
+        ensures fails { IfOk result (λ answers.
+            FailsWith self.old.machine self.new.machine answers.items) }
         ensures sound { Sound (Unit {0}) self.new.machine.channel
             self.new.machine.state.counts }
     {
@@ -59,6 +62,7 @@ impl Machine<MemoryTransport> {
         ensures scripted { IfOk result (λ answers.
             IsScripted (coding_of E.decoded E.encoded encoding.now) self.old events.now self.new
             answers.items) }
+        ensures fails { IfOk result (λ answers. FailsWith self.old self.new answers.items) }
         ensures memory { IfErr result (λ fault. fault ≡ FtpError.OutOfMemory) }
         ensures stops { OnErr result (Stops (coding_of E.decoded E.encoded encoding.now) self.old
             events.now self.new) }
@@ -86,6 +90,7 @@ impl Machine<MemoryTransport> {
         ensures unchanged { OnErr result ((self.new ≡ self.old) × IsFeed event.now) }
         ensures stage { StageIn (option_map (λ c. c.now) under_way.new) stage.new }
         ensures failed { IfOk result (λ answer. FailedStays self.old self.new answer) }
+        ensures fails { IfOk result (λ answer. FailsWith self.old self.new (given_answer answer)) }
         ensures happens { IfOk result (λ answer.
             Happens (coding_of E.decoded E.encoded encoding.now) self.old self.new
             (option_map (λ c. c.now) under_way.old) (option_map (λ c. c.now) under_way.new)
@@ -115,6 +120,7 @@ impl Machine<MemoryTransport> {
         requires { StageIn (option_map (λ c. c.now) under_way.old) stage.old }
         ensures stage { StageIn (option_map (λ c. c.now) under_way.new) stage.new }
         ensures failed { FailedStays self.old self.new result }
+        ensures fails { FailsWith self.old self.new (given_answer result) }
         ensures happens { Happens (coding_of E.decoded E.encoded encoding.now) self.old self.new
             (option_map (λ c. c.now) under_way.old) (option_map (λ c. c.now) under_way.new)
             stage.old stage.new Event.Poll result }

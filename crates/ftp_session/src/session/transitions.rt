@@ -7,9 +7,11 @@ ghost use Rattle.std.specs.Prelude.{◌≡◌, ◌<◌, true, false};
 ghost use Rattle.futures.specs.declared.task.Poll.TheVariants as poll;
 ghost use Rattle.ftp_control.specs.Told.{EndsAsTold};
 ghost use Rattle.ftp_session.specs.Coding.{Coding, coding_of};
+ghost use Rattle.ftp_session.specs.Dialogue.{Tree};
 ghost use Rattle.ftp_session.specs.Exchanges.{is_read};
+ghost use Rattle.ftp_session.specs.Link.{Link, link};
 ghost use Rattle.ftp_session.specs.Promises.{Rests};
-ghost use Rattle.ftp_session.specs.Steps.Moving.{Concludes, Made, PollSteps, Quiet, Steps, after_fault, wants_memory};
+ghost use Rattle.ftp_session.specs.Steps.Moving.{BeginsExchange, Concludes, HasBegun, Made, PollSteps, Quiet, Steps, Tracks, after_fault, wants_memory};
 ghost use Rattle.ftp_session.specs.Steps.Stages.{MayAnswer, PollAnswers, StageOf, StepAnswers, begun_at, nodes_left, remaining};
 
 use super::exchange::Turn;
@@ -47,13 +49,16 @@ impl<Tr: Network> Machine<Tr> {
         ensures answers { StepAnswers call.now result }
         ensures fewer { result ≡ Step.Next → nodes_left stage.new < nodes_left stage.old }
         ensures steps { let coding = coding_of E.decoded E.encoded encoding.now in
-            Steps Tr.Conn.tells (begun_at stage.old)
+            Steps (link Tr.Conn.tells Tr.Conn.read_faults Tr.Conn.write_faults) (begun_at stage.old)
             (remaining coding call.now self.old.state stage.old)
             (remaining coding call.now self.old.state stage.new) self.old self.new result }
         ensures quiet { Quiet (coding_of E.decoded E.encoded encoding.now) call.now stage.old
             stage.new self.old self.new result }
+        ensures begun { let coding = coding_of E.decoded E.encoded encoding.now in
+            Tracks (link Tr.Conn.tells Tr.Conn.read_faults Tr.Conn.write_faults) (begun_at stage.old) (begun_at stage.new)
+            (remaining coding call.now self.old.state stage.old) self.old self.new result }
         ensures rests { result ≡ Step.Pending → is_read call.now ≡ true →
-            Rests Tr.Conn.tells self.old self.new }
+            Rests (link Tr.Conn.tells Tr.Conn.read_faults Tr.Conn.write_faults) self.old self.new }
     {
         match mem::replace(stage, Stage::At(Turn::First)) {
             Stage::At(turn) => self.begin_exchange(alloc, encoding, call, turn, stage),
@@ -74,16 +79,11 @@ impl<Tr: Network> Machine<Tr> {
         requires going { self.old.channel.failed ≡ false }
         requires stage { StageOf call.now (Stage.At turn) }
         ensures stage { StageOf call.now stage.old → StageOf call.now stage.new }
-        ensures moves { result ≡ Step.Pending → ⊥ }
         ensures asked { self.new.asked ≡ self.old.asked }
         ensures end { self.new.channel.ended ≡ self.old.channel.ended }
         ensures answers { StepAnswers call.now result }
         ensures fewer { result ≡ Step.Next → nodes_left stage.new < nodes_left (Stage.At turn) }
-        ensures steps { let coding = coding_of E.decoded E.encoded encoding.now in
-            Steps Tr.Conn.tells (begun_at (Stage.At turn))
-            (remaining coding call.now self.old.state (Stage.At turn))
-            (remaining coding call.now self.old.state stage.new) self.old self.new result }
-        ensures quiet { Quiet (coding_of E.decoded E.encoded encoding.now) call.now (Stage.At turn)
+        ensures begins { BeginsExchange (coding_of E.decoded E.encoded encoding.now) call.now turn
             stage.new self.old self.new result }
     {
         match begin(alloc, encoding, call, turn) {
@@ -118,10 +118,12 @@ impl<Tr: Network> Machine<Tr> {
         ensures answers { (call : Call) → StepAnswers call result }
         ensures fewer { result ≡ Step.Next →
             nodes_left stage.new < nodes_left (Stage.Saying line awaits) }
-        ensures steps { (coding : Coding) (call : Call) → Steps Tr.Conn.tells awaits.begun
-            (remaining coding call self.old.state (Stage.Saying line awaits))
+        ensures steps { (coding : Coding) (call : Call) → Steps (link Tr.Conn.tells Tr.Conn.read_faults Tr.Conn.write_faults)
+            (begun_at (Stage.Saying line awaits)) (remaining coding call self.old.state (Stage.Saying line awaits))
             (remaining coding call self.old.state stage.new) self.old self.new result }
-        ensures begun { result ≡ Step.Next → begun_at stage.new ≡ true }
+        ensures goes_on { result ≡ Step.Next → begun_at stage.new ≡ true }
+        ensures begun { (tree : Tree) → Tracks (link Tr.Conn.tells Tr.Conn.read_faults Tr.Conn.write_faults) (begun_at (Stage.Saying line awaits))
+            (begun_at stage.new) tree self.old self.new result }
     {
         match self.say(&mut line, w) {
             Step::Next => {
@@ -160,11 +162,15 @@ impl<Tr: Network> Machine<Tr> {
             nodes_left stage.new < nodes_left (Stage.Hearing awaits) }
         ensures steps { (call : Call) →
             let coding = coding_of E.decoded E.encoded encoding.now in
-            Steps Tr.Conn.tells awaits.begun
+            Steps (link Tr.Conn.tells Tr.Conn.read_faults Tr.Conn.write_faults) awaits.begun
             (remaining coding call self.old.state (Stage.Hearing awaits))
             (remaining coding call self.old.state stage.new) self.old self.new result }
-        ensures begun { result ≡ Step.Next → begun_at stage.new ≡ true }
-        ensures rests { result ≡ Step.Pending → Rests Tr.Conn.tells self.old self.new }
+        ensures goes_on { result ≡ Step.Next → begun_at stage.new ≡ true }
+        ensures begun { (call : Call) →
+            let coding = coding_of E.decoded E.encoded encoding.now in
+            Tracks (link Tr.Conn.tells Tr.Conn.read_faults Tr.Conn.write_faults) awaits.begun (begun_at stage.new)
+            (remaining coding call self.old.state (Stage.Hearing awaits)) self.old self.new result }
+        ensures rests { result ≡ Step.Pending → Rests (link Tr.Conn.tells Tr.Conn.read_faults Tr.Conn.write_faults) self.old self.new }
     {
         match self.hear_codes(alloc, &awaits.hears, w) {
             Poll::Ready(Ok(reply)) => self.accept_reply(alloc, encoding, awaits, reply, stage),
@@ -200,7 +206,7 @@ impl<Tr: Network> Machine<Tr> {
         ensures concludes { (call : Call) →
             let coding = coding_of E.decoded E.encoded encoding.now in
             Concludes coding call awaits reply stage.new self.old self.new result }
-        ensures begun { result ≡ Step.Next → begun_at stage.new ≡ true }
+        ensures goes_on { result ≡ Step.Next → begun_at stage.new ≡ true }
     {
         match accept(alloc, encoding, awaits.ending, reply, &mut self.state) {
             Ok(Accepted::Done(answer)) => Step::Done(answer),
@@ -247,9 +253,13 @@ impl<Tr: Network> Machine<Tr> {
             EndsAsTold self.old.channel.ended self.new.channel.ended self.old.channel.told }
         ensures answers { PollAnswers call.now result }
         ensures rests { result ≡ poll.Pending → is_read call.now ≡ true →
-            Rests Tr.Conn.tells self.old self.new }
+            Rests (link Tr.Conn.tells Tr.Conn.read_faults Tr.Conn.write_faults) self.old self.new }
+        ensures begun { result ≡ poll.Pending →
+            let coding = coding_of E.decoded E.encoded encoding.now in
+            HasBegun (link Tr.Conn.tells Tr.Conn.read_faults Tr.Conn.write_faults) (begun_at stage.old) (begun_at stage.new)
+            (remaining coding call.now self.old.state stage.old) self.old self.new }
         ensures polls { let coding = coding_of E.decoded E.encoded encoding.now in
-            PollSteps Tr.Conn.tells (begun_at stage.old)
+            PollSteps (link Tr.Conn.tells Tr.Conn.read_faults Tr.Conn.write_faults) (begun_at stage.old)
             (remaining coding call.now self.old.state stage.old)
             (remaining coding call.now self.old.state stage.new) self.old self.new result }
     {
@@ -267,7 +277,7 @@ impl<Tr: Network> Machine<Tr> {
     where
         Tr::Conn: Conn,
         ensures answers { MayAnswer call.now result }
-        ensures made { Made Tr.Conn.tells (coding_of E.decoded E.encoded encoding.now) call.now
+        ensures made { Made (link Tr.Conn.tells Tr.Conn.blocking_read_faults Tr.Conn.blocking_write_faults) (coding_of E.decoded E.encoded encoding.now) call.now
             self.old self.new result }
     {
         if self.channel.failed() {
@@ -297,11 +307,15 @@ impl<Tr: Network> Machine<Tr> {
             (result ≡ poll.Ready (Answer.Fault FtpError.SessionFailed)) × (self.new ≡ self.old) }
         ensures polls { self.old.channel.failed ≡ false →
             let coding = coding_of E.decoded E.encoded encoding.now in
-            PollSteps Tr.Conn.tells (begun_at stage.old)
+            PollSteps (link Tr.Conn.tells Tr.Conn.read_faults Tr.Conn.write_faults) (begun_at stage.old)
             (remaining coding call.now self.old.state stage.old)
             (remaining coding call.now self.old.state stage.new) self.old self.new result }
         ensures rests { result ≡ poll.Pending → is_read call.now ≡ true →
-            Rests Tr.Conn.tells self.old self.new }
+            Rests (link Tr.Conn.tells Tr.Conn.read_faults Tr.Conn.write_faults) self.old self.new }
+        ensures begun { result ≡ poll.Pending →
+            let coding = coding_of E.decoded E.encoded encoding.now in
+            HasBegun (link Tr.Conn.tells Tr.Conn.read_faults Tr.Conn.write_faults) (begun_at stage.old) (begun_at stage.new)
+            (remaining coding call.now self.old.state stage.old) self.old self.new }
         ensures asked { self.new.asked ≡ self.old.asked }
         ensures end { Tr.Conn.tells → Tr.Conn.may_wait →
             EndsAsTold self.old.channel.ended self.new.channel.ended self.old.channel.told }

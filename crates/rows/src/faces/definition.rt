@@ -38,6 +38,7 @@ fn first_script(alloc: Global) -> Script {
         bytes: Bytes::new(alloc),
         ended: false,
         room: Room::Any,
+        said: Bytes::new(alloc),
         sent: Bytes::new(alloc),
         unsent: Bytes::new(alloc),
         untaken: Bytes::new(alloc),

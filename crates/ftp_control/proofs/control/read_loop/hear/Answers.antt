@@ -1,6 +1,6 @@
-use Rattle.std.proofs.Common.{◌≡◌, ◌<◌, ◌+◌, ◌-◌, ◌++◌, ◌∷◌, [], length, length-append, cond, arith, ◌∙◌, ap}
+use Rattle.std.proofs.Common.{rules, ◌≡◌, ◌<◌, ◌+◌, ◌-◌, ◌++◌, ◌∷◌, [], length, length-append, cond, arith, ◌∙◌, ap}
 use Rattle.ftp_control.proofs.Outcomes.{too_little}
-use Rattle.ftp_control.proofs.ReadLoop.{fails_hears, memory_hears, end_settles}
+use Rattle.ftp_control.proofs.ReadLoop.{byte_settles, fails_hears, memory_hears, end_settles}
 use Rattle.ftp_control.proofs.control.read_loop.hear.Goals as goal
 
 pub returns-then-is_err-clause-heard : goal.returns-then-is_err-clause-heard
@@ -30,3 +30,19 @@ pub returns-clause-heard : goal.returns-clause-heard
 returns-clause-heard g c =
     rw c.loop-ended-test.false
     (end_settles _ _ _ _ _ _ _ (rw c.loop-ended-test.false at c.loop-ended.invariant.so_far) _ _ c.take_end.ensures.settled c.take_end.ensures.outcome c.take_end.ensures.all)
+
+pub returns-in_default : goal.returns-in_default
+returns-in_default g c =
+    let loop = c.loop-ended.invariant in
+    let outcome = rw c.reserve.ensures.items at c.take_byte.ensures.outcome in
+    let all = rw c.reserve.ensures.items at c.take_byte.ensures.all in
+    let told = rw (c.in-Ok-Ready-Some.field-0-is, c.in-Ok-Ready-Some.field-0-0-is) at c.in-Ok-Ready-Some.ensures.told in
+    record {
+      under_way = c.take_byte.ensures.under_way;
+      known = search rules;
+      waits = search rules;
+      end = loop.end;
+      fault = tt;
+      given = λ h is. c.poll_byte.ensures.given h (loop.given h is);
+      heard = rw c.loop-ended-test.true (byte_settles _ _ _ _ _ _ _ (rw c.loop-ended-test.true at loop.so_far) _ c.in-Ok-Ready-Some.byte c.take_byte.result _ c.in_default.not-Waits outcome all told);
+    }

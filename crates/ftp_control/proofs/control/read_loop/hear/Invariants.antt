@@ -1,6 +1,7 @@
 use Rattle.std.proofs.Common.{◌≡◌, ◌-◌, length, cond}
 use Rattle.ftp_control.specs.Inside.ReadLoop.{says_of, CanSeek}
 use Rattle.ftp_control.specs.Inside.UnderWay.{IsUnderWay}
+use Rattle.ftp_control.specs.Memory.{IsGiven}
 use Rattle.ftp_control.specs.Told.{EndsAsTold}
 use Rattle.ftp_control.proofs.ReadLoop.{SoFar}
 use Rattle.ftp_control.proofs.control.read_loop.hear.Given as goal
@@ -13,6 +14,7 @@ invariant-loop-ended g l =
       under_way : IsUnderWay l.rule l.reply.bytes.items l.reply.line_start;
       can_seek : CanSeek l.sought l.reply.bytes.items;
       known : g.C.Tells.tells → (told l.conn).ended ≡ l.ended;
+      given : g.C.Tells.tells → IsGiven (told l.fn.conn) → IsGiven (told l.conn);
       end : g.C.Tells.tells → g.C.PollConn.may_wait → EndsAsTold l.fn.ended l.ended (told l.fn.conn);
       so_far : SoFar g.C.Tells.tells (says_of l.rule l.sought) l.fn.reply.bytes.items l.reply.bytes.items l.fn.ended l.ended (told l.fn.conn) (told l.conn);
     }

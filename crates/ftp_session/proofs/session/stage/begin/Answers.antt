@@ -1,4 +1,4 @@
-use Rattle.std.proofs.Common.{◌≡◌, ◌∙◌, sym, subst, Ok, Err, true, false}
+use Rattle.std.proofs.Common.{◌≡◌, subst, Ok, Err, true, false}
 use Rattle.std.specs.Prelude.{Result}
 use Rattle.ftp_base.specs.declared.types.fault.FtpError.{FtpError}
 use Rattle.ftp_session.specs.declared.session.call.Call.{Call}

@@ -17,6 +17,8 @@ pub returns-clause-reads : goal.returns-clause-reads
 returns-clause-reads g c = λ failed none. rw (← c.self.view_is) (record {
   result = c.hear-heard.result;
   reads = reads_line _ _ _ _ refl refl (rw c.fails-self-inside.ensures) c.self.invariant.under_way.waits (starts_no_line _ _ c.self.invariant.under_way.split c.if-self-ne0.false) c.hear-heard.ensures.heard;
+  fault = c.hear-heard.ensures.fault;
+  given = c.hear-heard.ensures.given;
   is = c.answer.ensures;
 })
 

@@ -1,5 +1,5 @@
-use Rattle.std.proofs.Common.{◌∙◌, inl}
-use Rattle.ftp_session.proofs.Transitions.{nothing_so_far, next_step, last_step, waits_step, rests_from, end_on}
+use Rattle.std.proofs.Common.{inl}
+use Rattle.ftp_session.proofs.Transitions.{nothing_so_far, next_step, last_step, waits_step, begun_on, end_on}
 use Rattle.ftp_session.proofs.session.machine.Machine.poll_call.Goals as goal
 
 pub loop-answer-init : goal.loop-answer-init
@@ -10,8 +10,9 @@ loop-answer-preserved g c =
     let so_far = c.loop-answer.invariant.so_far in
     let made = rw c.in-Next.is at c.step.ensures.steps in
     let quiet = rw c.in-Next.is at c.step.ensures.quiet in
+    let begun = rw c.in-Next.is at c.step.ensures.begun in
     record {
-      so_far = next_step _ _ _ _ _ _ _ so_far c.step.new.stage c.step.new.self made quiet c.step.ensures.stage c.step.ensures.asked;
+      so_far = next_step _ _ _ _ _ _ _ so_far c.step.new.stage c.step.new.self made quiet begun c.step.ensures.stage c.step.ensures.asked;
       end = λ h may. end_on c.args.self.now.channel.ended c.loop-answer.self.channel.ended c.step.new.self.channel.ended c.args.self.now.channel.told c.loop-answer.self.channel.told (so_far.moved.moves.leads.goes.given h) (c.loop-answer.invariant.end h may) (c.step.ensures.end h may);
     }
 
@@ -19,6 +20,12 @@ pub returns-in-Pending-clause-polls : goal.returns-in-Pending-clause-polls
 returns-in-Pending-clause-polls g c =
     let made = rw c.in-Pending.is at c.step.ensures.steps in
     waits_step _ _ _ _ _ _ _ c.loop-answer.invariant.so_far c.step.new.stage c.step.new.self made
+
+pub returns-in-Pending-clause-begun : goal.returns-in-Pending-clause-begun
+returns-in-Pending-clause-begun g c = λ waits.
+    let made = rw c.in-Pending.is at c.step.ensures.steps in
+    let begun = rw c.in-Pending.is at c.step.ensures.begun in
+    begun_on _ _ _ _ _ _ _ c.loop-answer.invariant.so_far c.step.new.stage c.step.new.self made.0.moves begun
 
 pub returns-in-Done-clause-polls : goal.returns-in-Done-clause-polls
 returns-in-Done-clause-polls g c =

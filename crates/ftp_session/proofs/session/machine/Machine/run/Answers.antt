@@ -1,11 +1,11 @@
 use Rattle.std.proofs.Common.{◌≡◌, ◌++◌, ◌∷◌, [], length, length-append, inl, ap, ◌∙◌, arith}
-use Rattle.ftp_session.proofs.Running.{ran_nothing, next_of, all_of}
+use Rattle.ftp_session.proofs.Running.{fails_more, made_fails, ran_nothing, next_of, all_of}
 use Rattle.ftp_session.proofs.session.machine.Machine.run.Goals as goal
 
 pub loop-call-init : goal.loop-call-init
 loop-call-init g c =
     let made = c.in_ok-answers.ensures in
-    record { so_far = inl (rw made.items (ran_nothing _ _ _ _)); count = ap length made.items; room = made.capacity }
+    record { so_far = inl (rw made.items (ran_nothing _ _ _ _)); fails = λ failed. inl failed; count = ap length made.items; room = made.capacity }
 
 pub loop-call-preserved : goal.loop-call-preserved
 loop-call-preserved g c =
@@ -14,6 +14,7 @@ loop-call-preserved g c =
     let longer = ap length pushed ∙ length-append c.loop-call.answers.items (c.call-answer.result ∷ []) in
     record {
       so_far = next_of _ _ c.args.calls.now c.loop-call.call-index c.call-item.result _ _ _ _ _ _ c.loop-call-test.true c.call-item.is pushed held.so_far c.call-answer.ensures.made;
+      fails = fails_more c.args.self.now c.loop-call.self c.call-answer.new.self c.loop-call.answers.items (c.call-answer.result ∷ []) _ pushed held.fails (made_fails _ _ _ _ _ _ c.call-answer.ensures.made);
       count = omega (arith, longer, held.count);
       room = omega (arith, held.room, c.push.ensures.capacity);
     }

@@ -1,5 +1,25 @@
 use Rattle.ftp_session.specs.Coding.{coding_of}
+use Rattle.ftp_session.specs.Link.{link}
+use Rattle.ftp_session.specs.Dialogue.{from_turn}
+use Rattle.ftp_session.specs.Steps.Stages.{remaining}
+use Rattle.ftp_session.specs.declared.session.stage.Stage.TheVariants.{Saying}
+use Rattle.ftp_session.proofs.Transitions.{exchange_begins, exchange_is_quiet, exchange_tracks}
 use Rattle.ftp_session.proofs.session.machine.Machine.step.Goals as goal
+
+pub returns-in-At-clause-steps : goal.returns-in-At-clause-steps
+returns-in-At-clause-steps g c =
+    let is = c.in-At.ensures.value in
+    rw (← is) (exchange_begins _ _ c.args.call.now c.in-At.turn _ _ _ _ c.requires.going c.begin_exchange.ensures.begins)
+
+pub returns-in-At-clause-quiet : goal.returns-in-At-clause-quiet
+returns-in-At-clause-quiet g c =
+    let is = c.in-At.ensures.value in
+    rw (← is) (exchange_is_quiet _ c.args.call.now c.in-At.turn _ _ _ _ c.begin_exchange.ensures.begins)
+
+pub returns-in-At-clause-begun : goal.returns-in-At-clause-begun
+returns-in-At-clause-begun g c =
+    let is = c.in-At.ensures.value in
+    rw (← is) (exchange_tracks (link g.Tr.Conn.Tells.tells g.Tr.Conn.PollConn.read_faults g.Tr.Conn.PollConn.write_faults) (coding_of g.E.Encoding.decoded g.E.Encoding.encoded c.args.encoding.now) c.args.call.now c.in-At.turn _ (from_turn (coding_of g.E.Encoding.decoded g.E.Encoding.encoded c.args.encoding.now) c.args.call.now c.in-At.turn c.args.self.now.state) _ _ _ c.begin_exchange.ensures.begins)
 
 pub returns-in-Saying-clause-answers : goal.returns-in-Saying-clause-answers
 returns-in-Saying-clause-answers g c = c.say_line.ensures.answers c.args.call.now
@@ -9,7 +29,17 @@ returns-in-Saying-clause-steps g c =
     let is = c.in-Saying.ensures.value in
     rw (← is) (c.say_line.ensures.steps (coding_of g.E.Encoding.decoded g.E.Encoding.encoded c.args.encoding.now) c.args.call.now)
 
+pub returns-in-Saying-clause-begun : goal.returns-in-Saying-clause-begun
+returns-in-Saying-clause-begun g c =
+    let is = c.in-Saying.ensures.value in
+    rw (← is) (c.say_line.ensures.begun (remaining (coding_of g.E.Encoding.decoded g.E.Encoding.encoded c.args.encoding.now) c.args.call.now c.args.self.now.state (Saying c.in-Saying.line c.in-Saying.awaits)))
+
 pub returns-in-Hearing-clause-steps : goal.returns-in-Hearing-clause-steps
 returns-in-Hearing-clause-steps g c =
     let is = c.in-Hearing.ensures.value in
     rw (← is) (c.hear_reply.ensures.steps c.args.call.now)
+
+pub returns-in-Hearing-clause-begun : goal.returns-in-Hearing-clause-begun
+returns-in-Hearing-clause-begun g c =
+    let is = c.in-Hearing.ensures.value in
+    rw (← is) (c.hear_reply.ensures.begun c.args.call.now)

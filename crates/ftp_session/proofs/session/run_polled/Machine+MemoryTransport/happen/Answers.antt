@@ -5,7 +5,7 @@ use Rattle.ftp_session.specs.declared.session.call.Event.{Event}
 use Rattle.ftp_session.specs.declared.session.call.Event.TheVariants as event
 use Rattle.ftp_session.specs.Coding.{Coding, coding_of}
 use Rattle.ftp_session.specs.Script.{start_of, IsLawful}
-use Rattle.ftp_session.proofs.Events.{through, happened, stayed, feeds, ends, widens, starts, cancels, fed_failures}
+use Rattle.ftp_session.proofs.Events.{through, happened, stayed, feeds, ends, widens, starts, cancels, fed_failures, still_fails}
 use Rattle.ftp_session.proofs.session.run_polled.Machine+MemoryTransport.happen.Goals.{in-Feed+in_ok-feed-in-Feed, in-End, in-Room, in-Start, in-Cancel, in-Leave}
 use Rattle.ftp_session.proofs.session.run_polled.Machine+MemoryTransport.happen.Goals as goal
 
@@ -41,7 +41,7 @@ returns-clause-happens g c = λ old s answers follows may.
           inl (happened coding old s z c.args.event.now (event.Start w.in-Start.call) _ _ _ _ answers w.in-Start.is same w.stage-is (stayed coding old _ v z _ _ answers w.self-is begun))
           )
       | in-Cancel w ↦ (
-          let L : Event → Type 0 = λ e. IsLawful (start_of old) s e in
+          let L : Event → Type 0 = λ e. IsLawful coding (start_of old) s e in
           let none = ap (λ o. option_map (λ c'. c'.now) o) w.under_way-is in
           let dropped = cancels coding old s v _ _ c.args.stage.now answers follows (subst L w.in-Cancel.is may) in
           inl (happened coding old s z c.args.event.now event.Cancel None _ _ _ answers w.in-Cancel.is none w.stage-is (stayed coding old _ v z None c.args.stage.now answers w.self-is dropped))
@@ -77,4 +77,31 @@ returns-clause-failed g c = λ failed.
       | in-Start w ↦ (ap (λ x. x.channel.failed) w.self-is ∙ failed, ap (λ x. x.channel.told.failures) w.self-is, tt)
       | in-Cancel w ↦ (ap (λ x. x.channel.failed) w.self-is ∙ failed, ap (λ x. x.channel.told.failures) w.self-is, tt)
       | in-Leave w ↦ (ap (λ x. x.channel.failed) w.self-is ∙ failed, ap (λ x. x.channel.told.failures) w.self-is, tt)
+    ]
+
+pub returns-clause-fails : goal.returns-clause-fails
+returns-clause-fails g c =
+    let coding : Coding = coding_of g.E.Encoding.decoded g.E.Encoding.encoded c.args.encoding.now in
+    let v = c.args.self.now in
+    let z = c.match-event.self in
+    elim c.match-event.branch [
+      | in-Feed+in_ok-feed-in-Feed w ↦ (
+          let ok = rw (w.in_ok-feed-in-Feed.was, w.as_slice.ensures) at w.feed.ensures.ok in
+          let F : Channel → Channel = λ x. record x { told = fed w.in-Feed.bytes x.told } in
+          let is = through coding F v z w.self.inside.channel w.feed.new.self w.self.inside.state _ w.self.view_is w.self-is ok in
+          still_fails coding v z (ap (λ x. x.channel.failed) is)
+          )
+      | in-End w ↦ (
+          let F : Channel → Channel = λ x. record x { told = closed_memory x.told } in
+          let is = through coding F v z w.self-in-End.inside.channel w.end_input.new.self w.self-in-End.inside.state _ w.self-in-End.view_is w.self-is w.end_input.ensures in
+          still_fails coding v z (ap (λ x. x.channel.failed) is)
+          )
+      | in-Room w ↦ (
+          let F : Channel → Channel = λ x. record x { told = widened w.in-Room.more x.told } in
+          let is = through coding F v z w.self-in-Room.inside.channel w.allow.new.self w.self-in-Room.inside.state _ w.self-in-Room.view_is w.self-is w.allow.ensures in
+          still_fails coding v z (ap (λ x. x.channel.failed) is)
+          )
+      | in-Start w ↦ still_fails coding v z (ap (λ x. x.channel.failed) w.self-is)
+      | in-Cancel w ↦ still_fails coding v z (ap (λ x. x.channel.failed) w.self-is)
+      | in-Leave w ↦ still_fails coding v z (ap (λ x. x.channel.failed) w.self-is)
     ]

@@ -1,6 +1,7 @@
-use Rattle.std.proofs.Common.{length, length-append, option_map, None, refl, ap, ◌∙◌, arith}
+use Rattle.std.proofs.Common.{inl, length, length-append, option_map, None, refl, ap, ◌∙◌, arith}
 use Rattle.ftp_session.specs.Coding.{Coding, coding_of}
 use Rattle.ftp_session.specs.Steps.Following.{given_answer}
+use Rattle.ftp_session.proofs.Running.{fails_more}
 use Rattle.ftp_session.proofs.Scripts.{starts_script, next_event, all_events, stops_at, on_err, at_most_one}
 use Rattle.ftp_session.proofs.session.run_polled.Machine+MemoryTransport.let_happen.Goals as goal
 
@@ -10,6 +11,7 @@ loop-event-init g c =
     let made = c.in_ok-answers.ensures in
     record {
       stage = tt;
+      fails = λ failed. inl failed;
       count = omega (arith, ap length made.items);
       room = made.capacity;
       so_far = λ depth. rw made.items (starts_script coding depth c.args.self.now None _ refl c.requires.given c.requires.sound);
@@ -23,6 +25,7 @@ loop-event-preserved g c =
     let longer = ap length noted.items ∙ length-append c.loop-event.answers.items (given_answer c.in_ok-answer.answer) in
     record {
       stage = c.happen.ensures.stage;
+      fails = fails_more c.args.self.now c.loop-event.self c.happen.new.self c.loop-event.answers.items (given_answer c.in_ok-answer.answer) c.note.new.answers.items noted.items held.fails c.in_ok-answer.ensures.fails;
       count = omega (arith, longer, held.count, at_most_one coding c.in_ok-answer.answer);
       room = omega (arith, held.room, noted.room);
       so_far = λ depth. next_event coding depth c.args.self.now c.args.events.now c.loop-event.event-index c.event-item.result c.loop-event.self c.happen.new.self _ _ c.loop-event.stage c.happen.new.stage c.loop-event.answers.items c.note.new.answers.items c.in_ok-answer.answer c.loop-event-test.true c.event-item.is noted.items c.in_ok-answer.ensures.failed c.in_ok-answer.ensures.happens (held.so_far depth);

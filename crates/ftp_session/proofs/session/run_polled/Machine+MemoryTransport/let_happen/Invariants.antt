@@ -1,6 +1,7 @@
 use Rattle.std.proofs.Common.{ℕ, ◌≤◌, option_map, length, take, vec_capacity}
 use Rattle.ftp_session.specs.Coding.{coding_of}
 use Rattle.ftp_session.specs.Steps.Following.{StageIn}
+use Rattle.ftp_session.specs.Promises.{FailsWith}
 use Rattle.ftp_session.proofs.Scripts.{Happened}
 use Rattle.ftp_session.proofs.session.run_polled.Machine+MemoryTransport.let_happen.Given as goal
 
@@ -10,6 +11,7 @@ invariant-loop-event g l =
     record {
       stage : StageIn (option_map (λ c. c.now) l.under_way) l.stage;
       count : length l.answers.items ≤ l.event-index;
+      fails : FailsWith l.fn.self l.self l.answers.items;
       room : length l.events ≤ vec_capacity l.answers;
       so_far : (depth : ℕ) → Happened (coding_of g.E.Encoding.decoded g.E.Encoding.encoded l.encoding) depth l.fn.self (take l.event-index l.events) l.self (option_map (λ c. c.now) l.under_way) l.stage l.answers.items;
     }

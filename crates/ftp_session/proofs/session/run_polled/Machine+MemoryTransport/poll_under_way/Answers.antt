@@ -1,6 +1,7 @@
 use Rattle.std.proofs.Common.{ap, inl, refl, option_map}
+use Rattle.futures.specs.declared.task.Poll.TheVariants.{Ready, Pending}
 use Rattle.ftp_session.specs.Coding.{Coding, coding_of}
-use Rattle.ftp_session.proofs.Events.{at_poll, polled_ready, polled_pending}
+use Rattle.ftp_session.proofs.Events.{polls_here_fail, at_poll, polled_ready, polled_pending}
 use Rattle.ftp_session.proofs.session.run_polled.Machine+MemoryTransport.poll_under_way.Goals as goal
 
 pub returns-in-Ready-clause-happens : goal.returns-in-Ready-clause-happens
@@ -16,3 +17,13 @@ returns-in-Pending-clause-happens g c = λ old s answers follows may.
     let polled = rw c.in-Pending.is at c.poll_here.ensures.polled in
     let call = ap (λ o. option_map (λ c'. c'.now) o) c.in-Some.is in
     inl (polled_pending coding old s c.args.self.now c.poll_here.new.self (option_map (λ c'. c'.now) c.args.under_way.now) c.in-Some.call.now c.args.stage.now c.poll_here.new.stage answers call follows may polled)
+
+pub returns-in-Ready-clause-fails : goal.returns-in-Ready-clause-fails
+returns-in-Ready-clause-fails g c =
+    let polled = rw c.in-Ready.is at c.poll_here.ensures.polled in
+    polls_here_fail _ _ _ _ _ _ (Ready c.in-Ready.answer) polled
+
+pub returns-in-Pending-clause-fails : goal.returns-in-Pending-clause-fails
+returns-in-Pending-clause-fails g c =
+    let polled = rw c.in-Pending.is at c.poll_here.ensures.polled in
+    polls_here_fail _ _ _ _ _ _ Pending polled

@@ -1,0 +1,33 @@
+//! A first client: it logs in to the server whose address is its first word, as `192.0.2.7:21`, and prints what the
+//! server says that it is.
+#![tactic(auto)]
+
+mod ask;
+mod listing;
+
+use std::process::ExitCode;
+use std::rt::Env;
+use std::{env, io};
+
+fn main(rt: HostRuntime) -> ExitCode {
+    match words(&rt) {
+        Ok(words) if words.len() == 1 => ask::print_system(&rt, words[0].as_str()),
+        Ok(words) if words.len() == 2 && words[0].as_str() == "entry" => listing::print_entry(
+            &rt,
+            words[1].as_str(),
+        ),
+        _ => {
+            let _ = rt.eprintln("usage: examples ADDRESS | examples entry LINE");
+            ExitCode::from(2)
+        }
+    }
+}
+
+/// The words that the program was called with, after its own name.
+fn words<R: Env + AllocGlobal>(rt: &R) -> io::Result<Vec<String>> {
+    let mut words = Vec::new(rt.alloc());
+    for word in env::args(rt)?.skip(1) {
+        words.push(word)?;
+    }
+    Ok(words)
+}

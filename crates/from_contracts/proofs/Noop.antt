@@ -1,0 +1,131 @@
+-- A greeting and a NOOP, from contracts alone.
+use Rattle.std.proofs.Common.{length, ◌≡◌, ◌⊎◌, ℕ, Bool, false, List, [], ◌∷◌, ◌++◌, Ok, inl, inr, refl, ap, sym, ◌∙◌, subst}
+use Rattle.std.specs.declared.io.ErrorKind.{ErrorKind}
+use Rattle.std.specs.declared.io.ErrorKind.TheVariants as kinds
+use Rattle.ftp_base.specs.declared.types.fault.FtpError.{FtpError}
+use Rattle.ftp_base.specs.declared.types.fault.FtpError.TheVariants.{ConnectionError}
+use Rattle.ftp_base.specs.declared.types.fault.ConnectionError.TheVariants.{Io}
+use Rattle.ftp_base.specs.Command.{text_of, words_of}
+use Rattle.ftp_control.specs.declared.control.rule.ReplyRule.{ReplyRule}
+use Rattle.ftp_control.specs.declared.control.rule.ReplyRule.TheVariants.{Lenient}
+use Rattle.ftp_control.specs.declared.transport.room.Room.TheVariants.{Any}
+use Rattle.ftp_control.specs.declared.transport.request.Request.{Request}
+use Rattle.ftp_control.specs.declared.transport.request.RequestOutcome.{RequestOutcome}
+use Rattle.ftp_control.specs.Asking.{outcomes_of}
+use Rattle.ftp_control.specs.Told.{IsFull, HasNoRoom}
+use Rattle.ftp_control.specs.declared.transport.room.Room.{Room}
+use Rattle.ftp_control.specs.Memory.{IsGiven, fresh_memory, fed}
+use Rattle.ftp_control.specs.Channel.{IsSound, untaken}
+use Rattle.ftp_control.specs.Reading.{GoesOn}
+use Rattle.ftp_control.specs.Grammar.{outcome}
+use Rattle.ftp_session.specs.declared.session.state.State.{State}
+use Rattle.ftp_session.specs.declared.session.call.Answer.{Answer}
+use Rattle.ftp_session.specs.declared.session.call.Answer.TheVariants.{Unit as Done}
+use Rattle.ftp_session.specs.declared.session.call.Call.{Call}
+use Rattle.ftp_session.specs.declared.session.call.Call.TheVariants.{Greet, Noop}
+use Rattle.ftp_session.specs.declared.model.Standing.{Standing}
+use Rattle.ftp_session.specs.declared.model.Ran.{Ran}
+use Rattle.ftp_session.specs.declared.model.Ran.TheVariants.{Finished, Waiting}
+use Rattle.ftp_session.specs.Link.{Link}
+use Rattle.ftp_session.specs.Coding.{Coding}
+use Rattle.ftp_session.specs.Calls.{Begins}
+use Rattle.ftp_session.specs.State.{SessionValue}
+use Rattle.ftp_session.specs.Dialogue.{Tree, Say, Hear, Ask, Leaf, dialogue}
+use Rattle.ftp_session.specs.Play.{play}
+use Rattle.ftp_session.specs.Run.{run, OneView}
+use Rattle.ftp_session.specs.Promises.{standing, Runs, RunsTo, RunAborts, Fails, LacksMemory, MayFailAt}
+use Rattle.ftp_session.proofs.Running.{nothing_views}
+use Rattle.from_contracts.specs.Aborted.{MayAbort, WasAborted}
+
+-- `220 r` and `200 ok`
+abbrev pub server : List ℕ
+server = 50 ∷ 50 ∷ 48 ∷ 32 ∷ 114 ∷ 13 ∷ 10 ∷ 50 ∷ 48 ∷ 48 ∷ 32 ∷ 111 ∷ 107 ∷ 13 ∷ 10 ∷ []
+
+-- texts go out as they are
+abbrev pub as_it_is : (List ℕ → List ℕ) → Coding
+as_it_is decode = record { decode = decode; encode = λ text. Ok text }
+
+-- a blocking connection over memory
+abbrev pub over_memory : Link
+over_memory = record { tells = Unit {0}; reads = λ kind. ⊥; writes = λ told kind. (kind ≡ kinds.OutOfMemory) ⊎ ((kind ≡ kinds.WouldBlock) × IsFull told) }
+
+abbrev answers_of : Ran → List Answer
+answers_of (Finished answers s) = answers
+answers_of (Waiting answers wait s) = answers
+
+-- what the definition says of these bytes
+played : (decode : List ℕ → List ℕ) (state : State) (said unsent : List ℕ) (asked : List Request) (outcomes : List RequestOutcome) (ended : Bool) → answers_of (run Any (as_it_is decode) (Greet ∷ Noop ∷ []) (record { state = state; failed = false; rule = Lenient; said = said; unsent = unsent; asked = asked; bytes = server; ended = ended; outcomes = outcomes })) ≡ Done ∷ Done ∷ []
+unfolding run play outcome text_of words_of
+played decode state said unsent asked outcomes ended = refl
+
+lenient : (rule : ReplyRule) → rule ≡ Lenient
+lenient Lenient = refl
+
+module _ (decode : List ℕ → List ℕ) (old new : SessionValue) (answers : List Answer) (begins : Begins (Unit {0}) (fed server fresh_memory) [] old) (given : IsGiven new.channel.told) (sound : IsSound (Unit {0}) new.channel) where
+  abbrev calls : List Call
+  calls = Greet ∷ Noop ∷ []
+
+  -- where a run of these bytes begins
+  abbrev begin_at : List RequestOutcome → Bool → ReplyRule → List ℕ → Standing
+  begin_at outcomes failed rule bytes = record (standing old [] new.channel.ended outcomes) { failed = failed; rule = rule; bytes = bytes }
+
+  -- all bytes that were fed came
+  all_came : (runs : RunsTo over_memory (as_it_is decode) calls old new answers) → untaken old.channel ++ (runs.came ++ given.ahead) ≡ server
+  all_came runs =
+      let none : untaken old.channel ≡ [] = ap (λ k. k ++ old.channel.ahead) begins.idle.kept ∙ begins.idle.ahead in
+      let received : new.channel.told.received ≡ runs.came = runs.goes.received tt ∙ ap (λ t. t.received ++ runs.came) (begins.told tt) in
+      let bytes : new.channel.told.given.bytes ≡ server = ap (λ g. g.bytes) (runs.goes.given tt) ∙ ap (λ t. t.given.bytes) (begins.told tt) in
+      ap (λ u. u ++ (runs.came ++ given.ahead)) none ∙ ap (λ c. c ++ given.ahead) (sym received) ∙ sym given.front ∙ bytes
+
+  -- a run that came to its end
+  finished : RunsTo over_memory (as_it_is decode) calls old new answers → answers ≡ Done ∷ Done ∷ []
+  finished runs =
+      let coding = as_it_is decode in
+      let outcomes = outcomes_of runs.answered ++ [] in
+      let one_view : old.channel.failed ≡ false → OneView old.channel.rule old.channel.kept coding calls = λ going. (let P : List ℕ → Type 0 = λ k. OneView old.channel.rule k coding calls in subst P (sym begins.idle.kept) (nothing_views coding old.channel.rule calls)) in
+      let on : GoesOn new.channel.ended given.ahead new.channel.ended = record { nothing = λ e. given.over (sound.ended tt ∙ e); over = λ e. e } in
+      let there = runs.runs tt one_view Any given.ahead new.channel.ended [] tt on in
+      let F : Standing → List Answer = λ s. answers_of (run Any coding calls s) in
+      let B : Bool → ReplyRule → List ℕ → List Answer = λ f r b. F (begin_at outcomes f r b) in
+      let bytes = untaken old.channel ++ (runs.came ++ given.ahead) in
+      sym (ap answers_of there)
+      ∙ ap (λ f. B f old.channel.rule bytes) begins.idle.failed
+      ∙ ap (λ r. B false r bytes) (lenient old.channel.rule)
+      ∙ ap (λ b. B false Lenient b) (all_came runs)
+      ∙ played decode old.state old.channel.told.sent old.channel.unsent _ outcomes new.channel.ended
+
+  aborted : RunAborts over_memory (as_it_is decode) calls [] old new answers → WasAborted answers
+  aborted broke = record {
+    first = broke.first;
+    later = broke.later;
+    fault = broke.fault;
+    is = broke.answers_are;
+    cause = let same : broke.fault ≡ broke.aborts.fault = cc broke.aborts.is in (let P : FtpError → Type 0 = MayAbort in subst P (sym same) (may broke.aborts.cause));
+  }
+    where
+      -- there is room for any number of bytes
+      room : broke.aborts.at.channel.told.given.room ≡ Any
+      room =
+          let same : broke.aborts.at.channel.told.given ≡ old.channel.told.given = broke.aborts.leads.goes.given tt ∙ broke.ran.goes.given tt in
+          ap (λ g. g.room) same ∙ ap (λ t. t.given.room) (begins.told tt)
+
+      written : {kind : ErrorKind} → broke.aborts.fault ≡ ConnectionError (Io kind) → (kind ≡ kinds.OutOfMemory) ⊎ ((kind ≡ kinds.WouldBlock) × IsFull broke.aborts.at.channel.told) → MayAbort broke.aborts.fault
+      written is (inl memory) = inr (is ∙ ap (λ k. ConnectionError (Io k)) memory)
+      written is (inr full) =
+          let P : Room → Type 0 = λ r. HasNoRoom r (length broke.aborts.at.channel.told.sent) in
+          absurd (subst P room full.1)
+
+      failed_at : {kind : ErrorKind} (place : Tree) → broke.aborts.fault ≡ ConnectionError (Io kind) → MayFailAt over_memory place broke.aborts.at.channel.told kind → MayAbort broke.aborts.fault
+      failed_at (Say line next) is may = written is (may tt)
+      failed_at (Hear codes next) is may = absurd may
+      failed_at (Ask request next) is may = absurd may
+      failed_at (Leaf answer state) is may = absurd may
+
+      may : Fails over_memory broke.aborts.place broke.aborts.fault broke.aborts.at broke.after ⊎ LacksMemory over_memory false (dialogue (as_it_is decode) broke.call broke.middle.state) broke.aborts.leads.came broke.aborts.fault broke.middle broke.aborts.at broke.after → MayAbort broke.aborts.fault
+      may (inl fails) = failed_at broke.aborts.place fails.is fails.may
+      may (inr lacks) = inl lacks.is
+
+  -- both calls succeed, or one was aborted
+  pub answered : Runs over_memory (as_it_is decode) calls old new answers → (answers ≡ Done ∷ Done ∷ []) ⊎ WasAborted answers
+  answered (inl runs) = inl (finished runs)
+  answered (inr broke) = inr (aborted broke)
