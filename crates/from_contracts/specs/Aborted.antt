@@ -4,8 +4,8 @@ use Rattle.std.specs.declared.io.ErrorKind.TheVariants as kinds
 use Rattle.ftp_base.specs.declared.types.fault.FtpError.{FtpError}
 use Rattle.ftp_base.specs.declared.types.fault.FtpError.TheVariants.{ConnectionError, OutOfMemory}
 use Rattle.ftp_base.specs.declared.types.fault.ConnectionError.TheVariants.{Io}
-use Rattle.ftp_session.specs.declared.session.call.Answer.{Answer}
-use Rattle.ftp_session.specs.declared.session.call.Answer.TheVariants.{Fault}
+use Rattle.ftp_calls.specs.declared.call.Answer.{Answer}
+use Rattle.ftp_calls.specs.declared.call.Answer.TheVariants.{Fault}
 
 -- memory ran out, in the session or in a write to its connection
 abbrev pub MayAbort : FtpError → Type 0

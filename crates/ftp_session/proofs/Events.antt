@@ -7,10 +7,10 @@ use Rattle.ftp_control.specs.declared.control.outcome.Outcome.TheVariants.{Waits
 use Rattle.ftp_control.specs.declared.transport.request.Asked.{Asked}
 use Rattle.ftp_control.specs.Grammar.{outcome}
 use Rattle.ftp_control.specs.Channel.{Channel, IsSound, untaken}
-use Rattle.ftp_session.specs.declared.session.call.Answer.{Answer}
-use Rattle.ftp_session.specs.declared.session.call.Call.{Call}
-use Rattle.ftp_session.specs.declared.session.call.Event.{Event}
-use Rattle.ftp_session.specs.declared.session.call.Event.TheVariants as event
+use Rattle.ftp_calls.specs.declared.call.Answer.{Answer}
+use Rattle.ftp_calls.specs.declared.call.Call.{Call}
+use Rattle.ftp_calls.specs.declared.call.Event.{Event}
+use Rattle.ftp_calls.specs.declared.call.Event.TheVariants as event
 use Rattle.ftp_session.specs.declared.session.stage.Stage.{Stage}
 use Rattle.futures.specs.declared.task.Poll.TheVariants.{Ready, Pending}
 use Rattle.ftp_session.specs.declared.session.state.State.{State}

@@ -28,10 +28,10 @@ use Rattle.ftp_control.specs.declared.control.outcome.Outcome.TheVariants.{Waits
 use Rattle.ftp_control.specs.Grammar.{outcome}
 use Rattle.ftp_control.specs.Answer.{is_among}
 use Rattle.ftp_session.specs.declared.session.state.State.{State}
-use Rattle.ftp_session.specs.declared.session.call.Answer.{Answer}
-use Rattle.ftp_session.specs.declared.session.call.Answer.TheVariants.{Fault}
-use Rattle.ftp_session.specs.declared.session.call.Call.{Call}
-use Rattle.ftp_session.specs.declared.session.exchange.Turn.TheVariants.{First}
+use Rattle.ftp_calls.specs.declared.call.Answer.{Answer}
+use Rattle.ftp_calls.specs.declared.call.Answer.TheVariants.{Fault}
+use Rattle.ftp_calls.specs.declared.call.Call.{Call}
+use Rattle.ftp_calls.specs.declared.exchange.Turn.TheVariants.{First}
 use Rattle.ftp_session.specs.declared.session.stage.Stage.{Stage}
 use Rattle.ftp_session.specs.declared.model.Standing.{Standing}
 use Rattle.ftp_session.specs.declared.model.Wait.{Wait}
@@ -42,7 +42,7 @@ use Rattle.ftp_session.specs.declared.model.Ran.TheVariants.{Finished, Waiting}
 use Rattle.ftp_session.specs.declared.model.Script.{Script}
 use Rattle.ftp_session.specs.State.{SessionValue}
 use Rattle.ftp_session.specs.Coding.{Coding}
-use Rattle.ftp_session.specs.Exchanges.{exchange_of, statuses, is_read}
+use Rattle.ftp_calls.specs.Exchanges.{exchange_of, statuses, is_read}
 use Rattle.ftp_session.specs.Dialogue.{Tree, Say, Hear, saying, awaiting, later, dialogue}
 use Rattle.ftp_session.specs.Play.{play, fits, heard_then}
 use Rattle.ftp_session.specs.Run.{run, and_then, Resumes, Silent}

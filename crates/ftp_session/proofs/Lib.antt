@@ -1,4 +1,3 @@
-pub mod Copies
 pub mod Events
 pub mod Following
 pub mod Hearing

@@ -3,14 +3,14 @@ use Rattle.std.proofs.Common.{◌≡◌, ℕ, ◌-◌, ◌<◌, Bool, true, fals
 use Rattle.ftp_base.specs.declared.command.Command.{Command}
 use Rattle.ftp_base.specs.declared.types.fault.ConnectionError.{ConnectionError as Cause}
 use Rattle.ftp_control.specs.Saying.{due}
-use Rattle.ftp_session.specs.declared.session.call.Call.{Call}
-use Rattle.ftp_session.specs.declared.session.exchange.Turn.{Turn}
-use Rattle.ftp_session.specs.declared.session.exchange.Turn.TheVariants.{First, Second}
+use Rattle.ftp_calls.specs.declared.call.Call.{Call}
+use Rattle.ftp_calls.specs.declared.exchange.Turn.{Turn}
+use Rattle.ftp_calls.specs.declared.exchange.Turn.TheVariants.{First, Second}
 use Rattle.ftp_session.specs.declared.session.stage.Awaits.{Awaits}
 use Rattle.ftp_session.specs.declared.session.stage.Stage.{Stage}
 use Rattle.ftp_session.specs.declared.session.stage.Stage.TheVariants.{At, Saying, Hearing}
 use Rattle.ftp_session.specs.Coding.{Coding}
-use Rattle.ftp_session.specs.Exchanges.{exchange_of, statuses, gives_reply, is_read}
+use Rattle.ftp_calls.specs.Exchanges.{exchange_of, statuses, gives_reply, is_read}
 use Rattle.ftp_session.specs.Dialogue.{Tree, Say, saying, awaiting, later}
 use Rattle.ftp_session.specs.Steps.Stages.{is_second, begun_at, nodes_from, line_of, awaits_of, NodeOf, Begun}
 use Rattle.ftp_session.specs.declared.session.stage.Step.{Step}

@@ -13,11 +13,11 @@ use Rattle.ftp_base.specs.declared.types.fault.ConnectionError.{ConnectionError 
 use Rattle.ftp_control.specs.Refusal.{IsRefusalOf}
 use Rattle.ftp_control.specs.Told.{Told, EndsAsTold}
 use Rattle.ftp_session.specs.declared.session.state.State.{State}
-use Rattle.ftp_session.specs.declared.session.call.Answer.{Answer}
-use Rattle.ftp_session.specs.declared.session.call.Answer.TheVariants.{Fault}
-use Rattle.ftp_session.specs.declared.session.call.Call.{Call}
-use Rattle.ftp_session.specs.declared.session.exchange.Turn.{Turn}
-use Rattle.ftp_session.specs.declared.session.exchange.Turn.TheVariants.{First, Second}
+use Rattle.ftp_calls.specs.declared.call.Answer.{Answer}
+use Rattle.ftp_calls.specs.declared.call.Answer.TheVariants.{Fault}
+use Rattle.ftp_calls.specs.declared.call.Call.{Call}
+use Rattle.ftp_calls.specs.declared.exchange.Turn.{Turn}
+use Rattle.ftp_calls.specs.declared.exchange.Turn.TheVariants.{First, Second}
 use Rattle.ftp_session.specs.declared.session.stage.Awaits.{Awaits}
 use Rattle.ftp_session.specs.declared.session.stage.Stage.{Stage}
 use Rattle.ftp_session.specs.declared.session.stage.Stage.TheVariants.{At, Saying, Hearing}
@@ -25,7 +25,7 @@ use Rattle.ftp_session.specs.declared.session.stage.Step.{Step}
 use Rattle.ftp_session.specs.declared.session.stage.Step.TheVariants.{Next, Pending, Done}
 use Rattle.ftp_session.specs.State.{SessionValue}
 use Rattle.ftp_session.specs.Coding.{Coding}
-use Rattle.ftp_session.specs.Exchanges.{exchange_of, statuses, is_read}
+use Rattle.ftp_calls.specs.Exchanges.{exchange_of, statuses, is_read}
 use Rattle.ftp_session.specs.Dialogue.{Tree, Say, Hear, Leaf, saying, awaiting, accepted, later, from_turn, dialogue}
 use Rattle.ftp_session.specs.Promises.{IsFault, HasFault, Aborts, Fails, Touched, Untouched, LacksMemory, Plays, Reads, Rests, failed_from}
 use Rattle.ftp_session.specs.Steps.Stages.{is_second, remaining, awaited, begun_at, StageOf, line_of}

@@ -19,19 +19,19 @@ use Rattle.ftp_control.specs.declared.control.outcome.Outcome.TheVariants.{Whole
 use Rattle.ftp_control.specs.Grammar.{outcome, left_by}
 use Rattle.ftp_control.specs.Answer.{is_among}
 use Rattle.ftp_session.specs.declared.session.state.State.{State}
-use Rattle.ftp_session.specs.declared.session.call.Answer.{Answer}
-use Rattle.ftp_session.specs.declared.session.call.Answer.TheVariants.{Unit, Reply, Fault}
-use Rattle.ftp_session.specs.declared.session.call.Call.{Call}
-use Rattle.ftp_session.specs.declared.session.exchange.Turn.TheVariants.{First, Second}
-use Rattle.ftp_session.specs.declared.session.exchange.Ending.{Ending}
-use Rattle.ftp_session.specs.declared.session.exchange.Ending.TheVariants as ending
-use Rattle.ftp_session.specs.declared.session.exchange.Exchange.{Exchange}
+use Rattle.ftp_calls.specs.declared.call.Answer.{Answer}
+use Rattle.ftp_calls.specs.declared.call.Answer.TheVariants.{Unit, Reply, Fault}
+use Rattle.ftp_calls.specs.declared.call.Call.{Call}
+use Rattle.ftp_calls.specs.declared.exchange.Turn.TheVariants.{First, Second}
+use Rattle.ftp_calls.specs.declared.exchange.Ending.{Ending}
+use Rattle.ftp_calls.specs.declared.exchange.Ending.TheVariants as ending
+use Rattle.ftp_calls.specs.declared.exchange.Exchange.{Exchange}
 use Rattle.ftp_session.specs.declared.model.Standing.{Standing}
 use Rattle.ftp_session.specs.declared.model.Played.{Played}
 use Rattle.ftp_session.specs.declared.model.Played.TheVariants.{Done}
 use Rattle.ftp_session.specs.State.{SessionValue}
 use Rattle.ftp_session.specs.Coding.{Coding}
-use Rattle.ftp_session.specs.Exchanges.{exchange_of, statuses}
+use Rattle.ftp_calls.specs.Exchanges.{exchange_of, statuses}
 use Rattle.ftp_session.specs.Dialogue.{Tree, Say, Leaf, saying, awaiting, concluded, accepted, exchanging, later, dialogue}
 use Rattle.ftp_session.specs.Play.{play, heard_then}
 use Rattle.ftp_session.specs.Promises.{standing, Completes, IsSuccess, Says, Exchanged, ExchangedIf, Succeeds, Wired, goes_on_with}

@@ -5,9 +5,9 @@ use Rattle.ftp_base.specs.declared.types.fault.FtpError.{FtpError}
 use Rattle.ftp_control.specs.Told.{Told, begun}
 use Rattle.ftp_control.specs.declared.transport.request.Asked.{Asked}
 use Rattle.ftp_control.specs.Channel.{IsIdle}
-use Rattle.ftp_session.specs.declared.session.call.Answer.{Answer}
-use Rattle.ftp_session.specs.declared.session.call.Answer.TheVariants.{Unit as Done, Reply, Fault}
-use Rattle.ftp_session.specs.declared.session.call.Call.TheVariants.{Greet}
+use Rattle.ftp_calls.specs.declared.call.Answer.{Answer}
+use Rattle.ftp_calls.specs.declared.call.Answer.TheVariants.{Unit as Done, Reply, Fault}
+use Rattle.ftp_calls.specs.declared.call.Call.TheVariants.{Greet}
 use Rattle.ftp_session.specs.Coding.{Coding}
 use Rattle.ftp_session.specs.State.{SessionValue, IsFirst}
 use Rattle.ftp_session.specs.Promises.{Plays}

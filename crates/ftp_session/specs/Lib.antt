@@ -1,7 +1,6 @@
 pub mod Calls
 pub mod Coding
 pub mod Dialogue
-pub mod Exchanges
 pub mod Link
 pub mod Play
 pub mod Promises

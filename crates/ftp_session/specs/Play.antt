@@ -16,8 +16,8 @@ use Rattle.ftp_control.specs.Grammar.{outcome, left_by}
 use Rattle.ftp_control.specs.Answer.{is_among, expected_reply}
 use Rattle.ftp_control.specs.declared.transport.request.Request.{Request}
 use Rattle.ftp_control.specs.declared.transport.request.RequestOutcome.{RequestOutcome}
-use Rattle.ftp_session.specs.declared.session.call.Answer.TheVariants.{Fault}
-use Rattle.ftp_session.specs.declared.session.call.Call.{Call}
+use Rattle.ftp_calls.specs.declared.call.Answer.TheVariants.{Fault}
+use Rattle.ftp_calls.specs.declared.call.Call.{Call}
 use Rattle.ftp_session.specs.declared.model.Standing.{Standing}
 use Rattle.ftp_session.specs.declared.model.Wait.TheVariants.{Room, Bytes, Outcome as Asking}
 use Rattle.ftp_session.specs.declared.model.Played.{Played}

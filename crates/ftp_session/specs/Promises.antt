@@ -26,21 +26,21 @@ use Rattle.ftp_control.specs.Memory.{IsGiven}
 use Rattle.ftp_control.specs.Reading.{GoesOn as GoesBeyond}
 use Rattle.ftp_control.specs.Channel.{untaken}
 use Rattle.ftp_control.specs.Saying.{said}
-use Rattle.ftp_session.specs.declared.session.call.Answer.{Answer}
-use Rattle.ftp_session.specs.declared.session.call.Answer.TheVariants.{Fault}
-use Rattle.ftp_session.specs.declared.session.call.Answer.TheVariants as answers
-use Rattle.ftp_session.specs.declared.session.exchange.Turn.TheVariants.{First, Second}
-use Rattle.ftp_session.specs.declared.session.exchange.Ending.{Ending}
-use Rattle.ftp_session.specs.declared.session.exchange.Ending.TheVariants.{Done, GivesReply, Greets, SetsText, GoesOn}
-use Rattle.ftp_session.specs.declared.session.exchange.Exchange.{Exchange}
-use Rattle.ftp_session.specs.declared.session.call.Call.{Call}
+use Rattle.ftp_calls.specs.declared.call.Answer.{Answer}
+use Rattle.ftp_calls.specs.declared.call.Answer.TheVariants.{Fault}
+use Rattle.ftp_calls.specs.declared.call.Answer.TheVariants as answers
+use Rattle.ftp_calls.specs.declared.exchange.Turn.TheVariants.{First, Second}
+use Rattle.ftp_calls.specs.declared.exchange.Ending.{Ending}
+use Rattle.ftp_calls.specs.declared.exchange.Ending.TheVariants.{Done, GivesReply, Greets, SetsText, GoesOn}
+use Rattle.ftp_calls.specs.declared.exchange.Exchange.{Exchange}
+use Rattle.ftp_calls.specs.declared.call.Call.{Call}
 use Rattle.ftp_session.specs.declared.model.Standing.{Standing}
 use Rattle.ftp_session.specs.declared.model.Played.TheVariants as played
 use Rattle.ftp_session.specs.declared.model.Ran.{Ran}
 use Rattle.ftp_session.specs.declared.model.Ran.TheVariants.{Finished}
 use Rattle.ftp_session.specs.State.{SessionValue}
 use Rattle.ftp_session.specs.Coding.{Coding}
-use Rattle.ftp_session.specs.Exchanges.{exchange_of, statuses}
+use Rattle.ftp_calls.specs.Exchanges.{exchange_of, statuses}
 use Rattle.ftp_session.specs.Dialogue.{Tree, Say, Hear, Ask, Leaf, dialogue}
 use Rattle.ftp_session.specs.Play.{play}
 use Rattle.ftp_session.specs.Run.{run, before, OneView, Resumes}

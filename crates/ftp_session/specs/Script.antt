@@ -5,9 +5,9 @@ use Rattle.ftp_control.specs.declared.transport.room.Room.{Room}
 use Rattle.ftp_control.specs.declared.transport.room.Room.TheVariants.{Any, UpTo}
 use Rattle.ftp_control.specs.Told.{Told}
 use Rattle.ftp_control.specs.Memory.{more_room}
-use Rattle.ftp_session.specs.declared.session.call.Call.{Call}
-use Rattle.ftp_session.specs.declared.session.call.Event.{Event}
-use Rattle.ftp_session.specs.declared.session.call.Event.TheVariants as event
+use Rattle.ftp_calls.specs.declared.call.Call.{Call}
+use Rattle.ftp_calls.specs.declared.call.Event.{Event}
+use Rattle.ftp_calls.specs.declared.call.Event.TheVariants as event
 use Rattle.ftp_session.specs.declared.model.Script.{Script}
 use Rattle.ftp_session.specs.declared.model.Standing.{Standing}
 use Rattle.ftp_session.specs.declared.model.Wait.{Wait}
@@ -16,9 +16,9 @@ use Rattle.ftp_session.specs.declared.model.Ran.{Ran}
 use Rattle.ftp_session.specs.declared.model.Ran.TheVariants.{Finished, Waiting}
 use Rattle.ftp_base.specs.declared.status.Status.TheVariants.{System}
 use Rattle.ftp_control.specs.Answer.{is_among}
-use Rattle.ftp_session.specs.declared.session.exchange.Turn.TheVariants.{First}
+use Rattle.ftp_calls.specs.declared.exchange.Turn.TheVariants.{First}
 use Rattle.ftp_session.specs.Coding.{Coding}
-use Rattle.ftp_session.specs.Exchanges.{exchange_of, statuses, is_read}
+use Rattle.ftp_calls.specs.Exchanges.{exchange_of, statuses, is_read}
 use Rattle.ftp_session.specs.Dialogue.{dialogue}
 use Rattle.ftp_session.specs.Run.{run, Resumes}
 use Rattle.ftp_session.specs.Promises.{standing}

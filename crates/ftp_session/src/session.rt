@@ -1,14 +1,12 @@
 //! A session: the dialogues of RFC 959 on one control connection.
 //!
-//! Each dialogue is a row of `exchange`: what is said, which statuses are heard, how it ends. One machine plays all
+//! Each dialogue is a row of `ftp_calls::exchange`: what is said, which statuses are heard, how it ends. One machine plays all
 //! of them, polled; a blocking call is the same poll over a connection that never waits. A user holds a `Session`,
 //! which is that machine and the encoding of its texts.
 
-mod call;
 mod chosen;
 mod client;
 mod commands;
-pub mod exchange;
 mod machine;
 mod nodes;
 mod parameters;
@@ -18,8 +16,8 @@ mod stage;
 mod state;
 mod transitions;
 
-pub use call::{Answer, Call, Event};
 pub use chosen::Chosen;
 pub use client::Session;
+pub use ftp_calls::call::{Answer, Call, Event};
 pub use parameters::{NoStreamBuilder, NoTlsConnector};
 pub use state::{Counts, Owed, Settings, State};

@@ -8,7 +8,7 @@ ghost use Rattle.ftp_control.specs.Grammar.{left_by};
 ghost use Rattle.ftp_control.specs.Refusal.{IsRefusalOf};
 ghost use Rattle.ftp_session.specs.Coding.{coding_of};
 ghost use Rattle.ftp_session.specs.Dialogue.{Tree, accepted, awaiting, concluded, exchanging, greeting_of, saying};
-ghost use Rattle.ftp_session.specs.Exchanges.{exchange_of, statuses};
+ghost use Rattle.ftp_calls.specs.Exchanges.{exchange_of, statuses};
 ghost use Rattle.ftp_session.specs.Play.{fits, heard_then, play, said_then, taken};
 ghost use Rattle.session_plain.specs.Progress.{ComesTo};
 
@@ -20,7 +20,7 @@ use ftp_control::control::{Outcome, REPLY_LIMIT, WireLine, expected_reply, is_am
 use ftp_control::plain::outcome;
 use ftp_control::transport::Room;
 use ftp_session::model::{Played, Standing, Wait};
-use ftp_session::session::exchange::{Codes, Ending, Turn, exchange_of};
+use ftp_calls::exchange::{Codes, Ending, Turn, exchange_of};
 use ftp_session::session::{Answer, Call, State};
 use std::alloc::{AllocError, Global};
 

@@ -10,17 +10,17 @@ use Rattle.ftp_control.specs.declared.control.outcome.Outcome.TheVariants.{Waits
 use Rattle.ftp_control.specs.Grammar.{outcome}
 use Rattle.ftp_control.specs.Memory.{IsGiven}
 use Rattle.ftp_control.specs.Channel.{IsSound, untaken}
-use Rattle.ftp_session.specs.declared.session.call.Answer.{Answer}
-use Rattle.ftp_session.specs.declared.session.call.Answer.TheVariants.{Fault}
-use Rattle.ftp_session.specs.declared.session.call.Call.{Call}
-use Rattle.ftp_session.specs.declared.session.call.Event.{Event}
-use Rattle.ftp_session.specs.declared.session.call.Event.TheVariants.{Feed, Poll as Polling}
-use Rattle.ftp_session.specs.declared.session.exchange.Turn.TheVariants.{First}
+use Rattle.ftp_calls.specs.declared.call.Answer.{Answer}
+use Rattle.ftp_calls.specs.declared.call.Answer.TheVariants.{Fault}
+use Rattle.ftp_calls.specs.declared.call.Call.{Call}
+use Rattle.ftp_calls.specs.declared.call.Event.{Event}
+use Rattle.ftp_calls.specs.declared.call.Event.TheVariants.{Feed, Poll as Polling}
+use Rattle.ftp_calls.specs.declared.exchange.Turn.TheVariants.{First}
 use Rattle.ftp_session.specs.declared.session.stage.Stage.{Stage}
 use Rattle.ftp_session.specs.declared.session.stage.Stage.TheVariants.{At}
 use Rattle.ftp_session.specs.State.{SessionValue}
 use Rattle.ftp_session.specs.Coding.{Coding}
-use Rattle.ftp_session.specs.Exchanges.{is_read}
+use Rattle.ftp_calls.specs.Exchanges.{is_read}
 use Rattle.ftp_session.specs.Run.{Resumes}
 use Rattle.ftp_session.specs.Scripted.{SaysFrontOf, SaysNothing, SaysOrTakes, Stands, Reaches}
 use Rattle.ftp_session.specs.Promises.{AllRefused, Aborts, Rests}

@@ -10,19 +10,19 @@ use Rattle.ftp_base.specs.declared.types.fault.ConnectionError.{ConnectionError 
 use Rattle.ftp_control.specs.Refusal.{IsRefusalOf}
 use Rattle.ftp_control.specs.Saying.{due}
 use Rattle.ftp_session.specs.declared.session.state.State.{State}
-use Rattle.ftp_session.specs.declared.session.call.Call.{Call}
-use Rattle.ftp_session.specs.declared.session.call.Answer.{Answer}
-use Rattle.ftp_session.specs.declared.session.call.Answer.TheVariants as answer
-use Rattle.ftp_session.specs.declared.session.exchange.Turn.{Turn}
-use Rattle.ftp_session.specs.declared.session.exchange.Turn.TheVariants.{First, Second}
-use Rattle.ftp_session.specs.declared.session.exchange.Exchange.{Exchange}
+use Rattle.ftp_calls.specs.declared.call.Call.{Call}
+use Rattle.ftp_calls.specs.declared.call.Answer.{Answer}
+use Rattle.ftp_calls.specs.declared.call.Answer.TheVariants as answer
+use Rattle.ftp_calls.specs.declared.exchange.Turn.{Turn}
+use Rattle.ftp_calls.specs.declared.exchange.Turn.TheVariants.{First, Second}
+use Rattle.ftp_calls.specs.declared.exchange.Exchange.{Exchange}
 use Rattle.ftp_session.specs.declared.session.stage.Awaits.{Awaits}
 use Rattle.ftp_session.specs.declared.session.stage.Stage.{Stage}
 use Rattle.ftp_session.specs.declared.session.stage.Stage.TheVariants.{At, Saying, Hearing}
 use Rattle.ftp_session.specs.declared.session.stage.Step.{Step}
 use Rattle.ftp_session.specs.declared.session.stage.Step.TheVariants as step
 use Rattle.ftp_session.specs.Coding.{Coding}
-use Rattle.ftp_session.specs.Exchanges.{exchange_of, statuses, gives_reply, is_read}
+use Rattle.ftp_calls.specs.Exchanges.{exchange_of, statuses, gives_reply, is_read}
 use Rattle.ftp_session.specs.Dialogue.{Tree, Say, awaiting, later, from_turn}
 
 -- an exchange was made before

@@ -4,7 +4,7 @@ ghost use Rattle.std.specs.Prelude.{◌≡◌, Err, IfOk, Result, true, false, [
 ghost use Rattle.futures.specs.declared.task.Poll.TheVariants as poll;
 ghost use Rattle.ftp_base.specs.declared.types.reply.Response.{Response as Heard};
 ghost use Rattle.ftp_base.specs.declared.types.fault.FtpError.{FtpError as Faults};
-ghost use Rattle.ftp_session.specs.declared.session.call.Call.{Call as Called};
+ghost use Rattle.ftp_calls.specs.declared.call.Call.{Call as Called};
 ghost use Rattle.ftp_session.specs.Calls.{reply_answer, unit_answer};
 ghost use Rattle.ftp_session.specs.Coding.{chosen};
 ghost use Rattle.ftp_session.specs.Dialogue.{Tree};

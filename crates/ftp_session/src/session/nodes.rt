@@ -7,11 +7,11 @@ ghost use Rattle.ftp_base.specs.declared.types.fault.FtpError.{FtpError as Fault
 ghost use Rattle.ftp_control.specs.Told.{EndsAsTold};
 ghost use Rattle.ftp_session.specs.Coding.{coding_of};
 ghost use Rattle.ftp_session.specs.Dialogue.{Tree};
-ghost use Rattle.ftp_session.specs.Exchanges.{statuses};
+ghost use Rattle.ftp_calls.specs.Exchanges.{statuses};
 ghost use Rattle.ftp_session.specs.Link.{link};
 ghost use Rattle.ftp_session.specs.Steps.Moving.{Accepts, AnswersAs, Hears, SaysNode, TakesLine, step_of};
 
-use super::exchange::{Codes, Ending};
+use ftp_calls::exchange::{Codes, Ending};
 use super::machine::Machine;
 use super::stage::Step;
 use super::{Answer, State};

@@ -11,7 +11,7 @@ ghost use Rattle.ftp_session.specs.Steps.Following.{FailedStays, Happens, IsFeed
 ghost use Rattle.ftp_session.specs.Steps.Stages.{StageOf};
 
 use super::client::Session;
-use super::exchange::Turn;
+use ftp_calls::exchange::Turn;
 use super::machine::Machine;
 use super::stage::Stage;
 use super::{Answer, Call, Event};

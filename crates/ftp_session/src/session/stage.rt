@@ -5,16 +5,16 @@ ghost use Rattle.ftp_base.specs.Command.{text_of};
 ghost use Rattle.ftp_base.specs.Wire.{wire};
 ghost use Rattle.ftp_control.specs.Refusal.{IsRefusalOf};
 ghost use Rattle.ftp_session.specs.Coding.{coding_of};
-ghost use Rattle.ftp_session.specs.Exchanges.{exchange_of, is_read};
+ghost use Rattle.ftp_calls.specs.Exchanges.{exchange_of, is_read};
 ghost use Rattle.ftp_session.specs.Steps.Stages.{Begins, FirstNode, is_second};
 
-use super::exchange::{Codes, Ending, Exchange, Turn, exchange_of};
+use ftp_calls::exchange::{Codes, Ending, Exchange, Turn, row_of};
 use super::{Answer, Call};
 use ftp_base::command::Command;
 use ftp_base::encoding::Encoding;
 use ftp_base::types::FtpResult;
 use ftp_control::control::WireLine;
-use std::alloc::{AllocError, Global};
+use std::alloc::Global;
 
 /// Where a call stands: the node of its dialogue that comes next.
 #[derive(Drop)]
@@ -66,13 +66,6 @@ pub(super) fn begin<E: Encoding>(
 {
     let exchange = row_of(call, turn)?;
     first_node(alloc, encoding, turn, exchange)
-}
-
-/// The exchange of a call at this turn.
-fn row_of(call: &Call, turn: Turn) -> Result<Exchange, AllocError>
-    ensures { IfOk result (λ exchange. exchange ≡ exchange_of call.now turn) }
-{
-    Ok(exchange_of(call.clone()?, turn))
 }
 
 /// The first node of an exchange.

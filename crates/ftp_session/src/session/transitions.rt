@@ -8,13 +8,13 @@ ghost use Rattle.futures.specs.declared.task.Poll.TheVariants as poll;
 ghost use Rattle.ftp_control.specs.Told.{EndsAsTold};
 ghost use Rattle.ftp_session.specs.Coding.{Coding, coding_of};
 ghost use Rattle.ftp_session.specs.Dialogue.{Tree};
-ghost use Rattle.ftp_session.specs.Exchanges.{is_read};
+ghost use Rattle.ftp_calls.specs.Exchanges.{is_read};
 ghost use Rattle.ftp_session.specs.Link.{Link, link};
 ghost use Rattle.ftp_session.specs.Promises.{Rests};
 ghost use Rattle.ftp_session.specs.Steps.Moving.{BeginsExchange, Concludes, HasBegun, Made, PollSteps, Quiet, Steps, Tracks, after_fault, wants_memory};
 ghost use Rattle.ftp_session.specs.Steps.Stages.{MayAnswer, PollAnswers, StageOf, StepAnswers, begun_at, nodes_left, remaining};
 
-use super::exchange::Turn;
+use ftp_calls::exchange::Turn;
 use super::machine::Machine;
 use super::nodes::{Accepted, accept};
 use super::stage::{Awaits, Stage, Step, begin, is_second};

@@ -1,5 +1,5 @@
 use Rattle.std.proofs.Common.{refl}
-use Rattle.ftp_session.proofs.Copies.{same_call}
+use Rattle.ftp_calls.proofs.Copies.{same_call}
 use Rattle.session_plain.proofs.events.with_call.Goals as goal
 
 -- the copy comes after copies of these

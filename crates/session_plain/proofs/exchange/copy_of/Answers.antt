@@ -1,8 +1,8 @@
 use Rattle.std.proofs.Common.{◌≡◌, Result, Ok, Err, IfOk, MatchResult}
 use Rattle.std.specs.declared.alloc.AllocError.{AllocError}
-use Rattle.ftp_session.specs.declared.session.call.Call.{Call}
-use Rattle.ftp_session.specs.contracts.session.call.CallClone.TheImpl.{by_variants}
-use Rattle.ftp_session.proofs.Copies.{same_call}
+use Rattle.ftp_calls.specs.declared.call.Call.{Call}
+use Rattle.ftp_calls.specs.contracts.call.CallClone.TheImpl.{by_variants}
+use Rattle.ftp_calls.proofs.Copies.{same_call}
 use Rattle.session_plain.proofs.exchange.copy_of.Goals as goal
 
 same : (call : Call) (result : Result Call AllocError) (Fails : AllocError → Type 0) → MatchResult result (by_variants call) Fails → IfOk result (λ copy. copy ≡ call)

@@ -5,7 +5,7 @@ use Rattle.ftp_session.specs.declared.session.state.State.{State}
 use Rattle.ftp_session.specs.declared.model.Played.{Played}
 use Rattle.ftp_session.specs.Coding.{coding_of}
 use Rattle.ftp_session.specs.Dialogue.{Tree, awaiting, exchanging}
-use Rattle.ftp_session.specs.Exchanges.{exchange_of, statuses}
+use Rattle.ftp_calls.specs.Exchanges.{exchange_of, statuses}
 use Rattle.ftp_session.specs.Play.{play}
 use Rattle.session_plain.specs.declared.exchange.Progress.{Progress}
 use Rattle.session_plain.specs.Progress.{ComesTo}

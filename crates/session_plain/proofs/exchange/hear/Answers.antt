@@ -2,7 +2,7 @@ use Rattle.std.proofs.Common.{◌≡◌, sym, refl}
 use Rattle.ftp_base.specs.declared.status.Status.TheVariants.{System}
 use Rattle.ftp_control.specs.Answer.{is_among}
 use Rattle.ftp_control.specs.Grammar.{outcome}
-use Rattle.ftp_session.specs.Exchanges.{statuses}
+use Rattle.ftp_calls.specs.Exchanges.{statuses}
 use Rattle.ftp_session.specs.Play.{play}
 use Rattle.session_plain.proofs.exchange.hear.Goals as goal
 

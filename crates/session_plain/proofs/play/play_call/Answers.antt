@@ -1,7 +1,7 @@
 use Rattle.std.proofs.Common.{sym}
 use Rattle.std.proofs.lemmas.Bool.{cond-false}
-use Rattle.ftp_session.specs.declared.session.exchange.Turn.TheVariants.{First}
-use Rattle.ftp_session.specs.declared.session.call.Answer.TheVariants.{Unit as Done}
+use Rattle.ftp_calls.specs.declared.exchange.Turn.TheVariants.{First}
+use Rattle.ftp_calls.specs.declared.call.Answer.TheVariants.{Unit as Done}
 use Rattle.ftp_session.specs.Coding.{coding_of}
 use Rattle.ftp_session.specs.Dialogue.{Leaf, later}
 use Rattle.ftp_session.specs.Play.{play}

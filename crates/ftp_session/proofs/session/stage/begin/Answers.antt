@@ -1,12 +1,12 @@
 use Rattle.std.proofs.Common.{◌≡◌, subst, Ok, Err, true, false}
 use Rattle.std.specs.Prelude.{Result}
 use Rattle.ftp_base.specs.declared.types.fault.FtpError.{FtpError}
-use Rattle.ftp_session.specs.declared.session.call.Call.{Call}
-use Rattle.ftp_session.specs.declared.session.exchange.Turn.{Turn}
-use Rattle.ftp_session.specs.declared.session.exchange.Exchange.{Exchange}
+use Rattle.ftp_calls.specs.declared.call.Call.{Call}
+use Rattle.ftp_calls.specs.declared.exchange.Turn.{Turn}
+use Rattle.ftp_calls.specs.declared.exchange.Exchange.{Exchange}
 use Rattle.ftp_session.specs.declared.session.stage.Stage.{Stage}
 use Rattle.ftp_session.specs.Coding.{Coding, coding_of}
-use Rattle.ftp_session.specs.Exchanges.{exchange_of, is_read}
+use Rattle.ftp_calls.specs.Exchanges.{exchange_of, is_read}
 use Rattle.ftp_session.specs.Steps.Stages.{Begins, FirstNode, is_second}
 use Rattle.ftp_session.proofs.Stages.{node_begins}
 use Rattle.ftp_session.proofs.session.stage.begin.Goals as goal

@@ -1,5 +1,5 @@
 use Rattle.std.proofs.Common.{option_map}
-use Rattle.ftp_session.specs.declared.session.call.Call.TheVariants.{Opts}
+use Rattle.ftp_calls.specs.declared.call.Call.TheVariants.{Opts}
 use Rattle.ftp_session.proofs.session.client.Session.opts.Goals as goal
 
 pub returns : goal.returns

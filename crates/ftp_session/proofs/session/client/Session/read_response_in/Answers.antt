@@ -1,4 +1,4 @@
-use Rattle.ftp_session.specs.declared.session.call.Call.TheVariants.{ReadResponseIn}
+use Rattle.ftp_calls.specs.declared.call.Call.TheVariants.{ReadResponseIn}
 use Rattle.ftp_session.proofs.session.client.Session.read_response_in.Goals as goal
 
 pub returns : goal.returns

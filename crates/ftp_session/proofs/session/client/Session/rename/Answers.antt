@@ -1,4 +1,4 @@
-use Rattle.ftp_session.specs.declared.session.call.Call.TheVariants.{Rename}
+use Rattle.ftp_calls.specs.declared.call.Call.TheVariants.{Rename}
 use Rattle.ftp_session.proofs.session.client.Session.rename.Goals as goal
 
 pub returns : goal.returns

@@ -1,4 +1,4 @@
-use Rattle.ftp_session.specs.declared.session.call.Call.TheVariants.{Site}
+use Rattle.ftp_calls.specs.declared.call.Call.TheVariants.{Site}
 use Rattle.ftp_session.proofs.session.client.Session.site.Goals as goal
 
 pub returns : goal.returns

@@ -1,6 +1,6 @@
 use Rattle.std.proofs.Common.{refl, inl}
 use Rattle.ftp_session.specs.Dialogue.{Leaf}
-use Rattle.ftp_session.specs.declared.session.call.Answer.TheVariants.{Unit}
+use Rattle.ftp_calls.specs.declared.call.Answer.TheVariants.{Unit}
 use Rattle.ftp_session.specs.Coding.{coding_of}
 use Rattle.ftp_session.specs.Link.{link}
 use Rattle.ftp_session.specs.Dialogue.{concluded, later}

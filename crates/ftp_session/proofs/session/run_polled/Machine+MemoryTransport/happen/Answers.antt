@@ -1,8 +1,8 @@
 use Rattle.std.proofs.Common.{inl, ap, subst, option_map, None, ◌∙◌}
 use Rattle.ftp_control.specs.Memory.{fed, closed_memory, widened}
 use Rattle.ftp_control.specs.Channel.{Channel}
-use Rattle.ftp_session.specs.declared.session.call.Event.{Event}
-use Rattle.ftp_session.specs.declared.session.call.Event.TheVariants as event
+use Rattle.ftp_calls.specs.declared.call.Event.{Event}
+use Rattle.ftp_calls.specs.declared.call.Event.TheVariants as event
 use Rattle.ftp_session.specs.Coding.{Coding, coding_of}
 use Rattle.ftp_session.specs.Script.{start_of, IsLawful}
 use Rattle.ftp_session.proofs.Events.{through, happened, stayed, feeds, ends, widens, starts, cancels, fed_failures, still_fails}

@@ -1,7 +1,7 @@
 use Rattle.std.proofs.Common.{ap, ◌∙◌}
-use Rattle.ftp_session.specs.Exchanges.{exchange_of}
-use Rattle.ftp_session.proofs.Copies.{same_call}
-use Rattle.ftp_session.proofs.session.stage.row_of.Goals as goal
+use Rattle.ftp_calls.specs.Exchanges.{exchange_of}
+use Rattle.ftp_calls.proofs.Copies.{same_call}
+use Rattle.ftp_calls.proofs.exchange.row_of.Goals as goal
 
 pub returns : goal.returns
 returns c =

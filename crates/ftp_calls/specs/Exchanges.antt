@@ -7,15 +7,15 @@ use Rattle.ftp_base.specs.declared.types.file_type.FileType.{FileType}
 use Rattle.ftp_base.specs.declared.types.file_type.FileType.TheVariants.{Ascii, Ebcdic, Image, Binary, Local}
 use Rattle.ftp_base.specs.declared.command.Command.{Command}
 use Rattle.ftp_base.specs.declared.command.Command.TheVariants as command
-use Rattle.ftp_session.specs.declared.session.call.Call.{Call}
-use Rattle.ftp_session.specs.declared.session.call.Call.TheVariants.{Greet, Login, Cwd, Cdup, Noop, Eprt, Opts, Site, TransferType, Mkdir, Rmdir, Rm, Rename, Quit, CustomCommand, ReadResponse, ReadResponseIn}
-use Rattle.ftp_session.specs.declared.session.exchange.Turn.{Turn}
-use Rattle.ftp_session.specs.declared.session.exchange.Turn.TheVariants.{First, Second}
-use Rattle.ftp_session.specs.declared.session.exchange.Codes.{Codes}
-use Rattle.ftp_session.specs.declared.session.exchange.Codes.TheVariants.{One, Either, Given}
-use Rattle.ftp_session.specs.declared.session.exchange.Ending.{Ending}
-use Rattle.ftp_session.specs.declared.session.exchange.Ending.TheVariants.{Done, GivesReply, Greets, SetsText, GoesOn}
-use Rattle.ftp_session.specs.declared.session.exchange.Exchange.{Exchange}
+use Rattle.ftp_calls.specs.declared.call.Call.{Call}
+use Rattle.ftp_calls.specs.declared.call.Call.TheVariants.{Greet, Login, Cwd, Cdup, Noop, Eprt, Opts, Site, TransferType, Mkdir, Rmdir, Rm, Rename, Quit, CustomCommand, ReadResponse, ReadResponseIn}
+use Rattle.ftp_calls.specs.declared.exchange.Turn.{Turn}
+use Rattle.ftp_calls.specs.declared.exchange.Turn.TheVariants.{First, Second}
+use Rattle.ftp_calls.specs.declared.exchange.Codes.{Codes}
+use Rattle.ftp_calls.specs.declared.exchange.Codes.TheVariants.{One, Either, Given}
+use Rattle.ftp_calls.specs.declared.exchange.Ending.{Ending}
+use Rattle.ftp_calls.specs.declared.exchange.Ending.TheVariants.{Done, GivesReply, Greets, SetsText, GoesOn}
+use Rattle.ftp_calls.specs.declared.exchange.Exchange.{Exchange}
 
 -- the statuses that a reply may have
 abbrev pub statuses : Codes → List Status

@@ -1,8 +1,8 @@
 -- A clone of a call is the call.
 use Rattle.std.proofs.Common.{◌≡◌, rules}
-use Rattle.ftp_session.specs.declared.session.call.Call.{Call}
-use Rattle.ftp_session.specs.declared.session.call.Call.TheVariants.{Greet, Login, Cwd, Cdup, Noop, Eprt, Opts, Site, TransferType, Mkdir, Rmdir, Rm, Rename, Quit, CustomCommand, ReadResponse, ReadResponseIn}
-use Rattle.ftp_session.specs.contracts.session.call.CallClone.TheImpl.{by_variants}
+use Rattle.ftp_calls.specs.declared.call.Call.{Call}
+use Rattle.ftp_calls.specs.declared.call.Call.TheVariants.{Greet, Login, Cwd, Cdup, Noop, Eprt, Opts, Site, TransferType, Mkdir, Rmdir, Rm, Rename, Quit, CustomCommand, ReadResponse, ReadResponseIn}
+use Rattle.ftp_calls.specs.contracts.call.CallClone.TheImpl.{by_variants}
 
 pub same_call : (call copy : Call) → by_variants call copy → copy ≡ call
 same_call Greet copy is = search rules

@@ -3,13 +3,14 @@
 //! All that the machine does with a call follows from its row. A new call of one command and one reply is a variant
 //! of `Call`, a row of `exchange_of`, and its row in the definition.
 
-ghost use Rattle.std.specs.Prelude.{◌≡◌};
-ghost use Rattle.ftp_session.specs.Exchanges.{exchange_of, hears, says};
+ghost use Rattle.std.specs.Prelude.{◌≡◌, IfOk};
+ghost use Rattle.ftp_calls.specs.Exchanges.{exchange_of, hears, says};
 
-use super::Call;
+use crate::call::Call;
 use ftp_base::command::Command;
 use ftp_base::status::Status;
 use ftp_base::types::{FileType, Items, Text};
+use std::alloc::AllocError;
 
 /// Which of a call's exchanges.
 #[derive(Clone, Copy, Debug, PartialEq, Eq)]
@@ -55,6 +56,16 @@ pub struct Exchange {
     pub hears: Codes,
     /// What an accepted reply does.
     pub ending: Ending,
+}
+
+/// The exchange of a call at this turn, with texts of its own.
+///
+/// # Errors
+/// No memory for the texts.
+pub fn row_of(call: &Call, turn: Turn) -> Result<Exchange, AllocError>
+    ensures { IfOk result (λ exchange. exchange ≡ exchange_of call.now turn) }
+{
+    Ok(exchange_of(call.clone()?, turn))
 }
 
 /// The exchange of a call at this turn.

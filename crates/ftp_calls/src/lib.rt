@@ -1,0 +1,7 @@
+//! The calls of an FTP session, and what each says and hears: RFC 959, sections 4.1, 5.4 and 6.
+//!
+//! This is all of a dialogue that is data: no connection and no state occurs here. The session plays it.
+#![tactic(auto)]
+
+pub mod call;
+pub mod exchange;
