@@ -31,13 +31,20 @@ pub fn print_system<R>(rt: &R, address: &str) -> ExitCode
 where
     R: Net<Stream = TcpStream> + AllocGlobal + Print + Eprint,
 {
-    let printed = match ask(rt, address) {
-        Ok(reply) => println!(rt; "{reply}"),
-        Err(FtpError::UnexpectedResponse(reply)) => eprintln!(rt; "refused: {reply}"),
-        Err(fault) => eprintln!(rt; "{fault}"),
-    };
-    match printed {
-        Ok(()) => ExitCode::SUCCESS,
-        Err(_fault) => ExitCode::from(1),
+    match ask(rt, address) {
+        Ok(reply) => {
+            match println!(rt; "{reply}") {
+                Ok(()) => ExitCode::SUCCESS,
+                Err(_fault) => ExitCode::from(1),
+            }
+        }
+        Err(FtpError::UnexpectedResponse(reply)) => {
+            let _ = eprintln!(rt; "refused: {reply}");
+            ExitCode::from(1)
+        }
+        Err(fault) => {
+            let _ = eprintln!(rt; "{fault}");
+            ExitCode::from(1)
+        }
     }
 }

@@ -26,7 +26,8 @@ use Rattle.futures.specs.declared.task.Poll.{Poll}
 use Rattle.ftp_session.specs.Link.{over_memory}
 use Rattle.ftp_session.specs.Steps.Stages.{begun_at, remaining}
 use Rattle.ftp_session.proofs.Transitions.{given_by, polls_fail}
-use Rattle.ftp_session.proofs.Following.{unread_is, poll_follows}
+use Rattle.ftp_session.proofs.Carried.{unread_is}
+use Rattle.ftp_session.proofs.Following.{poll_follows}
 
 module _ (coding : Coding) where
   -- what is given to a connection
@@ -34,24 +35,27 @@ module _ (coding : Coding) where
   with_given v given = record v { channel = record v.channel { told = record v.channel.told { given = given } } }
 
   -- a place doesn't change with what is given, nor with what is fed of a script
-  place_given : (old : SessionValue) (s t : Script) (came : List ℕ) (v : SessionValue) (given : Given) (call : Option Call) (stage : Stage) → t.items ≡ s.items → t.answers ≡ s.answers → t.polled ≡ s.polled → Place coding old s came v call stage → Place coding old t came (with_given v given) call stage
-  place_given old s t came v given call stage items answers polled place =
+  place_given : (old : SessionValue) (s t : Script) (came : List ℕ) (v : SessionValue) (given : Given) (call : Option Call) (stage : Stage) → t.items ≡ s.items → t.answers ≡ s.answers → t.polled ≡ s.polled → t.heard ≡ s.heard → Place coding old s came v call stage → Place coding old t came (with_given v given) call stage
+  place_given old s t came v given call stage items answers polled heard place =
       let same : Place coding old s came (with_given v given) call stage = go call stage place in
-      let P : List Call → List Answer → Bool → Type 0 = λ i a p. Place coding old (record s { items = i; answers = a; polled = p }) came (with_given v given) call stage in
-      let Q : List Call → Type 0 = λ i. P i t.answers t.polled in
-      let R : List Answer → Type 0 = λ a. P s.items a t.polled in
-      let S : Bool → Type 0 = λ p. P s.items s.answers p in
-      back call stage (subst Q (sym items) (subst R (sym answers) (subst S (sym polled) same)))
+      let P : List Call → List Answer → Bool → Bool → Type 0 = λ i a p h. Place coding old (record s { items = i; answers = a; polled = p; heard = h }) came (with_given v given) call stage in
+      let Q : List Call → Type 0 = λ i. P i t.answers t.polled t.heard in
+      let R : List Answer → Type 0 = λ a. P s.items a t.polled t.heard in
+      let S : Bool → Type 0 = λ p. P s.items s.answers p t.heard in
+      let H : Bool → Type 0 = λ h. P s.items s.answers s.polled h in
+      back call stage (subst Q (sym items) (subst R (sym answers) (subst S (sym polled) (subst H (sym heard) same))))
     where
       go : (call : Option Call) (stage : Stage) → Place coding old s came v call stage → Place coding old s came (with_given v given) call stage
       go None stage place = place
-      go (Some call) stage (inl place) = inl (record { at = place.at; unpolled = place.unpolled; stands = place.stands })
-      go (Some call) stage (inr place) = inr (record { polled = place.polled; going = place.going; reaches = place.reaches; resumes = place.resumes; read = place.read; since = record { start = place.since.start; before = place.since.before; later = place.since.later; split = place.since.split; stands = place.since.stands; said = place.since.said; taken = place.since.taken; has_begun = place.since.has_begun; not_begun = place.since.not_begun } })
+      go (Some call) stage (inl place) = inl (record { at = place.at; unpolled = place.unpolled; unheard = place.unheard; stands = place.stands })
+      go (Some call) stage (inr (inl place)) = inr (inl (record { polled = place.polled; going = place.going; reaches = place.reaches; resumes = place.resumes; read = place.read; since = record { start = place.since.start; before = place.since.before; later = place.since.later; split = place.since.split; stands = place.since.stands; said = place.since.said; taken = place.since.taken; has_begun = place.since.has_begun; not_begun = place.since.not_begun } }))
+      go (Some call) stage (inr (inr place)) = inr (inr (record { polled = place.polled; unheard = place.unheard; going = place.going; no_read = place.no_read; reaches = place.reaches; resumes = place.resumes; since = record { start = place.since.start; before = place.since.before; later = place.since.later; split = place.since.split; stands = place.since.stands; said = place.since.said; taken = place.since.taken; has_begun = place.since.has_begun; not_begun = place.since.not_begun } }))
 
-      back : (call : Option Call) (stage : Stage) → Place coding old (record s { items = t.items; answers = t.answers; polled = t.polled }) came (with_given v given) call stage → Place coding old t came (with_given v given) call stage
+      back : (call : Option Call) (stage : Stage) → Place coding old (record s { items = t.items; answers = t.answers; polled = t.polled; heard = t.heard }) came (with_given v given) call stage → Place coding old t came (with_given v given) call stage
       back None stage place = place
-      back (Some call) stage (inl place) = inl (record { at = place.at; unpolled = place.unpolled; stands = place.stands })
-      back (Some call) stage (inr place) = inr (record { polled = place.polled; going = place.going; reaches = place.reaches; resumes = place.resumes; read = place.read; since = record { start = place.since.start; before = place.since.before; later = place.since.later; split = place.since.split; stands = place.since.stands; said = place.since.said; taken = place.since.taken; has_begun = place.since.has_begun; not_begun = place.since.not_begun } })
+      back (Some call) stage (inl place) = inl (record { at = place.at; unpolled = place.unpolled; unheard = place.unheard; stands = place.stands })
+      back (Some call) stage (inr (inl place)) = inr (inl (record { polled = place.polled; going = place.going; reaches = place.reaches; resumes = place.resumes; read = place.read; since = record { start = place.since.start; before = place.since.before; later = place.since.later; split = place.since.split; stands = place.since.stands; said = place.since.said; taken = place.since.taken; has_begun = place.since.has_begun; not_begun = place.since.not_begun } }))
+      back (Some call) stage (inr (inr place)) = inr (inr (record { polled = place.polled; unheard = place.unheard; going = place.going; no_read = place.no_read; reaches = place.reaches; resumes = place.resumes; since = record { start = place.since.start; before = place.since.before; later = place.since.later; split = place.since.split; stands = place.since.stands; said = place.since.said; taken = place.since.taken; has_begun = place.since.has_begun; not_begun = place.since.not_begun } }))
 
   -- what is fed is unread
   fed_unread : (t : Told) (more : List ℕ) → IsGiven t → drop (length t.received) (t.given.bytes ++ more) ≡ unread t ++ more
@@ -69,7 +73,7 @@ module _ (coding : Coding) where
         let unread' : drop (length t.received) given.bytes ≡ unread t ++ more = ap (λ g. drop (length t.received) g.bytes) is ∙ fed_unread t more f.given in
         record {
           came = f.came;
-          place = place_given old s (record s { bytes = s.bytes ++ more; untaken = s.untaken ++ more }) f.came v given call stage refl refl refl f.place;
+          place = place_given old s (record s { bytes = s.bytes ++ more; untaken = s.untaken ++ more }) f.came v given call stage refl refl refl refl f.place;
           rule = f.rule;
           failures = f.failures;
           given = has;
@@ -111,7 +115,7 @@ module _ (coding : Coding) where
         let after : Script = record s { ended = true } in
         let ended : IsGiven (with_given v given).channel.told → IsSound (Unit {0}) (with_given v given).channel → Follows coding old after (with_given v given) call stage answers = λ has sound. record {
           came = f.came;
-          place = place_given old s after f.came v given call stage refl refl refl f.place;
+          place = place_given old s after f.came v given call stage refl refl refl refl f.place;
           rule = f.rule;
           failures = f.failures;
           given = has;
@@ -141,7 +145,7 @@ module _ (coding : Coding) where
         let after : Script = record s { room = more_room more (length s.sent) s.room } in
         let wide : IsGiven (with_given v given).channel.told → IsSound (Unit {0}) (with_given v given).channel → Follows coding old after (with_given v given) call stage answers = λ has sound. record {
           came = f.came;
-          place = place_given old s after f.came v given call stage refl refl refl f.place;
+          place = place_given old s after f.came v given call stage refl refl refl refl f.place;
           rule = f.rule;
           failures = f.failures;
           given = has;
@@ -167,14 +171,14 @@ module _ (coding : Coding) where
   pub starts : (old : SessionValue) (s : Script) (v : SessionValue) (next : Call) (call call' : Option Call) (stage stage' : Stage) (answers : List Answer) → Follows coding old s v call stage answers → Starts next call call' stage stage' → Follows coding old (after_event coding (start_of old) s (event.Start next)) v call' stage' answers
   starts old s v next None call' stage stage' answers f is =
       let P : Option Call → Type 0 = λ c. Follows coding old (start_script next c s) v call' stage' answers in
-      let Q : Option Call → Type 0 = λ c. Follows coding old (record s { call = Some next; polled = false }) v c stage' answers in
-      let R : Stage → Type 0 = λ x. Follows coding old (record s { call = Some next; polled = false }) v (Some next) x answers in
+      let Q : Option Call → Type 0 = λ c. Follows coding old (record s { call = Some next; polled = false; heard = false }) v c stage' answers in
+      let R : Stage → Type 0 = λ x. Follows coding old (record s { call = Some next; polled = false; heard = false }) v (Some next) x answers in
       subst P (sym f.call_is)
       (subst Q (sym is.0)
       (subst R (sym is.1)
       (record {
         came = f.came;
-        place = inl (record { at = refl; unpolled = refl; stands = f.place });
+        place = inl (record { at = refl; unpolled = refl; unheard = refl; stands = f.place });
         rule = f.rule;
         failures = f.failures;
         given = f.given;
@@ -228,8 +232,10 @@ module _ (coding : Coding) where
       go : (call : Option Call) (stage : Stage) → Place coding old s f.came v call stage → MayCancel call s.polled → Stands coding old s.items f.came v s.answers
       go None stage place may = place
       go (Some call) stage (inl place) may = place.stands
-      go (Some call) stage (inr place) (inl new) = let clash : true ≡ false = sym place.polled ∙ new in cc
-      go (Some call) stage (inr place) (inr read) = place.read read
+      go (Some call) stage (inr (inl place)) (inl new) = let clash : true ≡ false = sym place.polled ∙ new in cc
+      go (Some call) stage (inr (inl place)) (inr read) = place.read read
+      go (Some call) stage (inr (inr place)) (inl new) = let clash : true ≡ false = sym place.polled ∙ new in cc
+      go (Some call) stage (inr (inr place)) (inr read) = let clash : true ≡ false = sym read ∙ place.no_read in cc
 
   -- a script begins
   pub begins : (v : SessionValue) (system : Bool) (stage : Stage) → IsGiven v.channel.told → IsSound (Unit {0}) v.channel → outcome v.channel.rule system v.channel.kept false ≡ Waits → Follows coding v (script_of v system) v None stage []

@@ -1,6 +1,6 @@
 -- Lemmas on scripts: what a Poll makes of one.
 use Rattle.std.proofs.Common.{◌≡◌, ℕ, ◌+◌, ◌<◌, ◌≤◌, Bool, true, false, cond, ◌||◌, eqb, Option, Some, None, List, [], ◌∷◌, ◌++◌, length, take, drop, Result, Ok, Err, inl, inr, ◌⊎◌, refl, ap, sym, ◌∙◌, subst, append_assoc, append-nil, length-append, arith, eq-eqb}
-use Rattle.std.proofs.lemmas.Bool.{lt-leb, eqb-true}
+use Rattle.std.proofs.lemmas.Bool.{le-leb, lt-leb, eqb-true}
 use Rattle.std.proofs.lemmas.List.{append_cancel_left, take_all}
 use Rattle.std.proofs.Math.Seq.{drop-append_seam, take-append_seam, drop-length}
 use Rattle.futures.specs.declared.task.Poll.{Poll}
@@ -33,6 +33,7 @@ use Rattle.ftp_calls.specs.declared.call.Answer.TheVariants.{Fault}
 use Rattle.ftp_calls.specs.declared.call.Call.{Call}
 use Rattle.ftp_calls.specs.declared.exchange.Turn.TheVariants.{First}
 use Rattle.ftp_session.specs.declared.session.stage.Stage.{Stage}
+use Rattle.ftp_session.specs.declared.session.stage.Stage.TheVariants.{At}
 use Rattle.ftp_session.specs.declared.model.Standing.{Standing}
 use Rattle.ftp_session.specs.declared.model.Wait.{Wait}
 use Rattle.ftp_session.specs.declared.model.Wait.TheVariants as wait
@@ -45,161 +46,27 @@ use Rattle.ftp_session.specs.Coding.{Coding}
 use Rattle.ftp_calls.specs.Exchanges.{exchange_of, statuses, is_read}
 use Rattle.ftp_session.specs.Dialogue.{Tree, Say, Hear, saying, awaiting, later, dialogue}
 use Rattle.ftp_session.specs.Play.{play, fits, heard_then}
-use Rattle.ftp_session.specs.Run.{run, and_then, Resumes, Silent}
-use Rattle.ftp_session.specs.Promises.{standing, before_all, Goes, Leads, Rests, Aborts, Touched}
-use Rattle.ftp_session.specs.Script.{unread, is_over, start_of, front, seen_in, seen_at, system_at, hears_system, polled_as, poll_script, MayCancel, MayPoll}
+use Rattle.ftp_session.specs.declared.model.Played.{Played}
+use Rattle.ftp_session.specs.Run.{run, before, and_then, Resumes, Silent}
+use Rattle.ftp_session.specs.Promises.{standing, before_all, However, Goes, Leads, Rests, Aborts}
+use Rattle.ftp_session.specs.Script.{unread, is_over, start_of, front, seen_in, seen_at, system_at, hears_system, polled_as, run_with, poll_script, HearsNothing, MayCancel, MayPoll}
 use Rattle.ftp_session.specs.Scripted.{SaysFrontOf, SaysNothing, Stands, SaysOrTakes, CallHasBegun, Reaches, LeftOf}
 use Rattle.ftp_session.specs.Steps.Stages.{remaining, begun_at}
-use Rattle.ftp_session.specs.Steps.Moving.{HasBegun, NothingTouched, Keeps, Shrinks, Calm, Advances, Ends, PollSteps, WaitsFor}
-use Rattle.ftp_session.specs.Steps.Following.{Since, UnderWay, Place, Follows, PollsHere, AbortsCall}
+use Rattle.ftp_session.specs.Steps.Moving.{BeginsHere, HasBegun, HasGoneOut, NothingTouched, Speaks, StillSays, Keeps, Shrinks, Calm, Advances, Ends, PollSteps, WaitsFor, WaitsToSay}
+use Rattle.ftp_session.specs.Steps.Following.{Since, Started, UnderWay, Unheard, Place, Follows, PollsHere, AbortsCall}
 use Rattle.ftp_session.proofs.Moving.{goes_after, fitted, play-Say}
 use Rattle.ftp_session.proofs.Hearing.{play-Hear, nothing_says}
+use Rattle.ftp_session.proofs.Unheard.{LacksRoomFor, lacks_room, says_no_read}
 use Rattle.ftp_session.proofs.Running.{run-nil, run-cons, before_all-snoc, before_all-Finished, before_all-Waiting, refuses_on}
 use Rattle.ftp_session.specs.Link.{over_memory}
 
--- Bytes
-
-pub unread_is : (t : Told) (given : IsGiven t) → unread t ≡ given.ahead
-unread_is t given = ap (drop (length t.received)) given.front ∙ drop-append_seam t.received given.ahead
-
--- what came was unread before
-pub unread_split : (t u : Told) (came : List ℕ) → IsGiven u → u.given ≡ t.given → u.received ≡ t.received ++ came → unread t ≡ came ++ unread u
-unread_split t u came given same received =
-    let front : t.given.bytes ≡ t.received ++ (came ++ given.ahead) =
-    ap (λ g. g.bytes) (sym same) ∙ given.front ∙ ap (λ r. r ++ given.ahead) received ∙ append_assoc t.received came given.ahead in
-    ap (drop (length t.received)) front ∙ drop-append_seam t.received (came ++ given.ahead) ∙ ap (λ a. came ++ a) (sym (unread_is u given))
-
-pub front_fits : (room : Room) (all : List ℕ) → HasRoomFor room (length all) → front room all ≡ all
-front_fits Any all fit = refl
-front_fits (UpTo most) all fit = take_all most all fit
-
--- where the end was met nothing is unread
-pub over_at_end : (v : SessionValue) → IsGiven v.channel.told → IsSound (Unit {0}) v.channel → GoesOn v.channel.ended (unread v.channel.told) (is_over v.channel.told)
-over_at_end v given sound = record {
-  nothing = λ e. unread_is v.channel.told given ∙ given.over (sound.ended tt ∙ e);
-  over = λ e. let met : v.channel.told.ended ≡ true = sound.ended tt ∙ e in rw met (or_true v.channel.told.given.closed);
-}
-  where
-    or_true : (b : Bool) → b || true ≡ true
-    or_true true = refl
-    or_true false = refl
-
--- a poll meets the end only where it was told
-pub same_over : (t u : Told) → u.given ≡ t.given → (t.ended ≡ true → u.ended ≡ true) → (u.ended ≡ true → (t.ended ≡ true) ⊎ (t.given.closed ≡ true)) → is_over u ≡ is_over t
-same_over t u same grows told =
-    ap (λ g. g.closed || u.ended) same ∙ go t.given.closed t.ended u.ended grows told
-  where
-    go : (closed one two : Bool) → (one ≡ true → two ≡ true) → (two ≡ true → (one ≡ true) ⊎ (closed ≡ true)) → closed || two ≡ closed || one
-    go true one two grows told = refl
-    go false true two grows told = grows refl
-    go false false true grows told = absurd (clash (told refl))
-      where
-        clash : (false ≡ true) ⊎ (false ≡ true) → ⊥
-        clash (inl e) = cc e
-        clash (inr e) = cc e
-    go false false false grows told = refl
-
--- nothing was asked
-none_answered : (asked answered : List Asked) → asked ≡ asked ++ answered → answered ≡ []
-none_answered asked answered is = append_cancel_left asked answered [] (sym is ∙ sym (append-nil asked))
-
-module _ (v w : SessionValue) (same : w.asked ≡ v.asked) where
-  plain_ends : (tree : Tree) (answer : Answer) (ends : Ends over_memory tree answer v w) → Resumes v.channel.rule v.channel.kept tree → (room : Room) (more : List ℕ) (ended : Bool) → HasRoomFor room (length w.channel.told.sent) → GoesOn w.channel.ended more ended → play room tree (standing v (ends.completes.came ++ more) ended []) ≡ played.Done answer (standing w more ended [])
-  plain_ends tree answer ends resumes room more ended fit on =
-      let done = ends.completes in
-      let none : done.answered ≡ [] = none_answered v.asked done.answered (sym same ∙ done.goes.asked tt) in
-      let P : List Asked → Type 0 = λ a. play room tree (standing v (done.came ++ more) ended (outcomes_of a ++ [])) ≡ played.Done answer (standing w more ended []) in
-      subst P none (done.plays tt resumes room more ended [] fit on)
-
-  plain_leads : (tree tree' : Tree) (leads : Leads over_memory tree tree' v w) → Resumes v.channel.rule v.channel.kept tree → (room : Room) (more : List ℕ) (ended : Bool) → HasRoomFor room (length w.channel.told.sent) → GoesOn w.channel.ended more ended → play room tree (standing v (leads.came ++ more) ended []) ≡ play room tree' (standing w more ended [])
-  plain_leads tree tree' leads resumes room more ended fit on =
-      let none : leads.answered ≡ [] = none_answered v.asked leads.answered (sym same ∙ leads.goes.asked tt) in
-      let P : List Asked → Type 0 = λ a. play room tree (standing v (leads.came ++ more) ended (outcomes_of a ++ [])) ≡ play room tree' (standing w more ended []) in
-      subst P none (leads.plays tt resumes room more ended [] fit on)
-
--- What is read
-
-seen_none : (s : Script) (left : List ℕ) (kept : ℕ) → s.seen ≡ kept → kept + length left ≤ length s.untaken → seen_in s left ≡ 0
-seen_none s left kept seen fewer =
-    elim (eqb (length left) (length s.untaken)) as (λ t. eqb (length left) (length s.untaken) ≡ t → cond t s.seen 0 ≡ 0) [
-      | true ↦ λ t. omega (arith, seen, fewer, eqb-true _ _ t)
-      | false ↦ λ t. refl
-    ] refl
-
-seen_same : (s : Script) (left : List ℕ) → left ≡ s.untaken → seen_in s left ≡ s.seen
-seen_same s left same =
-    let test : eqb (length left) (length s.untaken) ≡ true = eq-eqb _ _ (ap length same) in
-    rw test
-
--- how many of the untaken bytes a poll has read
-pub seen_kept : (P : Type 0) (s : Script) (v w : SessionValue) (came : List ℕ) → s.seen ≡ length v.channel.kept → s.untaken ≡ untaken v.channel ++ unread v.channel.told → unread v.channel.told ≡ came ++ unread w.channel.told → Shrinks came v w → Keeps P came v w → seen_in s (untaken w.channel ++ unread w.channel.told) ≡ length w.channel.kept
-seen_kept P s v w came seen untaken_is split shrinks (inl none) =
-    let count : length s.untaken ≡ (length v.channel.kept + length v.channel.ahead) + (length came + length (unread w.channel.told)) =
-    ap length (untaken_is ∙ ap (λ u. untaken v.channel ++ u) split) ∙ length-append (untaken v.channel) (came ++ unread w.channel.told) ∙ ap (λ n. n + length (came ++ unread w.channel.told)) (length-append v.channel.kept v.channel.ahead) ∙ ap (λ n. (length v.channel.kept + length v.channel.ahead) + n) (length-append came (unread w.channel.told)) in
-    let left : length (untaken w.channel ++ unread w.channel.told) ≡ length w.channel.ahead + length (unread w.channel.told) =
-    length-append (untaken w.channel) (unread w.channel.told) ∙ ap (λ k. length (k ++ w.channel.ahead) + length (unread w.channel.told)) none in
-    seen_none s (untaken w.channel ++ unread w.channel.told) (length v.channel.kept) seen (omega (arith, count, left, shrinks)) ∙ sym (ap length none)
-seen_kept P s v w came seen untaken_is split shrinks (inr same) =
-    let left : untaken w.channel ++ unread w.channel.told ≡ s.untaken =
-    ap (λ k. (k ++ w.channel.ahead) ++ unread w.channel.told) same.0 ∙ ap (λ a. (v.channel.kept ++ a) ++ unread w.channel.told) same.1 ∙ ap (λ u. untaken v.channel ++ u) (sym (split ∙ ap (λ c. c ++ unread w.channel.told) same.2)) ∙ sym untaken_is in
-    seen_same s (untaken w.channel ++ unread w.channel.told) left ∙ seen ∙ ap length (sym same.0)
-
--- what is kept says nothing yet under the list that it was read under
-pub waits_kept : (P : Type 0) (s : Script) (v w : SessionValue) (came : List ℕ) → w.channel.rule ≡ v.channel.rule → outcome v.channel.rule s.system v.channel.kept false ≡ Waits → Keeps P came v w → outcome w.channel.rule s.system w.channel.kept false ≡ Waits
-waits_kept P s v w came rule waits (inl none) = rw none (nothing_says w.channel.rule s.system)
-waits_kept P s v w came rule waits (inr same) = rw (same.0, rule) waits
-
-positive : (l : List ℕ) → (l ≡ [] → ⊥) → 0 < length l
-positive [] some = absurd (some refl)
-positive (x ∷ l) some = omega arith
-
--- no room is left for what is unsent
-full_room : (room : Room) (sent unsent line : List ℕ) → HasRoomFor room (length sent) → HasNoRoom room (length sent) → (unsent ≡ [] → ⊥) → (fits room (sent ++ unsent ++ line) ≡ false) × (front room (sent ++ unsent ++ line) ≡ sent)
-full_room Any sent unsent line fit full some = absurd full
-full_room (UpTo most) sent unsent line fit full some =
-    let count : length (sent ++ unsent ++ line) ≡ (length sent + length unsent) + length line = length-append (sent ++ unsent) line ∙ ap (λ n. n + length line) (length-append sent unsent) in
-    let same : most ≡ length sent = omega (arith, fit, full) in
-    (lt-leb _ _ (omega (arith, count, positive unsent some, fit, full)), rw (same, append_assoc sent unsent line) (take-append_seam sent (unsent ++ line)))
-
--- what a poll leaves of a connection
-pub record Carried (v w : SessionValue) (came : List ℕ) : Type 0 where
-  pub rule : w.channel.rule ≡ v.channel.rule
-  pub received : w.channel.told.received ≡ v.channel.told.received ++ came
-  pub failures : w.channel.told.failures ≡ v.channel.told.failures
-  pub split : unread v.channel.told ≡ came ++ unread w.channel.told
-  pub given : w.channel.told.given ≡ v.channel.told.given
-  pub over : is_over w.channel.told ≡ is_over v.channel.told
-  pub has : IsGiven w.channel.told
-  pub sound : IsSound (Unit {0}) w.channel
-
-pub carried : (v w : SessionValue) (came : List ℕ) (answered : List Asked) → Goes over_memory came answered v w → IsSound (Unit {0}) v.channel → EndsAsTold v.channel.ended w.channel.ended v.channel.told → IsGiven w.channel.told → IsSound (Unit {0}) w.channel → Carried v w came
-carried v w came answered goes sound end given sound' = record {
-  rule = goes.rule;
-  received = goes.received tt;
-  failures = (goes.failures tt).failures;
-  split = unread_split v.channel.told w.channel.told came given (goes.given tt) (goes.received tt);
-  given = goes.given tt;
-  over = same_over v.channel.told w.channel.told (goes.given tt) (λ e. sound'.ended tt ∙ goes.over.over (sym (sound.ended tt) ∙ e)) (λ e. go (end (sym (sound'.ended tt) ∙ e)));
-  has = given;
-  sound = sound';
-}
-  where
-    go : (v.channel.ended ≡ true) ⊎ (v.channel.told.given.closed ≡ true) → (v.channel.told.ended ≡ true) ⊎ (v.channel.told.given.closed ≡ true)
-    go (inl e) = inl (sound.ended tt ∙ e)
-    go (inr e) = inr e
+use Rattle.ftp_session.proofs.Carried.{front_fits, over_at_end, plain_ends, plain_leads, seen_kept, waits_kept, full_room, Carried, carried, carried_none, line_front, all_said}
 
 -- what a poll comes to
 abbrev pub PollFollows : Coding → SessionValue → Script → SessionValue → SessionValue → Call → Stage → Stage → List Answer → Poll Answer → Type 0
 PollFollows coding old s v w call stage stage' answers (Ready answer) =
     Follows coding old (poll_script coding (start_of old) (Some call) s) w None stage' (answers ++ answer ∷ []) ⊎ AbortsCall coding call stage v w (Some answer)
 PollFollows coding old s v w call stage stage' answers Pending = Follows coding old (poll_script coding (start_of old) (Some call) s) w (Some call) stage' answers
-
--- what went out and is unsent begins what is said with the next line
-line_front : (c : Channel) (line : List ℕ) → (c.unsent ≡ [] → ⊥) → SaysFrontOf c ((c.told.sent ++ c.unsent ++ line) ++ [])
-line_front c line some = record { rest = line; is = append-nil (c.told.sent ++ c.unsent ++ line); whole = inr some }
-
-all_said : (c : Channel) → SaysFrontOf c (said c)
-all_said c = record { rest = []; is = sym (append-nil (said c)); whole = inl refl }
 
 module _ (coding : Coding) where
   -- Runs
@@ -226,12 +93,12 @@ module _ (coding : Coding) where
         ∙ sym (before_all-snoc answers answer (run room coding later (standing w more ended []))))
 
     -- more of it is left
-    reaches_on : (tree tree' : Tree) → Reaches coding old items came v answers call tree → (leads : Leads over_memory tree tree' v w) → Resumes v.channel.rule v.channel.kept tree → Reaches coding old items (came ++ leads.came) w answers call tree'
-    reaches_on tree tree' reaches leads resumes = λ later room more ended fit on.
+    reaches_on : (tree tree' : Tree) → Reaches coding old items came v answers call tree → (leads : Leads over_memory tree tree' v w) → However v leads.came leads.answered w (λ room s t. play room tree s ≡ play room tree' t) → Reaches coding old items (came ++ leads.came) w answers call tree'
+    reaches_on tree tree' reaches leads plays = λ later room more ended fit on.
         let next : Standing → Ran = λ t. run room coding later t in
         let first = reaches later room (leads.came ++ more) ended (fitted room _ _ (leads.goes.sent tt) fit) (goes_after v.channel.ended leads.came more w.channel.ended ended leads.goes.over on) in
         rw (append_assoc came leads.came more)
-        (first ∙ ap (λ p. before_all answers (and_then p next)) (plain_leads v w same tree tree' leads resumes room more ended fit on))
+        (first ∙ ap (λ p. before_all answers (and_then p next)) (plain_leads v w same tree tree' leads plays room more ended fit on))
 
   -- the session has failed
   stands_refused : (old v : SessionValue) (items : List Call) (came : List ℕ) (answers : List Answer) (call : Call) → v.channel.failed ≡ true → Stands coding old items came v answers → Stands coding old (items ++ call ∷ []) (came ++ []) v (answers ++ Fault SessionFailed ∷ [])
@@ -329,16 +196,55 @@ module _ (coding : Coding) where
         } in
         subst Q (sym ran) follows
 
-    -- the call waits
-    wait_on : (tree : Tree) (stage' : Stage) (wait : Wait) (t : Standing) → Reaches coding old s.items (f.came ++ came) w s.answers call tree → play s.room tree here ≡ played.Pending wait t → front s.room t.said ≡ w.channel.told.sent → SaysFrontOf w.channel (t.said ++ t.unsent) → t.bytes ≡ untaken w.channel ++ unread w.channel.told → seen_at wait s t.bytes ≡ length w.channel.kept → outcome w.channel.rule (system_at wait s) w.channel.kept false ≡ Waits → t.state ≡ w.state → t.failed ≡ w.channel.failed → (MayCancel (Some call) true → s.unsent ≡ w.channel.unsent) → Place coding old (polled_as (Waiting s.answers wait t) call s) (f.came ++ came) w (Some call) stage' → Follows coding old (poll_script coding (start_of old) (Some call) s) w (Some call) stage' answers
-    wait_on tree stage' wait t reaches waits sent begins bytes seen says_nothing state failed unsent place =
+    -- the run of all calls waits where the call does
+    waits_ran : (tree : Tree) (wait : Wait) (t : Standing) → Reaches coding old s.items (f.came ++ came) w s.answers call tree → play s.room tree here ≡ played.Pending wait t → run_with coding (start_of old) call s ≡ Waiting s.answers wait t
+    waits_ran tree wait t reaches waits =
         let next : Standing → Ran = λ u. run s.room coding [] u in
-        let ran : run s.room coding (s.items ++ call ∷ []) (record (start_of old) { bytes = s.bytes; ended = s.ended }) ≡ Waiting s.answers wait t =
         from_start (s.items ++ call ∷ [])
         ∙ reaches [] s.room (unread w.channel.told) (is_over w.channel.told) fits_here going_on
         ∙ ap (λ p. before_all s.answers (and_then p next)) waits
         ∙ before_all-Waiting s.answers [] wait t
-        ∙ ap (λ a. Waiting a wait t) (append-nil s.answers) in
+        ∙ ap (λ a. Waiting a wait t) (append-nil s.answers)
+
+    -- a call that waits without having heard says a line that isn't within the room
+    unheard_lacks : (state : State) (stage' : Stage) → Reaches coding old s.items (f.came ++ came) w s.answers call (remaining coding call state stage') → HearsNothing (run_with coding (start_of old) call s) s → untaken w.channel ++ unread w.channel.told ≡ s.untaken → LacksRoomFor s.room here (remaining coding call state stage')
+    unheard_lacks state stage' reaches nothing bytes = go (play s.room (remaining coding call state stage') here) refl (subst Nothing ran nothing)
+      where
+        Nothing : Ran → Type 0
+        Nothing = λ r. HearsNothing r s
+
+        next : Standing → Ran
+        next = λ u. run s.room coding [] u
+
+        ran : run_with coding (start_of old) call s ≡ before_all s.answers (and_then (play s.room (remaining coding call state stage') here) next)
+        ran = from_start (s.items ++ call ∷ []) ∙ reaches [] s.room (unread w.channel.told) (is_over w.channel.told) fits_here going_on
+
+        go : (p : Played) → play s.room (remaining coding call state stage') here ≡ p → Nothing (before_all s.answers (and_then p next)) → LacksRoomFor s.room here (remaining coding call state stage')
+        go (played.Done answer u) is none =
+            let all : before_all s.answers (before answer (run s.room coding [] u)) ≡ Finished (s.answers ++ answer ∷ []) u =
+            ap (λ r. before_all s.answers (before answer r)) (run-nil coding s.room u) ∙ before_all-Finished s.answers (answer ∷ []) u in
+            absurd (subst Nothing all none)
+        go (played.Pending wait u) is none =
+            lacks_room coding s.room s here bytes wait u (subst Nothing (before_all-Waiting s.answers [] wait u) none) call state stage' is
+
+    -- a line that isn't within the room hasn't gone out
+    never_gone : (line : List ℕ) → fits s.room (v.channel.told.sent ++ v.channel.unsent ++ line) ≡ false → HasGoneOut line v w → ⊥
+    never_gone line full gone = go s.room fits_here full
+      where
+        count : length (v.channel.told.sent ++ v.channel.unsent ++ line) ≡ length (said v.channel) + length line
+        count = length-append (v.channel.told.sent ++ v.channel.unsent) line
+
+        go : (room : Room) → HasRoomFor room (length w.channel.told.sent) → fits room (v.channel.told.sent ++ v.channel.unsent ++ line) ≡ false → ⊥
+        go Any has not = let clash : true ≡ false = not in cc
+        go (UpTo most) has not =
+            let less : length (v.channel.told.sent ++ v.channel.unsent ++ line) ≤ most = omega (arith, count, gone, has) in
+            let clash : true ≡ false = sym (le-leb _ _ less) ∙ not in
+            cc
+
+    -- the call waits
+    wait_on : (tree : Tree) (stage' : Stage) (wait : Wait) (t : Standing) → Reaches coding old s.items (f.came ++ came) w s.answers call tree → play s.room tree here ≡ played.Pending wait t → front s.room t.said ≡ w.channel.told.sent → SaysFrontOf w.channel (t.said ++ t.unsent) → t.bytes ≡ untaken w.channel ++ unread w.channel.told → seen_at wait s t.bytes ≡ length w.channel.kept → outcome w.channel.rule (system_at wait s) w.channel.kept false ≡ Waits → t.state ≡ w.state → t.failed ≡ w.channel.failed → (MayCancel (Some call) true → s.unsent ≡ w.channel.unsent) → Place coding old (polled_as (Waiting s.answers wait t) call s) (f.came ++ came) w (Some call) stage' → Follows coding old (poll_script coding (start_of old) (Some call) s) w (Some call) stage' answers
+    wait_on tree stage' wait t reaches waits sent begins bytes seen says_nothing state failed unsent place =
+        let ran = waits_ran tree wait t reaches waits in
         let Q : Ran → Type 0 = λ r. Follows coding old (polled_as r call s) w (Some call) stage' answers in
         let follows : Follows coding old (polled_as (Waiting s.answers wait t) call s) w (Some call) stage' answers = record {
           came = f.came ++ came;
@@ -404,7 +310,7 @@ module _ (coding : Coding) where
     not_begun = λ none. (refl, sym (append-nil (untaken v.channel)));
   }
 
-  since_on : (old : SessionValue) (items : List Call) (answers : List Answer) (came : List ℕ) (v w : SessionValue) (begun begun' : Bool) (tree : Tree) (since : Since coding old items answers came v begun) → Resumes v.channel.rule v.channel.kept tree → (more : List ℕ) (answered : List Asked) → Goes over_memory more answered v w → HasBegun over_memory begun begun' tree v w → Since coding old items answers (came ++ more) w begun'
+  since_on : (old : SessionValue) (items : List Call) (answers : List Answer) (came : List ℕ) (v w : SessionValue) (begun begun' : Bool) (tree : Tree) (since : Since coding old items answers came v begun) → Speaks tree ⊎ Resumes v.channel.rule v.channel.kept tree → (more : List ℕ) (answered : List Asked) → Goes over_memory more answered v w → HasBegun over_memory begun begun' tree v w → Since coding old items answers (came ++ more) w begun'
   since_on old items answers came v w begun begun' tree since resumes more answered goes here = record {
     start = since.start;
     before = since.before;
@@ -432,7 +338,7 @@ module _ (coding : Coding) where
       in_this (inl said_more) = inl (omega (arith, said_more, since.said))
       in_this (inr taken_more) = inr (omega (arith, taken_more, since.taken, ap length (goes.received tt), length-append v.channel.told.received more, length-append came more))
 
-      go : (begun ≡ true) ⊎ Touched over_memory tree v w → SaysOrTakes since.before (came ++ more) since.start w
+      go : (begun ≡ true) ⊎ BeginsHere over_memory tree v w → SaysOrTakes since.before (came ++ more) since.start w
       go (inl has) = before_this (since.has_begun has)
       go (inr touched) = in_this (touched tt resumes)
 
@@ -443,6 +349,66 @@ module _ (coding : Coding) where
     pub read : is_read call ≡ true → Stands coding old s.items came v s.answers
     pub since : Since coding old s.items s.answers came v (begun_at stage)
 
+  -- where a poll begins that waits for room and hears nothing
+  pub record KeptWaiting (old : SessionValue) (s : Script) (came : List ℕ) (v : SessionValue) (call : Call) (stage : Stage) : Type 0 where
+    pub no_read : is_read call ≡ false
+    pub reaches : Reaches coding old s.items came v s.answers call (remaining coding call v.state stage)
+    pub resumes : (rule : ReplyRule) (kept : List ℕ) → Resumes rule kept (dialogue coding call v.state) → Resumes rule kept (remaining coding call v.state stage)
+    pub since : Since coding old s.items s.answers came v (begun_at stage)
+    pub nothing : HearsNothing (run_with coding (start_of old) call s) s
+    pub lacks : LacksRoomFor s.room (standing v (unread v.channel.told) (is_over v.channel.told) []) (remaining coding call v.state stage)
+
+  module _ (old : SessionValue) (s : Script) (v w : SessionValue) (call : Call) (stage : Stage) (answers : List Answer) (f : Follows coding old s v (Some call) stage answers) (stage' : Stage) (advances : Advances over_memory (remaining coding call v.state stage) (remaining coding call v.state stage') v w) (c : Carried v w advances.moves.leads.came) where
+    -- a poll that waits for room
+    room_waits : WaitsToSay over_memory (remaining coding call v.state stage') w → Reaches coding old s.items (f.came ++ advances.moves.leads.came) w s.answers call (remaining coding call v.state stage') → (MayCancel (Some call) true → s.unsent ≡ w.channel.unsent) → ((t : Standing) → run_with coding (start_of old) call s ≡ Waiting s.answers wait.Room t → Place coding old (polled_as (Waiting s.answers wait.Room t) call s) (f.came ++ advances.moves.leads.came) w (Some call) stage') → Follows coding old (poll_script coding (start_of old) (Some call) s) w (Some call) stage' answers
+    room_waits says reaches' unsent' place =
+        let moves = advances.moves in
+        let P : Tree → Type 0 = λ x. Reaches coding old s.items (f.came ++ moves.leads.came) w s.answers call x in
+        let C : Tree → Type 0 = Calm in
+        let t : Standing = record (here old s v w call stage answers f moves.leads.came c) { said = w.channel.told.sent ++ w.channel.unsent ++ says.line; unsent = [] } in
+        let stuck = say_waits old s v w call stage answers f moves.leads.came c says.line says.next says.some (says.full tt) in
+        let calm = moves.calm (subst C (sym says.is) tt) in
+        let seen = seen_kept (Calm (remaining coding call v.state stage)) s v w moves.leads.came f.seen f.untaken c.split moves.shrinks calm in
+        let says_nothing = waits_kept (Calm (remaining coding call v.state stage)) s v w moves.leads.came c.rule f.waits calm in
+        let there = subst P says.is reaches' in
+        let ran = waits_ran old s v w call stage answers f moves.leads.came c (Say (Ok says.line) says.next) wait.Room t there stuck.0 in
+        wait_on old s v w call stage answers f moves.leads.came c (Say (Ok says.line) says.next) stage' wait.Room t there stuck.0 stuck.1 (line_front w.channel says.line says.some) refl seen says_nothing refl refl unsent' (place t ran)
+
+  -- a poll of a call that is kept waiting
+  module _ (old : SessionValue) (s : Script) (v w : SessionValue) (same : w.asked ≡ v.asked) (call : Call) (stage : Stage) (answers : List Answer) (f : Follows coding old s v (Some call) stage answers) (going : v.channel.failed ≡ false) (from : KeptWaiting old s f.came v call stage) where
+    -- it still waits for room
+    still_waits : (stage' : Stage) (advances : Advances over_memory (remaining coding call v.state stage) (remaining coding call v.state stage') v w) → WaitsFor over_memory (remaining coding call v.state stage') w → HasBegun over_memory (begun_at stage) (begun_at stage') (remaining coding call v.state stage) v w → Carried v w advances.moves.leads.came → Follows coding old (poll_script coding (start_of old) (Some call) s) w (Some call) stage' answers
+    still_waits stage' advances waits begun c = go (advances.moves.says from.lacks.line from.lacks.next from.lacks.is tt) waits
+      where
+        unsent' : MayCancel (Some call) true → s.unsent ≡ w.channel.unsent
+        unsent' (inl new) = let clash : true ≡ false = new in cc
+        unsent' (inr read) = let clash : true ≡ false = sym read ∙ from.no_read in cc
+
+        speaks : Speaks (remaining coding call v.state stage)
+        speaks = let P : Tree → Type 0 = Speaks in subst P (sym from.lacks.is) tt
+
+        place : (still : StillSays over_memory (remaining coding call v.state stage) (remaining coding call v.state stage') advances.moves.leads.came advances.moves.leads.answered from.lacks.line v w) → Reaches coding old s.items (f.came ++ advances.moves.leads.came) w s.answers call (remaining coding call v.state stage') → (t : Standing) → run_with coding (start_of old) call s ≡ Waiting s.answers wait.Room t → Place coding old (polled_as (Waiting s.answers wait.Room t) call s) (f.came ++ advances.moves.leads.came) w (Some call) stage'
+        place still reaches' t ran = inr (inr (record {
+          polled = refl;
+          unheard = let P : Ran → Type 0 = λ r. HearsNothing r s in subst P ran from.nothing;
+          going = advances.failed ∙ going;
+          no_read = from.no_read;
+          reaches = let P : State → Type 0 = λ state. Reaches coding old s.items (f.came ++ advances.moves.leads.came) w s.answers call (remaining coding call state stage') in subst P (sym advances.moves.state) reaches';
+          resumes = let P : State → Type 0 = λ state. (rule : ReplyRule) (kept : List ℕ) → Resumes rule kept (dialogue coding call state) → Resumes rule kept (remaining coding call state stage') in subst P (sym advances.moves.state) (λ rule kept r. still.resumes rule kept (from.resumes rule kept r));
+          since = since_on old s.items s.answers f.came v w (begun_at stage) (begun_at stage') (remaining coding call v.state stage) from.since (inl speaks) advances.moves.leads.came advances.moves.leads.answered advances.moves.leads.goes begun;
+        }))
+
+        go : StillSays over_memory (remaining coding call v.state stage) (remaining coding call v.state stage') advances.moves.leads.came advances.moves.leads.answered from.lacks.line v w ⊎ HasGoneOut from.lacks.line v w → WaitsFor over_memory (remaining coding call v.state stage') w → Follows coding old (poll_script coding (start_of old) (Some call) s) w (Some call) stage' answers
+        go (inr gone) waits = absurd (never_gone old s v w call stage answers f advances.moves.leads.came c from.lacks.line from.lacks.full gone)
+        go (inl still) (inr hears) = let clash : Hear hears.codes hears.next ≡ Say (Ok still.rest) still.next = sym hears.is ∙ still.is in cc
+        go (inl still) (inl says) =
+            let reaches' = reaches_on old v w same s.items f.came s.answers call (remaining coding call v.state stage) (remaining coding call v.state stage') from.reaches advances.moves.leads still.plays in
+            room_waits old s v w call stage answers f stage' advances c says reaches' unsent' (place still reaches')
+
+    -- it has no answer yet
+    no_answer : (answer : Answer) (ends : Ends over_memory (remaining coding call v.state stage) answer v w) → Carried v w ends.completes.came → ⊥
+    no_answer answer ends c = never_gone old s v w call stage answers f ends.completes.came c from.lacks.line from.lacks.full (ends.gone from.lacks.line from.lacks.next from.lacks.is tt)
+
   module _ (old : SessionValue) (s : Script) (v w : SessionValue) (same : w.asked ≡ v.asked) (call : Call) (stage : Stage) (answers : List Answer) (f : Follows coding old s v (Some call) stage answers) (going : v.channel.failed ≡ false) (from : Resumed old s f.came v call stage) where
     -- a poll that waits
     pending : (stage' : Stage) (moves : Advances over_memory (remaining coding call v.state stage) (remaining coding call v.state stage') v w) → WaitsFor over_memory (remaining coding call v.state stage') w → (is_read call ≡ true → Rests over_memory v w) → HasBegun over_memory (begun_at stage) (begun_at stage') (remaining coding call v.state stage) v w → Carried v w moves.moves.leads.came → Follows coding old (poll_script coding (start_of old) (Some call) s) w (Some call) stage' answers
@@ -452,7 +418,7 @@ module _ (coding : Coding) where
         tree' = remaining coding call v.state stage'
 
         reaches' : Reaches coding old s.items (f.came ++ advances.moves.leads.came) w s.answers call (remaining coding call v.state stage')
-        reaches' = reaches_on old v w same s.items f.came s.answers call (remaining coding call v.state stage) (remaining coding call v.state stage') from.reaches advances.moves.leads from.resumes
+        reaches' = reaches_on old v w same s.items f.came s.answers call (remaining coding call v.state stage) (remaining coding call v.state stage') from.reaches advances.moves.leads (advances.moves.leads.plays tt from.resumes)
 
         resumes' : Resumes w.channel.rule w.channel.kept (remaining coding call v.state stage')
         resumes' = advances.moves.resumes from.resumes
@@ -475,20 +441,11 @@ module _ (coding : Coding) where
           reaches = let P : State → Type 0 = λ state. Reaches coding old s.items (f.came ++ advances.moves.leads.came) w s.answers call (remaining coding call state stage') in subst P (sym advances.moves.state) reaches';
           resumes = let P : State → Type 0 = λ state. Resumes w.channel.rule w.channel.kept (remaining coding call state stage') in subst P (sym advances.moves.state) resumes';
           read = read';
-          since = since_on old s.items s.answers f.came v w (begun_at stage) (begun_at stage') (remaining coding call v.state stage) from.since from.resumes advances.moves.leads.came advances.moves.leads.answered advances.moves.leads.goes begun;
+          since = since_on old s.items s.answers f.came v w (begun_at stage) (begun_at stage') (remaining coding call v.state stage) from.since (inr from.resumes) advances.moves.leads.came advances.moves.leads.answered advances.moves.leads.goes begun;
         }
 
         go : WaitsFor over_memory (remaining coding call v.state stage') w → Follows coding old (poll_script coding (start_of old) (Some call) s) w (Some call) stage' answers
-        go (inl says) =
-            let moves = advances.moves in
-            let P : Tree → Type 0 = λ x. Reaches coding old s.items (f.came ++ moves.leads.came) w s.answers call x in
-            let C : Tree → Type 0 = Calm in
-            let t : Standing = record (here old s v w call stage answers f moves.leads.came c) { said = w.channel.told.sent ++ w.channel.unsent ++ says.line; unsent = [] } in
-            let stuck = say_waits old s v w call stage answers f moves.leads.came c says.line says.next says.some (says.full tt) in
-            let calm = moves.calm (subst C (sym says.is) tt) in
-            let seen = seen_kept (Calm (remaining coding call v.state stage)) s v w moves.leads.came f.seen f.untaken c.split moves.shrinks calm in
-            let says_nothing = waits_kept (Calm (remaining coding call v.state stage)) s v w moves.leads.came c.rule f.waits calm in
-            wait_on old s v w call stage answers f moves.leads.came c (Say (Ok says.line) says.next) stage' wait.Room t (subst P says.is reaches') stuck.0 stuck.1 (line_front w.channel says.line says.some) refl seen says_nothing refl refl unsent' (inr (under_way t wait.Room))
+        go (inl says) = room_waits old s v w call stage answers f stage' advances c says reaches' unsent' (λ t ran. inr (inl (under_way t wait.Room)))
         go (inr hears) =
             let moves = advances.moves in
             let P : Tree → Type 0 = λ x. Reaches coding old s.items (f.came ++ moves.leads.came) w s.answers call x in
@@ -499,7 +456,7 @@ module _ (coding : Coding) where
             let seen : length (untaken w.channel ++ unread w.channel.told) ≡ length w.channel.kept = ap length (all_read old s v w call stage answers f moves.leads.came c hears.none_ahead (hears.dry tt)) in
             let sent = front_fits s.room w.channel.told.sent (fits_here old s v w call stage answers f moves.leads.came c) in
             let b : Wait = wait.Bytes (is_among hears.codes System) in
-            wait_on old s v w call stage answers f moves.leads.came c (Hear hears.codes hears.next) stage' b t (subst P hears.is reaches') stuck sent (all_said w.channel) refl seen resumed refl refl unsent' (inr (under_way t b))
+            wait_on old s v w call stage answers f moves.leads.came c (Hear hears.codes hears.next) stage' b t (subst P hears.is reaches') stuck sent (all_said w.channel) refl seen resumed refl refl unsent' (inr (inl (under_way t b)))
 
     -- a poll that completes the call
     completed : (stage' : Stage) (answer : Answer) (ends : Ends over_memory (remaining coding call v.state stage) answer v w) → Carried v w ends.completes.came → Follows coding old (poll_script coding (start_of old) (Some call) s) w None stage' (answers ++ answer ∷ [])
@@ -511,45 +468,88 @@ module _ (coding : Coding) where
   -- a session that has failed refuses the call
   refused_poll : (old : SessionValue) (s : Script) (v : SessionValue) (call : Call) (stage stage' : Stage) (answers : List Answer) (f : Follows coding old s v (Some call) stage answers) → v.channel.failed ≡ true → Stands coding old s.items f.came v s.answers → Follows coding old (poll_script coding (start_of old) (Some call) s) v None stage' (answers ++ Fault SessionFailed ∷ [])
   refused_poll old s v call stage stage' answers f failed stands =
-      finish old s v v call stage answers f [] (record { rule = refl; received = sym (append-nil v.channel.told.received); failures = refl; split = refl; given = refl; over = refl; has = f.given; sound = f.sound }) (Unit {0}) stage' (Fault SessionFailed)
+      finish old s v v call stage answers f [] (carried_none v f.given f.sound) (Unit {0}) stage' (Fault SessionFailed)
       (stands_refused old v s.items f.came s.answers call failed stands)
       (omega arith)
       (inr (refl, refl, refl, tt))
 
   -- where a poll of the call under way begins
-  placed : (old : SessionValue) (s : Script) (v : SessionValue) (call : Call) (stage : Stage) (answers : List Answer) (f : Follows coding old s v (Some call) stage answers) → MayPoll coding (start_of old) (Some call) s → (v.channel.failed ≡ false → Resumed old s f.came v call stage) × (v.channel.failed ≡ true → Stands coding old s.items f.came v s.answers)
-  placed old s v call stage answers f may = go f.place
-    where
-      kept : take s.seen s.untaken ≡ v.channel.kept
-      kept = ap (λ n. take n s.untaken) f.seen ∙ ap (λ u. take (length v.channel.kept) u) (f.untaken ∙ append_assoc v.channel.kept v.channel.ahead (unread v.channel.told)) ∙ take-append_seam v.channel.kept (v.channel.ahead ++ unread v.channel.told)
+  module _ (old : SessionValue) (s : Script) (v : SessionValue) (call : Call) (stage : Stage) (answers : List Answer) (f : Follows coding old s v (Some call) stage answers) (may : MayPoll coding (start_of old) (Some call) s) where
+    -- the list of before goes on, or the call is kept waiting
+    agreed : s.heard ≡ false → v.channel.failed ≡ false → Resumes v.channel.rule v.channel.kept (dialogue coding call v.state) ⊎ HearsNothing (run_with coding (start_of old) call s) s
+    agreed unheard going = pick (may unheard (f.failed ∙ going))
+      where
+        kept : take s.seen s.untaken ≡ v.channel.kept
+        kept = ap (λ n. take n s.untaken) f.seen ∙ ap (λ u. take (length v.channel.kept) u) (f.untaken ∙ append_assoc v.channel.kept v.channel.ahead (unread v.channel.told)) ∙ take-append_seam v.channel.kept (v.channel.ahead ++ unread v.channel.told)
 
-      resumes : s.polled ≡ false → v.channel.failed ≡ false → Resumes v.channel.rule v.channel.kept (dialogue coding call v.state)
-      resumes new going = pick (may new (f.failed ∙ going))
-        where
-          pick : (hears_system call ≡ s.system) ⊎ Resumes old.channel.rule (take s.seen s.untaken) (dialogue coding call s.state) → Resumes v.channel.rule v.channel.kept (dialogue coding call v.state)
-          pick (inl same) = resumes_dialogue v.channel.rule v.channel.kept call v.state (ap (λ b. outcome v.channel.rule b v.channel.kept false) same ∙ f.waits)
-          pick (inr waits) =
-              let P : State → Type 0 = λ state. Resumes old.channel.rule (take s.seen s.untaken) (dialogue coding call state) in
-              let Q : List ℕ → Type 0 = λ k. Resumes old.channel.rule k (dialogue coding call v.state) in
-              let R : ReplyRule → Type 0 = λ r. Resumes r v.channel.kept (dialogue coding call v.state) in
-              subst R (sym f.rule) (subst Q kept (subst P f.state waits))
+        pick : (hears_system call ≡ s.system) ⊎ Resumes old.channel.rule (take s.seen s.untaken) (dialogue coding call s.state) ⊎ HearsNothing (run_with coding (start_of old) call s) s → Resumes v.channel.rule v.channel.kept (dialogue coding call v.state) ⊎ HearsNothing (run_with coding (start_of old) call s) s
+        pick (inl same) = inl (resumes_dialogue v.channel.rule v.channel.kept call v.state (ap (λ b. outcome v.channel.rule b v.channel.kept false) same ∙ f.waits))
+        pick (inr (inl waits)) =
+            let P : State → Type 0 = λ state. Resumes old.channel.rule (take s.seen s.untaken) (dialogue coding call state) in
+            let Q : List ℕ → Type 0 = λ k. Resumes old.channel.rule k (dialogue coding call v.state) in
+            let R : ReplyRule → Type 0 = λ r. Resumes r v.channel.kept (dialogue coding call v.state) in
+            inl (subst R (sym f.rule) (subst Q kept (subst P f.state waits)))
+        pick (inr (inr nothing)) = inr nothing
 
-      go : Place coding old s f.came v (Some call) stage → (v.channel.failed ≡ false → Resumed old s f.came v call stage) × (v.channel.failed ≡ true → Stands coding old s.items f.came v s.answers)
-      go (inl started) = (
-        λ going.
-            let P : Stage → Type 0 = λ x. Resumed old s f.came v call x in
-            subst P (sym started.at) (record {
-              reaches = stands_reaches old v s.items f.came s.answers call going started.stands;
-              resumes = resumes started.unpolled going;
-              read = λ is. started.stands;
-              since = since_start old s.items s.answers f.came v started.stands;
-            }),
-        λ failed. started.stands,
-      )
-      go (inr u) = (
-        λ going. record { reaches = u.reaches; resumes = u.resumes; read = u.read; since = u.since },
-        λ failed. let clash : true ≡ false = sym failed ∙ u.going in cc,
-      )
+    -- the line that doesn't go out
+    lacking : (stage' : Stage) → Reaches coding old s.items f.came v s.answers call (remaining coding call v.state stage') → HearsNothing (run_with coding (start_of old) call s) s → LacksRoomFor s.room (standing v (unread v.channel.told) (is_over v.channel.told) []) (remaining coding call v.state stage')
+    lacking stage' reaches nothing =
+        let P : List ℕ → Type 0 = λ x. Reaches coding old s.items x v s.answers call (remaining coding call v.state stage') in
+        unheard_lacks old s v v call stage answers f [] (carried_none v f.given f.sound) v.state stage' (subst P (sym (append-nil f.came)) reaches) nothing (sym f.untaken)
+
+    begun_anew : Started coding old s f.came v stage → v.channel.failed ≡ false → Resumes v.channel.rule v.channel.kept (dialogue coding call v.state) ⊎ HearsNothing (run_with coding (start_of old) call s) s → Resumed old s f.came v call (At First) ⊎ KeptWaiting old s f.came v call (At First)
+    begun_anew started going (inl resumes) = inl (record {
+      reaches = stands_reaches old v s.items f.came s.answers call going started.stands;
+      resumes = resumes;
+      read = λ is. started.stands;
+      since = since_start old s.items s.answers f.came v started.stands;
+    })
+    begun_anew started going (inr nothing) =
+        let reaches = stands_reaches old v s.items f.came s.answers call going started.stands in
+        let lacks = lacking (At First) reaches nothing in
+        inr (record {
+          no_read = says_no_read coding call v.state lacks.line lacks.next lacks.is;
+          reaches = reaches;
+          resumes = λ rule kept r. r;
+          since = since_start old s.items s.answers f.came v started.stands;
+          nothing = nothing;
+          lacks = lacks;
+        })
+
+    going_on_unheard : Unheard coding old s f.came v call stage → Resumes v.channel.rule v.channel.kept (dialogue coding call v.state) ⊎ HearsNothing (run_with coding (start_of old) call s) s → Resumed old s f.came v call stage ⊎ KeptWaiting old s f.came v call stage
+    going_on_unheard u (inl resumes) = inl (record {
+      reaches = u.reaches;
+      resumes = u.resumes v.channel.rule v.channel.kept resumes;
+      read = λ is. let clash : true ≡ false = sym is ∙ u.no_read in cc;
+      since = u.since;
+    })
+    going_on_unheard u (inr nothing) = inr (record {
+      no_read = u.no_read;
+      reaches = u.reaches;
+      resumes = u.resumes;
+      since = u.since;
+      nothing = nothing;
+      lacks = lacking stage u.reaches nothing;
+    })
+
+    placed : v.channel.failed ≡ false → Resumed old s f.came v call stage ⊎ KeptWaiting old s f.came v call stage
+    placed going = go f.place
+      where
+        go : Place coding old s f.came v (Some call) stage → Resumed old s f.came v call stage ⊎ KeptWaiting old s f.came v call stage
+        go (inl started) =
+            let P : Stage → Type 0 = λ x. Resumed old s f.came v call x ⊎ KeptWaiting old s f.came v call x in
+            subst P (sym started.at) (begun_anew started going (agreed started.unheard going))
+        go (inr (inl u)) = inl (record { reaches = u.reaches; resumes = u.resumes; read = u.read; since = u.since })
+        go (inr (inr u)) = going_on_unheard u (agreed u.unheard going)
+
+    -- a call that is under way in a session that has failed wasn't polled
+    stands_failed : v.channel.failed ≡ true → Stands coding old s.items f.came v s.answers
+    stands_failed failed = go f.place
+      where
+        go : Place coding old s f.came v (Some call) stage → Stands coding old s.items f.came v s.answers
+        go (inl started) = started.stands
+        go (inr (inl u)) = let clash : true ≡ false = sym failed ∙ u.going in cc
+        go (inr (inr u)) = let clash : true ≡ false = sym failed ∙ u.going in cc
 
   pub poll_follows : (old : SessionValue) (s : Script) (v w : SessionValue) (call : Call) (stage stage' : Stage) (answers : List Answer) (result : Poll Answer) → Follows coding old s v (Some call) stage answers → MayPoll coding (start_of old) (Some call) s → PollsHere coding call stage stage' v w result → PollFollows coding old s v w call stage stage' answers result
   poll_follows old s v w call stage stage' answers result f may here =
@@ -563,20 +563,28 @@ module _ (coding : Coding) where
           let is = here.refused failed in
           let P : Poll Answer → Type 0 = λ r. PollFollows coding old s v w call stage stage' answers r in
           let Q : SessionValue → Type 0 = λ x. Follows coding old (poll_script coding (start_of old) (Some call) s) x None stage' (answers ++ Fault SessionFailed ∷ []) in
-          subst P (sym is.0) (inl (subst Q (sym is.1) (refused_poll old s v call stage stage' answers f failed ((placed old s v call stage answers f may).1 failed))))
-
-      from : v.channel.failed ≡ false → Resumed old s f.came v call stage
-      from going = (placed old s v call stage answers f may).0 going
+          subst P (sym is.0) (inl (subst Q (sym is.1) (refused_poll old s v call stage stage' answers f failed (stands_failed old s v call stage answers f may failed))))
 
       carry : (came : List ℕ) (answered : List Asked) → Goes over_memory came answered v w → Carried v w came
       carry came answered goes = carried v w came answered goes f.sound here.end here.given here.sound
 
+      ready : (answer : Answer) (going : v.channel.failed ≡ false) → (ends : Ends over_memory (remaining coding call v.state stage) answer v w) → Resumed old s f.came v call stage ⊎ KeptWaiting old s f.came v call stage → Follows coding old (poll_script coding (start_of old) (Some call) s) w None stage' (answers ++ answer ∷ [])
+      ready answer going ends (inl from) = completed old s v w here.asked call stage answers f going from stage' answer ends (carry ends.completes.came ends.completes.answered ends.completes.goes)
+      ready answer going ends (inr from) = absurd (no_answer old s v w here.asked call stage answers f going from answer ends (carry ends.completes.came ends.completes.answered ends.completes.goes))
+
       go : (r : Poll Answer) → v.channel.failed ≡ false → PollSteps over_memory (begun_at stage) (remaining coding call v.state stage) (remaining coding call v.state stage') v w r → (r ≡ Pending → is_read call ≡ true → Rests over_memory v w) → (r ≡ Pending → HasBegun over_memory (begun_at stage) (begun_at stage') (remaining coding call v.state stage) v w) → PollFollows coding old s v w call stage stage' answers r
-      go (Ready answer) going (inl ends) rests begun = inl (completed old s v w here.asked call stage answers f going (from going) stage' answer ends (carry ends.completes.came ends.completes.answered ends.completes.goes))
+      go (Ready answer) going (inl ends) rests begun = inl (ready answer going ends (placed old s v call stage answers f may going))
       go (Ready answer) going (inr aborts) rests begun =
           let P : Answer → Type 0 = λ a. Aborts over_memory (begun_at stage) (remaining coding call v.state stage) a v w in
           inr (record { fault = aborts.fault; is = ap Some aborts.is; going = going; aborts = subst P aborts.is aborts; given = here.given; sound = here.sound })
-      go Pending going polls rests begun = pending old s v w here.asked call stage answers f going (from going) stage' polls.0 polls.1 (rests refl) (begun refl) (carry polls.0.moves.leads.came polls.0.moves.leads.answered polls.0.moves.leads.goes)
+      go Pending going polls rests begun = waiting (placed old s v call stage answers f may going)
+        where
+          c : Carried v w polls.0.moves.leads.came
+          c = carry polls.0.moves.leads.came polls.0.moves.leads.answered polls.0.moves.leads.goes
+
+          waiting : Resumed old s f.came v call stage ⊎ KeptWaiting old s f.came v call stage → Follows coding old (poll_script coding (start_of old) (Some call) s) w (Some call) stage' answers
+          waiting (inl from) = pending old s v w here.asked call stage answers f going from stage' polls.0 polls.1 (rests refl) (begun refl) c
+          waiting (inr from) = still_waits old s v w here.asked call stage answers f going from stage' polls.0 polls.1 (begun refl) c
 
   -- what is left of the call under way
   pub left_of : (old : SessionValue) (s : Script) (v : SessionValue) (call : Call) (stage : Stage) (answers : List Answer) → (f : Follows coding old s v (Some call) stage answers) → v.channel.failed ≡ false → LeftOf coding old s v call (begun_at stage) (remaining coding call v.state stage)
@@ -593,7 +601,8 @@ module _ (coding : Coding) where
       reaches (inl started) =
           let P : Stage → Type 0 = λ x. Reaches coding old s.items f.came v s.answers call (remaining coding call v.state x) in
           subst P (sym started.at) (stands_reaches old v s.items f.came s.answers call going started.stands)
-      reaches (inr u) = u.reaches
+      reaches (inr (inl u)) = u.reaches
+      reaches (inr (inr u)) = u.reaches
 
       since : Place coding old s f.came v (Some call) stage → CallHasBegun coding old s f.came v (begun_at stage)
       since (inl started) = record {
@@ -605,4 +614,5 @@ module _ (coding : Coding) where
         has_begun = λ has. let clash : false ≡ true = sym (ap begun_at started.at) ∙ has in cc;
         not_begun = λ none. (refl, sym (append-nil (untaken v.channel)));
       }
-      since (inr u) = record { start = u.since.start; before = u.since.before; later = u.since.later; split = u.since.split; stands = u.since.stands; has_begun = u.since.has_begun; not_begun = u.since.not_begun }
+      since (inr (inl u)) = record { start = u.since.start; before = u.since.before; later = u.since.later; split = u.since.split; stands = u.since.stands; has_begun = u.since.has_begun; not_begun = u.since.not_begun }
+      since (inr (inr u)) = record { start = u.since.start; before = u.since.before; later = u.since.later; split = u.since.split; stands = u.since.stands; has_begun = u.since.has_begun; not_begun = u.since.not_begun }

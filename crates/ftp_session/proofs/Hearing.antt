@@ -122,6 +122,7 @@ module _ (link : Link) (state : State) (asked : List Asked) (t : Told) (kept ahe
       keeps = λ silent. inl none;
       calm = λ calm. inl none;
       shrinks = shrinks;
+      says = λ line after is. let clash : Hear codes next ≡ Say (Ok line) after = is in cc;
     }
 
     -- bytes came, and nothing was settled
@@ -152,6 +153,7 @@ module _ (link : Link) (state : State) (asked : List Asked) (t : Told) (kept ahe
               keeps = λ silent. absurd silent;
               calm = λ calm. absurd calm;
               shrinks = let S : List ℕ → Type 0 = λ l. length l ≤ length ahead + length came in subst S (sym none) (omega arith);
+              says = λ line after is. let clash : Hear codes next ≡ Say (Ok line) after = is in cc;
             };
             failed = refl;
           },

@@ -1,3 +1,4 @@
+pub mod Carried
 pub mod Events
 pub mod Following
 pub mod Hearing
@@ -6,4 +7,5 @@ pub mod Running
 pub mod Scripts
 pub mod Stages
 pub mod Transitions
+pub mod Unheard
 pub mod Wired

@@ -25,11 +25,11 @@ use Rattle.ftp_session.specs.declared.session.stage.Step.TheVariants.{Next, Pend
 use Rattle.ftp_session.specs.declared.model.Standing.{Standing}
 use Rattle.ftp_session.specs.declared.model.Played.TheVariants as played
 use Rattle.ftp_session.specs.State.{SessionValue}
-use Rattle.ftp_session.specs.Dialogue.{Tree, Say, Leaf}
+use Rattle.ftp_session.specs.Dialogue.{Tree, Say, Hear, Ask, Leaf}
 use Rattle.ftp_session.specs.Play.{play, fits, said_then}
 use Rattle.ftp_session.specs.Run.{Resumes, Silent}
-use Rattle.ftp_session.specs.Promises.{IsFault, standing, Rests, Goes, Leads, Fails, Touched, Untouched, LacksMemory, Aborts, failed_from}
-use Rattle.ftp_session.specs.Steps.Moving.{NothingTouched, Keeps, Shrinks, Calm, Moves, Advances, Ends, WaitsFor, Steps, TakesLine, after_line, step_of}
+use Rattle.ftp_session.specs.Promises.{IsFault, However, SaidOrTaken, standing, Rests, Goes, Leads, Fails, Touched, Untouched, LacksMemory, Aborts, failed_from}
+use Rattle.ftp_session.specs.Steps.Moving.{NothingTouched, StillSays, HasGoneOut, Keeps, Shrinks, Calm, Moves, Advances, Ends, WaitsFor, Steps, TakesLine, after_line, step_of}
 use Rattle.ftp_session.specs.Link.{Link}
 
 pub play-Say : (room : Room) (line : List ℕ) (next : Tree) (s : Standing) → play room (Say (Ok line) next) s ≡ said_then room line s (λ t. play room next t)
@@ -92,9 +92,18 @@ stays_put link tree tree' v same =
         keeps = λ silent. inr (refl, refl, refl, silent);
         calm = λ calm. inr (refl, refl, refl, calm);
         shrinks = nothing_shrinks (length v.channel.ahead);
+        says = λ line next is h. inl (record { rest = line; next = next; is = is; count = refl; resumes = λ rule kept r. r; plays = λ room more ended outcomes fit on. refl });
       };
       failed = refl;
     })
+
+-- the line that a tree says first
+abbrev line_in : Tree → List ℕ
+line_in (Say (Ok line) next) = line
+line_in (Say (Err cause) next) = []
+line_in (Hear codes next) = []
+line_in (Ask request next) = []
+line_in (Leaf answer state) = []
 
 -- A line is said
 
@@ -148,19 +157,25 @@ module _ (link : Link) (state : State) (asked : List Asked) (a : Channel) (told 
         keeps = λ silent. inr (refl, refl, refl, silent);
         calm = λ calm. inr (refl, refl, refl, tt);
         shrinks = nothing_shrinks (length a.ahead);
+        says = λ l n is h.
+            let all : told.sent ≡ a.told.sent ++ a.unsent ++ due line = joined_whole a.told.sent told.sent a.unsent unsent (due line) (due line') says.leaves.0 (ap due says.leaves.1) (says.said h) in
+            let whole : length after.channel.told.sent ≡ length (said before.channel) + length (due line) = ap length all ∙ length-append (a.told.sent ++ a.unsent) (due line) in
+            let same : length (due line) ≡ length l = ap length (ap line_in is) in
+            inr (omega (arith, whole, same));
       };
       failed = says.leaves.2;
     }
 
     -- a front of it went out
+    said_part_plays : failed ≡ a.failed → told.sent ++ unsent ++ due line' ≡ a.told.sent ++ a.unsent ++ due line → However before [] [] after (λ room s t. play room (Say (Ok (due line)) next) s ≡ play room (Say (Ok (due line')) next) t)
+    said_part_plays going all = λ room more ended outcomes fit on. play-Say room (due line) next _ ∙ rw (← all, going) (sym (play-Say room (due line') next _))
+
     said_part : failed ≡ a.failed → (link.tells → told.sent ++ unsent ++ due line' ≡ a.told.sent ++ a.unsent ++ due line) → Goes link [] [] before after → Leads link (Say (Ok (due line)) next) (Say (Ok (due line')) next) before after
     said_part going said goes = record {
       came = [];
       answered = [];
       goes = goes;
-      plays = λ h resumes room more ended outcomes fit on.
-          let all = said h in
-          play-Say room (due line) next _ ∙ rw (← all, going) (sym (play-Say room (due line') next _));
+      plays = λ h resumes. said_part_plays going (said h);
     }
 
     -- the connection waits for room
@@ -175,6 +190,14 @@ module _ (link : Link) (state : State) (asked : List Asked) (a : Channel) (told 
           keeps = λ silent. inr (refl, refl, refl, silent);
           calm = λ calm. inr (refl, refl, refl, tt);
           shrinks = nothing_shrinks (length a.ahead);
+          says = λ l n is h. inl (record {
+            rest = due line';
+            next = next;
+            is = refl;
+            count = sym (length-append (told.sent ++ unsent) (due line')) ∙ ap length (says.said h) ∙ length-append (a.told.sent ++ a.unsent) (due line) ∙ ap (λ n. length (a.told.sent ++ a.unsent) + n) (ap length (ap line_in is));
+            resumes = λ rule kept r. r;
+            plays = said_part_plays says.leaves.2 (says.said h);
+          });
         };
         failed = says.leaves.2;
       },
@@ -219,10 +242,10 @@ line_taken link state asked a b line line' answer says = record {
     gone (poll.Ready (Err fault)) leaves is = let clash : Done (Fault fault) ≡ Next = is in cc
     gone poll.Pending leaves is = let clash : Pending ≡ Next = is in cc
 
-    begins : (line ≡ None) ⊎ (line' ≡ line) ⊎ (0 < length (due line)) → line' ≡ None → (line ≡ None) ⊎ ((tree : Tree) → Touched link tree (record { channel = a; state = state; asked = asked }) (record { channel = b; state = state; asked = asked }))
+    begins : (line ≡ None) ⊎ (line' ≡ line) ⊎ (0 < length (due line)) → line' ≡ None → (line ≡ None) ⊎ (link.tells → length (said a) < length (said b))
     begins (inl none) is = inl none
     begins (inr (inl same)) is = inl (sym same ∙ is)
-    begins (inr (inr some)) is = inr (λ tree h resumes. inl (omega (arith, some, ap length (says.said h), length-append (said b) (due line'), length-append (said a) (due line), ap length (ap due is))))
+    begins (inr (inr some)) is = inr (λ h. omega (arith, some, ap length (says.said h), length-append (said b) (due line'), length-append (said a) (due line), ap length (ap due is)))
 
 said_step : (link : Link) (state : State) (asked : List Asked) (a : Channel) (told : Told) (unsent : List ℕ) (failed : Bool) (line line' : Option (List ℕ)) (begun : Bool) (next : Tree) → a.failed ≡ false → (answer : Poll (Result (Unit {0}) FtpError)) → SaysLine link.tells link.writes a (record a { told = told; unsent = unsent; failed = failed }) line line' answer → Steps link begun (Say (Ok (due line)) next) (after_line (step_of answer) line' next) (record { channel = a; state = state; asked = asked }) (record { channel = record a { told = told; unsent = unsent; failed = failed }; state = state; asked = asked }) (step_of answer)
 said_step link state asked a told unsent failed line line' begun next going (poll.Ready (Ok done)) says = said_whole link state asked a told unsent failed line line' next says
@@ -255,7 +278,12 @@ leaf_ends link tree answer old mid new moves fails channel asked =
       keeps = moves.keeps tt;
       calm = moves.calm tt;
       shrinks = moves.shrinks;
+      gone = λ line next is h. out line (moves.says line next is h);
     })
+  where
+    out : (line : List ℕ) → StillSays link tree (Leaf answer new.state) moves.leads.came moves.leads.answered line old mid ⊎ HasGoneOut line old mid → HasGoneOut line old mid
+    out line (inl still) = let clash : Leaf answer new.state ≡ Say (Ok still.rest) still.next = still.is in cc
+    out line (inr gone) = gone
 
 -- a command that has no line is the answer
 pub refused_line : (link : Link) (cause : Cause) (next : Tree) (v : SessionValue) → Ends link (Say (Err cause) next) (Fault (ConnectionError cause)) v v
@@ -270,6 +298,7 @@ refused_line link cause next v = record {
   keeps = inr (refl, refl, refl, tt);
   calm = inr (refl, refl, refl, tt);
   shrinks = nothing_shrinks (length v.channel.ahead);
+  gone = λ line after is h. let clash : Say (Err cause) next ≡ Say (Ok line) after = is in cc;
 }
 
 nothing_touched : (link : Link) (v : SessionValue) → Untouched link [] v v
@@ -364,27 +393,19 @@ rests_untouched link old new rests = λ h.
     (rests.came, rests.goes.received h, sym (ap (λ s. s.said ++ s.unsent) same), whole)
 
 -- what was said or taken stays so
-pub touched_on : (link : Link) (tree : Tree) (a b c : SessionValue) (came : List ℕ) (answered : List Asked) → Goes link came answered b c → Touched link tree a b → Touched link tree a c
-touched_on link tree a b c came answered goes here = λ h resumes. go h (here h resumes)
-  where
-    go : link.tells → (length (said a.channel) < length (said b.channel)) ⊎ (length a.channel.told.received + length (untaken b.channel) < length b.channel.told.received + length (untaken a.channel)) → (length (said a.channel) < length (said c.channel)) ⊎ (length a.channel.told.received + length (untaken c.channel) < length c.channel.told.received + length (untaken a.channel))
-    go h (inl more) = inl (omega (arith, more, goes.said h))
-    go h (inr fewer) = inr (omega (arith, fewer, goes.untaken, ap length (goes.received h), length-append b.channel.told.received came))
+pub said_or_taken_on : (link : Link) (a b c : SessionValue) (came : List ℕ) (answered : List Asked) → Goes link came answered b c → link.tells → SaidOrTaken a b → SaidOrTaken a c
+said_or_taken_on link a b c came answered goes h (inl more) = inl (omega (arith, more, goes.said h))
+said_or_taken_on link a b c came answered goes h (inr fewer) = inr (omega (arith, fewer, goes.untaken, ap length (goes.received h), length-append b.channel.told.received came))
 
--- what is said or taken after a step is said or taken after both
-pub touched_later : (link : Link) (tree tree' : Tree) (a b c : SessionValue) (came : List ℕ) (answered : List Asked) → Goes link came answered a b → (Resumes a.channel.rule a.channel.kept tree → Resumes b.channel.rule b.channel.kept tree') → Touched link tree' b c → Touched link tree a c
-touched_later link tree tree' a b c came answered goes resumes here = λ h r. go h (here h (resumes r))
-  where
-    go : link.tells → (length (said b.channel) < length (said c.channel)) ⊎ (length b.channel.told.received + length (untaken c.channel) < length c.channel.told.received + length (untaken b.channel)) → (length (said a.channel) < length (said c.channel)) ⊎ (length a.channel.told.received + length (untaken c.channel) < length c.channel.told.received + length (untaken a.channel))
-    go h (inl more) = inl (omega (arith, more, goes.said h))
-    go h (inr fewer) = inr (omega (arith, fewer, goes.untaken, ap length (goes.received h), length-append a.channel.told.received came))
+touched_on : (link : Link) (tree : Tree) (a b c : SessionValue) (came : List ℕ) (answered : List Asked) → Goes link came answered b c → Touched link tree a b → Touched link tree a c
+touched_on link tree a b c came answered goes here = λ h resumes. said_or_taken_on link a b c came answered goes h (here h resumes)
 
 module _ (link : Link) (tree tree' : Tree) (a b c : SessionValue) (first : Moves link tree tree' a b) where
   -- the first part of two
-  first_plays : (two : List ℕ) (asked : List Asked) → Goes link two asked b c → link.tells → Resumes a.channel.rule a.channel.kept tree → (room : Room) (more : List ℕ) (ended : Bool) (outcomes : List RequestOutcome) → HasRoomFor room (length c.channel.told.sent) → GoesOn c.channel.ended more ended → play room tree (standing a ((first.leads.came ++ two) ++ more) ended (outcomes_of (first.leads.answered ++ asked) ++ outcomes)) ≡ play room tree' (standing b (two ++ more) ended (outcomes_of asked ++ outcomes))
-  first_plays two asked goes h resumes room more ended outcomes fit on =
+  first_plays : (two : List ℕ) (asked : List Asked) → Goes link two asked b c → link.tells → However a first.leads.came first.leads.answered b (λ room s t. play room tree s ≡ play room tree' t) → (room : Room) (more : List ℕ) (ended : Bool) (outcomes : List RequestOutcome) → HasRoomFor room (length c.channel.told.sent) → GoesOn c.channel.ended more ended → play room tree (standing a ((first.leads.came ++ two) ++ more) ended (outcomes_of (first.leads.answered ++ asked) ++ outcomes)) ≡ play room tree' (standing b (two ++ more) ended (outcomes_of asked ++ outcomes))
+  first_plays two asked goes h plays room more ended outcomes fit on =
       rw (append_assoc first.leads.came two more, outcomes-append first.leads.answered asked, append_assoc (outcomes_of first.leads.answered) (outcomes_of asked) outcomes)
-      (first.leads.plays h resumes room (two ++ more) ended (outcomes_of asked ++ outcomes) (fitted room _ _ (goes.sent h) fit) (goes_after b.channel.ended two more c.channel.ended ended goes.over on))
+      (plays room (two ++ more) ended (outcomes_of asked ++ outcomes) (fitted room _ _ (goes.sent h) fit) (goes_after b.channel.ended two more c.channel.ended ended goes.over on))
 
   -- a lead after a step
   pub leads_on : (last : Tree) → Leads link tree' last b c → Leads link tree last a c
@@ -393,7 +414,7 @@ module _ (link : Link) (tree tree' : Tree) (a b c : SessionValue) (first : Moves
     answered = first.leads.answered ++ second.answered;
     goes = joined_goes link first.leads.came second.came first.leads.answered second.answered a b c first.leads.goes second.goes;
     plays = λ h resumes room more ended outcomes fit on.
-        first_plays second.came second.answered second.goes h resumes room more ended outcomes fit on
+        first_plays second.came second.answered second.goes h (first.leads.plays h resumes) room more ended outcomes fit on
         ∙ second.plays h (first.resumes resumes) room more ended outcomes fit on;
   }
 
@@ -407,7 +428,25 @@ module _ (link : Link) (tree tree' : Tree) (a b c : SessionValue) (first : Moves
     keeps = λ silent. keeps_after (Silent tree) (Silent tree') first.leads.came second.leads.came a b c first.keeps (second.keeps silent);
     calm = λ calm. keeps_after (Calm tree) (Calm tree') first.leads.came second.leads.came a b c first.calm (second.calm calm);
     shrinks = shrinks_after first.leads.came second.leads.came a b c first.shrinks second.shrinks;
+    says = λ line next is h. saying line h (first.says line next is h);
   }
+    where
+      together : (line : List ℕ) → link.tells → (still : StillSays link tree tree' first.leads.came first.leads.answered line a b) → StillSays link tree' last second.leads.came second.leads.answered still.rest b c ⊎ HasGoneOut still.rest b c → StillSays link tree last (first.leads.came ++ second.leads.came) (first.leads.answered ++ second.leads.answered) line a c ⊎ HasGoneOut line a c
+      together line h still (inl later) = inl (record {
+        rest = later.rest;
+        next = later.next;
+        is = later.is;
+        count = later.count ∙ still.count;
+        resumes = λ rule kept r. later.resumes rule kept (still.resumes rule kept r);
+        plays = λ room more ended outcomes fit on.
+            first_plays second.leads.came second.leads.answered second.leads.goes h still.plays room more ended outcomes fit on
+            ∙ later.plays room more ended outcomes fit on;
+      })
+      together line h still (inr gone) = inr (omega (arith, gone, still.count))
+
+      saying : (line : List ℕ) → link.tells → StillSays link tree tree' first.leads.came first.leads.answered line a b ⊎ HasGoneOut line a b → StillSays link tree last (first.leads.came ++ second.leads.came) (first.leads.answered ++ second.leads.answered) line a c ⊎ HasGoneOut line a c
+      saying line h (inl still) = together line h still (second.says still.rest still.next still.is h)
+      saying line h (inr gone) = inr (omega (arith, gone, second.leads.goes.sent h))
 
   -- the answer after others
   pub ends_on : (answer : Answer) → b.channel.failed ≡ a.channel.failed → Ends link tree' answer b c → Ends link tree answer a c
@@ -418,14 +457,19 @@ module _ (link : Link) (tree tree' : Tree) (a b c : SessionValue) (first : Moves
       answered = first.leads.answered ++ second.completes.answered;
       goes = joined_goes link first.leads.came second.completes.came first.leads.answered second.completes.answered a b c first.leads.goes second.completes.goes;
       plays = λ h resumes room more ended outcomes fit on.
-          first_plays second.completes.came second.completes.answered second.completes.goes h resumes room more ended outcomes fit on
+          first_plays second.completes.came second.completes.answered second.completes.goes h (first.leads.plays h resumes) room more ended outcomes fit on
           ∙ second.completes.plays h (first.resumes resumes) room more ended outcomes fit on;
     };
     keeps = keeps_after (Silent tree) (Silent tree') first.leads.came second.completes.came a b c first.keeps second.keeps;
     calm = keeps_after (Calm tree) (Calm tree') first.leads.came second.completes.came a b c first.calm second.calm;
     shrinks = shrinks_after first.leads.came second.completes.came a b c first.shrinks second.shrinks;
+    gone = λ line next is h. out line h (first.says line next is h);
   }
     where
+      out : (line : List ℕ) → link.tells → StillSays link tree tree' first.leads.came first.leads.answered line a b ⊎ HasGoneOut line a b → HasGoneOut line a c
+      out line h (inl still) = omega (arith, second.gone still.rest still.next still.is h, still.count)
+      out line h (inr gone) = omega (arith, gone, second.completes.goes.sent h)
+
       failing : (b.channel.failed ≡ true) ⊎ IsFault answer → (a.channel.failed ≡ true) ⊎ IsFault answer
       failing (inl was) = inl (sym same ∙ was)
       failing (inr fault) = inr fault

@@ -1,8 +1,8 @@
 -- Lemmas on the stages of a call.
-use Rattle.std.proofs.Common.{◌≡◌, ℕ, ◌-◌, ◌<◌, Bool, true, false, ◌&&◌, Option, Some, None, is_none, List, Result, Ok, inl, inr, ◌⊎◌, refl, ap, sym, ◌∙◌, subst, arith}
+use Rattle.std.proofs.Common.{◌≡◌, ℕ, ◌-◌, ◌<◌, Bool, true, false, ◌&&◌, Option, Some, None, is_none, List, length, Result, Ok, inl, inr, ◌⊎◌, refl, ap, sym, ◌∙◌, subst, arith}
 use Rattle.ftp_base.specs.declared.command.Command.{Command}
 use Rattle.ftp_base.specs.declared.types.fault.ConnectionError.{ConnectionError as Cause}
-use Rattle.ftp_control.specs.Saying.{due}
+use Rattle.ftp_control.specs.Saying.{due, said}
 use Rattle.ftp_calls.specs.declared.call.Call.{Call}
 use Rattle.ftp_calls.specs.declared.exchange.Turn.{Turn}
 use Rattle.ftp_calls.specs.declared.exchange.Turn.TheVariants.{First, Second}
@@ -17,8 +17,7 @@ use Rattle.ftp_session.specs.declared.session.stage.Step.{Step}
 use Rattle.ftp_session.specs.declared.session.stage.Step.TheVariants.{Next}
 use Rattle.ftp_session.specs.Link.{Link}
 use Rattle.ftp_session.specs.State.{SessionValue}
-use Rattle.ftp_session.specs.Promises.{Touched}
-use Rattle.ftp_session.specs.Steps.Moving.{TakesLine, HasBegun, NothingTouched}
+use Rattle.ftp_session.specs.Steps.Moving.{TakesLine, HasBegun, BeginsHere, NothingTouched}
 
 and_false : (b : Bool) → b && false ≡ false
 and_false true = refl
@@ -40,7 +39,7 @@ said_first coding (Some command) line next some is =
     ap S (sym is)
 
 -- a call that says something is no plain read
-no_read : (call : Call) (turn : Turn) → (is_second turn ≡ true → is_read call ≡ false) → is_none (exchange_of call turn).says ≡ false → is_read call ≡ false
+pub no_read : (call : Call) (turn : Turn) → (is_second turn ≡ true → is_read call ≡ false) → is_none (exchange_of call turn).says ≡ false → is_read call ≡ false
 no_read call First read some = ap (λ b. gives_reply (exchange_of call First).ending && b) some ∙ and_false (gives_reply (exchange_of call First).ending)
 no_read call Second read some = read refl
 
@@ -74,15 +73,15 @@ node_begins coding call turn (Hearing a) read node =
 -- Whether a dialogue has begun
 
 module _ (link : Link) (line line' : Option (List ℕ)) (a : Awaits) (old new : SessionValue) (result : Step) (takes : TakesLine link line line' old new result) where
-  taken_begins : line' ≡ None → (tree : Tree) → (begun_at (Saying line a) ≡ true) ⊎ Touched link tree old new
+  taken_begins : line' ≡ None → (tree : Tree) → (begun_at (Saying line a) ≡ true) ⊎ BeginsHere link tree old new
   taken_begins none tree = go (takes.begins none)
     where
-      go : (line ≡ None) ⊎ ((tree : Tree) → Touched link tree old new) → (begun_at (Saying line a) ≡ true) ⊎ Touched link tree old new
+      go : (line ≡ None) ⊎ (link.tells → length (said old.channel) < length (said new.channel)) → (begun_at (Saying line a) ≡ true) ⊎ BeginsHere link tree old new
       go (inl before) = inl (let P : Option (List ℕ) → Type 0 = λ l. begun_at (Saying l a) ≡ true in subst P (sym before) refl)
-      go (inr touched) = inr (touched tree)
+      go (inr more) = inr (λ h first. inl (more h))
 
   -- a line that went out
-  pub line_gone : result ≡ Next → (tree : Tree) → (begun_at (Saying line a) ≡ true) ⊎ Touched link tree old new
+  pub line_gone : result ≡ Next → (tree : Tree) → (begun_at (Saying line a) ≡ true) ⊎ BeginsHere link tree old new
   line_gone is tree = taken_begins (takes.gone is) tree
 
   -- a line that waits for room
@@ -97,7 +96,7 @@ module _ (link : Link) (line line' : Option (List ℕ)) (a : Awaits) (old new : 
       back (Some l) is (inl same) none = (let P : Option (List ℕ) → Type 0 = λ x. begun_at (Saying x a) ≡ false in subst P same none, takes.stays same)
       back (Some l) is (inr gone) none = let clash : Some l ≡ None = sym is ∙ gone in cc
 
-      go : (l : Option (List ℕ)) → line' ≡ l → (line' ≡ line) ⊎ (line' ≡ None) → begun_at (Saying line' a) ≡ true → (begun_at (Saying line a) ≡ true) ⊎ Touched link tree old new
+      go : (l : Option (List ℕ)) → line' ≡ l → (line' ≡ line) ⊎ (line' ≡ None) → begun_at (Saying line' a) ≡ true → (begun_at (Saying line a) ≡ true) ⊎ BeginsHere link tree old new
       go None is whole has = taken_begins is tree
       go (Some l) is (inl same) has = inl (let P : Option (List ℕ) → Type 0 = λ x. begun_at (Saying x a) ≡ true in subst P same has)
       go (Some l) is (inr none) has = let clash : Some l ≡ None = sym is ∙ none in cc

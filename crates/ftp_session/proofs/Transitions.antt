@@ -1,5 +1,5 @@
 -- Lemmas on the machine's steps and polls.
-use Rattle.std.proofs.Common.{◌∷◌, ◌≡◌, ℕ, Bool, true, false, cond, Option, Some, None, List, [], Result, Ok, Err, inl, inr, ◌⊎◌, refl, ap, sym, ◌∙◌, subst}
+use Rattle.std.proofs.Common.{◌∷◌, ◌≡◌, ◌<◌, ◌+◌, ℕ, length, Bool, true, false, cond, Option, Some, None, List, [], Result, Ok, Err, inl, inr, ◌⊎◌, refl, ap, sym, ◌∙◌, subst}
 use Rattle.std.specs.Prelude.{IfOk}
 use Rattle.std.specs.declared.alloc.AllocError.{AllocError}
 use Rattle.futures.specs.declared.task.Poll.{Poll}
@@ -27,10 +27,12 @@ use Rattle.ftp_session.specs.State.{SessionValue}
 use Rattle.ftp_session.specs.Coding.{Coding}
 use Rattle.ftp_calls.specs.Exchanges.{exchange_of, statuses, is_read}
 use Rattle.ftp_session.specs.Dialogue.{Tree, Say, Hear, Leaf, saying, awaiting, accepted, later, from_turn, dialogue}
-use Rattle.ftp_session.specs.Promises.{IsFault, HasFault, Aborts, Fails, Touched, Untouched, LacksMemory, Plays, Reads, Rests, failed_from}
+use Rattle.ftp_session.specs.Promises.{IsFault, HasFault, Aborts, Fails, SaidOrTaken, Touched, Untouched, LacksMemory, Plays, GivesFault, Reads, Rests, failed_from}
+use Rattle.ftp_control.specs.Channel.{untaken}
+use Rattle.ftp_session.specs.Run.{Resumes}
 use Rattle.ftp_session.specs.Steps.Stages.{is_second, remaining, awaited, begun_at, StageOf, line_of}
-use Rattle.ftp_session.specs.Steps.Moving.{Moves, Advances, Ends, Steps, PollSteps, Hears, BeginsExchange, Concludes, NothingTouched, NothingYet, Quiet, HasBegun, Takes, Tracks, wants_memory, withheld, after_fault}
-use Rattle.ftp_session.proofs.Moving.{leaf_ends, refused_line, lacks_memory_first, lacks_memory_at, stays_put, moves_on, ends_on, aborts_on, touched_on, touched_later, untouched, untouched_after}
+use Rattle.ftp_session.specs.Steps.Moving.{Moves, Advances, Ends, Steps, PollSteps, Hears, BeginsExchange, Concludes, NothingTouched, NothingYet, Quiet, HasBegun, BeginsHere, Speaks, Takes, Tracks, wants_memory, withheld, after_fault}
+use Rattle.ftp_session.proofs.Moving.{leaf_ends, refused_line, lacks_memory_first, lacks_memory_at, stays_put, moves_on, ends_on, aborts_on, said_or_taken_on, untouched, untouched_after}
 use Rattle.ftp_session.specs.Link.{Link}
 
 -- An exchange begins
@@ -106,7 +108,11 @@ pub accepted_begins : (link : Link) (coding : Coding) (call : Call) (a : Awaits)
 accepted_begins link coding call a reply stage' old mid new Next takes on done =
     let P : SessionValue → Type 0 = λ v. Takes link (awaited coding call old.state a) old v in
     let here = subst P (sym done.0) takes in
-    (λ has. inr (λ h resumes. inr (here h resumes)), λ none. let clash : true ≡ false = sym (on refl) ∙ none in cc)
+    (λ has. inr (λ h first. heard h first (here h)), λ none. let clash : true ≡ false = sym (on refl) ∙ none in cc)
+  where
+    heard : link.tells → Speaks (awaited coding call old.state a) ⊎ Resumes old.channel.rule old.channel.kept (awaited coding call old.state a) → (Resumes old.channel.rule old.channel.kept (awaited coding call old.state a) → length old.channel.told.received + length (untaken new.channel) < length new.channel.told.received + length (untaken old.channel)) → SaidOrTaken old new
+    heard h (inl speaks) takes = absurd speaks
+    heard h (inr resumes) takes = inr (takes resumes)
 accepted_begins link coding call a reply stage' old mid new Pending takes on done = absurd done
 accepted_begins link coding call a reply stage' old mid new (Done answer) takes on done = tt
 
@@ -186,23 +192,28 @@ read_is_quiet call (Hearing a) stage_of read = go a.begun refl
 module _ (link : Link) (coding : Coding) (call : Call) (stage stage' : Stage) (a b : SessionValue) (so_far : SoFar link coding call stage stage' a b) where
   -- what has begun after a step had begun before it, or begins with it
   pub begun_on : (stage'' : Stage) (c : SessionValue) → Moves link (remaining coding call b.state stage') (remaining coding call b.state stage'') b c → HasBegun link (begun_at stage') (begun_at stage'') (remaining coding call b.state stage') b c → HasBegun link (begun_at stage) (begun_at stage'') (remaining coding call a.state stage) a c
-  begun_on stage'' c moves second = (λ has. go (second.0 has), λ none. back (second.1 none))
+  begun_on stage'' c moves second = (λ has. go (begun_at stage') refl (second.0 has), λ none. back (second.1 none))
     where
       back : (begun_at stage' ≡ false) × NothingTouched link b c → (begun_at stage ≡ false) × NothingTouched link a c
       back later =
           let first = so_far.begun.1 later.0 in
           (first.0, untouched_after link a b c first.1 later.1)
 
-      before : (begun_at stage ≡ true) ⊎ Touched link (remaining coding call a.state stage) a b → (begun_at stage ≡ true) ⊎ Touched link (remaining coding call a.state stage) a c
+      before : (begun_at stage ≡ true) ⊎ BeginsHere link (remaining coding call a.state stage) a b → (begun_at stage ≡ true) ⊎ BeginsHere link (remaining coding call a.state stage) a c
       before (inl was) = inl was
-      before (inr here) = inr (touched_on link (remaining coding call a.state stage) a b c moves.leads.came moves.leads.answered moves.leads.goes here)
+      before (inr here) = inr (λ h first. said_or_taken_on link a b c moves.leads.came moves.leads.answered moves.leads.goes h (here h first))
 
-      go : (begun_at stage' ≡ true) ⊎ Touched link (remaining coding call b.state stage') b c → (begun_at stage ≡ true) ⊎ Touched link (remaining coding call a.state stage) a c
-      go (inl was) = before (so_far.begun.0 was)
-      go (inr here) =
-          let P : State → Type 0 = λ s. Touched link (remaining coding call s stage') b c in
-          let first = so_far.moved.moves in
-          inr (touched_later link (remaining coding call a.state stage) (remaining coding call a.state stage') a b c first.leads.came first.leads.answered first.leads.goes first.resumes (subst P first.state here))
+      -- as long as nothing has begun, nothing has changed
+      from_here : NothingYet coding call stage stage' a b → BeginsHere link (remaining coding call b.state stage') b c → BeginsHere link (remaining coding call a.state stage) a c
+      from_here quiet here =
+          let P : SessionValue → Type 0 = λ v. BeginsHere link (remaining coding call v.state stage') v c in
+          let Q : Tree → Type 0 = λ t. BeginsHere link t a c in
+          subst Q (quiet.tree a.state) (subst P quiet.same here)
+
+      go : (x : Bool) → begun_at stage' ≡ x → (begun_at stage' ≡ true) ⊎ BeginsHere link (remaining coding call b.state stage') b c → (begun_at stage ≡ true) ⊎ BeginsHere link (remaining coding call a.state stage) a c
+      go true has here = before (so_far.begun.0 has)
+      go false none (inl was) = let clash : false ≡ true = sym none ∙ was in cc
+      go false none (inr here) = inr (from_here (so_far.quiet none) here)
 
   -- one step more
   pub next_step : (stage'' : Stage) (c : SessionValue) → Steps link (begun_at stage') (remaining coding call b.state stage') (remaining coding call b.state stage'') b c Next → Quiet coding call stage' stage'' b c Next → HasBegun link (begun_at stage') (begun_at stage'') (remaining coding call b.state stage') b c → StageOf call stage'' → c.asked ≡ b.asked → SoFar link coding call stage stage'' a c
@@ -224,8 +235,12 @@ module _ (link : Link) (coding : Coding) (call : Call) (stage stage' : Stage) (a
       tree' : Tree
       tree' = remaining coding call a.state stage'
 
+      touched : (begun_at stage ≡ true) ⊎ BeginsHere link (remaining coding call a.state stage) a b → (begun_at stage ≡ true) ⊎ Touched link (remaining coding call a.state stage) a b
+      touched (inl was) = inl was
+      touched (inr here) = inr (λ h resumes. here h (inr resumes))
+
       aborted : (x : Bool) → begun_at stage' ≡ x → Aborts link (begun_at stage') (remaining coding call a.state stage') answer b c → Aborts link (begun_at stage) (remaining coding call a.state stage) answer a c
-      aborted true has aborts = aborts_on link (remaining coding call a.state stage) (remaining coding call a.state stage') a b c so_far.moved.moves (begun_at stage) (begun_at stage') answer so_far.begun.0 has aborts
+      aborted true has aborts = aborts_on link (remaining coding call a.state stage) (remaining coding call a.state stage') a b c so_far.moved.moves (begun_at stage) (begun_at stage') answer (λ begun. touched (so_far.begun.0 begun)) has aborts
       aborted false has aborts =
           let quiet = so_far.quiet has in
           let P : SessionValue → Type 0 = λ v. Aborts link (begun_at stage) (remaining coding call a.state stage) answer v c in
@@ -283,6 +298,12 @@ hears_reads link codes next old new (poll.Ready (Err fault)) (inr aborts) = inr 
     go (inl fails) = inl fails
     go (inr lacks) = inr (record { is = lacks.0; leaves = inl (lacks.1, refl, lacks.2) })
 hears_reads link codes next old new poll.Pending heard = (heard.0.moves.leads, heard.2)
+
+-- a read fails the session only where it gives a fault
+pub hears_fail : (link : Link) (codes : List Status) (next : Result Response FtpError → Tree) (old new : SessionValue) (result : Poll (Result Response FtpError)) → Hears link codes next old new result → new.channel.failed ≡ true → (old.channel.failed ≡ true) ⊎ GivesFault result
+hears_fail link codes next old new (poll.Ready (Ok reply)) heard failed = inl (sym heard.0.failed ∙ failed)
+hears_fail link codes next old new (poll.Ready (Err fault)) heard failed = inr tt
+hears_fail link codes next old new poll.Pending heard failed = inl (sym heard.0.failed ∙ failed)
 
 -- the end is met only where it was told
 pub end_on : (first second third : Bool) (t u : Told) → u.given ≡ t.given → EndsAsTold first second t → EndsAsTold second third u → EndsAsTold first third t

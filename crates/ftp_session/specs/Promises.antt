@@ -164,9 +164,12 @@ pub record Untouched (link : Link) (came : List ℕ) (old new : SessionValue) : 
   pub untaken : untaken new.channel ≡ untaken old.channel ++ came
 
 -- something was said, or a reply was taken: fewer bytes are untaken than were and came
+abbrev pub SaidOrTaken : SessionValue → SessionValue → Type 0
+SaidOrTaken old new =
+    (length (said old.channel) < length (said new.channel)) ⊎ (length old.channel.told.received + length (untaken new.channel) < length new.channel.told.received + length (untaken old.channel))
+
 abbrev pub Touched : Link → Tree → SessionValue → SessionValue → Type 0
-Touched link tree old new =
-    link.tells → Resumes old.channel.rule old.channel.kept tree → (length (said old.channel) < length (said new.channel)) ⊎ (length old.channel.told.received + length (untaken new.channel) < length new.channel.told.received + length (untaken old.channel))
+Touched link tree old new = link.tells → Resumes old.channel.rule old.channel.kept tree → SaidOrTaken old new
 
 abbrev pub failed_from : SessionValue → SessionValue
 failed_from v = record v { channel = record v.channel { failed = true } }
@@ -224,6 +227,12 @@ Reads link codes next old new (Ready (Ok reply)) = Leads link (Hear codes next) 
 Reads link codes next old new (Ready (Err fault)) =
     Leads link (Hear codes next) (next (Err fault)) old new ⊎ Aborts link false (Hear codes next) (Fault fault) old new
 Reads link codes next old new Pending = Leads link (Hear codes next) (Hear codes next) old new × Rests link old new
+
+-- a read gives a fault
+abbrev pub GivesFault : Poll (Result Response FtpError) → Type 0
+GivesFault (Ready (Ok reply)) = ⊥
+GivesFault (Ready (Err fault)) = Unit {0}
+GivesFault Pending = ⊥
 
 -- one view of System: what is kept is no whole reply under the first list that these calls hear under
 abbrev pub Agrees : Coding → SessionValue → List Call → Type 0

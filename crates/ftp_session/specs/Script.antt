@@ -45,6 +45,7 @@ script_of v system = record {
   answers = [];
   call = None;
   polled = false;
+  heard = false;
   bytes = untaken v.channel ++ unread v.channel.told;
   ended = is_over v.channel.told;
   room = v.channel.told.given.room;
@@ -71,6 +72,15 @@ front (UpTo most) all = take most all
 abbrev pub seen_in : Script → List ℕ → ℕ
 seen_in s left = if length left == length s.untaken then s.seen else 0
 
+-- whether the call under way has heard: it had before, or a reply was taken, or one is awaited
+abbrev pub heard_in : Script → List ℕ → Bool
+heard_in s left = if length left == length s.untaken then s.heard else true
+
+abbrev pub heard_at : Wait → Script → List ℕ → Bool
+heard_at wait.Room s left = heard_in s left
+heard_at (wait.Bytes system) s left = true
+heard_at wait.Outcome s left = heard_in s left
+
 abbrev pub system_at : Wait → Script → Bool
 system_at wait.Room s = s.system
 system_at (wait.Bytes system) s = system
@@ -88,6 +98,7 @@ polled_as (Finished answers t) call s = record s {
   answers = answers;
   call = None;
   polled = false;
+  heard = false;
   said = t.said ++ t.unsent;
   sent = front s.room t.said;
   unsent = t.unsent;
@@ -98,6 +109,7 @@ polled_as (Finished answers t) call s = record s {
 }
 polled_as (Waiting answers wait t) call s = record s {
   polled = true;
+  heard = heard_at wait s t.bytes;
   said = t.said ++ t.unsent;
   sent = front s.room t.said;
   untaken = t.bytes;
@@ -107,14 +119,17 @@ polled_as (Waiting answers wait t) call s = record s {
   failed = t.failed;
 }
 
+-- all calls are played anew, with this one, on the bytes that came by now
+abbrev pub run_with : Coding → Standing → Call → Script → Ran
+run_with coding start call s = run s.room coding (s.items ++ call ∷ []) (record start { bytes = s.bytes; ended = s.ended })
+
 abbrev pub poll_script : Coding → Standing → Option Call → Script → Script
 poll_script coding start None s = s
-poll_script coding start (Some call) s =
-    polled_as (run s.room coding (s.items ++ call ∷ []) (record start { bytes = s.bytes; ended = s.ended })) call s
+poll_script coding start (Some call) s = polled_as (run_with coding start call s) call s
 
 -- a call begins where none is under way
 abbrev pub start_script : Call → Option Call → Script → Script
-start_script call None s = record s { call = Some call; polled = false }
+start_script call None s = record s { call = Some call; polled = false; heard = false }
 start_script call (Some other) s = s
 
 -- bytes come, unless the input has ended
@@ -128,7 +143,7 @@ after_event coding start s event.End = record s { ended = true }
 after_event coding start s (event.Room more) = record s { room = more_room more (length s.sent) s.room }
 after_event coding start s (event.Start call) = start_script call s.call s
 after_event coding start s event.Poll = poll_script coding start s.call s
-after_event coding start s event.Cancel = record s { call = None; polled = false }
+after_event coding start s event.Cancel = record s { call = None; polled = false; heard = false }
 after_event coding start s event.Leave = s
 
 abbrev pub script : Coding → Standing → Script → List Event → Script
@@ -137,16 +152,22 @@ script coding start s (event ∷ events) = script coding start (after_event codi
 
 -- Lawful lists: a call is dropped before its first Poll, or it is a plain read; and a reply under way is resumed
 -- under a list that holds System where the one before did, and else doesn't, unless it is no whole reply under
--- the call's list. Of a session that has failed, and of a call that is refused, nothing is asked
+-- the call's list. Of a session that has failed, of a call that is refused and of one that waits for room before it
+-- hears nothing is asked
 
 abbrev pub MayCancel : Option Call → Bool → Type 0
 MayCancel None polled = Unit {0}
 MayCancel (Some call) polled = (polled ≡ false) ⊎ (is_read call ≡ true)
 
+-- the call waits, and hasn't heard
+abbrev pub HearsNothing : Ran → Script → Type 0
+HearsNothing (Finished answers t) s = ⊥
+HearsNothing (Waiting answers wait t) s = heard_at wait s t.bytes ≡ false
+
 abbrev pub MayPoll : Coding → Standing → Option Call → Script → Type 0
 MayPoll coding start None s = Unit {0}
 MayPoll coding start (Some call) s =
-    s.polled ≡ false → s.failed ≡ false → (hears_system call ≡ s.system) ⊎ Resumes start.rule (take s.seen s.untaken) (dialogue coding call s.state)
+    s.heard ≡ false → s.failed ≡ false → (hears_system call ≡ s.system) ⊎ Resumes start.rule (take s.seen s.untaken) (dialogue coding call s.state) ⊎ HearsNothing (run_with coding start call s) s
 
 abbrev pub IsLawful : Coding → Standing → Script → Event → Type 0
 IsLawful coding start s (event.Feed more) = Unit {0}

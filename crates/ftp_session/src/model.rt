@@ -69,6 +69,8 @@ pub struct Script {
     pub call: Option<Call>,
     /// Whether it was polled.
     pub polled: bool,
+    /// Whether it has heard: not while it waits for room for its first line.
+    pub heard: bool,
     /// All bytes that came.
     pub bytes: Bytes,
     /// Whether they ended.

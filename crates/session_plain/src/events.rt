@@ -4,7 +4,7 @@ ghost use Rattle.std.specs.Prelude.{◌≡◌, ℕ, List, [], ◌∷◌, ◌++�
 ghost use Rattle.ftp_control.specs.Memory.{more_room};
 ghost use Rattle.ftp_session.specs.Coding.{coding_of};
 ghost use Rattle.ftp_session.specs.Run.{run};
-ghost use Rattle.ftp_session.specs.Script.{after_event, fed, front, poll_script, script, seen_at, seen_in, start_script, system_at};
+ghost use Rattle.ftp_session.specs.Script.{after_event, fed, front, heard_at, heard_in, poll_script, script, seen_at, seen_in, start_script, system_at};
 
 use crate::exchange::copy_of;
 use crate::runs::run;
@@ -53,6 +53,7 @@ fn happen<E: Encoding>(
         Event::Cancel => {
             here.call = None;
             here.polled = false;
+            here.heard = false;
         }
         Event::Leave => {}
     }
@@ -88,6 +89,7 @@ fn start(here: &mut Script, call: &Call) -> Result<(), AllocError>
     if here.call.is_none() {
         here.call = Some(copy_of(call)?);
         here.polled = false;
+        here.heard = false;
     }
     Ok(())
 }
@@ -160,6 +162,7 @@ fn finish(
       answers = answers;
       call = None;
       polled = false;
+      heard = false;
       said = there.said ++ there.unsent;
       sent = front here.old.room there.said;
       unsent = there.unsent;
@@ -173,6 +176,7 @@ fn finish(
     here.answers = answers;
     here.call = None;
     here.polled = false;
+    here.heard = false;
     here.said = joined(&there.said, &there.unsent)?;
     here.sent = front(here.room, there.said);
     here.unsent = there.unsent;
@@ -187,6 +191,7 @@ fn finish(
 fn suspend(here: &mut Script, wait: Wait, there: Standing) -> Result<(), AllocError>
     ensures { OnOk result (here.new ≡ record here.old {
       polled = true;
+      heard = heard_at wait here.old there.bytes;
       said = there.said ++ there.unsent;
       sent = front here.old.room there.said;
       untaken = there.bytes;
@@ -197,9 +202,13 @@ fn suspend(here: &mut Script, wait: Wait, there: Standing) -> Result<(), AllocEr
     }) }
 {
     match wait {
-        Wait::Room | Wait::Outcome => here.seen = seen_in(here, there.bytes.len()),
+        Wait::Room | Wait::Outcome => {
+            here.seen = seen_in(here, there.bytes.len());
+            here.heard = heard_in(here, there.bytes.len());
+        }
         Wait::Bytes(system) => {
             here.seen = there.bytes.len();
+            here.heard = true;
             here.system = system;
         }
     }
@@ -229,6 +238,17 @@ fn seen_in(here: &Script, left: usize) -> usize
         here.seen
     } else {
         0
+    }
+}
+
+/// Whether the call under way has heard, with so many bytes untaken.
+fn heard_in(here: &Script, left: usize) -> bool
+    ensures { (bytes : List ℕ) → length bytes ≡ left → result ≡ heard_in here.now bytes }
+{
+    if left == here.untaken.len() {
+        here.heard
+    } else {
+        true
     }
 }
 

@@ -21,6 +21,8 @@ use Rattle.ftp_session.specs.declared.session.stage.Stage.TheVariants.{At}
 use Rattle.ftp_session.specs.State.{SessionValue}
 use Rattle.ftp_session.specs.Coding.{Coding}
 use Rattle.ftp_calls.specs.Exchanges.{is_read}
+use Rattle.ftp_control.specs.declared.control.rule.ReplyRule.{ReplyRule}
+use Rattle.ftp_session.specs.Dialogue.{dialogue}
 use Rattle.ftp_session.specs.Run.{Resumes}
 use Rattle.ftp_session.specs.Scripted.{SaysFrontOf, SaysNothing, SaysOrTakes, Stands, Reaches}
 use Rattle.ftp_session.specs.Promises.{AllRefused, Aborts, Rests}
@@ -51,15 +53,26 @@ pub record UnderWay (coding : Coding) (old : SessionValue) (s : Script) (came : 
   pub read : is_read call ≡ true → Stands coding old s.items came v s.answers
   pub since : Since coding old s.items s.answers came v (begun_at stage)
 
+-- a call that was polled and has waited for room since, before it hears: its first line still goes out
+pub record Unheard (coding : Coding) (old : SessionValue) (s : Script) (came : List ℕ) (v : SessionValue) (call : Call) (stage : Stage) : Type 0 where
+  pub polled : s.polled ≡ true
+  pub unheard : s.heard ≡ false
+  pub going : v.channel.failed ≡ false
+  pub no_read : is_read call ≡ false
+  pub reaches : Reaches coding old s.items came v s.answers call (remaining coding call v.state stage)
+  pub resumes : (rule : ReplyRule) (kept : List ℕ) → Resumes rule kept (dialogue coding call v.state) → Resumes rule kept (remaining coding call v.state stage)
+  pub since : Since coding old s.items s.answers came v (begun_at stage)
+
 -- a call that wasn't polled
 pub record Started (coding : Coding) (old : SessionValue) (s : Script) (came : List ℕ) (v : SessionValue) (stage : Stage) : Type 0 where
   pub at : stage ≡ At First
   pub unpolled : s.polled ≡ false
+  pub unheard : s.heard ≡ false
   pub stands : Stands coding old s.items came v s.answers
 
 abbrev pub Place : Coding → SessionValue → Script → List ℕ → SessionValue → Option Call → Stage → Type 0
 Place coding old s came v None stage = Stands coding old s.items came v s.answers
-Place coding old s came v (Some call) stage = Started coding old s came v stage ⊎ UnderWay coding old s came v call stage
+Place coding old s came v (Some call) stage = Started coding old s came v stage ⊎ UnderWay coding old s came v call stage ⊎ Unheard coding old s came v call stage
 
 -- the session follows the script
 pub record Follows (coding : Coding) (old : SessionValue) (s : Script) (v : SessionValue) (call : Option Call) (stage : Stage) (answers : List Answer) : Type 0 where

@@ -8,6 +8,9 @@ use Rattle.ftp_base.specs.declared.types.reply.Response.{Response}
 use Rattle.ftp_base.specs.declared.types.fault.FtpError.{FtpError}
 use Rattle.ftp_base.specs.declared.types.fault.FtpError.TheVariants.{ConnectionError, SecureError, UnexpectedResponse, BadResponse, InvalidAddress, DataConnectionAlreadyOpen, OutOfMemory, SessionFailed}
 use Rattle.ftp_control.specs.Told.{IsDry, IsFull}
+use Rattle.ftp_control.specs.declared.control.rule.ReplyRule.{ReplyRule}
+use Rattle.ftp_control.specs.declared.transport.request.Asked.{Asked}
+use Rattle.ftp_session.specs.Play.{play}
 use Rattle.ftp_control.specs.Channel.{untaken}
 use Rattle.ftp_control.specs.Saying.{due, said}
 use Rattle.ftp_session.specs.declared.session.state.State.{State}
@@ -29,7 +32,7 @@ use Rattle.ftp_control.specs.Refusal.{IsRefusalOf}
 use Rattle.ftp_calls.specs.Exchanges.{exchange_of, gives_reply}
 use Rattle.ftp_session.specs.Dialogue.{Tree, Say, Hear, Ask, Leaf, accepted, later, dialogue}
 use Rattle.ftp_session.specs.Run.{Resumes, Silent}
-use Rattle.ftp_session.specs.Promises.{IsFault, Leads, Completes, Aborts, Fails, Touched, Untouched, Rests, IsRefused, failed_from}
+use Rattle.ftp_session.specs.Promises.{IsFault, Leads, Completes, Aborts, Fails, However, SaidOrTaken, Untouched, Rests, IsRefused, failed_from}
 use Rattle.ftp_session.specs.Steps.Stages.{Begun, remaining, begun_at, is_second, line_of}
 use Rattle.ftp_session.specs.Link.{Link}
 
@@ -48,6 +51,32 @@ Calm (Hear codes next) = ⊥
 Calm (Ask request next) = Unit {0}
 Calm (Leaf answer state) = Unit {0}
 
+-- a line is said first
+abbrev pub Speaks : Tree → Type 0
+Speaks (Say (Ok line) next) = Unit {0}
+Speaks (Say (Err cause) next) = ⊥
+Speaks (Hear codes next) = ⊥
+Speaks (Ask request next) = ⊥
+Speaks (Leaf answer state) = ⊥
+
+-- the line that was said first still goes out, and that is all: what is kept of a reply doesn't matter yet
+pub record StillSays (link : Link) (tree tree' : Tree) (came : List ℕ) (answered : List Asked) (line : List ℕ) (old new : SessionValue) : Type 0 where
+  pub rest : List ℕ
+  pub next : Tree
+  pub is : tree' ≡ Say (Ok rest) next
+  pub count : length (said new.channel) + length rest ≡ length (said old.channel) + length line
+  pub resumes : (rule : ReplyRule) (kept : List ℕ) → Resumes rule kept tree → Resumes rule kept tree'
+  pub plays : However old came answered new (λ room s t. play room tree s ≡ play room tree' t)
+
+-- all of a line has gone out
+abbrev pub HasGoneOut : List ℕ → SessionValue → SessionValue → Type 0
+HasGoneOut line old new = length (said old.channel) + length line ≤ length new.channel.told.sent
+
+-- the line that a tree says first still goes out, or has gone out
+abbrev pub SaysFirst : Link → Tree → Tree → List ℕ → List Asked → SessionValue → SessionValue → Type 0
+SaysFirst link tree tree' came answered old new =
+    (line : List ℕ) (next : Tree) → tree ≡ Say (Ok line) next → link.tells → StillSays link tree tree' came answered line old new ⊎ HasGoneOut line old new
+
 -- one tree is left of another
 pub record Moves (link : Link) (tree tree' : Tree) (old new : SessionValue) : Type 0 where
   pub leads : Leads link tree tree' old new
@@ -56,6 +85,7 @@ pub record Moves (link : Link) (tree tree' : Tree) (old new : SessionValue) : Ty
   pub keeps : Silent tree' → Keeps (Silent tree) leads.came old new
   pub calm : Calm tree' → Keeps (Calm tree) leads.came old new
   pub shrinks : Shrinks leads.came old new
+  pub says : SaysFirst link tree tree' leads.came leads.answered old new
 
 -- the same, and the session goes on
 pub record Advances (link : Link) (tree tree' : Tree) (old new : SessionValue) : Type 0 where
@@ -69,6 +99,7 @@ pub record Ends (link : Link) (tree : Tree) (answer : Answer) (old new : Session
   pub keeps : Keeps (Silent tree) completes.came old new
   pub calm : Keeps (Calm tree) completes.came old new
   pub shrinks : Shrinks completes.came old new
+  pub gone : (line : List ℕ) (next : Tree) → tree ≡ Say (Ok line) next → link.tells → HasGoneOut line old new
 
 -- a tree waits: for room, for the line that is begun; or for bytes, where all were read and more may come
 pub record WaitsToSay (link : Link) (tree : Tree) (v : SessionValue) : Type 0 where
@@ -132,7 +163,7 @@ pub record TakesLine (link : Link) (line line' : Option (List ℕ)) (old new : S
   pub whole : (line' ≡ line) ⊎ (line' ≡ None)
   pub gone : result ≡ Next → line' ≡ None
   pub stays : line' ≡ line → NothingTouched link old new
-  pub begins : line' ≡ None → (line ≡ None) ⊎ ((tree : Tree) → Touched link tree old new)
+  pub begins : line' ≡ None → (line ≡ None) ⊎ (link.tells → length (said old.channel) < length (said new.channel))
 
 -- a read is aborted: the connection failed, which was counted; or memory ran out, and nothing is lost
 pub record AbortsRead (link : Link) (codes : List Status) (next : Result Response FtpError → Tree) (fault : FtpError) (old new : SessionValue) : Type 0 where
@@ -174,10 +205,14 @@ pub record NothingYet (coding : Coding) (call : Call) (stage stage' : Stage) (ol
   pub begun : begun_at stage ≡ false
   pub tree : (state : State) → remaining coding call state stage' ≡ remaining coding call state stage
 
+-- a dialogue begins: a line that is said first is said, whatever is kept of a reply
+abbrev pub BeginsHere : Link → Tree → SessionValue → SessionValue → Type 0
+BeginsHere link tree old new = link.tells → Speaks tree ⊎ Resumes old.channel.rule old.channel.kept tree → SaidOrTaken old new
+
 -- a dialogue that has begun had begun before, or something was said or taken; where it hasn't, nothing was
 abbrev pub HasBegun : Link → Bool → Bool → Tree → SessionValue → SessionValue → Type 0
 HasBegun link begun begun' tree old new =
-    (begun' ≡ true → (begun ≡ true) ⊎ Touched link tree old new) × (begun' ≡ false → (begun ≡ false) × NothingTouched link old new)
+    (begun' ≡ true → (begun ≡ true) ⊎ BeginsHere link tree old new) × (begun' ≡ false → (begun ≡ false) × NothingTouched link old new)
 
 abbrev pub Tracks : Link → Bool → Bool → Tree → SessionValue → SessionValue → Step → Type 0
 Tracks link begun begun' tree old new Next = HasBegun link begun begun' tree old new

@@ -1,6 +1,6 @@
 //! The calls of a session (RFC 959, section 4.1). Each is its dialogue, made whole.
 
-ghost use Rattle.std.specs.Prelude.{◌≡◌, Err, IfOk, Result, true, false, [], ◌∷◌, option_map};
+ghost use Rattle.std.specs.Prelude.{◌⊎◌, ◌≡◌, Err, IfOk, Result, true, false, [], ◌∷◌, option_map};
 ghost use Rattle.futures.specs.declared.task.Poll.TheVariants as poll;
 ghost use Rattle.ftp_base.specs.declared.types.reply.Response.{Response as Heard};
 ghost use Rattle.ftp_base.specs.declared.types.fault.FtpError.{FtpError as Faults};
@@ -9,7 +9,7 @@ ghost use Rattle.ftp_session.specs.Calls.{reply_answer, unit_answer};
 ghost use Rattle.ftp_session.specs.Coding.{chosen};
 ghost use Rattle.ftp_session.specs.Dialogue.{Tree};
 ghost use Rattle.ftp_session.specs.Link.{link};
-ghost use Rattle.ftp_session.specs.Promises.{Plays, Reads};
+ghost use Rattle.ftp_session.specs.Promises.{GivesFault, Plays, Reads};
 ghost use Rattle.ftp_session.specs.Steps.Moving.{withheld};
 ghost use Rattle.ftp_session.specs.Steps.Stages.{GivesNothing, GivesReply, MayAnswer};
 
@@ -289,6 +289,8 @@ impl<Tr: Network, K: Drop, E: Encoding, B: Drop> Session<Tr, K, E, B> {
         ensures waits { result ≡ poll.Pending → Tr.Conn.may_wait }
         ensures failed { self.old.machine.channel.failed ≡ true →
             (result ≡ poll.Ready (Err FtpError.SessionFailed)) × (self.new ≡ self.old) }
+        ensures fails { self.new.machine.channel.failed ≡ true →
+            (self.old.machine.channel.failed ≡ true) ⊎ GivesFault result }
         ensures reads { self.old.machine.channel.failed ≡ false →
             (next : Result Heard Faults → Tree) →
             Reads (link Tr.Conn.tells Tr.Conn.read_faults Tr.Conn.write_faults) expected.now next self.old.machine self.new.machine result }
@@ -314,6 +316,8 @@ impl<Tr: Network, K: Drop, E: Encoding, B: Drop> Session<Tr, K, E, B> {
         ensures waits { result ≡ poll.Pending → Tr.Conn.may_wait }
         ensures failed { self.old.machine.channel.failed ≡ true →
             (result ≡ poll.Ready (Err FtpError.SessionFailed)) × (self.new ≡ self.old) }
+        ensures fails { self.new.machine.channel.failed ≡ true →
+            (self.old.machine.channel.failed ≡ true) ⊎ GivesFault result }
         ensures reads { self.old.machine.channel.failed ≡ false →
             (next : Result Heard Faults → Tree) →
             Reads (link Tr.Conn.tells Tr.Conn.read_faults Tr.Conn.write_faults) (expected ∷ []) next self.old.machine self.new.machine result }

@@ -35,6 +35,7 @@ fn first_script(alloc: Global) -> Script {
         answers: Items::from_vec(Vec::new(alloc)),
         call: None,
         polled: false,
+        heard: false,
         bytes: Bytes::new(alloc),
         ended: false,
         room: Room::Any,

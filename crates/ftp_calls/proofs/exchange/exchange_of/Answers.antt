@@ -7,7 +7,7 @@ pub returns-in-Quit : goal.returns-in-Quit
 returns-in-Quit c = rw c.in-Quit.is c.says-in-Quit.ensures
 
 pub returns-in-Greet : goal.returns-in-Greet
-returns-in-Greet c = rw c.in-Greet.is c.hears-in-Greet.ensures
+returns-in-Greet c = rw c.in-Greet.is c.hears.ensures
 
-pub returns-in-Site : goal.returns-in-Site
-returns-in-Site c = rw c.in-Site.is c.says-in-Site.ensures
+pub returns-in-Mkdir : goal.returns-in-Mkdir
+returns-in-Mkdir c = rw c.in-Mkdir.is c.says-in-Mkdir.ensures

@@ -1,0 +1,202 @@
+-- Lemmas on what a poll leaves of a connection: which bytes came, what is read of them, and the room.
+use Rattle.std.proofs.Common.{◌≡◌, ℕ, ◌+◌, ◌<◌, ◌≤◌, Bool, true, false, cond, ◌||◌, eqb, Option, Some, None, List, [], ◌∷◌, ◌++◌, length, take, drop, Result, Ok, Err, inl, inr, ◌⊎◌, refl, ap, sym, ◌∙◌, subst, append_assoc, append-nil, length-append, arith, eq-eqb}
+use Rattle.std.proofs.lemmas.Bool.{le-leb, lt-leb, eqb-true}
+use Rattle.std.proofs.lemmas.List.{append_cancel_left, take_all}
+use Rattle.std.proofs.Math.Seq.{drop-append_seam, take-append_seam, drop-length}
+use Rattle.futures.specs.declared.task.Poll.{Poll}
+use Rattle.futures.specs.declared.task.Poll.TheVariants.{Ready, Pending}
+use Rattle.ftp_base.specs.declared.types.fault.FtpError.{FtpError}
+use Rattle.ftp_base.specs.declared.types.fault.FtpError.TheVariants.{SessionFailed}
+use Rattle.ftp_base.specs.declared.types.fault.ConnectionError.{ConnectionError as Cause}
+use Rattle.ftp_base.specs.declared.types.reply.Response.{Response}
+use Rattle.ftp_base.specs.declared.status.Status.{Status}
+use Rattle.ftp_base.specs.declared.status.Status.TheVariants.{System}
+use Rattle.ftp_base.specs.declared.command.Command.{Command}
+use Rattle.ftp_base.specs.Command.{text_of}
+use Rattle.ftp_base.specs.Wire.{wire}
+use Rattle.ftp_control.specs.declared.control.rule.ReplyRule.{ReplyRule}
+use Rattle.ftp_control.specs.declared.transport.room.Room.{Room}
+use Rattle.ftp_control.specs.declared.transport.room.Room.TheVariants.{Any, UpTo}
+use Rattle.ftp_control.specs.declared.transport.request.Asked.{Asked}
+use Rattle.ftp_control.specs.Asking.{outcomes_of}
+use Rattle.ftp_control.specs.Told.{Told, HasRoomFor, HasNoRoom, IsDry, IsFull, EndsAsTold}
+use Rattle.ftp_control.specs.Memory.{IsGiven}
+use Rattle.ftp_control.specs.Reading.{GoesOn}
+use Rattle.ftp_control.specs.Channel.{Channel, IsSound, untaken}
+use Rattle.ftp_control.specs.Saying.{said}
+use Rattle.ftp_control.specs.declared.control.outcome.Outcome.TheVariants.{Waits}
+use Rattle.ftp_control.specs.Grammar.{outcome}
+use Rattle.ftp_control.specs.Answer.{is_among}
+use Rattle.ftp_session.specs.declared.session.state.State.{State}
+use Rattle.ftp_calls.specs.declared.call.Answer.{Answer}
+use Rattle.ftp_calls.specs.declared.call.Answer.TheVariants.{Fault}
+use Rattle.ftp_calls.specs.declared.call.Call.{Call}
+use Rattle.ftp_calls.specs.declared.exchange.Turn.TheVariants.{First}
+use Rattle.ftp_session.specs.declared.session.stage.Stage.{Stage}
+use Rattle.ftp_session.specs.declared.session.stage.Stage.TheVariants.{At}
+use Rattle.ftp_session.specs.declared.model.Standing.{Standing}
+use Rattle.ftp_session.specs.declared.model.Wait.{Wait}
+use Rattle.ftp_session.specs.declared.model.Wait.TheVariants as wait
+use Rattle.ftp_session.specs.declared.model.Played.TheVariants as played
+use Rattle.ftp_session.specs.declared.model.Ran.{Ran}
+use Rattle.ftp_session.specs.declared.model.Ran.TheVariants.{Finished, Waiting}
+use Rattle.ftp_session.specs.declared.model.Script.{Script}
+use Rattle.ftp_session.specs.State.{SessionValue}
+use Rattle.ftp_session.specs.Coding.{Coding}
+use Rattle.ftp_calls.specs.Exchanges.{exchange_of, statuses, is_read}
+use Rattle.ftp_session.specs.Dialogue.{Tree, Say, Hear, saying, awaiting, later, dialogue}
+use Rattle.ftp_session.specs.Play.{play, fits, heard_then}
+use Rattle.ftp_session.specs.declared.model.Played.{Played}
+use Rattle.ftp_session.specs.Run.{run, before, and_then, Resumes, Silent}
+use Rattle.ftp_session.specs.Promises.{standing, before_all, However, Goes, Leads, Rests, Aborts}
+use Rattle.ftp_session.specs.Script.{unread, is_over, start_of, front, seen_in, seen_at, system_at, hears_system, polled_as, run_with, poll_script, HearsNothing, MayCancel, MayPoll}
+use Rattle.ftp_session.specs.Scripted.{SaysFrontOf, SaysNothing, Stands, SaysOrTakes, CallHasBegun, Reaches, LeftOf}
+use Rattle.ftp_session.specs.Steps.Stages.{remaining, begun_at}
+use Rattle.ftp_session.specs.Steps.Moving.{BeginsHere, HasBegun, HasGoneOut, NothingTouched, Speaks, StillSays, Keeps, Shrinks, Calm, Advances, Ends, PollSteps, WaitsFor, WaitsToSay}
+use Rattle.ftp_session.specs.Steps.Following.{Since, Started, UnderWay, Unheard, Place, Follows, PollsHere, AbortsCall}
+use Rattle.ftp_session.proofs.Moving.{goes_after, fitted, play-Say}
+use Rattle.ftp_session.proofs.Hearing.{play-Hear, nothing_says}
+use Rattle.ftp_session.proofs.Unheard.{LacksRoomFor, lacks_room, says_no_read}
+use Rattle.ftp_session.proofs.Running.{run-nil, run-cons, before_all-snoc, before_all-Finished, before_all-Waiting, refuses_on}
+use Rattle.ftp_session.specs.Link.{over_memory}
+
+-- Bytes
+
+pub unread_is : (t : Told) (given : IsGiven t) → unread t ≡ given.ahead
+unread_is t given = ap (drop (length t.received)) given.front ∙ drop-append_seam t.received given.ahead
+
+-- what came was unread before
+pub unread_split : (t u : Told) (came : List ℕ) → IsGiven u → u.given ≡ t.given → u.received ≡ t.received ++ came → unread t ≡ came ++ unread u
+unread_split t u came given same received =
+    let front : t.given.bytes ≡ t.received ++ (came ++ given.ahead) =
+    ap (λ g. g.bytes) (sym same) ∙ given.front ∙ ap (λ r. r ++ given.ahead) received ∙ append_assoc t.received came given.ahead in
+    ap (drop (length t.received)) front ∙ drop-append_seam t.received (came ++ given.ahead) ∙ ap (λ a. came ++ a) (sym (unread_is u given))
+
+pub front_fits : (room : Room) (all : List ℕ) → HasRoomFor room (length all) → front room all ≡ all
+front_fits Any all fit = refl
+front_fits (UpTo most) all fit = take_all most all fit
+
+-- where the end was met nothing is unread
+pub over_at_end : (v : SessionValue) → IsGiven v.channel.told → IsSound (Unit {0}) v.channel → GoesOn v.channel.ended (unread v.channel.told) (is_over v.channel.told)
+over_at_end v given sound = record {
+  nothing = λ e. unread_is v.channel.told given ∙ given.over (sound.ended tt ∙ e);
+  over = λ e. let met : v.channel.told.ended ≡ true = sound.ended tt ∙ e in rw met (or_true v.channel.told.given.closed);
+}
+  where
+    or_true : (b : Bool) → b || true ≡ true
+    or_true true = refl
+    or_true false = refl
+
+-- a poll meets the end only where it was told
+pub same_over : (t u : Told) → u.given ≡ t.given → (t.ended ≡ true → u.ended ≡ true) → (u.ended ≡ true → (t.ended ≡ true) ⊎ (t.given.closed ≡ true)) → is_over u ≡ is_over t
+same_over t u same grows told =
+    ap (λ g. g.closed || u.ended) same ∙ go t.given.closed t.ended u.ended grows told
+  where
+    go : (closed one two : Bool) → (one ≡ true → two ≡ true) → (two ≡ true → (one ≡ true) ⊎ (closed ≡ true)) → closed || two ≡ closed || one
+    go true one two grows told = refl
+    go false true two grows told = grows refl
+    go false false true grows told = absurd (clash (told refl))
+      where
+        clash : (false ≡ true) ⊎ (false ≡ true) → ⊥
+        clash (inl e) = cc e
+        clash (inr e) = cc e
+    go false false false grows told = refl
+
+-- nothing was asked
+pub none_answered : (asked answered : List Asked) → asked ≡ asked ++ answered → answered ≡ []
+none_answered asked answered is = append_cancel_left asked answered [] (sym is ∙ sym (append-nil asked))
+
+module _ (v w : SessionValue) (same : w.asked ≡ v.asked) where
+  pub plain_ends : (tree : Tree) (answer : Answer) (ends : Ends over_memory tree answer v w) → Resumes v.channel.rule v.channel.kept tree → (room : Room) (more : List ℕ) (ended : Bool) → HasRoomFor room (length w.channel.told.sent) → GoesOn w.channel.ended more ended → play room tree (standing v (ends.completes.came ++ more) ended []) ≡ played.Done answer (standing w more ended [])
+  plain_ends tree answer ends resumes room more ended fit on =
+      let done = ends.completes in
+      let none : done.answered ≡ [] = none_answered v.asked done.answered (sym same ∙ done.goes.asked tt) in
+      let P : List Asked → Type 0 = λ a. play room tree (standing v (done.came ++ more) ended (outcomes_of a ++ [])) ≡ played.Done answer (standing w more ended []) in
+      subst P none (done.plays tt resumes room more ended [] fit on)
+
+  pub plain_leads : (tree tree' : Tree) (leads : Leads over_memory tree tree' v w) → However v leads.came leads.answered w (λ room s t. play room tree s ≡ play room tree' t) → (room : Room) (more : List ℕ) (ended : Bool) → HasRoomFor room (length w.channel.told.sent) → GoesOn w.channel.ended more ended → play room tree (standing v (leads.came ++ more) ended []) ≡ play room tree' (standing w more ended [])
+  plain_leads tree tree' leads plays room more ended fit on =
+      let none : leads.answered ≡ [] = none_answered v.asked leads.answered (sym same ∙ leads.goes.asked tt) in
+      let P : List Asked → Type 0 = λ a. play room tree (standing v (leads.came ++ more) ended (outcomes_of a ++ [])) ≡ play room tree' (standing w more ended []) in
+      subst P none (plays room more ended [] fit on)
+
+-- What is read
+
+pub seen_none : (s : Script) (left : List ℕ) (kept : ℕ) → s.seen ≡ kept → kept + length left ≤ length s.untaken → seen_in s left ≡ 0
+seen_none s left kept seen fewer =
+    elim (eqb (length left) (length s.untaken)) as (λ t. eqb (length left) (length s.untaken) ≡ t → cond t s.seen 0 ≡ 0) [
+      | true ↦ λ t. omega (arith, seen, fewer, eqb-true _ _ t)
+      | false ↦ λ t. refl
+    ] refl
+
+pub seen_same : (s : Script) (left : List ℕ) → left ≡ s.untaken → seen_in s left ≡ s.seen
+seen_same s left same =
+    let test : eqb (length left) (length s.untaken) ≡ true = eq-eqb _ _ (ap length same) in
+    rw test
+
+-- how many of the untaken bytes a poll has read
+pub seen_kept : (P : Type 0) (s : Script) (v w : SessionValue) (came : List ℕ) → s.seen ≡ length v.channel.kept → s.untaken ≡ untaken v.channel ++ unread v.channel.told → unread v.channel.told ≡ came ++ unread w.channel.told → Shrinks came v w → Keeps P came v w → seen_in s (untaken w.channel ++ unread w.channel.told) ≡ length w.channel.kept
+seen_kept P s v w came seen untaken_is split shrinks (inl none) =
+    let count : length s.untaken ≡ (length v.channel.kept + length v.channel.ahead) + (length came + length (unread w.channel.told)) =
+    ap length (untaken_is ∙ ap (λ u. untaken v.channel ++ u) split) ∙ length-append (untaken v.channel) (came ++ unread w.channel.told) ∙ ap (λ n. n + length (came ++ unread w.channel.told)) (length-append v.channel.kept v.channel.ahead) ∙ ap (λ n. (length v.channel.kept + length v.channel.ahead) + n) (length-append came (unread w.channel.told)) in
+    let left : length (untaken w.channel ++ unread w.channel.told) ≡ length w.channel.ahead + length (unread w.channel.told) =
+    length-append (untaken w.channel) (unread w.channel.told) ∙ ap (λ k. length (k ++ w.channel.ahead) + length (unread w.channel.told)) none in
+    seen_none s (untaken w.channel ++ unread w.channel.told) (length v.channel.kept) seen (omega (arith, count, left, shrinks)) ∙ sym (ap length none)
+seen_kept P s v w came seen untaken_is split shrinks (inr same) =
+    let left : untaken w.channel ++ unread w.channel.told ≡ s.untaken =
+    ap (λ k. (k ++ w.channel.ahead) ++ unread w.channel.told) same.0 ∙ ap (λ a. (v.channel.kept ++ a) ++ unread w.channel.told) same.1 ∙ ap (λ u. untaken v.channel ++ u) (sym (split ∙ ap (λ c. c ++ unread w.channel.told) same.2)) ∙ sym untaken_is in
+    seen_same s (untaken w.channel ++ unread w.channel.told) left ∙ seen ∙ ap length (sym same.0)
+
+-- what is kept says nothing yet under the list that it was read under
+pub waits_kept : (P : Type 0) (s : Script) (v w : SessionValue) (came : List ℕ) → w.channel.rule ≡ v.channel.rule → outcome v.channel.rule s.system v.channel.kept false ≡ Waits → Keeps P came v w → outcome w.channel.rule s.system w.channel.kept false ≡ Waits
+waits_kept P s v w came rule waits (inl none) = rw none (nothing_says w.channel.rule s.system)
+waits_kept P s v w came rule waits (inr same) = rw (same.0, rule) waits
+
+pub positive : (l : List ℕ) → (l ≡ [] → ⊥) → 0 < length l
+positive [] some = absurd (some refl)
+positive (x ∷ l) some = omega arith
+
+-- no room is left for what is unsent
+pub full_room : (room : Room) (sent unsent line : List ℕ) → HasRoomFor room (length sent) → HasNoRoom room (length sent) → (unsent ≡ [] → ⊥) → (fits room (sent ++ unsent ++ line) ≡ false) × (front room (sent ++ unsent ++ line) ≡ sent)
+full_room Any sent unsent line fit full some = absurd full
+full_room (UpTo most) sent unsent line fit full some =
+    let count : length (sent ++ unsent ++ line) ≡ (length sent + length unsent) + length line = length-append (sent ++ unsent) line ∙ ap (λ n. n + length line) (length-append sent unsent) in
+    let same : most ≡ length sent = omega (arith, fit, full) in
+    (lt-leb _ _ (omega (arith, count, positive unsent some, fit, full)), rw (same, append_assoc sent unsent line) (take-append_seam sent (unsent ++ line)))
+
+-- what a poll leaves of a connection
+pub record Carried (v w : SessionValue) (came : List ℕ) : Type 0 where
+  pub rule : w.channel.rule ≡ v.channel.rule
+  pub received : w.channel.told.received ≡ v.channel.told.received ++ came
+  pub failures : w.channel.told.failures ≡ v.channel.told.failures
+  pub split : unread v.channel.told ≡ came ++ unread w.channel.told
+  pub given : w.channel.told.given ≡ v.channel.told.given
+  pub over : is_over w.channel.told ≡ is_over v.channel.told
+  pub has : IsGiven w.channel.told
+  pub sound : IsSound (Unit {0}) w.channel
+
+pub carried : (v w : SessionValue) (came : List ℕ) (answered : List Asked) → Goes over_memory came answered v w → IsSound (Unit {0}) v.channel → EndsAsTold v.channel.ended w.channel.ended v.channel.told → IsGiven w.channel.told → IsSound (Unit {0}) w.channel → Carried v w came
+carried v w came answered goes sound end given sound' = record {
+  rule = goes.rule;
+  received = goes.received tt;
+  failures = (goes.failures tt).failures;
+  split = unread_split v.channel.told w.channel.told came given (goes.given tt) (goes.received tt);
+  given = goes.given tt;
+  over = same_over v.channel.told w.channel.told (goes.given tt) (λ e. sound'.ended tt ∙ goes.over.over (sym (sound.ended tt) ∙ e)) (λ e. go (end (sym (sound'.ended tt) ∙ e)));
+  has = given;
+  sound = sound';
+}
+  where
+    go : (v.channel.ended ≡ true) ⊎ (v.channel.told.given.closed ≡ true) → (v.channel.told.ended ≡ true) ⊎ (v.channel.told.given.closed ≡ true)
+    go (inl e) = inl (sound.ended tt ∙ e)
+    go (inr e) = inr e
+
+pub carried_none : (v : SessionValue) → IsGiven v.channel.told → IsSound (Unit {0}) v.channel → Carried v v []
+carried_none v given sound = record { rule = refl; received = sym (append-nil v.channel.told.received); failures = refl; split = refl; given = refl; over = refl; has = given; sound = sound }
+
+-- what went out and is unsent begins what is said with the next line
+pub line_front : (c : Channel) (line : List ℕ) → (c.unsent ≡ [] → ⊥) → SaysFrontOf c ((c.told.sent ++ c.unsent ++ line) ++ [])
+line_front c line some = record { rest = line; is = append-nil (c.told.sent ++ c.unsent ++ line); whole = inr some }
+
+pub all_said : (c : Channel) → SaysFrontOf c (said c)
+all_said c = record { rest = []; is = sym (append-nil (said c)); whole = inl refl }

@@ -1,0 +1,260 @@
+-- Lemmas on calls that wait for room before they hear: a dialogue that waits and hasn't heard says a line that isn't
+-- within the room.
+use Rattle.std.proofs.Common.{◌≡◌, ℕ, ◌+◌, ◌-◌, ◌<◌, ◌≤◌, Bool, true, false, cond, eqb, Option, Some, None, is_none, List, [], ◌∷◌, ◌++◌, length, length-append, drop, leb, ltb, Result, Ok, Err, inl, inr, ◌⊎◌, refl, ap, sym, ◌∙◌, subst, arith}
+use Rattle.std.proofs.lemmas.Bool.{eqb-true}
+use Rattle.std.proofs.lemmas.List.{length-drop}
+use Rattle.ftp_base.specs.declared.status.Status.{Status}
+use Rattle.ftp_base.specs.declared.status.Status.TheVariants.{System}
+use Rattle.ftp_base.specs.Status.{status_of}
+use Rattle.ftp_base.specs.declared.command.Command.{Command}
+use Rattle.ftp_base.specs.Command.{text_of}
+use Rattle.ftp_base.specs.Wire.{wire}
+use Rattle.ftp_base.specs.declared.types.reply.Response.{Response}
+use Rattle.ftp_base.specs.declared.types.fault.FtpError.{FtpError}
+use Rattle.ftp_base.specs.declared.types.fault.FtpError.TheVariants as fault
+use Rattle.ftp_base.specs.declared.types.fault.ConnectionError.{ConnectionError as Cause}
+use Rattle.ftp_base.specs.declared.types.fault.ConnectionError.TheVariants as connection
+use Rattle.ftp_control.specs.declared.control.rule.ReplyRule.{ReplyRule}
+use Rattle.ftp_control.specs.declared.control.rule.ReplyRule.TheVariants.{Lenient}
+use Rattle.ftp_control.specs.declared.transport.room.Room.{Room}
+use Rattle.ftp_control.specs.declared.transport.request.Request.{Request}
+use Rattle.ftp_control.specs.declared.transport.request.RequestOutcome.{RequestOutcome}
+use Rattle.ftp_control.specs.declared.plain.Found.{Found}
+use Rattle.ftp_control.specs.declared.plain.Found.TheVariants.{Reply, NoReply, Unfinished}
+use Rattle.ftp_control.specs.declared.control.outcome.Outcome.{Outcome}
+use Rattle.ftp_control.specs.declared.control.outcome.Outcome.TheVariants.{Whole, Bad, TooLarge, Ended, Waits}
+use Rattle.ftp_control.specs.Grammar.{outcome, within, reply_in, to_end, ends, opens, lines, code_at_start, left_by, after_line, reply_limit}
+use Rattle.ftp_control.specs.Answer.{is_among, expected_reply}
+use Rattle.ftp_control.specs.Saying.{due}
+use Rattle.ftp_calls.specs.declared.call.Answer.TheVariants.{Fault}
+use Rattle.ftp_calls.specs.declared.call.Call.{Call}
+use Rattle.ftp_calls.specs.declared.exchange.Ending.{Ending}
+use Rattle.ftp_calls.specs.declared.exchange.Turn.TheVariants.{First}
+use Rattle.ftp_calls.specs.Exchanges.{exchange_of, statuses, is_read}
+use Rattle.ftp_session.specs.declared.session.state.State.{State}
+use Rattle.ftp_session.specs.declared.session.stage.Stage.{Stage}
+use Rattle.ftp_session.specs.declared.session.stage.Stage.TheVariants.{At, Saying, Hearing}
+use Rattle.ftp_session.specs.declared.model.Standing.{Standing}
+use Rattle.ftp_session.specs.declared.model.Wait.{Wait}
+use Rattle.ftp_session.specs.declared.model.Wait.TheVariants as wait
+use Rattle.ftp_session.specs.declared.model.Played.{Played}
+use Rattle.ftp_session.specs.declared.model.Played.TheVariants.{Done, Pending}
+use Rattle.ftp_session.specs.declared.model.Script.{Script}
+use Rattle.ftp_session.specs.Coding.{Coding}
+use Rattle.ftp_session.specs.Dialogue.{Tree, Say, Hear, Ask, Leaf, saying, awaiting, concluded, later, dialogue}
+use Rattle.ftp_session.specs.Play.{play, fits, said_then, heard_then, taken, asked_then}
+use Rattle.ftp_session.specs.Script.{heard_in, heard_at}
+use Rattle.ftp_session.specs.Steps.Stages.{remaining}
+use Rattle.ftp_session.proofs.Stages.{no_read}
+use Rattle.ftp_session.proofs.Moving.{play-Say, play-Leaf, play-Refused}
+use Rattle.ftp_session.proofs.Hearing.{play-Hear}
+
+-- A whole reply isn't empty
+
+abbrev bytes_found : Found → List ℕ
+bytes_found (Reply bytes code) = bytes
+bytes_found (NoReply line) = []
+bytes_found Unfinished = []
+
+line_found : (b : ℕ) (line : List ℕ) (more : Found) (bytes : List ℕ) (code : ℕ) → after_line (b ∷ line) more ≡ Reply bytes code → 0 < length bytes
+line_found b line (Reply others number) bytes code is = omega (arith, ap length (ap bytes_found is))
+line_found b line (NoReply other) bytes code is = let clash : NoReply other ≡ Reply bytes code = is in cc
+line_found b line Unfinished bytes code is = let clash : Unfinished ≡ Reply bytes code = is in cc
+
+reply_found : (system : Bool) (lines : List (List ℕ)) (bytes : List ℕ) (code : ℕ) → reply_in Lenient system lines ≡ Reply bytes code → 0 < length bytes
+reply_found system [] bytes code is = let clash : Unfinished ≡ Reply bytes code = is in cc
+reply_found system ([] ∷ lines) bytes code is = let clash : NoReply [] ≡ Reply bytes code = is in cc
+reply_found system ((b ∷ line) ∷ lines) bytes code is =
+    let first : List ℕ = b ∷ line in
+    let others : Found = after_line first (to_end Lenient system first lines) in
+    let number : ℕ = code_at_start first in
+    elim (opens Lenient first) as (λ o. cond o (cond (ends Lenient system first first) (Reply first number) others) (NoReply first) ≡ Reply bytes code → 0 < length bytes) [
+      | true ↦ λ e. (elim (ends Lenient system first first) as (λ t. cond t (Reply first number) others ≡ Reply bytes code → 0 < length bytes) [
+        | true ↦ λ f. omega (arith, ap length (ap bytes_found f))
+        | false ↦ λ f. line_found b line (to_end Lenient system first lines) bytes code f
+      ] e)
+      | false ↦ λ e. (let clash : NoReply first ≡ Reply bytes code = e in cc)
+    ] is
+
+abbrev bytes_of : Outcome → List ℕ
+bytes_of (Whole bytes code) = bytes
+bytes_of (Bad line) = []
+bytes_of TooLarge = []
+bytes_of Ended = []
+bytes_of Waits = []
+
+-- what says too little is no whole reply
+unfinished : (count : ℕ) (ended : Bool) (reply : List ℕ) (code : ℕ) → within count ended Unfinished ≡ Whole reply code → ⊥
+unfinished count ended reply code is =
+    elim (ltb reply_limit count) as (λ t. cond t TooLarge (cond ended Ended Waits) ≡ Whole reply code → ⊥) [
+      | true ↦ λ e. (let clash : TooLarge ≡ Whole reply code = e in cc)
+      | false ↦ λ e. (elim ended as (λ t. cond t Ended Waits ≡ Whole reply code → ⊥) [
+        | true ↦ λ f. (let clash : Ended ≡ Whole reply code = f in cc)
+        | false ↦ λ f. (let clash : Waits ≡ Whole reply code = f in cc)
+      ] e)
+    ] is
+
+within_some : (count : ℕ) (ended : Bool) (found : Found) (reply : List ℕ) (code : ℕ) → ((bytes : List ℕ) (number : ℕ) → found ≡ Reply bytes number → 0 < length bytes) → within count ended found ≡ Whole reply code → 0 < length reply
+within_some count ended (Reply bytes number) reply code some is =
+    elim (leb (length bytes) reply_limit) as (λ t. cond t (Whole bytes number) TooLarge ≡ Whole reply code → 0 < length reply) [
+      | true ↦ λ e. omega (arith, some bytes number refl, ap length (ap bytes_of e))
+      | false ↦ λ e. (let clash : TooLarge ≡ Whole reply code = e in cc)
+    ] is
+within_some count ended (NoReply line) reply code some is =
+    elim (leb (length line) reply_limit) as (λ t. cond t (Bad line) TooLarge ≡ Whole reply code → 0 < length reply) [
+      | true ↦ λ e. (let clash : Bad line ≡ Whole reply code = e in cc)
+      | false ↦ λ e. (let clash : TooLarge ≡ Whole reply code = e in cc)
+    ] is
+within_some count ended Unfinished reply code some is = absurd (unfinished count ended reply code is)
+
+whole_some : (rule : ReplyRule) (system : Bool) (bytes : List ℕ) (ended : Bool) (reply : List ℕ) (code : ℕ) → outcome rule system bytes ended ≡ Whole reply code → 0 < length reply
+unfolding outcome
+whole_some Lenient system bytes ended reply code is =
+    within_some (length bytes) ended (reply_in Lenient system (lines bytes ended)) reply code (reply_found system (lines bytes ended)) is
+
+some_bytes : (rule : ReplyRule) (system : Bool) (bytes : List ℕ) (ended : Bool) (reply : List ℕ) (code : ℕ) → outcome rule system bytes ended ≡ Whole reply code → 0 < length bytes
+unfolding outcome
+some_bytes rule system [] ended reply code is = absurd (unfinished 0 ended reply code is)
+some_bytes rule system (b ∷ bytes) ended reply code is = omega arith
+
+-- What a dialogue plays takes bytes, and puts none back
+
+abbrev bytes_in : Played → List ℕ
+bytes_in (Done answer s) = s.bytes
+bytes_in (Pending how s) = s.bytes
+
+left_shrinks : (heard : Outcome) (bytes : List ℕ) → length (left_by heard bytes) ≤ length bytes
+left_shrinks (Whole reply code) bytes = omega (arith, length-drop (length reply) bytes)
+left_shrinks (Bad line) bytes = omega (arith, length-drop (length line) bytes)
+left_shrinks TooLarge bytes = omega (arith, length-drop (reply_limit + 1) bytes)
+left_shrinks Ended bytes = omega arith
+left_shrinks Waits bytes = omega arith
+
+play_shrinks : (room : Room) (tree : Tree) (s : Standing) (how : Wait) (t : Standing) → play room tree s ≡ Pending how t → length t.bytes ≤ length s.bytes
+unfolding play
+play_shrinks room (Say (Ok line) next) s how t is =
+    let all : List ℕ = s.said ++ s.unsent ++ line in
+    let here : Standing = record s { said = all; unsent = [] } in
+    elim (fits room all) as (λ f. cond f (play room next here) (Pending wait.Room here) ≡ Pending how t → length t.bytes ≤ length s.bytes) [
+      | true ↦ λ e. play_shrinks room next here how t e
+      | false ↦ λ e. omega (arith, ap length (ap bytes_in e))
+    ] is
+play_shrinks room (Say (Err cause) next) s how t is = let clash : Done (Fault (fault.ConnectionError cause)) s ≡ Pending how t = is in cc
+play_shrinks room (Hear codes next) s how t is =
+    let k : Result Response FtpError → Standing → Played = λ heard u. play room (next heard) u in
+    elim (outcome s.rule (is_among codes System) s.bytes s.ended) as (λ o. heard_then o codes s k ≡ Pending how t → length t.bytes ≤ length s.bytes) [
+      | Whole reply code ↦ λ e. (let heard = expected_reply codes (record { status = status_of code; body = reply }) in omega (arith, play_shrinks room (next heard) (taken (left_by (Whole reply code) s.bytes) s) how t e, left_shrinks (Whole reply code) s.bytes))
+      | Bad line ↦ λ e. omega (arith, play_shrinks room (next (Err fault.BadResponse)) (taken (left_by (Bad line) s.bytes) s) how t e, left_shrinks (Bad line) s.bytes)
+      | TooLarge ↦ λ e. omega (arith, play_shrinks room (next (Err (fault.ConnectionError connection.ReplyTooLarge))) (record (taken (left_by TooLarge s.bytes) s) { failed = true }) how t e, left_shrinks TooLarge s.bytes)
+      | Ended ↦ λ e. omega (arith, play_shrinks room (next (Err (fault.ConnectionError connection.UnexpectedEof))) (record (taken (left_by Ended s.bytes) s) { failed = true }) how t e, left_shrinks Ended s.bytes)
+      | Waits ↦ λ e. omega (arith, ap length (ap bytes_in e))
+    ] is
+play_shrinks room (Ask request next) s how t is =
+    let k : RequestOutcome → Standing → Played = λ answer u. play room (next answer) u in
+    elim s.outcomes as (λ o. asked_then o request s k ≡ Pending how t → length t.bytes ≤ length s.bytes) [
+      | [] ↦ λ e. omega (arith, ap length (ap bytes_in e))
+      | outcome ∷ outcomes ↦ λ e. play_shrinks room (next outcome) (record s { asked = s.asked ++ request ∷ []; outcomes = outcomes }) how t e
+    ] is
+play_shrinks room (Leaf answer state) s how t is = let clash : Done answer (record s { state = state }) ≡ Pending how t = is in cc
+
+-- A call that waits without having heard
+
+abbrev waits_in : Played → Wait
+waits_in (Done answer s) = wait.Room
+waits_in (Pending how s) = how
+
+fewer_heard : (how : Wait) (script : Script) (left : List ℕ) → length left < length script.untaken → heard_at how script left ≡ true
+fewer_heard how script left fewer = go how
+  where
+    some : heard_in script left ≡ true
+    some =
+        elim (eqb (length left) (length script.untaken)) as (λ t. eqb (length left) (length script.untaken) ≡ t → cond t script.heard true ≡ true) [
+          | true ↦ λ t. (let clash : ⊥ = omega (arith, fewer, eqb-true (length left) (length script.untaken) t) in absurd clash)
+          | false ↦ λ t. refl
+        ] refl
+
+    go : (w : Wait) → heard_at w script left ≡ true
+    go wait.Room = some
+    go (wait.Bytes system) = refl
+    go wait.Outcome = some
+
+-- a line that isn't within the room is said first
+pub record LacksRoomFor (room : Room) (s : Standing) (tree : Tree) : Type 0 where
+  pub line : List ℕ
+  pub next : Tree
+  pub is : tree ≡ Say (Ok line) next
+  pub full : fits room (s.said ++ s.unsent ++ line) ≡ false
+
+module _ (coding : Coding) (room : Room) (script : Script) (s : Standing) (untaken : s.bytes ≡ script.untaken) (how : Wait) (t : Standing) (unheard : heard_at how script t.bytes ≡ false) where
+  -- a reply that is awaited is heard, or waited for
+  hears_none : (codes : List Status) (ending : Ending) (state : State) (after : State → Tree) (said unsent : List ℕ) → play room (awaiting coding codes ending state after) (record s { said = said; unsent = unsent }) ≡ Pending how t → ⊥
+  hears_none codes ending state after said unsent is = go (outcome s.rule (is_among codes System) s.bytes s.ended) refl (sym (play-Hear room codes (concluded coding ending state after) here) ∙ is)
+    where
+      here : Standing
+      here = record s { said = said; unsent = unsent }
+
+      k : Result Response FtpError → Standing → Played
+      k = λ heard u. play room (concluded coding ending state after heard) u
+
+      fails : (cause : FtpError) (u : Standing) → k (Err cause) u ≡ Pending how t → ⊥
+      fails cause u e = let clash : Done (Fault cause) (record u { state = state }) ≡ Pending how t = sym (play-Leaf room (Fault cause) state u) ∙ e in cc
+
+      go : (o : Outcome) → outcome s.rule (is_among codes System) s.bytes s.ended ≡ o → heard_then o codes here k ≡ Pending how t → ⊥
+      go (Whole reply code) is e =
+          let heard = expected_reply codes (record { status = status_of code; body = reply }) in
+          let less = play_shrinks room (concluded coding ending state after heard) (taken (left_by (Whole reply code) s.bytes) here) how t e in
+          let fewer : length t.bytes < length script.untaken = omega (arith, less, length-drop (length reply) s.bytes, whole_some s.rule (is_among codes System) s.bytes s.ended reply code is, some_bytes s.rule (is_among codes System) s.bytes s.ended reply code is, ap length untaken) in
+          let clash : true ≡ false = sym (fewer_heard how script t.bytes fewer) ∙ unheard in
+          cc
+      go (Bad line) is e = fails fault.BadResponse _ e
+      go TooLarge is e = fails (fault.ConnectionError connection.ReplyTooLarge) _ e
+      go Ended is e = fails (fault.ConnectionError connection.UnexpectedEof) _ e
+      go Waits is e =
+          let waits : wait.Bytes (is_among codes System) ≡ how = ap waits_in e in
+          let P : Wait → Type 0 = λ w. heard_at w script t.bytes ≡ false in
+          let clash : true ≡ false = subst P (sym waits) unheard in
+          cc
+
+  says_more : (line : List ℕ) (codes : List Status) (ending : Ending) (state : State) (after : State → Tree) → play room (Say (Ok line) (awaiting coding codes ending state after)) s ≡ Pending how t → LacksRoomFor room s (Say (Ok line) (awaiting coding codes ending state after))
+  says_more line codes ending state after is = go (fits room (s.said ++ s.unsent ++ line)) refl (sym (play-Say room line next s) ∙ is)
+    where
+      next : Tree
+      next = awaiting coding codes ending state after
+
+      here : Standing
+      here = record s { said = s.said ++ s.unsent ++ line; unsent = [] }
+
+      go : (f : Bool) → fits room (s.said ++ s.unsent ++ line) ≡ f → cond f (play room next here) (Pending wait.Room here) ≡ Pending how t → LacksRoomFor room s (Say (Ok line) next)
+      go true is e = absurd (hears_none codes ending state after (s.said ++ s.unsent ++ line) [] e)
+      go false is e = record { line = line; next = next; is = refl; full = is }
+
+  -- at each stage of a call
+  pub lacks_room : (call : Call) (state : State) (stage : Stage) → play room (remaining coding call state stage) s ≡ Pending how t → LacksRoomFor room s (remaining coding call state stage)
+  lacks_room call state (At turn) is = go (exchange_of call turn).says is
+    where
+      next : Tree
+      next = awaiting coding (statuses (exchange_of call turn).hears) (exchange_of call turn).ending state (later coding call turn)
+
+      line : (l : Result (List ℕ) Cause) → play room (Say l (awaiting coding (statuses (exchange_of call turn).hears) (exchange_of call turn).ending state (later coding call turn))) s ≡ Pending how t → LacksRoomFor room s (Say l (awaiting coding (statuses (exchange_of call turn).hears) (exchange_of call turn).ending state (later coding call turn)))
+      line (Ok bytes) is = says_more bytes (statuses (exchange_of call turn).hears) (exchange_of call turn).ending state (later coding call turn) is
+      line (Err cause) is = let clash : Done (Fault (fault.ConnectionError cause)) s ≡ Pending how t = sym (play-Refused room cause next s) ∙ is in cc
+
+      go : (says : Option Command) → play room (saying coding says (awaiting coding (statuses (exchange_of call turn).hears) (exchange_of call turn).ending state (later coding call turn))) s ≡ Pending how t → LacksRoomFor room s (saying coding says (awaiting coding (statuses (exchange_of call turn).hears) (exchange_of call turn).ending state (later coding call turn)))
+      go None is = absurd (hears_none (statuses (exchange_of call turn).hears) (exchange_of call turn).ending state (later coding call turn) s.said s.unsent is)
+      go (Some command) is = line (wire coding.encode (text_of command)) is
+  lacks_room call state (Saying line a) is = says_more (due line) (statuses a.hears) a.ending state (later coding call a.turn) is
+  lacks_room call state (Hearing a) is = absurd (hears_none (statuses a.hears) a.ending state (later coding call a.turn) s.said s.unsent is)
+
+-- a call that says a line first is no plain read
+pub says_no_read : (coding : Coding) (call : Call) (state : State) (line : List ℕ) (next : Tree) → dialogue coding call state ≡ Say (Ok line) next → is_read call ≡ false
+says_no_read coding call state line next is = go (exchange_of call First).says refl
+  where
+    after : Tree
+    after = awaiting coding (statuses (exchange_of call First).hears) (exchange_of call First).ending state (later coding call First)
+
+    go : (says : Option Command) → (exchange_of call First).says ≡ says → is_read call ≡ false
+    go None none =
+        let T : Option Command → Tree = λ o. saying coding o (awaiting coding (statuses (exchange_of call First).hears) (exchange_of call First).ending state (later coding call First)) in
+        let clash : after ≡ Say (Ok line) next = sym (ap T none) ∙ is in
+        cc
+    go (Some command) some = no_read call First (λ second. (let clash : false ≡ true = second in cc)) (ap is_none some)
