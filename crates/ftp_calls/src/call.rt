@@ -1,4 +1,8 @@
 //! What a run is made of: calls and their answers, and what happens between the polls of a call.
+//!
+//! A call is a value with its arguments, so that a list of calls can be played by the definition and by a session, and
+//! the two compared. Events are what a polled run is made of: the server's bytes come, a call begins, is polled, is
+//! dropped.
 
 use ftp_base::status::Status;
 use ftp_base::types::{Bytes, FileType, FtpError, Items, Response, Text};

@@ -1,4 +1,11 @@
 //! The control connection: replies delivered whole and in order, commands sent as one line each.
+//!
+//! `channel` holds what both directions need. Inwards, `read_loop` takes byte after byte, `sought` says what for: a
+//! reply (`reply_buffer`, with the rules of its lines in `grammar`) or a single line (`line_buffer`); the result is an
+//! `Outcome`, which `expected_replies` and `single_lines` turn into what a caller wants. Outwards, a command becomes a
+//! `WireLine`, the only thing that can be sent, and stands in the `outbox` until all of it went out (`sends`).
+//!
+//! Each is polled. A blocking call is the same poll over a connection that never waits.
 
 mod broken;
 mod channel;

@@ -1,5 +1,7 @@
-//! The grammar of replies computed as it is defined, slowly, over all bytes at once. The tests compare the read
-//! loop with it.
+//! The grammar of replies computed as it is defined, slowly, over all bytes at once.
+//!
+//! The contract of each function is an equation with a definition. The tests compare the read loop with it; nothing of
+//! the client calls it.
 
 ghost use Rattle.std.specs.Prelude.{◌≡◌, ◌∷◌, [], ◌++◌, IfOk};
 ghost use Rattle.ftp_control.specs.Law.{SettledStays};

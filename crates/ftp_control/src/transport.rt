@@ -1,4 +1,9 @@
 //! Connections, as the control channel uses them, and the transports that make them.
+//!
+//! There are three ways to wait, a trait each: `Conn` blocks, `PollConn` says through a `W` that it waits, `TaskConn`
+//! waits in a task of an event loop. Blanket impls make a `PollConn` of the other two, so whatever stands above is
+//! written once, over `PollConn`. `MemoryConn` records all its traffic, and what is proved of a client is said of such
+//! a record; `TcpConn` is a socket, of which nothing can be proved.
 
 mod connection;
 mod memory;

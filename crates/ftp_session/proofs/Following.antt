@@ -59,7 +59,6 @@ use Rattle.ftp_session.proofs.Hearing.{play-Hear, nothing_says}
 use Rattle.ftp_session.proofs.Unheard.{LacksRoomFor, lacks_room, says_no_read}
 use Rattle.ftp_session.proofs.Running.{run-nil, run-cons, before_all-snoc, before_all-Finished, before_all-Waiting, refuses_on}
 use Rattle.ftp_session.specs.Link.{over_memory}
-
 use Rattle.ftp_session.proofs.Carried.{front_fits, over_at_end, plain_ends, plain_leads, seen_kept, waits_kept, full_room, Carried, carried, carried_none, line_front, all_said}
 
 -- what a poll comes to

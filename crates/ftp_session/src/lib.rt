@@ -1,4 +1,7 @@
-//! The dialogues of an FTP session.
+//! The dialogues of an FTP session (RFC 959, sections 5.4 and 6).
+//!
+//! `session` is the session that a client holds. `model` has the records that the definitions of runs speak of, which
+//! programs that compute these definitions use, too.
 #![tactic(auto)]
 
 pub mod model;

@@ -1,5 +1,8 @@
 //! What the definitions of runs speak of: where a run stands, what a call and a run come to, and what events made of
 //! a session.
+//!
+//! They are types of code and not of specs alone, so that the definitions can be computed, and a session be compared
+//! with them.
 
 use crate::session::{Answer, Call, State};
 use ftp_base::types::{Bytes, Items};

@@ -1,4 +1,8 @@
 //! An FTP client whose behaviour is proved.
+//!
+//! This crate has no client of its own: it gathers those below it under one name, module by module, so that a program
+//! needs one dependency. `session::Session` is where to begin, `list` reads the lines of listings, and `FtpError` is
+//! what calls answer.
 #![tactic(auto)]
 
 pub mod program;

@@ -1,4 +1,6 @@
-//! What the program `suppaftp` does.
+//! What the demo does.
+//!
+//! It is a library so that tests can call it; the crate of the program has `main` alone.
 
 mod loopback;
 

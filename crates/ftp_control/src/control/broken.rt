@@ -1,4 +1,7 @@
-//! How a call fails where the server did nothing wrong.
+//! How a read fails where the server did nothing wrong.
+//!
+//! What a server does wrong is an `Outcome`, since it takes bytes and the next read goes on behind them. A fault of the
+//! connection or a failed allocation takes none, and says nothing of the reply.
 
 use std::io::ErrorKind;
 

@@ -1,4 +1,13 @@
 //! The control channel: a connection, the bytes of the reply under way, and the line that goes out.
+//!
+//! How it works: bytes are read one by one into one buffer, which holds a part of a reply and nothing behind it. A read
+//! that is settled empties the buffer; one that waits leaves it, so that the next read goes on there, whoever makes it.
+//! A line is moved into the outbox whole before its first byte is written; what isn't sent of it goes out before
+//! anything else. So a call that is dropped in the middle leaves at most a part of a reply to be read on, and a part of
+//! a line to be sent on, and never a byte that belongs to something else.
+//!
+//! A fault of the connection, an input that ended or a reply that is too large fails the channel for good: it reads
+//! and sends nothing from then on.
 
 ghost use Rattle.std.specs.Prelude.{◌≡◌, ◌||◌, Ok, [], false, true};
 ghost use Rattle.futures.specs.declared.task.Poll.TheVariants as poll;

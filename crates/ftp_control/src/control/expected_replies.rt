@@ -1,4 +1,8 @@
 //! Reads of a reply whose status is among those expected.
+//!
+//! Which statuses those are also decides how the reply is read: where 211 is among them, the last line of an answer to
+//! `FEAT` or `STAT` may begin as its first one does. The status is tested once the reply is whole, so a reply that
+//! wasn't expected is consumed and given to the caller.
 
 ghost use Rattle.std.specs.Prelude.{◌≡◌, Err, true, false, ◌∷◌, []};
 ghost use Rattle.futures.specs.declared.task.Poll.TheVariants as poll;

@@ -1,4 +1,7 @@
 //! The statuses that the reply to a command may have (RFC 959, section 5.4).
+//!
+//! Statuses are compared by their codes. All codes without a status are one, `Unknown`: who expects it accepts each of
+//! them.
 
 ghost use Rattle.std.specs.Prelude.{◌≡◌};
 ghost use Rattle.ftp_control.specs.Answer.{expected_reply, is_among};

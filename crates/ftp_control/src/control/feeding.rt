@@ -1,4 +1,7 @@
 //! What happens from the outside to a channel over memory.
+//!
+//! A server's bytes come, or end, and there is room for more of what is written. The channel itself can't tell these
+//! from what happens to a socket: none of them reads or sends.
 
 ghost use Rattle.std.specs.Prelude.{◌≡◌, ◌+◌, OnOk, OnErr, length};
 ghost use Rattle.ftp_control.specs.Memory.{fed, closed_memory, widened, IsGiven};

@@ -1,4 +1,8 @@
 //! The lines of a reply (RFC 959, section 4.2).
+//!
+//! A reply begins with a code; a first line with `-` behind the code opens a reply of several lines, which ends with a
+//! line of a code and a space. Servers deviate from this, so what opens and what ends a reply is a `ReplyRule`. A line
+//! is judged once, when its LF has come or the input has ended.
 
 ghost use Rattle.std.specs.Prelude.{◌≡◌, nat_eq, take, IsTrue};
 ghost use Rattle.std.specs.List.{list_all};

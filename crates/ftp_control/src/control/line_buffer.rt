@@ -1,4 +1,7 @@
 //! One line at a time in the reply's buffer, as the lines after a reply are read.
+//!
+//! A line ends with its LF, or with the input where that has ended. It stands in the same buffer as a reply, so what a
+//! dropped read has kept of either is read on by whichever read comes next.
 
 ghost use Rattle.std.specs.Prelude.{◌≡◌, ◌<◌, Ok, false, true, ◌∷◌, [], ◌++◌, vec_len, vec_capacity};
 ghost use Rattle.ftp_control.specs.Grammar.{line_outcome, whole_lines};

@@ -1,4 +1,8 @@
-//! The bytes of the reply under way. Each byte is looked at once.
+//! The bytes of the reply under way.
+//!
+//! Where its last line begins is kept beside them, so a line is judged when it ends and no byte is looked at again: a
+//! reply of many lines takes time in proportion to its bytes. A reply of more than [`REPLY_LIMIT`] bytes is given up, so
+//! a server can't make a client fill its memory.
 
 ghost use Rattle.std.specs.Prelude.{◌≡◌, ◌≤◌, ◌<◌, Ok, nat_eq, false, true, ◌∷◌, [], ◌++◌, drop, length, vec_len, vec_capacity};
 ghost use Rattle.ftp_control.specs.Grammar.{outcome};

@@ -1,4 +1,6 @@
-//! What a read looks for: the one place where reads of replies and of single lines differ.
+//! What a read looks for.
+//!
+//! This is the one place where reads of replies and of single lines differ: the read loop is one for both.
 
 ghost use Rattle.std.specs.Prelude.{◌≡◌, ◌<◌, Ok, false, true, ◌∷◌, [], ◌++◌, vec_len, vec_capacity};
 ghost use Rattle.ftp_control.specs.Inside.ReadLoop.{says_of, CanSeek, TakesAll};

@@ -1,4 +1,8 @@
 //! What a connection does, and what it records of it.
+//!
+//! A record is a ghost: no program can look at it, and it costs nothing. It says what was received and sent, how often
+//! and with which fault the connection failed, and what it was given. A theorem about a client holds for each
+//! connection whose record is true (`tells`).
 
 ghost use Rattle.std.specs.Prelude.{◌≡◌, ◌<◌, ◌≤◌, IfErr, Ok, length, true};
 ghost use Rattle.std.specs.declared.io.ErrorKind.{ErrorKind as Kind};

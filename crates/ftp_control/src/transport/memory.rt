@@ -1,4 +1,8 @@
 //! Connections over memory, which record all traffic.
+//!
+//! A test, or a program that replays a dialogue, feeds the server's bytes and looks at what was sent. It is also the
+//! connection of which the theorems say most: its record is true, it fails only as it says, and a run over it is
+//! determined by what was fed.
 
 ghost use Rattle.std.specs.Prelude.{◌≡◌, ◌≤◌, ◌<◌, ◌+◌, ◌⊎◌, IfErr, OnOk, OnErr, [], length, take, drop, min};
 ghost use Rattle.std.specs.declared.io.ErrorKind.TheVariants as kinds;

@@ -1,4 +1,7 @@
 //! Where connections come from.
+//!
+//! A session holds a transport beside its control connection, for the connections that it will need later. What a
+//! transport was asked is on record, as traffic is.
 
 ghost use Rattle.std.specs.Prelude.{List};
 ghost use Rattle.ftp_control.specs.declared.transport.request.Asked.{Asked};

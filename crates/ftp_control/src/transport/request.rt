@@ -1,4 +1,7 @@
 //! What a transport is asked for a data connection, and what that results in.
+//!
+//! A request and its outcome are plain data, so that a dialogue that asks for a connection can be defined, and played,
+//! without one. No call asks yet.
 
 use ftp_base::types::ConnectionError;
 use std::net::SocketAddr;

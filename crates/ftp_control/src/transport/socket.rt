@@ -1,4 +1,7 @@
-//! Connections over TCP sockets. What a socket carried is not covered by any proof.
+//! Connections over TCP sockets.
+//!
+//! What a socket carried is not covered by any proof: its record is never true, so each theorem on records says nothing
+//! of it. That a call interrupted by a signal is tried again, up to [`INTERRUPTED_LIMIT`] times in a row, is tested.
 
 ghost use Rattle.std.specs.Prelude.{[]};
 ghost use Rattle.ftp_control.specs.Memory.{fresh_memory};

@@ -1,4 +1,7 @@
 //! Connections that wait in a task of an event loop.
+//!
+//! A blanket impl can't be written for every lifetime of a task's context at once, so such a connection implements a
+//! trait of its own, in which the context is a parameter of each call.
 
 ghost use Rattle.std.specs.Prelude.{◌≡◌, ◌≤◌, ◌<◌, IfErr, Ok, length, true};
 ghost use Rattle.std.specs.declared.io.ErrorKind.{ErrorKind as Kind};

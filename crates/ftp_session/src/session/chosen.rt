@@ -1,4 +1,7 @@
-//! The encoding of a session's texts.
+//! The encoding of a session's texts, which may be set or not.
+//!
+//! None is UTF-8, read lossily. The choice is an encoding itself, so that the machine below knows
+//! only one.
 
 ghost use Rattle.ftp_session.specs.Coding.{decoded_by, encoded_by};
 

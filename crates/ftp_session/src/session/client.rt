@@ -1,4 +1,8 @@
-//! A session as its user holds it.
+//! The session that a client holds: the machine of all dialogues, and the encoding of its texts.
+//!
+//! It is made on a connection, with or without its greeting. What can go wrong later fails a session for good, and a
+//! session that has failed answers each call with `SessionFailed` and touches nothing; the connection is dropped with
+//! it.
 
 ghost use Rattle.std.specs.Prelude.{◌≡◌, IsOk, IfOk, MatchResult, Ok, IfErr, OnOk, OnErr, Some, None, length, option_map};
 ghost use Rattle.ftp_control.specs.Channel.{IsSound, untaken};

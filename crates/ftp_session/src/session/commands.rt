@@ -1,4 +1,8 @@
-//! The calls of a session (RFC 959, section 4.1). Each is its dialogue, made whole.
+//! The calls of a session, a method each.
+//!
+//! A method copies its texts into a `Call` and hands it to the machine; what the call says and hears is its row in
+//! `ftp_calls::exchange`. Where the copy finds no memory nothing has happened. The contract of each is one clause: the
+//! call is its dialogue (`Plays`).
 
 ghost use Rattle.std.specs.Prelude.{◌⊎◌, ◌≡◌, Err, IfOk, Result, true, false, [], ◌∷◌, option_map};
 ghost use Rattle.futures.specs.declared.task.Poll.TheVariants as poll;

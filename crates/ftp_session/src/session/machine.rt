@@ -1,4 +1,7 @@
-//! What a session keeps beside the encoding of its texts. All dialogues are played on it.
+//! The state that all dialogues share.
+//!
+//! It is a session without its encoding, since what a contract sees of a machine is plain data, and an encoding is two
+//! functions. `transitions` plays dialogues on it, `run` and `run_polled` play lists of them.
 
 use super::state::State;
 use ftp_control::control::ControlChannel;

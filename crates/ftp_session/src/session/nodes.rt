@@ -1,4 +1,7 @@
 //! The nodes of a dialogue: a line is said, a reply is heard, a reply is accepted.
+//!
+//! Each is one step on the channel or on the session's state, with a contract that says what the dialogue's tree says
+//! of it, for whatever comes behind it (`(next : ..) → ..`).
 
 ghost use Rattle.std.specs.Prelude.{◌≡◌, IfOk, IfErr, OnErr, Result, false};
 ghost use Rattle.futures.specs.declared.task.Poll.TheVariants as poll;
@@ -11,13 +14,13 @@ ghost use Rattle.ftp_calls.specs.Exchanges.{statuses};
 ghost use Rattle.ftp_session.specs.Link.{link};
 ghost use Rattle.ftp_session.specs.Steps.Moving.{Accepts, AnswersAs, Hears, SaysNode, TakesLine, step_of};
 
-use ftp_calls::exchange::{Codes, Ending};
 use super::machine::Machine;
 use super::stage::Step;
 use super::{Answer, State};
 use ftp_base::encoding::{Encoding, WelcomeMessage};
 use ftp_base::status::Status;
 use ftp_base::types::{FtpError, FtpResult, Response};
+use ftp_calls::exchange::{Codes, Ending};
 use ftp_control::control::WireLine;
 use ftp_control::transport::{Network, PollConn};
 use futures::task::Poll;

@@ -1,4 +1,7 @@
-//! Runs: lists of calls, one after another.
+//! Lists of calls, made one after another.
+//!
+//! A run stops at no fault: each call has its answer, and a session that has failed refuses the later ones. Its answers
+//! are those that the definition gives for all bytes of the server at once, however they came.
 
 ghost use Rattle.std.specs.Prelude.{◌≡◌, IfOk, IfErr, OnErr, length};
 ghost use Rattle.ftp_session.specs.Coding.{chosen, coding_of};

@@ -1,4 +1,8 @@
 //! Polled runs over memory: lists of events.
+//!
+//! Between two polls of a call anything may happen that happens to a client: bytes come or end, there is room for more,
+//! the call is dropped and another begins. What a run comes to is defined by playing all calls anew at each poll, on
+//! all bytes that came by then; here each byte is read once.
 
 ghost use Rattle.std.specs.Prelude.{◌≡◌, ◌<◌, ◌≤◌, ◌++◌, IfOk, IfErr, OnErr, option_map, vec_len, vec_capacity};
 ghost use Rattle.ftp_control.specs.Channel.{IsSound};
@@ -11,12 +15,12 @@ ghost use Rattle.ftp_session.specs.Steps.Following.{FailedStays, Happens, IsFeed
 ghost use Rattle.ftp_session.specs.Steps.Stages.{StageOf};
 
 use super::client::Session;
-use ftp_calls::exchange::Turn;
 use super::machine::Machine;
 use super::stage::Stage;
 use super::{Answer, Call, Event};
 use ftp_base::encoding::Encoding;
 use ftp_base::types::{FtpError, FtpResult};
+use ftp_calls::exchange::Turn;
 use ftp_control::transport::MemoryTransport;
 use futures::task::Poll;
 use std::alloc::{AllocError, Global};

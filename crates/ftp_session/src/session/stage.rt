@@ -1,4 +1,8 @@
 //! How far a call has come.
+//!
+//! A stage is the node of the call's dialogue that comes next, with what it needs: a line that wasn't begun, the
+//! statuses that a reply may have. It also keeps whether something of the dialogue was said or heard, on which depends
+//! what a failed allocation leaves.
 
 ghost use Rattle.std.specs.Prelude.{◌≡◌, Ok, IfOk, IfErr, true, false};
 ghost use Rattle.ftp_base.specs.Command.{text_of};
@@ -8,11 +12,11 @@ ghost use Rattle.ftp_session.specs.Coding.{coding_of};
 ghost use Rattle.ftp_calls.specs.Exchanges.{exchange_of, is_read};
 ghost use Rattle.ftp_session.specs.Steps.Stages.{Begins, FirstNode, is_second};
 
-use ftp_calls::exchange::{Codes, Ending, Exchange, Turn, row_of};
 use super::{Answer, Call};
 use ftp_base::command::Command;
 use ftp_base::encoding::Encoding;
 use ftp_base::types::FtpResult;
+use ftp_calls::exchange::{Codes, Ending, Exchange, Turn, row_of};
 use ftp_control::control::WireLine;
 use std::alloc::Global;
 

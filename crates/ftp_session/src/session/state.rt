@@ -1,4 +1,7 @@
-//! What a session was told to do, and the transfers that it counted.
+//! What a session keeps beside its channel: settings, counts of transfers, and what the server greeted with.
+//!
+//! A call changes it only by an accepted reply. The counts have an invariant, so no call can forget a transfer: each
+//! that was opened was finished, aborted or drained, or is owed.
 
 ghost use Rattle.std.specs.Prelude.{◌≡◌};
 ghost use Rattle.ftp_session.specs.Sound.{no_transfers, SoundCounts};

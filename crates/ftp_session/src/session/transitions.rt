@@ -14,13 +14,13 @@ ghost use Rattle.ftp_session.specs.Promises.{Rests};
 ghost use Rattle.ftp_session.specs.Steps.Moving.{BeginsExchange, Concludes, HasBegun, Made, PollSteps, Quiet, Steps, Tracks, after_fault, wants_memory};
 ghost use Rattle.ftp_session.specs.Steps.Stages.{MayAnswer, PollAnswers, StageOf, StepAnswers, begun_at, nodes_left, remaining};
 
-use ftp_calls::exchange::Turn;
 use super::machine::Machine;
 use super::nodes::{Accepted, accept};
 use super::stage::{Awaits, Stage, Step, begin, is_second};
 use super::{Answer, Call};
 use ftp_base::encoding::Encoding;
 use ftp_base::types::{FtpError, Response};
+use ftp_calls::exchange::Turn;
 use ftp_control::control::WireLine;
 use ftp_control::transport::{Conn, Network, NeverWaits, PollConn};
 use futures::task::Poll;

@@ -1,4 +1,7 @@
 //! A session with itself, over a loopback socket.
+//!
+//! Client and server are one thread: the server's lines are written before the client reads them, which a socket's
+//! buffer is large enough for.
 
 use ftp_base::types::{FtpError, FtpResult};
 use ftp_control::transport::{TcpConn, TcpTransport};
