@@ -4,5 +4,6 @@
 pub mod ascii;
 pub mod command;
 pub mod encoding;
+pub mod laws;
 pub mod status;
 pub mod types;

@@ -10,7 +10,7 @@ mod reply;
 
 pub use content::{Bytes, Text};
 pub use fault::{ConnectionError, FtpError, FtpResult, ReplyTooLarge};
-pub use features::{Features, last_feature_counts};
+pub use features::Features;
 pub use file_type::{FileType, FormatControl};
 pub use items::Items;
 pub use mode::{ActivePeerCheck, Mode};

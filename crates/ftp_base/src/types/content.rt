@@ -1,4 +1,8 @@
-//! Bytes and text that replies, commands and faults hold. A contract sees either as a list of bytes.
+//! Bytes and text that replies, commands and faults hold.
+//!
+//! A `Vec<u8>` and a `String` have a capacity and an address, which say nothing of what they hold. Here a contract
+//! sees the bytes and nothing else, so that two replies with the same bytes are the same value. Both types are made
+//! of the standard one and give it back in its memory, and are read as it is: `body[3]`, `text.trim()`.
 
 ghost use Rattle.std.specs.Prelude.{◌≡◌, ℕ, List, [], ◌∷◌, ◌++◌, length, nat_eq, Some, IfOk, OnOk, OnErr, string_bytes};
 ghost use Rattle.std.specs.Cmp.Lexicographic.{pointwise};
@@ -7,6 +11,7 @@ ghost use Rattle.std.proofs.Common.{rules};
 use std::alloc::{AllocError, Global};
 use std::fmt;
 use std::marker::Model;
+use std::ops::{DerefSlice, DerefStr};
 
 /// A list of bytes, made from a `Vec<u8>` and given back as one without taking memory.
 #[derive(Clone, Drop)]
@@ -100,6 +105,26 @@ impl Bytes {
     }
 }
 
+/// So `body[3]`, `body.iter()` and the other methods of a slice work.
+impl DerefSlice for Bytes {
+    type Elem = u8;
+
+    ghost deref_gives = { λ bytes items. items ≡ bytes };
+
+    fn deref(&self) -> &[u8] {
+        self.items.as_slice()
+    }
+}
+
+/// As [`Bytes::from_vec`].
+impl From<Vec<u8>> for Bytes {
+    ghost from_gives = { λ items bytes. bytes ≡ items.items };
+
+    fn from(items: Vec<u8>) -> Bytes {
+        Bytes { items }
+    }
+}
+
 impl fmt::Debug for Bytes {
     fn fmt<W: fmt::Write>(&self, f: &mut fmt::Formatter<W>) -> fmt::Result {
         fmt::Debug::fmt(&self.items, f)
@@ -162,6 +187,24 @@ impl Text {
         ensures { result.now ≡ self.now }
     {
         self.text.as_str()
+    }
+}
+
+/// So `text.trim()` and the other methods of a `&str` work.
+impl DerefStr for Text {
+    ghost deref_gives = { λ text bytes. bytes ≡ text };
+
+    fn deref(&self) -> &str {
+        self.text.as_str()
+    }
+}
+
+/// As [`Text::from_string`].
+impl From<String> for Text {
+    ghost from_gives = { λ string text. text ≡ string_bytes string };
+
+    fn from(text: String) -> Text {
+        Text { text }
     }
 }
 
