@@ -51,7 +51,7 @@ impl CrlfEncoder {
     /// Adds the wire bytes of the next piece at the end of `out`.
     ///
     /// # Errors
-    /// Where memory is refused nothing changes, neither `out` nor the encoder.
+    /// `AllocError`; then nothing has changed, neither `out` nor the encoder.
     pub fn encode(&mut self, input: &[u8], out: &mut Vec<u8>) -> Result<(), AllocError>
         // Whatever the pieces before were, the encoder goes on as if all had come as one.
         ensures written { OnOk result ((before : List ℕ) → self.old ≡ ends_in_return before →
@@ -76,7 +76,7 @@ impl CrlfEncoder {
 }
 
 /// Adds the wire bytes of a piece, and tells whether its last byte is CR, or the byte before where
-/// it is empty. Where memory is refused some may have been added.
+/// it is empty. Where an allocation fails some may have been added.
 fn push_converted(
     mut after_return: bool,
     input: &[u8],

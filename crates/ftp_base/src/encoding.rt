@@ -23,7 +23,7 @@ pub use welcome::WelcomeMessage;
 pub enum EncodeError {
     /// The encoding has no bytes for the text.
     Refused(ErrorKind),
-    /// Memory was refused.
+    /// An allocation failed.
     OutOfMemory,
 }
 
@@ -48,14 +48,17 @@ pub trait Encoding: Send + Sync + Drop {
     /// The bytes that stand for a text, or the kind of fault where there are none.
     ghost encoded: { Self → List ℕ → Result (List ℕ) ErrorKind };
 
-    /// The text that bytes stand for. Only memory can be refused.
+    /// The text that bytes stand for. Every list of bytes stands for one.
+    ///
+    /// # Errors
+    /// `AllocError`.
     fn decode(&self, alloc: Global, bytes: &[u8]) -> Result<String, AllocError>
         ensures { IfOk result (λ text. string_bytes text ≡ decoded self.now bytes.now) };
 
     /// The bytes that stand for a text.
     ///
     /// # Errors
-    /// `Refused` where the text has no bytes, `OutOfMemory` where memory is refused.
+    /// `Refused` where the text has no bytes, `OutOfMemory` where an allocation fails.
     fn encode(&self, alloc: Global, text: &str) -> Result<Vec<u8>, EncodeError>
         ensures ok { IfOk result (λ bytes. encoded self.now text.now ≡ Ok (vec_items bytes)) }
         ensures refused { IfErr result (IsRefusal (encoded self.now text.now)) };

@@ -1,4 +1,9 @@
 //! Laws that hold for all values, each the contract of a function that does nothing else.
+//!
+//! What a derived `==` or `cmp` answers stands in no contract that a caller could cite. Here it does: `==` is sameness,
+//! statuses are ordered by their codes, and types of data by their variants. A change of a type that breaks its law
+//! fails the check. That orders are total and agree with `==`, and that equal values hash alike, are laws of the
+//! standard library's traits, which each `impl` proves.
 
 ghost use Rattle.std.specs.Prelude.{◌≡◌, ◌↔◌, ℕ, List, [], ◌∷◌, ◌++◌, IsTrue, Some, bytes_eq, if◌then◌else◌};
 ghost use Rattle.std.specs.Ordering.{nat_cmp};
@@ -8,8 +13,8 @@ ghost use Rattle.ftp_base.specs.Features.{Feature, map_of, value_at};
 ghost use Rattle.ftp_base.specs.FileType.{format_rank, type_rank};
 ghost use Rattle.ftp_base.specs.Status.{code_of};
 
-use crate::command::ProtectionLevel;
 use crate::command::scan::Span;
+use crate::command::{Command, ProtectionLevel};
 use crate::encoding::{EncodeError, Utf8Encoding};
 use crate::status::Status;
 use crate::types::{
@@ -88,6 +93,13 @@ pub fn equal_checks(one: &ActivePeerCheck, other: &ActivePeerCheck) -> bool
 
 /// Equal levels of protection are the same.
 pub fn equal_levels(one: &ProtectionLevel, other: &ProtectionLevel) -> bool
+    ensures { IsTrue result ↔ (one.now ≡ other.now) }
+{
+    one == other
+}
+
+/// Equal commands are the same.
+pub fn equal_commands(one: &Command, other: &Command) -> bool
     ensures { IsTrue result ↔ (one.now ≡ other.now) }
 {
     one == other

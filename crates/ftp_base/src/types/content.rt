@@ -26,7 +26,7 @@ impl Model for Bytes {
 }
 
 impl Bytes {
-    /// No bytes. Takes no memory.
+    /// No bytes. Allocates nothing.
     pub fn new(alloc: Global) -> Bytes
         ensures { result ≡ [] }
     {
@@ -36,6 +36,9 @@ impl Bytes {
     }
 
     /// A copy of these bytes.
+    ///
+    /// # Errors
+    /// `AllocError`.
     pub fn from_slice(alloc: Global, items: &[u8]) -> Result<Bytes, AllocError>
         ensures { IfOk result (λ bytes. bytes ≡ items.now) }
     {
@@ -80,7 +83,10 @@ impl Bytes {
         self.items.is_empty()
     }
 
-    /// Adds a byte at the end. Where memory is refused nothing changes.
+    /// Adds a byte at the end.
+    ///
+    /// # Errors
+    /// `AllocError`; then nothing has changed.
     pub fn push(&mut self, byte: u8) -> Result<(), AllocError>
         ensures ok { OnOk result (self.new ≡ self.old ++ byte ∷ []) }
         ensures err { OnErr result (self.new ≡ self.old) }
@@ -89,7 +95,10 @@ impl Bytes {
         Ok(())
     }
 
-    /// Adds bytes at the end. Where memory is refused nothing changes.
+    /// Adds bytes at the end.
+    ///
+    /// # Errors
+    /// `AllocError`; then nothing has changed.
     pub fn extend_from_slice(&mut self, more: &[u8]) -> Result<(), AllocError>
         ensures ok { OnOk result (self.new ≡ self.old ++ more.now) }
         ensures err { OnErr result (self.new ≡ self.old) }
@@ -159,6 +168,9 @@ impl Model for Text {
 
 impl Text {
     /// A copy of a text.
+    ///
+    /// # Errors
+    /// `AllocError`.
     pub fn from_str(alloc: Global, text: &str) -> Result<Text, AllocError>
         ensures { IfOk result (λ copy. copy ≡ text.now) }
     {

@@ -42,7 +42,7 @@ pub enum FtpError {
     /// A transfer is live, and the command would open another.
     #[error("Data connection is already open")]
     DataConnectionAlreadyOpen,
-    /// Memory was refused.
+    /// An allocation failed.
     #[error("Out of memory")]
     OutOfMemory,
     /// The session failed in an earlier call, or has opened as many transfers as can be counted.

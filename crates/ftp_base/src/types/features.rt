@@ -32,7 +32,7 @@ impl Model for Features {
 }
 
 impl Features {
-    /// No features. Takes no memory.
+    /// No features. Allocates nothing.
     pub fn new(alloc: Global) -> Features
         ensures { result ≡ [] }
     {
@@ -41,8 +41,10 @@ impl Features {
         }
     }
 
-    /// Gives a name this value, in place of an earlier one. Where memory is refused nothing
-    /// changes.
+    /// Gives a name this value, in place of an earlier one.
+    ///
+    /// # Errors
+    /// `AllocError`; then nothing has changed.
     pub fn insert(&mut self, name: String, value: Option<String>) -> Result<(), AllocError>
         ensures ok { OnOk result
             (self.new ≡ with_feature self.old (string_bytes name, option_map string_bytes value)) }

@@ -27,7 +27,7 @@ pub struct Response {
 pub enum BodyError {
     /// The body isn't UTF-8.
     NotUtf8,
-    /// Memory was refused.
+    /// An allocation failed.
     OutOfMemory,
 }
 
@@ -46,8 +46,8 @@ impl Response {
     /// The body as text, white space cut at its end.
     ///
     /// # Errors
-    /// [`BodyError::NotUtf8`] where the body isn't UTF-8, [`BodyError::OutOfMemory`] where memory is
-    /// refused.
+    /// [`BodyError::NotUtf8`] where the body isn't UTF-8, [`BodyError::OutOfMemory`] where an
+    /// allocation fails.
     pub fn as_string(&self, alloc: Global) -> Result<String, BodyError>
         ensures text { IfOk result (λ text. strict_text self.now.body ≡ Some (string_bytes text)) }
         ensures not_utf8 { IsErrOf result BodyError.NotUtf8 → strict_text self.now.body ≡ None }
@@ -62,7 +62,7 @@ impl Response {
         }
     }
 
-    /// The body as text, white space cut at its end, or `None` where it isn't UTF-8. Takes no memory.
+    /// The body as text, white space cut at its end, or `None` where it isn't UTF-8. Allocates nothing.
     fn text(&self) -> Option<&str>
         ensures { MatchOption result (strict_text self.now.body ≡ None)
             (λ text. strict_text self.now.body ≡ Some text.now) }

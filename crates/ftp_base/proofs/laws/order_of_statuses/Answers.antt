@@ -1,4 +1,4 @@
-use Rattle.std.proofs.Common.{arith, ◌≡◌, ◌∙◌, ℕ, ℤ, pos, List, ◌∷◌, map, get_or, refl, ap}
+use Rattle.std.proofs.Common.{arith, ◌≡◌, ◌∙◌, ℕ, ℤ, pos, List, ◌∷◌, map, get_or, refl}
 use Rattle.std.specs.Ordering.{int_cmp, nat_cmp}
 use Rattle.std.proofs.lemmas.Grind.{common_steps}
 use denote.Enum.Declared.{tag_of}
