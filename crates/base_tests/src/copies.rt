@@ -4,7 +4,7 @@ use ftp_base::ascii::copy_crlf;
 use ftp_base::types::FtpError;
 use std::test::Fail;
 
-// `rt try --test --fail-alloc N` has the Nth allocation fail, and so comes by the second arm.
+// The second arm is for a run in which an allocation of the copy is made to fail.
 #[test]
 fn a_copy_is_whole_unless_an_allocation_fails(rt: HostRuntime) -> Result<(), Fail> {
     let mut source: &[u8] = b"a\nb";
