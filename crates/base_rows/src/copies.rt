@@ -7,12 +7,12 @@ use std::alloc::Global;
 use std::io;
 use std::io::{ErrorKind, Read, Write};
 
-/// What a copy answers, and what was written: `INTERRUPTED TEXT END INTERRUPTED AT_ONCE`. The source is interrupted
-/// so many times, gives the text, and ends or fails; the writer is interrupted so many times, and takes at most so
-/// many bytes at once.
+/// What a copy answers, and what was written: `INTERRUPTED TEXT END INTERRUPTED AT_ONCE ROOM`. The source is
+/// interrupted so many times, gives the text, and ends or fails; the writer is interrupted so many times, takes at
+/// most so many bytes at once, and fails when it has no room left.
 pub fn copied(alloc: Global, input: &str) -> Result<Vec<u8>, RowError> {
     let words: Vec<&str> = input.split(' ').collect(alloc)?;
-    let [interrupted, text, end, refused, at_once] = words.as_slice() else {
+    let [interrupted, text, end, refused, at_once, room] = words.as_slice() else {
         return Err(RowError::NotUnderstood);
     };
     let text = bytes_of(alloc, text)?;
@@ -24,6 +24,7 @@ pub fn copied(alloc: Global, input: &str) -> Result<Vec<u8>, RowError> {
     let writer = Writer {
         interrupted: value(refused)?,
         at_once: value(at_once)?,
+        room: value(room)?,
         written: Vec::new(alloc),
     };
     copy(alloc, source, writer)
@@ -34,6 +35,7 @@ fn end_of(word: &str) -> Result<Option<ErrorKind>, RowError> {
     match word {
         "ends" => Ok(None),
         "breaks" => Ok(Some(ErrorKind::BrokenPipe)),
+        "no_entry" => Ok(Some(ErrorKind::PermissionDenied)),
         _ => Err(RowError::NotUnderstood),
     }
 }
@@ -74,11 +76,12 @@ impl Read for Source<'_> {
     }
 }
 
-/// A writer that is interrupted, and takes a few bytes at once.
+/// A writer that is interrupted, takes a few bytes at once, and has room for so many.
 #[derive(Drop)]
 struct Writer {
     interrupted: usize,
     at_once: usize,
+    room: usize,
     written: Vec<u8>,
 }
 
@@ -88,8 +91,12 @@ impl Write for Writer {
             self.interrupted -= 1;
             return Err(ErrorKind::Interrupted.into());
         }
-        let n = buf.len().min(self.at_once);
+        if self.room == 0 {
+            return Err(ErrorKind::StorageFull.into());
+        }
+        let n = buf.len().min(self.at_once).min(self.room);
         self.written.extend_from_slice(&buf[..n])?;
+        self.room -= n;
         Ok(n)
     }
 

@@ -18,6 +18,7 @@ mod scans;
 mod set;
 mod tally;
 mod uploads;
+mod welcomes;
 mod words;
 
 use anyhow::{Context, Result};

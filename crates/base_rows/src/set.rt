@@ -1,6 +1,8 @@
 //! The sets of rows, and what a row of each comes to.
 
-use crate::{commands, comparisons, copies, faults, features, peers, replies, scans, uploads};
+use crate::{
+    commands, comparisons, copies, faults, features, peers, replies, scans, uploads, welcomes,
+};
 use row_text::RowError;
 use std::alloc::Global;
 
@@ -31,6 +33,8 @@ pub enum Set {
     Peers,
     /// The pieces of a text, and its bytes on the wire.
     Uploads,
+    /// How many bytes an upload has written and how many more it writes, and how many these are together.
+    UploadSizes,
     /// A source and a writer, and what a copy answers and writes.
     Copies,
     /// Bytes, and what goes out for them on a Telnet connection.
@@ -39,12 +43,14 @@ pub enum Set {
     Unescaped,
     /// A code and the bytes of a reply, and how it is shown.
     Replies,
+    /// A greeting, and its text under two encodings.
+    Welcomes,
     /// The name of a fault, and its text.
     Faults,
 }
 
 /// The names of all sets, as headings write them.
-const NAMES: [(&str, Set); 17] = [
+const NAMES: [(&str, Set); 19] = [
     ("commands", Set::Commands),
     ("statuses", Set::Statuses),
     ("comparisons", Set::Comparisons),
@@ -57,10 +63,12 @@ const NAMES: [(&str, Set); 17] = [
     ("last_lines", Set::LastLines),
     ("peers", Set::Peers),
     ("uploads", Set::Uploads),
+    ("upload_sizes", Set::UploadSizes),
     ("copies", Set::Copies),
     ("escaped", Set::Escaped),
     ("unescaped", Set::Unescaped),
     ("replies", Set::Replies),
+    ("welcomes", Set::Welcomes),
     ("faults", Set::Faults),
 ];
 
@@ -85,10 +93,12 @@ impl Set {
             Set::LastLines => features::last_line(alloc, input),
             Set::Peers => peers::admitted(alloc, input),
             Set::Uploads => uploads::uploaded(alloc, input),
+            Set::UploadSizes => uploads::size(alloc, input),
             Set::Copies => copies::copied(alloc, input),
             Set::Escaped => replies::escaped(alloc, input),
             Set::Unescaped => replies::unescaped(alloc, input),
             Set::Replies => replies::reply(alloc, input),
+            Set::Welcomes => welcomes::welcome(alloc, input),
             Set::Faults => faults::fault(alloc, input),
         }
     }

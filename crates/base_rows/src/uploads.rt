@@ -2,8 +2,8 @@
 
 use crate::plain;
 use crate::words::{answered, said};
-use ftp_base::ascii::{CrlfEncoder, copy_crlf};
-use row_text::{RowError, bytes_of};
+use ftp_base::ascii::{CrlfEncoder, copy_crlf, upload_size};
+use row_text::{RowError, bytes_of, pair, refusal, value};
 use std::alloc::{AllocError, Global};
 
 /// Up to which length a text is cut at each of its places.
@@ -58,4 +58,14 @@ fn copied(alloc: Global, text: &[u8], wire: &[u8]) -> Result<Vec<u8>, RowError> 
         return said(alloc, "the copy differs");
     }
     answered(format!(in alloc; "{count}")?, wire)
+}
+
+/// How many bytes an upload has written with some more: `WRITTEN ADDED`, or the number of the refusal.
+pub fn size(alloc: Global, input: &str) -> Result<Vec<u8>, RowError> {
+    let (written, added) = pair(input, " ")?;
+    let shown = match upload_size(value(written)?, value(added)?) {
+        Ok(size) => format!(in alloc; "{size}")?,
+        Err(fault) => format!(in alloc; "E{}", refusal(&fault))?,
+    };
+    Ok(shown.into_bytes())
 }

@@ -1,4 +1,12 @@
-//! Laws of the base crate, which hold for all values. What is tested of it are the rows of `base_rows`.
+//! Tests of the base crate: what a call gives with ample memory, which no contract can say, and each way in which its
+//! small types are read. What is a matter of values is a row of `base_rows`.
 #![tactic(auto)]
 
-pub mod laws;
+#[cfg(test)]
+mod contents;
+#[cfg(test)]
+mod copies;
+#[cfg(test)]
+mod features;
+#[cfg(test)]
+mod replies;

@@ -1,13 +1,13 @@
 -- Lemmas on the features of a server.
 use Rattle.std.proofs.Common.{◌++◌, ◌≡◌, ℕ, true, false, cond, List, [], ◌∷◌, Option, Some, None, MatchOption, refl, sym, ap, ◌∙◌, map, bytes_eq, string_bytes, Bor, codes, nat_eq, fold, suc, length, take, arith, ◌+◌, ◌<◌, ◌&&◌, ◌||◌, not, if◌then◌else◌}
 use Rattle.std.specs.List.{starts_with, list_all, list_any, position_or_len, prefix_len}
-use Rattle.std.specs.Option.{option_map, option_copied}
+use Rattle.std.specs.Option.{option_eq, option_map, option_copied}
 use Rattle.std.specs.Map.{lookup}
 use Rattle.std.specs.Ordering.{nat_cmp, match_ordering}
 use Rattle.std.specs.declared.cmp.Ordering.TheVariants.{Less, Equal, Greater}
-use Rattle.std.specs.Cmp.Lexicographic.{slice_cmp}
+use Rattle.std.specs.Cmp.Lexicographic.{slice_cmp, pointwise}
 use Rattle.std.specs.BTreeMap.{insert_entry, is_at}
-use Rattle.std.specs.String.{string_cmp}
+use Rattle.std.specs.String.{string_cmp, string_eq}
 use Rattle.std.specs.declared.string.String.{String}
 use Rattle.std.specs.declared.alloc.Global.{Global}
 use Rattle.std.proofs.lemmas.Map.Text.{is_eq-slice_cmp}
@@ -15,7 +15,7 @@ use Rattle.std.proofs.lemmas.Slice.Eq.{bytes_eq-Decides}
 use Rattle.std.proofs.lemmas.Cmp.{nat_list_cmp_total, tied_itself}
 use Rattle.std.proofs.lemmas.List.Sums.{fold-append}
 use Rattle.std.specs.FinMap.{slice_cmp-IsAntisymmetric, nat_cmp-IsAntisymmetric}
-use Rattle.ftp_base.specs.Features.{Entries, Feature, map_of, shown, with_feature, value_at, feature_of, is_last, is_space, listed}
+use Rattle.ftp_base.specs.Features.{Entries, Feature, is_same_map, map_of, shown, with_feature, value_at, feature_of, is_last, is_space, listed}
 
 -- what a map shows after an insertion
 pub shown-insert_entry : (entries : List (String Global × Option (String Global))) (name : String Global) (value : Option (String Global)) →
@@ -136,3 +136,18 @@ value_at-with_feature (e ∷ es) feature name =
 pub value_at-map_of : (features : List Feature) (feature : Feature) (name : List ℕ) →
     value_at (map_of (features ++ feature ∷ [])) name ≡ (if bytes_eq name feature.0 then Some feature.1 else value_at (map_of features) name)
 value_at-map_of features feature name = rw (fold-append with_feature [] features (feature ∷ [])) (value_at-with_feature (map_of features) feature name)
+
+-- `==` of two values, seen as bytes
+values_same : (a b : Option (String Global)) → option_eq (pointwise nat_eq) (option_map string_bytes a) (option_map string_bytes b) ≡ option_eq string_eq a b
+values_same None None = refl
+values_same None (Some b) = refl
+values_same (Some a) None = refl
+values_same (Some a) (Some b) = refl
+
+-- `==` of two maps, seen as bytes
+pub shown-same : (xs ys : List (String Global × Option (String Global))) →
+    is_same_map (shown xs) (shown ys) ≡ pointwise (λ a b. string_eq a.0 b.0 && option_eq string_eq a.1 b.1) xs ys
+shown-same [] [] = refl
+shown-same [] (y ∷ ys) = refl
+shown-same (x ∷ xs) [] = refl
+shown-same (x ∷ xs) (y ∷ ys) = rw (values_same x.1 y.1, shown-same xs ys) refl

@@ -1,5 +1,6 @@
 pub mod AsciiLemmas
 pub mod CopyLemmas
+pub mod EnumLemmas
 pub mod FeatureLemmas
 pub mod NumberLemmas
 pub mod ReplyLemmas

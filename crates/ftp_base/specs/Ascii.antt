@@ -1,7 +1,11 @@
 -- Line ends of a text upload: RFC 959, section 3.1.1.1 (a line ends in CR LF on the wire).
-use Rattle.std.specs.Prelude.{◌≡◌, ℕ, Bool, Option, List, [], ◌∷◌, ◌++◌, ◌&&◌, zero, suc, false, ◌==◌, not, if◌then◌else◌, length, slice_index}
+use Rattle.std.specs.Prelude.{◌≡◌, ◌⊎◌, ℕ, Bool, Option, List, [], ◌∷◌, ◌++◌, ◌&&◌, zero, suc, false, ◌==◌, not, if◌then◌else◌, length, slice_index}
 use Rattle.std.specs.List.{flat_map, enumerate_from}
 use Rattle.std.specs.Io.KnownBytes.{Appends}
+use Rattle.std.specs.declared.io.ErrorKind.{ErrorKind}
+use Rattle.ftp_base.specs.declared.types.fault.FtpError.{FtpError}
+use Rattle.ftp_base.specs.declared.types.fault.FtpError.TheVariants.{ConnectionError, OutOfMemory}
+use Rattle.ftp_base.specs.declared.types.fault.ConnectionError.TheVariants.{Io, SourceTooLarge}
 
 -- what stands on the wire for a byte: CR LF for an LF that follows no CR, else the byte
 abbrev pub on_wire : Bool → ℕ → List ℕ
@@ -32,6 +36,13 @@ pub record AddsPiece (before piece old new : List ℕ) : Type 0 where
 abbrev pub AppendsFront : Option (List ℕ) → Option (List ℕ) → List ℕ → Type 0
 AppendsFront old new bytes =
     (front : List ℕ) × (rest : List ℕ) × (bytes ≡ front ++ rest) × Appends old new front
+
+-- the faults of a copy: of a kind that its reader or its writer answered, too large a source, out of
+-- memory
+abbrev pub IsCopyFault : FtpError → Type 0
+IsCopyFault fault =
+    ((kind : ErrorKind) × (fault ≡ ConnectionError (Io kind)))
+    ⊎ (fault ≡ ConnectionError SourceTooLarge) ⊎ (fault ≡ OutOfMemory)
 
 -- what stands on the wire for bytes that come after CR or not
 abbrev pub converted : Bool → List ℕ → List ℕ

@@ -1,5 +1,5 @@
 -- Text encodings on the control connection.
-use Rattle.std.specs.Prelude.{◌≡◌, ℕ, List, Result, Err}
+use Rattle.std.specs.Prelude.{◌≡◌, ℕ, List, Option, Some, None, Result, Err, codes}
 use Rattle.std.specs.declared.io.ErrorKind.{ErrorKind}
 use Rattle.ftp_base.specs.declared.encoding.EncodeError.{EncodeError}
 use Rattle.ftp_base.specs.declared.encoding.EncodeError.TheVariants.{Refused, OutOfMemory}
@@ -8,3 +8,8 @@ use Rattle.ftp_base.specs.declared.encoding.EncodeError.TheVariants.{Refused, Ou
 abbrev pub IsRefusal : Result (List ℕ) ErrorKind → EncodeError → Type 0
 IsRefusal encoded (Refused kind) = encoded ≡ Err kind
 IsRefusal encoded OutOfMemory = Unit {0}
+
+-- the text of a fault, but for a refusal, which ends in the text of its kind, the standard library's
+abbrev pub encode_error_text : EncodeError → Option (List ℕ)
+encode_error_text (Refused kind) = None
+encode_error_text OutOfMemory = Some (codes "out of memory")

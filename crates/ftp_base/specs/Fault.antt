@@ -1,4 +1,5 @@
--- Faults and their kinds.
+-- Faults, their kinds and their texts.
+use Rattle.std.specs.Prelude.{ℕ, List, Option, Some, None, codes}
 use Rattle.std.specs.declared.io.ErrorKind.{ErrorKind}
 use Rattle.std.specs.declared.io.ErrorKind.TheVariants as kind
 use Rattle.ftp_base.specs.declared.types.fault.ConnectionError.{ConnectionError}
@@ -17,3 +18,17 @@ kind_of TimedOut = kind.TimedOut
 kind_of NoAddress = kind.InvalidInput
 kind_of SourceTooLarge = kind.InvalidInput
 kind_of NotOwed = kind.InvalidInput
+
+-- the text of a fault, but for one that ends in the text of a kind, which is the standard library's
+abbrev pub connection_text : ConnectionError → Option (List ℕ)
+connection_text (Io kind) = None
+connection_text UnexpectedEof = Some (codes "the connection was closed before the reply was whole")
+connection_text ReplyTooLarge = Some (codes "the reply is too large")
+connection_text LineBreak = Some (codes "a line break in the command")
+connection_text EncodedWithoutCrlf = Some (codes "the encoded command doesn't end in CR LF")
+connection_text EncodedLineBreak = Some (codes "a line break in the encoded command")
+connection_text (Encoding kind) = None
+connection_text TimedOut = Some (codes "timed out")
+connection_text NoAddress = Some (codes "no address to connect to")
+connection_text SourceTooLarge = Some (codes "the source is too large")
+connection_text NotOwed = Some (codes "the transfer is not of this session")

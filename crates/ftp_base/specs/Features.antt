@@ -1,11 +1,12 @@
 -- What a server can do beyond RFC 959, by its answer to FEAT: RFC 2389, section 3.2.
-use Rattle.std.specs.Prelude.{ℕ, Bool, List, [], ◌∷◌, ◌==◌, Option, Some, None, codes, map, not, nat_eq, bytes_eq, take_while, fold, string_bytes, if◌then◌else◌}
+use Rattle.std.specs.Prelude.{ℕ, Bool, List, [], ◌∷◌, ◌==◌, ◌&&◌, Option, Some, None, codes, map, not, nat_eq, bytes_eq, take_while, fold, string_bytes, if◌then◌else◌}
 use Rattle.std.specs.List.{list_any, list_all, starts_with, before_first, after_first}
-use Rattle.std.specs.Option.{option_map}
+use Rattle.std.specs.Option.{option_eq, option_map}
 use Rattle.std.specs.Map.{lookup}
 use Rattle.std.specs.Str.{trim}
 use Rattle.std.specs.Ordering.{nat_cmp}
-use Rattle.std.specs.Cmp.Lexicographic.{slice_cmp}
+use Rattle.std.specs.Cmp.Lexicographic.{slice_cmp, pointwise, lists_equiv, options_equiv, nat_list_eq_equiv}
+use Rattle.std.specs.Cmp.{IsEquivalence, and_equiv, on_equiv}
 use Rattle.std.specs.BTreeMap.{insert_entry}
 use Rattle.std.specs.declared.string.String.{String}
 use Rattle.std.specs.declared.alloc.Global.{Global}
@@ -29,6 +30,16 @@ with_feature entries feature = insert_entry (slice_cmp nat_cmp) entries feature.
 -- the value at a name, if the name is there
 abbrev pub value_at : Entries → List ℕ → Option (Option (List ℕ))
 value_at entries name = lookup (bytes_eq name) entries
+
+-- whether two maps have the same names, each with the same value
+abbrev pub is_same_map : Entries → Entries → Bool
+is_same_map one other =
+    pointwise (λ a b. pointwise nat_eq a.0 b.0 && option_eq (pointwise nat_eq) a.1 b.1) one other
+
+pub is_same_map-IsEquivalence : IsEquivalence is_same_map
+is_same_map-IsEquivalence =
+    lists_equiv (and_equiv (on_equiv (λ (entry : Feature). entry.0) nat_list_eq_equiv)
+    (on_equiv (λ (entry : Feature). entry.1) (options_equiv nat_list_eq_equiv)))
 
 -- the map of a list of features, in which the last of a name counts
 abbrev pub map_of : List Feature → Entries

@@ -1,11 +1,14 @@
 //! Text uploads: each line ends in CR LF on the wire (RFC 959, section 3.1.1.1).
+//!
+//! A text comes in pieces of any size, so an encoder remembers one thing between them: whether the last byte was CR.
+//! A CR LF that the text already has stays as it is, and so a text that was encoded before is not changed again.
+//!
+//! A copy counts what it writes, and gives up before it would write more than an upload may.
 
-ghost use Rattle.std.specs.Prelude.{◌≡◌, ◌<◌, ◌≤◌, ℕ, Bool, List, [], ◌++◌, OnOk, OnErr, IfOk, IfSome, length, take};
+ghost use Rattle.std.specs.Prelude.{◌≡◌, ◌+◌, ◌<◌, ◌≤◌, ℕ, Bool, List, [], ◌++◌, OnOk, OnErr, IfOk, IfErr, IfSome, length, take};
 ghost use Rattle.std.specs.Io.{ReadsAtMost, WritesAtMost};
 ghost use Rattle.std.specs.Io.KnownBytes.{Appends, IsAtEnd, ReadConsumes, WriteAppends};
-ghost use Rattle.ftp_base.specs.declared.types.fault.FtpError.TheVariants as fault;
-ghost use Rattle.ftp_base.specs.declared.types.fault.ConnectionError.TheVariants as connection;
-ghost use Rattle.ftp_base.specs.Ascii.{crlf, ends_in_return, AddsPiece, AppendsFront, converted, last_return};
+ghost use Rattle.ftp_base.specs.Ascii.{crlf, ends_in_return, AddsPiece, AppendsFront, IsCopyFault, converted, last_return};
 
 use crate::types::{ConnectionError, FtpError, FtpResult};
 use std::alloc::{AllocError, Global};
@@ -48,7 +51,7 @@ impl CrlfEncoder {
     /// Adds the wire bytes of the next piece at the end of `out`.
     ///
     /// # Errors
-    /// Where memory is refused nothing changes, neither `out` nor the encoder.
+    /// `AllocError`; then nothing has changed, neither `out` nor the encoder.
     pub fn encode(&mut self, input: &[u8], out: &mut Vec<u8>) -> Result<(), AllocError>
         // Whatever the pieces before were, the encoder goes on as if all had come as one.
         ensures written { OnOk result ((before : List ℕ) → self.old ≡ ends_in_return before →
@@ -73,7 +76,7 @@ impl CrlfEncoder {
 }
 
 /// Adds the wire bytes of a piece, and tells whether its last byte is CR, or the byte before where
-/// it is empty. Where memory is refused some may have been added.
+/// it is empty. Where an allocation fails some may have been added.
 fn push_converted(
     mut after_return: bool,
     input: &[u8],
@@ -95,17 +98,29 @@ fn push_converted(
     Ok(after_return)
 }
 
-/// Wire bytes are their own wire bytes, so a text that is encoded twice is as if encoded once.
-pub fn crlf_is_idempotent()
-    ensures { (bytes : List ℕ) → crlf (crlf bytes) ≡ crlf bytes }
-{}
+/// How many bytes an upload has written once it has written these, too.
+///
+/// # Errors
+/// `SourceTooLarge` where they are more than [`GREATEST_UPLOAD`].
+pub fn upload_size(written: u64, added: usize) -> FtpResult<u64>
+    ensures sum { IfOk result (λ size. size ≡ written + added) }
+    ensures within { OnOk result (written + added ≤ GREATEST_UPLOAD) }
+    ensures beyond { OnErr result (GREATEST_UPLOAD < written + added) }
+    ensures fault { IfErr result
+        (λ fault. fault ≡ FtpError.ConnectionError ConnectionError.SourceTooLarge) }
+{
+    match written.checked_add(added as u64) {
+        Some(size) if size <= GREATEST_UPLOAD => Ok(size),
+        _ => Err(ConnectionError::SourceTooLarge.into()),
+    }
+}
 
 /// Copies a text to a writer, each line ended by CR LF, up to the end of the reader, and answers
 /// how many bytes were written. It reads at most 8,192 bytes at once.
 ///
 /// # Errors
-/// What the reader or the writer answers, an interruption only after 64 tries in a row were
-/// interrupted again; `SourceTooLarge` where more than 2^63 - 1 bytes would be written;
+/// `Io` of the kind that the reader or the writer answers, an interruption only after 64 tries in a row
+/// were interrupted again; `SourceTooLarge` where more than 2^63 - 1 bytes would be written;
 /// `OutOfMemory`. What was read before a fault of the reader has been written.
 pub fn copy_crlf<R: Read, W: Write>(alloc: Global, reader: &mut R, writer: &mut W) -> FtpResult<u64>
     ensures written { OnOk result (IfSome (R.remaining reader.old)
@@ -114,10 +129,11 @@ pub fn copy_crlf<R: Read, W: Write>(alloc: Global, reader: &mut R, writer: &mut 
     ensures count { IfOk result (λ n. IfSome (R.remaining reader.old)
         (λ source. n ≡ length (crlf source))) }
     ensures limit { IfOk result (λ n. n ≤ GREATEST_UPLOAD) }
-    ensures too_large { result ≡ Err (fault.ConnectionError connection.SourceTooLarge) →
+    ensures too_large { result ≡ Err (FtpError.ConnectionError ConnectionError.SourceTooLarge) →
         IfSome (R.remaining reader.old) (λ source. GREATEST_UPLOAD < length (crlf source)) }
     ensures err { OnErr result (IfSome (R.remaining reader.old)
         (λ source. AppendsFront (W.contents writer.old) (W.contents writer.new) (crlf source))) }
+    ensures faults { IfErr result IsCopyFault }
 {
     let mut input = vec![in alloc; 0u8; BUFFER]?;
     copy_through(alloc, reader, writer, &mut input)
@@ -137,10 +153,11 @@ fn copy_through<R: Read, W: Write>(
     ensures count { IfOk result (λ n. IfSome (R.remaining reader.old)
         (λ source. n ≡ length (crlf source))) }
     ensures limit { IfOk result (λ n. n ≤ GREATEST_UPLOAD) }
-    ensures too_large { result ≡ Err (fault.ConnectionError connection.SourceTooLarge) →
+    ensures too_large { result ≡ Err (FtpError.ConnectionError ConnectionError.SourceTooLarge) →
         IfSome (R.remaining reader.old) (λ source. GREATEST_UPLOAD < length (crlf source)) }
     ensures err { OnErr result (IfSome (R.remaining reader.old)
         (λ source. AppendsFront (W.contents writer.old) (W.contents writer.new) (crlf source))) }
+    ensures faults { IfErr result IsCopyFault }
 {
     let mut output = Vec::new(alloc);
     let mut encoder = CrlfEncoder::new();
@@ -152,12 +169,9 @@ fn copy_through<R: Read, W: Write>(
         }
         output.clear();
         encoder.encode(&input[..taken], &mut output)?;
-        let added = output.len() as u64;
-        if GREATEST_UPLOAD - count < added {
-            return Err(ConnectionError::SourceTooLarge.into());
-        }
+        let size = upload_size(count, output.len())?;
         write_all_retrying(writer, &output)?;
-        count += added;
+        count = size;
     }
     unreachable!()
 }

@@ -1,4 +1,9 @@
 //! The commands that a client sends (RFC 959, section 4.1), and the rules for the line of one.
+//!
+//! A command is a value, and displayed it is its line. A text that a caller hands in may hold anything, a line break
+//! too, which a server would take for the end of the command and what follows for another. So the line is tested before
+//! it is encoded and again afterwards, and byte 255, with which a Telnet command begins, is doubled. What is read in
+//! the replies to commands stands here as well: numbers in [`scan`], features in [`feat`].
 
 ghost use Rattle.std.specs.Prelude.{Some};
 ghost use Rattle.ftp_base.specs.Command.{address_text, after_space, level_text, text_of};

@@ -1,4 +1,9 @@
 //! The status codes of replies (RFC 959, section 4.2; RFC 2228, RFC 2428, RFC 3659).
+//!
+//! A client asks of a reply whether its code is one that it expected, so codes are variants with names. A server may
+//! send any three digits: a code that is none of these is [`Status::Unknown`], and no fault. The number of a variant is
+//! its code, so that statuses are ordered by their codes however they are listed here. The texts are those of the Rust
+//! crate suppaftp, in its spelling.
 
 ghost use Rattle.std.specs.Prelude.{◌≡◌, ◌≢◌, ℕ, Some};
 ghost use Rattle.ftp_base.specs.Status.{code_of, description_of, status_of};
@@ -12,99 +17,99 @@ use std::fmt;
 #[derive(Clone, Copy, Debug, PartialEq, Eq, PartialOrd, Ord, Hash)]
 pub enum Status {
     /// Any code that no other variant has; its own code is 0.
-    Unknown,
+    Unknown = 0,
     /// 110: restart marker reply.
-    RestartMarker,
+    RestartMarker = 110,
     /// 120: service ready in (n) minutes.
-    ReadyMinute,
+    ReadyMinute = 120,
     /// 125: data connection already open, transfer starting.
-    AlreadyOpen,
+    AlreadyOpen = 125,
     /// 150: file status okay, about to open data connection.
-    AboutToSend,
+    AboutToSend = 150,
     /// 200: command okay.
-    CommandOk,
+    CommandOk = 200,
     /// 202: command not implemented.
-    CommandNotImplemented,
+    CommandNotImplemented = 202,
     /// 211: system status, or system help reply.
-    System,
+    System = 211,
     /// 212: directory status.
-    Directory,
+    Directory = 212,
     /// 213: file status.
-    File,
+    File = 213,
     /// 214: help message.
-    Help,
+    Help = 214,
     /// 215: NAME system type.
-    Name,
+    Name = 215,
     /// 220: service ready for new user.
-    Ready,
+    Ready = 220,
     /// 221: service closing control connection.
-    Closing,
+    Closing = 221,
     /// 225: data connection open; no transfer in progress.
-    DataConnectionOpen,
+    DataConnectionOpen = 225,
     /// 226: closing data connection.
-    ClosingDataConnection,
+    ClosingDataConnection = 226,
     /// 227: entering passive mode.
-    PassiveMode,
+    PassiveMode = 227,
     /// 228: entering long passive mode.
-    LongPassiveMode,
+    LongPassiveMode = 228,
     /// 229: entering extended passive mode.
-    ExtendedPassiveMode,
+    ExtendedPassiveMode = 229,
     /// 230: user logged in, proceed. Logged out if appropriate.
-    LoggedIn,
+    LoggedIn = 230,
     /// 231: user logged out; service terminated.
-    LoggedOut,
+    LoggedOut = 231,
     /// 232: logout command noted, will complete when transfer done.
-    LogoutAck,
+    LogoutAck = 232,
     /// 234: specifies that the server accepts the authentication mechanism specified by the client.
-    AuthOk,
+    AuthOk = 234,
     /// 250: requested file action okay.
-    RequestedFileActionOk,
+    RequestedFileActionOk = 250,
     /// 257: pathname created.
-    PathCreated,
+    PathCreated = 257,
     /// 331: user name okay, need password.
-    NeedPassword,
+    NeedPassword = 331,
     /// 332: need account for login.
-    LoginNeedAccount,
+    LoginNeedAccount = 332,
     /// 350: requested file action pending further information.
-    RequestFilePending,
+    RequestFilePending = 350,
     /// 421: service not available, closing control connection.
-    NotAvailable,
+    NotAvailable = 421,
     /// 425: can't open data connection.
-    CannotOpenDataConnection,
+    CannotOpenDataConnection = 425,
     /// 426: connection closed; transfer aborted.
-    TransferAborted,
+    TransferAborted = 426,
     /// 430: invalid username or password.
-    InvalidCredentials,
+    InvalidCredentials = 430,
     /// 434: requested host unavailable.
-    HostUnavailable,
+    HostUnavailable = 434,
     /// 450: requested file action not taken.
-    RequestFileActionIgnored,
+    RequestFileActionIgnored = 450,
     /// 451: requested action aborted.
-    ActionAborted,
+    ActionAborted = 451,
     /// 452: requested action not taken.
-    RequestedActionNotTaken,
+    RequestedActionNotTaken = 452,
     /// 500: syntax error, command unrecognized.
-    BadCommand,
+    BadCommand = 500,
     /// 501: syntax error in parameters or arguments.
-    BadArguments,
+    BadArguments = 501,
     /// 502: comamnd not implemented.
-    NotImplemented,
+    NotImplemented = 502,
     /// 503: bad sequence of commands.
-    BadSequence,
+    BadSequence = 503,
     /// 504: command not implemented for that parameter.
-    NotImplementedParameter,
+    NotImplementedParameter = 504,
     /// 530: user not logged in.
-    NotLoggedIn,
+    NotLoggedIn = 530,
     /// 532: need account for storing files.
-    StoringNeedAccount,
+    StoringNeedAccount = 532,
     /// 550: requested action not taken; file unavailable.
-    FileUnavailable,
+    FileUnavailable = 550,
     /// 551: requested action aborted; page type unknown.
-    PageTypeUnknown,
+    PageTypeUnknown = 551,
     /// 552: requested file action aborted; execeeded storage allocation.
-    ExceededStorage,
+    ExceededStorage = 552,
     /// 553: requested action not taken; file name not allowed.
-    BadFilename,
+    BadFilename = 553,
 }
 
 impl Status {
@@ -113,55 +118,7 @@ impl Status {
         ensures value { result ≡ code_of self.now }
         ensures back { status_of result ≡ self.now }
     {
-        match self {
-            Status::Unknown => 0,
-            Status::RestartMarker => 110,
-            Status::ReadyMinute => 120,
-            Status::AlreadyOpen => 125,
-            Status::AboutToSend => 150,
-            Status::CommandOk => 200,
-            Status::CommandNotImplemented => 202,
-            Status::System => 211,
-            Status::Directory => 212,
-            Status::File => 213,
-            Status::Help => 214,
-            Status::Name => 215,
-            Status::Ready => 220,
-            Status::Closing => 221,
-            Status::DataConnectionOpen => 225,
-            Status::ClosingDataConnection => 226,
-            Status::PassiveMode => 227,
-            Status::LongPassiveMode => 228,
-            Status::ExtendedPassiveMode => 229,
-            Status::LoggedIn => 230,
-            Status::LoggedOut => 231,
-            Status::LogoutAck => 232,
-            Status::AuthOk => 234,
-            Status::RequestedFileActionOk => 250,
-            Status::PathCreated => 257,
-            Status::NeedPassword => 331,
-            Status::LoginNeedAccount => 332,
-            Status::RequestFilePending => 350,
-            Status::NotAvailable => 421,
-            Status::CannotOpenDataConnection => 425,
-            Status::TransferAborted => 426,
-            Status::InvalidCredentials => 430,
-            Status::HostUnavailable => 434,
-            Status::RequestFileActionIgnored => 450,
-            Status::ActionAborted => 451,
-            Status::RequestedActionNotTaken => 452,
-            Status::BadCommand => 500,
-            Status::BadArguments => 501,
-            Status::NotImplemented => 502,
-            Status::BadSequence => 503,
-            Status::NotImplementedParameter => 504,
-            Status::NotLoggedIn => 530,
-            Status::StoringNeedAccount => 532,
-            Status::FileUnavailable => 550,
-            Status::PageTypeUnknown => 551,
-            Status::ExceededStorage => 552,
-            Status::BadFilename => 553,
-        }
+        *self as u32
     }
 
     /// What the code means, in a few English words.

@@ -1,4 +1,7 @@
 //! What every layer speaks of: bytes and text, replies, faults.
+//!
+//! What a reply, a command or a fault holds is of types that a contract sees as lists of bytes. A fault says by its
+//! variant what went wrong. Modes, types of data and checks of peers are what a caller chooses.
 
 mod content;
 mod fault;
@@ -10,7 +13,7 @@ mod reply;
 
 pub use content::{Bytes, Text};
 pub use fault::{ConnectionError, FtpError, FtpResult, ReplyTooLarge};
-pub use features::{Features, last_feature_counts};
+pub use features::Features;
 pub use file_type::{FileType, FormatControl};
 pub use items::Items;
 pub use mode::{ActivePeerCheck, Mode};

@@ -1,11 +1,14 @@
 //! The number that the digits of a span write.
+//!
+//! The scanners say where digits stand, and how great a number may be differs: an octet of an address, a port, a size.
+//! So digits become a number here, up to a bound that the caller gives. A number above it is none, and never wraps.
 
 ghost use Rattle.std.specs.Prelude.{◌≡◌, ◌≤◌, ◌<◌, ◌⊎◌, ◌-◌, None, length, take, drop};
 ghost use Rattle.ftp_base.specs.Scan.{number_up_to};
 
 use super::scan::Span;
 
-/// The number that the digits of a span write: an octet of an address, a port, a size. Takes no memory.
+/// The number that the digits of a span write: an octet of an address, a port, a size. Allocates nothing.
 ///
 /// `None` where the number is above `most`, where the span is empty or not within the text, or where it holds
 /// anything but digits.

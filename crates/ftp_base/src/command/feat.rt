@@ -1,4 +1,8 @@
-//! The answer to FEAT (RFC 2389, section 3.2).
+//! The reply to FEAT (RFC 2389, section 3.2).
+//!
+//! `211-` opens a list, each line of which begins with a space, and `211 ` ends it; a server without features sends one
+//! line that begins with `211 `. The lines are handed in: to read them is the session's task. A line that breaks the
+//! form makes the whole reply bad, since nobody can tell what else in it is wrong.
 
 ghost use Rattle.std.specs.Prelude.{◌≡◌, ◌⊎◌, Some, None, Err, map, nat_eq, IfOk, IfErr, string_bytes};
 ghost use Rattle.std.specs.Option.{option_map};
@@ -9,14 +13,14 @@ ghost use Rattle.ftp_base.specs.declared.types.fault.FtpError.TheVariants as fau
 use crate::types::{Features, FtpError, FtpResult};
 use std::alloc::{AllocError, Global};
 
-/// Whether a line of the answer ends the list: it begins with `211 `. Takes no memory.
+/// Whether a line of the reply ends the list: it begins with `211 `. Allocates nothing.
 pub fn is_last_line(line: &str) -> bool
     ensures { result ≡ is_last line.now }
 {
     begins_with(line, "211 ")
 }
 
-/// The features that the lines of an answer tell, its first line first. A later line takes the
+/// The features that the lines of a reply tell, its first line first. A later line takes the
 /// place of an earlier one of its name.
 ///
 /// # Errors
@@ -59,7 +63,7 @@ fn list_features(alloc: Global, lines: &[String]) -> FtpResult<Features>
     Ok(features)
 }
 
-/// The name on a line, and the value behind its first space.
+/// The name on a line, and the value after its first space.
 fn read_feature(alloc: Global, line: &str) -> Result<(String, Option<String>), AllocError>
     ensures { IfOk result
         (λ found. (string_bytes found.0, option_map string_bytes found.1) ≡ feature_of line.now) }

@@ -1,4 +1,8 @@
 //! No line break inside a command's line, so that no argument becomes a second command (RFC 959, section 4.1.3).
+//!
+//! A line is tested twice. Its text is tested before it is encoded, as the caller handed it in; its bytes are tested
+//! afterwards, since an encoding may make a line break of another character, or lose the one at the end. A test changes
+//! nothing and allocates nothing.
 
 ghost use Rattle.std.specs.Prelude.{◌≡◌, ◌+◌, IsOk, MatchOption, length, take, ◌-◌, if◌then◌else◌};
 ghost use Rattle.ftp_base.specs.Line.{text_fault, encoded_fault, ends_in_crlf, before_crlf, has_line_break};
@@ -7,7 +11,7 @@ use crate::types::{ConnectionError, FtpError, FtpResult};
 
 const CRLF: [u8; 2] = *b"\r\n";
 
-/// Tests the text of a command before it is encoded. Takes no memory.
+/// Tests the text of a command before it is encoded. Allocates nothing.
 ///
 /// # Errors
 /// `LineBreak` where CR or LF stands before the final CR LF; a text that doesn't end in CR LF is tested
@@ -22,7 +26,7 @@ pub fn validate_command_line(line: &str) -> FtpResult<()>
     Ok(())
 }
 
-/// Tests the encoded bytes of a command, before byte 255 is doubled. Takes no memory.
+/// Tests the encoded bytes of a command, before byte 255 is doubled. Allocates nothing.
 ///
 /// # Errors
 /// `EncodedWithoutCrlf` where the bytes don't end in CR LF, else `EncodedLineBreak` where CR or LF stands

@@ -1,7 +1,7 @@
 //! Finds numbers in the text of a reply: the address of PASV (RFC 959, section 4.1.2), the port of
 //! EPSV (RFC 2428, section 3), the time of MDTM and the size of SIZE (RFC 3659, sections 3 and 4).
 //!
-//! A text is gone through once, from its first byte on, and no memory is taken. The digits behind
+//! A text is gone through once, from its first byte on, and nothing is allocated. The digits after
 //! an opening are looked at once more, and hold no other opening, so the time grows as the text
 //! does.
 
@@ -10,12 +10,12 @@ ghost use Rattle.ftp_base.specs.declared.command.scan.Span.{Span};
 ghost use Rattle.std.specs.Char.{IsAsciiDigit};
 ghost use Rattle.ftp_base.specs.Scan.{StandsAt, AreDigits, IsNumber, AreFields, IsPassive, IsExtended, IsTimestamp, IsTrailingSize, EndsInSpace, is_word_byte, StandsNowhere, StandsFirst, LacksFields, IsMark};
 
-/// A part of a text: the place of its first byte, and the place behind its last.
+/// A part of a text: the place of its first byte, and the place after its last.
 #[derive(Clone, Copy, Debug, PartialEq, Eq)]
 pub struct Span {
     /// The place of its first byte.
     pub start: usize,
-    /// The place behind its last byte.
+    /// The place after its last byte.
     pub end: usize,
 }
 
@@ -63,8 +63,8 @@ pub fn mdtm(text: &str) -> Option<[Span; 6]>
     None
 }
 
-/// Finds the digits behind the last white space of a text whose end is trimmed, and answers their
-/// span; `None` where no white space is before them, or anything but digits behind it.
+/// Finds the digits after the last white space of a text whose end is trimmed, and answers their
+/// span; `None` where no white space is before them, or anything but digits after it.
 pub fn size(text: &str) -> Option<Span>
     ensures { MatchOption result
         ((span : Span) → IsTrailingSize text.now span → ⊥) (IsTrailingSize text.now) }
@@ -157,7 +157,7 @@ fn timestamp_at(bytes: &[u8], place: usize) -> Option<[Span; 6]>
     ])
 }
 
-/// A number at a place with this byte behind it.
+/// A number at a place with this byte after it.
 fn field_at(bytes: &[u8], from: usize, close: u8) -> Option<Span>
     requires within { from ≤ length bytes.now }
     requires mark { IsMark close }
@@ -223,7 +223,7 @@ fn stands_at(bytes: &[u8], place: usize, wanted: &[u8]) -> bool
     bytes[place..].starts_with(wanted)
 }
 
-/// Whether the byte at a place is one of a word. None is behind the last.
+/// Whether the byte at a place is one of a word. None is after the last.
 fn is_word_at(bytes: &[u8], place: usize) -> bool
     ensures { result ≡ is_word_byte (slice_index bytes.now place) }
 {

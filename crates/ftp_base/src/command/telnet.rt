@@ -1,4 +1,8 @@
 //! Byte 255 on the control connection, which is a Telnet connection (RFC 854).
+//!
+//! Telnet takes byte 255 for the beginning of a command of its own, so where it is meant as data it is sent twice. No
+//! text in UTF-8 has that byte, but one in Latin-1 may. What a server sends is undone the same way, and a single byte
+//! 255 stays.
 
 ghost use Rattle.std.specs.Prelude.{◌≡◌, Ok, Err, IfOk, IfErr, OnErr};
 ghost use Rattle.ftp_base.specs.Telnet.{escaped, unescaped};
@@ -12,7 +16,7 @@ const IAC: u8 = 255;
 /// Doubles each byte 255, as data that stands for itself is sent.
 ///
 /// # Errors
-/// `OutOfMemory` where memory is refused.
+/// `OutOfMemory` where an allocation fails.
 pub fn escape_telnet_iac(alloc: Global, bytes: &[u8]) -> FtpResult<Vec<u8>>
     ensures doubled { IfOk result (λ line. line.items ≡ escaped bytes.now) }
     ensures undone { IfOk result (λ line. unescaped line.items ≡ bytes.now) }
@@ -31,7 +35,7 @@ pub fn escape_telnet_iac(alloc: Global, bytes: &[u8]) -> FtpResult<Vec<u8>>
 /// Makes each pair of bytes 255, found from the left, one.
 ///
 /// # Errors
-/// `OutOfMemory` where memory is refused.
+/// `OutOfMemory` where an allocation fails.
 pub fn unescape_telnet_iac(alloc: Global, bytes: &[u8]) -> FtpResult<Vec<u8>>
     ensures single { IfOk result (λ plain. plain.items ≡ unescaped bytes.now) }
     ensures err { IfErr result (λ fault. fault ≡ FtpError.OutOfMemory) }

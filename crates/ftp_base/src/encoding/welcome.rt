@@ -1,4 +1,7 @@
 //! The text that a server greets with.
+//!
+//! The greeting comes before a caller can know which encoding the server uses. So its bytes are kept, and when another
+//! encoding is set its text is made anew. Where an allocation fails then, the text that there was stays.
 
 ghost use Rattle.std.specs.Prelude.{◌≡◌, IfOk, IfErr, OnOk, OnErr};
 ghost use Rattle.ftp_base.specs.Welcome.{welcome_text};
@@ -29,7 +32,7 @@ impl WelcomeMessage {
     /// end.
     ///
     /// # Errors
-    /// `OutOfMemory` where memory is refused.
+    /// `OutOfMemory` where an allocation fails.
     pub fn new<E: Encoding>(
         alloc: Global,
         greeting: Bytes,
@@ -44,10 +47,10 @@ impl WelcomeMessage {
         Ok(WelcomeMessage { greeting, text })
     }
 
-    /// Reads the greeting again, under another encoding. Where memory is refused nothing changes.
+    /// Reads the greeting again, under another encoding.
     ///
     /// # Errors
-    /// `OutOfMemory` where memory is refused.
+    /// `OutOfMemory` where an allocation fails; then nothing has changed.
     pub fn decode_again<E: Encoding>(&mut self, alloc: Global, encoding: &E) -> FtpResult<()>
         ensures greeting { self.new.greeting ≡ self.old.greeting }
         ensures text { OnOk result (self.new.text ≡

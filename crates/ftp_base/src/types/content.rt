@@ -1,4 +1,8 @@
-//! Bytes and text that replies, commands and faults hold. A contract sees either as a list of bytes.
+//! Bytes and text that replies, commands and faults hold.
+//!
+//! A `Vec<u8>` and a `String` have a capacity and an address, which say nothing of what they hold. Here a contract
+//! sees the bytes and nothing else, so that two replies with the same bytes are the same value. Both types are made
+//! of the standard one and give it back in its memory, and are read as it is: `body[3]`, `text.trim()`.
 
 ghost use Rattle.std.specs.Prelude.{◌≡◌, ℕ, List, [], ◌∷◌, ◌++◌, length, nat_eq, Some, IfOk, OnOk, OnErr, string_bytes};
 ghost use Rattle.std.specs.Cmp.Lexicographic.{pointwise};
@@ -7,6 +11,7 @@ ghost use Rattle.std.proofs.Common.{rules};
 use std::alloc::{AllocError, Global};
 use std::fmt;
 use std::marker::Model;
+use std::ops::{DerefSlice, DerefStr};
 
 /// A list of bytes, made from a `Vec<u8>` and given back as one without taking memory.
 #[derive(Clone, Drop)]
@@ -21,7 +26,7 @@ impl Model for Bytes {
 }
 
 impl Bytes {
-    /// No bytes. Takes no memory.
+    /// No bytes. Allocates nothing.
     pub fn new(alloc: Global) -> Bytes
         ensures { result ≡ [] }
     {
@@ -31,6 +36,9 @@ impl Bytes {
     }
 
     /// A copy of these bytes.
+    ///
+    /// # Errors
+    /// `AllocError`.
     pub fn from_slice(alloc: Global, items: &[u8]) -> Result<Bytes, AllocError>
         ensures { IfOk result (λ bytes. bytes ≡ items.now) }
     {
@@ -75,7 +83,10 @@ impl Bytes {
         self.items.is_empty()
     }
 
-    /// Adds a byte at the end. Where memory is refused nothing changes.
+    /// Adds a byte at the end.
+    ///
+    /// # Errors
+    /// `AllocError`; then nothing has changed.
     pub fn push(&mut self, byte: u8) -> Result<(), AllocError>
         ensures ok { OnOk result (self.new ≡ self.old ++ byte ∷ []) }
         ensures err { OnErr result (self.new ≡ self.old) }
@@ -84,7 +95,10 @@ impl Bytes {
         Ok(())
     }
 
-    /// Adds bytes at the end. Where memory is refused nothing changes.
+    /// Adds bytes at the end.
+    ///
+    /// # Errors
+    /// `AllocError`; then nothing has changed.
     pub fn extend_from_slice(&mut self, more: &[u8]) -> Result<(), AllocError>
         ensures ok { OnOk result (self.new ≡ self.old ++ more.now) }
         ensures err { OnErr result (self.new ≡ self.old) }
@@ -97,6 +111,26 @@ impl Bytes {
         ensures { self.new ≡ [] }
     {
         self.items.clear();
+    }
+}
+
+/// So `body[3]`, `body.iter()` and the other methods of a slice work.
+impl DerefSlice for Bytes {
+    type Elem = u8;
+
+    ghost deref_gives = { λ bytes items. items ≡ bytes };
+
+    fn deref(&self) -> &[u8] {
+        self.items.as_slice()
+    }
+}
+
+/// As [`Bytes::from_vec`].
+impl From<Vec<u8>> for Bytes {
+    ghost from_gives = { λ items bytes. bytes ≡ items.items };
+
+    fn from(items: Vec<u8>) -> Bytes {
+        Bytes { items }
     }
 }
 
@@ -134,6 +168,9 @@ impl Model for Text {
 
 impl Text {
     /// A copy of a text.
+    ///
+    /// # Errors
+    /// `AllocError`.
     pub fn from_str(alloc: Global, text: &str) -> Result<Text, AllocError>
         ensures { IfOk result (λ copy. copy ≡ text.now) }
     {
@@ -162,6 +199,24 @@ impl Text {
         ensures { result.now ≡ self.now }
     {
         self.text.as_str()
+    }
+}
+
+/// So `text.trim()` and the other methods of a `&str` work.
+impl DerefStr for Text {
+    ghost deref_gives = { λ text bytes. bytes ≡ text };
+
+    fn deref(&self) -> &str {
+        self.text.as_str()
+    }
+}
+
+/// As [`Text::from_string`].
+impl From<String> for Text {
+    ghost from_gives = { λ string text. text ≡ string_bytes string };
+
+    fn from(text: String) -> Text {
+        Text { text }
     }
 }
 

@@ -1,15 +1,21 @@
 //! What can go wrong, one variant a cause.
+//!
+//! A caller matches on a fault to learn what to do next, so each cause has a variant of its own and none holds a
+//! text for a program to read. [`FtpError`] is what calls of the client answer; [`ConnectionError`] is its part that
+//! a connection, or what goes over it, can answer, and has a kind of the standard library. Where memory ran out the
+//! fault takes none.
 
-ghost use Rattle.std.specs.Prelude.{◌≡◌};
+ghost use Rattle.std.specs.Prelude.{◌≡◌, Some, codes};
 ghost use Rattle.std.specs.IoError.{error_kind};
-ghost use Rattle.ftp_base.specs.Fault.{kind_of};
+ghost use Rattle.ftp_base.specs.Fault.{connection_text, kind_of};
 ghost use Rattle.ftp_base.specs.declared.types.fault.FtpError.TheVariants as fault;
 ghost use Rattle.ftp_base.specs.declared.types.fault.ConnectionError.TheVariants as connection;
 
 use super::{Response, Text};
 use std::alloc::{AllocError, AllocFailed};
-use std::io;
+use std::error::Error as StdError;
 use std::io::ErrorKind;
+use std::{fmt, io};
 use thiserror::Error;
 
 /// What a call of the client answers.
@@ -36,7 +42,7 @@ pub enum FtpError {
     /// A transfer is live, and the command would open another.
     #[error("Data connection is already open")]
     DataConnectionAlreadyOpen,
-    /// Memory was refused.
+    /// An allocation failed.
     #[error("Out of memory")]
     OutOfMemory,
     /// The session failed in an earlier call, or has opened as many transfers as can be counted.
@@ -45,40 +51,29 @@ pub enum FtpError {
 }
 
 /// What went wrong with a connection, or with what goes over it.
-#[derive(Clone, Copy, Debug, PartialEq, Eq, Drop, Error)]
+#[derive(Clone, Copy, Debug, PartialEq, Eq, Drop)]
 pub enum ConnectionError {
     /// A connection, a listener, or what the caller handed in answered a fault of this kind.
-    #[error("{0}")]
     Io(ErrorKind),
     /// The input ended before a reply's first byte or in the middle of a reply.
-    #[error("the connection was closed before the reply was whole")]
     UnexpectedEof,
     /// A reply has more than 262,144 bytes.
-    #[error("the reply is too large")]
     ReplyTooLarge,
     /// CR or LF stands in a command before the line end that closes it.
-    #[error("a line break in the command")]
     LineBreak,
     /// The encoded command doesn't end in CR LF.
-    #[error("the encoded command doesn't end in CR LF")]
     EncodedWithoutCrlf,
     /// CR or LF stands in the encoded command before the line end that closes it.
-    #[error("a line break in the encoded command")]
     EncodedLineBreak,
     /// The encoding refused the command's text, for a cause of this kind.
-    #[error("the encoding refused the text: {0}")]
     Encoding(ErrorKind),
     /// A deadline passed, or too many strangers connected.
-    #[error("timed out")]
     TimedOut,
     /// There was no address to connect to.
-    #[error("no address to connect to")]
     NoAddress,
     /// An upload would write more than 2^63 - 1 bytes.
-    #[error("the source is too large")]
     SourceTooLarge,
     /// The transfer isn't the one that the session owes.
-    #[error("the transfer is not of this session")]
     NotOwed,
 }
 
@@ -103,10 +98,47 @@ impl ConnectionError {
     }
 }
 
+/// A text of two kinds, [`ConnectionError::Io`] and [`ConnectionError::Encoding`], has the text of the standard
+/// library's kind in it.
+impl fmt::Display for ConnectionError {
+    ghost output = { λ fault. connection_text fault };
+
+    fn fmt<W: fmt::Write>(&self, f: &mut fmt::Formatter<W>) -> fmt::Result {
+        match self {
+            ConnectionError::Io(kind) => write!(f, "{kind}"),
+            ConnectionError::UnexpectedEof => f.write_str(
+                "the connection was closed before the reply was whole",
+            ),
+            ConnectionError::ReplyTooLarge => f.write_str("the reply is too large"),
+            ConnectionError::LineBreak => f.write_str("a line break in the command"),
+            ConnectionError::EncodedWithoutCrlf => f.write_str(
+                "the encoded command doesn't end in CR LF",
+            ),
+            ConnectionError::EncodedLineBreak => f.write_str("a line break in the encoded command"),
+            ConnectionError::Encoding(kind) => write!(f, "the encoding refused the text: {kind}"),
+            ConnectionError::TimedOut => f.write_str("timed out"),
+            ConnectionError::NoAddress => f.write_str("no address to connect to"),
+            ConnectionError::SourceTooLarge => f.write_str("the source is too large"),
+            ConnectionError::NotOwed => f.write_str("the transfer is not of this session"),
+        }
+    }
+}
+
+impl StdError for ConnectionError {}
+
 /// A reply has more bytes than a client takes, which are 262,144.
-#[derive(Clone, Copy, Debug, PartialEq, Eq, Drop, Error)]
-#[error("the reply is too large")]
+#[derive(Clone, Copy, Debug, PartialEq, Eq, Drop)]
 pub struct ReplyTooLarge;
+
+impl fmt::Display for ReplyTooLarge {
+    ghost output = { λ _. Some (codes "the reply is too large") };
+
+    fn fmt<W: fmt::Write>(&self, f: &mut fmt::Formatter<W>) -> fmt::Result {
+        f.write_str("the reply is too large")
+    }
+}
+
+impl StdError for ReplyTooLarge {}
 
 impl From<ConnectionError> for FtpError {
     ghost from_gives = { λ cause error. error ≡ fault.ConnectionError cause };

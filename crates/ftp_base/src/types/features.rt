@@ -1,11 +1,20 @@
-//! What a server can do beyond RFC 959, by its answer to FEAT (RFC 2389, section 3.2).
+//! What a server can do beyond RFC 959, by its reply to FEAT (RFC 2389, section 3.2).
+//!
+//! A feature is a name and, where the line has a blank, a value: `MLST size*;modify*` has one, `SIZE` none. They
+//! lie in a map, so each name stands once and they are gone through in the order of names, whatever the order of the
+//! reply. A contract sees the names with their values, and not the map's tree.
 
-ghost use Rattle.std.specs.Prelude.{◌≡◌, ℕ, List, [], ◌∷◌, ◌++◌, bytes_eq, if◌then◌else◌, None, Some, MatchOption, OnOk, OnErr, string_bytes};
+ghost use Rattle.std.specs.Prelude.{◌≡◌, ℕ, List, [], Option, None, Some, MatchOption, OnOk, OnErr, string_bytes};
 ghost use Rattle.std.specs.Option.{option_map};
-ghost use Rattle.ftp_base.specs.Features.{Entries, Feature, map_of, shown, with_feature, value_at};
+ghost use Rattle.std.specs.Cmp.{partial_equiv_from_equiv};
+ghost use Rattle.std.specs.Map.Iter.{ShowsInOrder, deref_pair};
+ghost use Rattle.std.specs.declared.string.String.{String};
+ghost use Rattle.std.specs.declared.alloc.Global.{Global};
+ghost use Rattle.ftp_base.specs.Features.{Entries, is_same_map, is_same_map-IsEquivalence, shown, with_feature, value_at};
 
 use std::alloc::{AllocError, Global};
 use std::collections::BTreeMap;
+use std::collections::btree_map::Iter;
 use std::fmt;
 use std::marker::Model;
 
@@ -23,7 +32,7 @@ impl Model for Features {
 }
 
 impl Features {
-    /// No features. Takes no memory.
+    /// No features. Allocates nothing.
     pub fn new(alloc: Global) -> Features
         ensures { result ≡ [] }
     {
@@ -32,8 +41,10 @@ impl Features {
         }
     }
 
-    /// Gives a name this value, in place of an earlier one. Where memory is refused nothing
-    /// changes.
+    /// Gives a name this value, in place of an earlier one.
+    ///
+    /// # Errors
+    /// `AllocError`; then nothing has changed.
     pub fn insert(&mut self, name: String, value: Option<String>) -> Result<(), AllocError>
         ensures ok { OnOk result
             (self.new ≡ with_feature self.old (string_bytes name, option_map string_bytes value)) }
@@ -49,6 +60,14 @@ impl Features {
             (λ value. value_at self.now name.now ≡ Some (option_map string_bytes value.now)) }
     {
         self.map.get(name)
+    }
+
+    /// Each name with its value, in the order of names.
+    pub fn iter(&self) -> Iter<'_, String, Option<String>>
+        ensures rest { shown result ≡ self.now }
+        ensures runs { ShowsInOrder (deref_pair {K = String Global} {X = Option (String Global)}) }
+    {
+        self.map.iter()
     }
 
     /// The features as a map.
@@ -73,9 +92,16 @@ impl fmt::Debug for Features {
     }
 }
 
-/// Of several features of one name the last counts.
-pub fn last_feature_counts()
-    ensures { (features : List Feature) (feature : Feature) (name : List ℕ) →
-        value_at (map_of (features ++ feature ∷ [])) name
-        ≡ (if bytes_eq name feature.0 then Some feature.1 else value_at (map_of features) name) }
-{}
+impl PartialEq for Features {
+    ghost eq = { is_same_map };
+
+    ghost laws = { partial_equiv_from_equiv is_same_map-IsEquivalence };
+
+    fn eq(&self, other: &Features) -> bool {
+        self.map == other.map
+    }
+}
+
+impl Eq for Features {
+    ghost laws = { is_same_map-IsEquivalence };
+}

@@ -1,4 +1,7 @@
 //! The types of a file's data (RFC 959, section 3.1.1).
+//!
+//! `TYPE` names one, and the server reads and writes files by it. A client depends on it for one thing: whether an upload
+//! is ASCII text, whose lines end in CR LF on the wire. `Image` and `Binary` are sent alike, and both names are in use.
 
 ghost use Rattle.std.specs.Prelude.{Some};
 ghost use Rattle.ftp_base.specs.FileType.{format_text, type_text};

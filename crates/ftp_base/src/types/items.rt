@@ -1,4 +1,7 @@
 //! A list that contracts see as one.
+//!
+//! A `Vec` has a capacity and an address beside its values. Here a contract sees the values alone, so that two lists
+//! of the same values are the same. It is made of a `Vec` and gives it back in its memory.
 
 ghost use Rattle.std.specs.Prelude.{◌≡◌, List};
 ghost use Rattle.std.specs.Cmp.Lexicographic.{pointwise, lists_per, lists_equiv};
@@ -40,6 +43,15 @@ impl<T> Items<T> {
         ensures { result.now ≡ self.now }
     {
         self.items.as_slice()
+    }
+}
+
+/// As [`Items::from_vec`].
+impl<T> From<Vec<T>> for Items<T> {
+    ghost from_gives = { λ items list. list ≡ items.items };
+
+    fn from(items: Vec<T>) -> Items<T> {
+        Items { items }
     }
 }
 

@@ -1,4 +1,7 @@
 //! How data connections come about, and which peers may make one (RFC 959, section 3.2; RFC 2428).
+//!
+//! In the active mode anyone may connect to the address that the server was given, so a client looks at who did. A peer
+//! may appear by its IPv4 address or by the IPv6 address that it is mapped to, so canonical addresses are compared.
 
 ghost use Rattle.std.specs.Prelude.{◌≡◌, ◌↔◌, IsTrue};
 ghost use Rattle.ftp_base.specs.declared.types.mode.ActivePeerCheck.TheVariants as peers;
@@ -40,7 +43,7 @@ impl Default for ActivePeerCheck {
 impl ActivePeerCheck {
     /// Whether a peer may open a data connection, beside a control connection to this peer.
     /// Addresses are compared as canonical ones: an IPv4-mapped IPv6 address is its IPv4 address.
-    /// Takes no memory.
+    /// Allocates nothing.
     pub fn allows(&self, peer: IpAddr, control_peer: IpAddr) -> bool
         ensures { IsTrue result ↔ IsAllowed self.now peer control_peer }
     {

@@ -1,7 +1,11 @@
 //! A reply of the server (RFC 959, section 4.2).
+//!
+//! A reply keeps every byte that the server sent, line ends too, since what it means may stand anywhere in it and
+//! servers send what they like. Its status is that of the line that ended it. Text is made of it on demand, and only
+//! where the bytes are UTF-8: a caller who knows another encoding has the bytes.
 
 ghost use Rattle.std.specs.Prelude.{◌≡◌, Some, None, IsSome, MatchOption, IsErrOf, IfOk, string_bytes};
-ghost use Rattle.ftp_base.specs.Reply.{strict_text, printed_reply};
+ghost use Rattle.ftp_base.specs.Reply.{body_error_text, strict_text, printed_reply};
 
 use super::Bytes;
 use crate::status::Status;
@@ -23,7 +27,7 @@ pub struct Response {
 pub enum BodyError {
     /// The body isn't UTF-8.
     NotUtf8,
-    /// Memory was refused.
+    /// An allocation failed.
     OutOfMemory,
 }
 
@@ -42,8 +46,8 @@ impl Response {
     /// The body as text, white space cut at its end.
     ///
     /// # Errors
-    /// [`BodyError::NotUtf8`] where the body isn't UTF-8, [`BodyError::OutOfMemory`] where memory is
-    /// refused.
+    /// [`BodyError::NotUtf8`] where the body isn't UTF-8, [`BodyError::OutOfMemory`] where an
+    /// allocation fails.
     pub fn as_string(&self, alloc: Global) -> Result<String, BodyError>
         ensures text { IfOk result (λ text. strict_text self.now.body ≡ Some (string_bytes text)) }
         ensures not_utf8 { IsErrOf result BodyError.NotUtf8 → strict_text self.now.body ≡ None }
@@ -58,7 +62,7 @@ impl Response {
         }
     }
 
-    /// The body as text, white space cut at its end, or `None` where it isn't UTF-8. Takes no memory.
+    /// The body as text, white space cut at its end, or `None` where it isn't UTF-8. Allocates nothing.
     fn text(&self) -> Option<&str>
         ensures { MatchOption result (strict_text self.now.body ≡ None)
             (λ text. strict_text self.now.body ≡ Some text.now) }
@@ -83,6 +87,8 @@ impl fmt::Display for Response {
 impl Error for Response {}
 
 impl fmt::Display for BodyError {
+    ghost output = { λ fault. Some (body_error_text fault) };
+
     fn fmt<W: fmt::Write>(&self, f: &mut fmt::Formatter<W>) -> fmt::Result {
         f.write_str(match self {
             BodyError::NotUtf8 => "the reply is not UTF-8",

@@ -1,5 +1,5 @@
 use Rattle.ftp_base.proofs.AsciiLemmas.{crlf-twice}
-use Rattle.ftp_base.proofs.ascii.crlf_is_idempotent.Goals as goal
+use Rattle.ftp_base.proofs.laws.crlf_is_idempotent.Goals as goal
 
 pub returns : goal.returns
 returns c bytes = crlf-twice bytes

@@ -1,0 +1,77 @@
+//! Bytes, texts and lists: how they are made, read and copied.
+
+use ftp_base::command::Command;
+use ftp_base::encoding::{Encoding, Utf8Encoding};
+use ftp_base::types::{Bytes, Items, Text};
+use std::test::Fail;
+
+#[test]
+fn bytes_are_read_as_a_slice(rt: HostRuntime) -> Result<(), Fail> {
+    let bytes: Bytes = Vec::from_slice(rt.alloc(), b"200 ok")?.into();
+    assert_eq!(rt; bytes.len(), 6);
+    assert_eq!(rt; bytes[3], b' ');
+    assert!(rt; bytes.starts_with(b"200"));
+    Ok(())
+}
+
+#[test]
+fn bytes_grow_at_their_end(rt: HostRuntime) -> Result<(), Fail> {
+    let mut bytes = Bytes::from_slice(rt.alloc(), b"2")?;
+    bytes.push(b'2')?;
+    bytes.extend_from_slice(b"6 x")?;
+    assert_eq!(rt; bytes.as_slice(), b"226 x".as_slice());
+    bytes.clear();
+    assert!(rt; bytes == Bytes::new(rt.alloc()));
+    Ok(())
+}
+
+#[test]
+fn a_clone_of_bytes_is_equal(rt: HostRuntime) -> Result<(), Fail> {
+    let bytes = Bytes::from_slice(rt.alloc(), b"226")?;
+    let copy = bytes.clone()?;
+    assert!(rt; copy == bytes);
+    assert_eq!(rt; copy.into_vec().as_slice(), b"226".as_slice());
+    Ok(())
+}
+
+#[test]
+fn a_text_is_read_as_a_str(rt: HostRuntime) -> Result<(), Fail> {
+    let text: Text = String::from_str(rt.alloc(), " a b ")?.into();
+    assert_eq!(rt; text.trim(), "a b");
+    Ok(())
+}
+
+#[test]
+fn a_text_is_shown_as_it_is(rt: HostRuntime) -> Result<(), Fail> {
+    let text = Text::from_str(rt.alloc(), "a b")?;
+    let shown = format!(in rt.alloc(); "{text}")?;
+    assert_eq!(rt; shown.as_str(), "a b");
+    assert!(rt; text.clone()? == text);
+    Ok(())
+}
+
+#[test]
+fn a_list_is_made_from_a_vector(rt: HostRuntime) -> Result<(), Fail> {
+    let list: Items<u8> = Vec::from_slice(rt.alloc(), b"ab")?.into();
+    let copy = list.clone()?;
+    assert!(rt; copy == list);
+    assert_eq!(rt; copy.into_vec().as_slice(), b"ab".as_slice());
+    Ok(())
+}
+
+#[test]
+fn a_clone_of_a_command_is_equal(rt: HostRuntime) -> Result<(), Fail> {
+    let command = Command::Cwd(Text::from_str(rt.alloc(), "pub")?);
+    let copy = command.clone()?;
+    assert!(rt; copy == command);
+    Ok(())
+}
+
+#[test]
+fn utf_8_is_the_bytes_as_they_are(rt: HostRuntime) -> Result<(), Fail> {
+    let bytes = Utf8Encoding.encode(rt.alloc(), "é")?;
+    assert_eq!(rt; bytes.as_slice(), b"\xc3\xa9".as_slice());
+    let text = Utf8Encoding.decode(rt.alloc(), b"\xc3\xa9\xff")?;
+    assert_eq!(rt; text.as_str(), "é\u{fffd}");
+    Ok(())
+}
