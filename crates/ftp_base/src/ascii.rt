@@ -6,21 +6,17 @@
 //! A copy counts what it writes, and gives up before it would write more than an upload may.
 
 ghost use Rattle.std.specs.Prelude.{◌≡◌, ◌+◌, ◌<◌, ◌≤◌, ℕ, Bool, List, [], ◌++◌, OnOk, OnErr, IfOk, IfErr, IfSome, length, take};
-ghost use Rattle.std.specs.Io.{ReadsAtMost, WritesAtMost};
 ghost use Rattle.std.specs.Io.KnownBytes.{Appends, IsAtEnd, ReadConsumes, WriteAppends};
 ghost use Rattle.ftp_base.specs.Ascii.{crlf, ends_in_return, AddsPiece, AppendsFront, IsCopyFault, converted, last_return};
 
+use crate::retry::{read_retrying, write_all_retrying};
 use crate::types::{ConnectionError, FtpError, FtpResult};
 use std::alloc::{AllocError, Global};
-use std::io;
-use std::io::{ErrorKind, Read, Write};
+use std::io::{Read, Write};
 use std::marker::Model;
 
 /// How many bytes of input are read at once.
 const BUFFER: usize = 8_192;
-
-/// How often an interrupted read or write is tried again before its fault is told.
-const RETRIES: usize = 64;
 
 /// The most bytes that an upload may write.
 pub const GREATEST_UPLOAD: u64 = (1 << 63) - 1;
@@ -174,50 +170,4 @@ fn copy_through<R: Read, W: Write>(
         count = size;
     }
     unreachable!()
-}
-
-/// Reads once. An interrupted read is tried again, at most 64 times.
-fn read_retrying<R: Read>(reader: &mut R, buffer: &mut [u8]) -> io::Result<usize>
-    ensures bound { ReadsAtMost result buffer.new }
-    ensures bytes { ReadConsumes
-        (R.remaining reader.old) (R.remaining reader.new) result buffer.new }
-{
-    for _ in 0..RETRIES {
-        match reader.read(buffer) {
-            Err(error) if error.kind() == ErrorKind::Interrupted => {}
-            other => return other,
-        }
-    }
-    reader.read(buffer)
-}
-
-/// Writes once. An interrupted write is tried again, at most 64 times.
-fn write_retrying<W: Write>(writer: &mut W, bytes: &[u8]) -> io::Result<usize>
-    ensures bound { WritesAtMost result bytes.now }
-    ensures bytes { WriteAppends (W.contents writer.old) (W.contents writer.new) result bytes.now }
-{
-    for _ in 0..RETRIES {
-        match writer.write(bytes) {
-            Err(error) if error.kind() == ErrorKind::Interrupted => {}
-            other => return other,
-        }
-    }
-    writer.write(bytes)
-}
-
-/// Writes all bytes. A write that takes none is a fault.
-fn write_all_retrying<W: Write>(writer: &mut W, bytes: &[u8]) -> io::Result<()>
-    ensures ok { OnOk result (Appends (W.contents writer.old) (W.contents writer.new) bytes.now) }
-    ensures err { OnErr result
-        (AppendsFront (W.contents writer.old) (W.contents writer.new) bytes.now) }
-{
-    let mut rest = bytes;
-    while !rest.is_empty() {
-        let written = write_retrying(writer, rest)?;
-        if written == 0 {
-            return Err(ErrorKind::WriteZero.into());
-        }
-        rest = &rest[written..];
-    }
-    Ok(())
 }

@@ -9,5 +9,6 @@ pub mod ascii;
 pub mod command;
 pub mod encoding;
 pub mod laws;
+pub mod retry;
 pub mod status;
 pub mod types;

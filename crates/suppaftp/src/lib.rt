@@ -10,7 +10,7 @@ pub mod program;
 pub use ftp_base::encoding::{Encoding, Utf8Encoding};
 pub use ftp_base::status::Status;
 pub use ftp_base::types::{ActivePeerCheck, FtpError, FtpResult, Mode, ReplyTooLarge};
-pub use ftp_base::{ascii, command, encoding, status, types};
+pub use ftp_base::{ascii, command, encoding, laws, retry, status, types};
 pub use ftp_control::{control, transport};
 pub use ftp_list as list;
 pub use ftp_session::session;

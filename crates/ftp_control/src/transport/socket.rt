@@ -1,17 +1,15 @@
 //! Connections over TCP sockets.
 //!
 //! What a socket carried is not covered by any proof: its record is never true, so each theorem on records says nothing
-//! of it. That a call interrupted by a signal is tried again, up to [`INTERRUPTED_LIMIT`] times in a row, is tested.
+//! of it. That a call interrupted by a signal is tried again, at most 64 times in a row, is tested.
 
 ghost use Rattle.std.specs.Prelude.{[]};
 ghost use Rattle.ftp_control.specs.Memory.{fresh_memory};
 
 use super::{Conn, Network, Tells};
-use std::io::{Error, ErrorKind, Read, Write};
+use ftp_base::retry::{read_retrying, write_retrying};
+use std::io::ErrorKind;
 use std::net::TcpStream;
-
-/// How often in a row a call that was interrupted is tried again.
-pub const INTERRUPTED_LIMIT: u32 = 64;
 
 /// A connection over a TCP socket.
 #[derive(Drop)]
@@ -45,28 +43,14 @@ impl Conn for TcpConn {
     ghost blocking_write_faults = { λ _ _. Unit {0} };
 
     fn read(&mut self, buffer: &mut [u8]) -> Result<usize, ErrorKind> {
-        for _ in 0..INTERRUPTED_LIMIT {
-            match self.stream.read(buffer) {
-                Ok(count) => return Ok(count),
-                Err(error) if error.kind() == ErrorKind::Interrupted => {}
-                Err(error) => return Err(error.kind()),
-            }
+        match read_retrying(&mut self.stream, buffer) {
+            Ok(count) => Ok(count),
+            Err(error) => Err(error.kind()),
         }
-        self.stream
-            .read(buffer)
-            .map_err(|error: Error| error.kind())
     }
 
     fn write(&mut self, bytes: &[u8]) -> Result<usize, ErrorKind> {
-        for _ in 0..INTERRUPTED_LIMIT {
-            match self.stream.write(bytes) {
-                Ok(0) => return Err(ErrorKind::WriteZero),
-                Ok(count) => return Ok(count),
-                Err(error) if error.kind() == ErrorKind::Interrupted => {}
-                Err(error) => return Err(error.kind()),
-            }
-        }
-        match self.stream.write(bytes) {
+        match write_retrying(&mut self.stream, bytes) {
             Ok(0) => Err(ErrorKind::WriteZero),
             Ok(count) => Ok(count),
             Err(error) => Err(error.kind()),

@@ -1,7 +1,7 @@
 use Rattle.std.proofs.Common.{◌≡◌, ℕ, ◌-◌, ◌++◌, List, sym, ap, ◌∙◌, length, take, drop, append_assoc, take-append-drop}
 use Rattle.std.proofs.lemmas.List.{take_rest}
 use Rattle.std.proofs.KnownBytes.{Appends-trans}
-use Rattle.ftp_base.proofs.ascii.write_all_retrying.Goals as goal
+use Rattle.ftp_base.proofs.retry.write_all_retrying.Goals as goal
 
 -- what is done grows by what was written
 moves_front : (all done rest : List ℕ) (n : ℕ) → all ≡ done ++ rest → all ≡ (done ++ take n rest) ++ take (length rest - n) (drop n rest)
