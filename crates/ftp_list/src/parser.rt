@@ -6,10 +6,13 @@ ghost use Rattle.ftp_list.specs.Lines.{IsListed, IsAfterPosix};
 
 use crate::error::{ParseError, ParseResult};
 use crate::file::File;
-use crate::trims::chars_of;
+use crate::trims::{chars_of, copied_line};
 use crate::{dos, facts, posix};
 use jiff::Timestamp;
 use std::alloc::Global;
+
+// How many characters of an ASCII line stand on the stack. A longer line, or another, takes memory.
+const ROOM: usize = 256;
 
 /// The parsers of the forms of a listing line.
 pub struct ListParser;
@@ -24,8 +27,11 @@ impl ListParser {
     pub fn parse_posix(alloc: Global, line: &str, now: Timestamp) -> ParseResult<File>
         ensures exact { UnlessMemory (IsPosix (chars line.now) now.nanosecond) result }
     {
-        let text = chars_of(alloc, line)?;
-        posix::parse(alloc, &text, now)
+        let mut room = [' '; ROOM];
+        match copied_line(&mut room, line) {
+            Some(count) => posix::parse(alloc, &room[..count], now),
+            None => posix::parse(alloc, &chars_of(alloc, line)?, now),
+        }
     }
 
     /// The file of a line in the DOS form, as IIS answers `LIST`.
@@ -36,8 +42,11 @@ impl ListParser {
     pub fn parse_dos(alloc: Global, line: &str) -> ParseResult<File>
         ensures exact { UnlessMemory (IsDos (chars line.now)) result }
     {
-        let text = chars_of(alloc, line)?;
-        dos::parse(alloc, &text)
+        let mut room = [' '; ROOM];
+        match copied_line(&mut room, line) {
+            Some(count) => dos::parse(alloc, &room[..count]),
+            None => dos::parse(alloc, &chars_of(alloc, line)?),
+        }
     }
 
     /// The file of a line of `MLSD` (RFC 3659, section 7). Where the line begins with a space it
@@ -48,16 +57,22 @@ impl ListParser {
     pub fn parse_mlsd(alloc: Global, line: &str) -> ParseResult<File>
         ensures exact { UnlessMemory (λ answer. answer ≡ mlsd (chars line.now)) result }
     {
-        let text = chars_of(alloc, line)?;
-        facts::parse_mlsd(alloc, &text)
+        let mut room = [' '; ROOM];
+        match copied_line(&mut room, line) {
+            Some(count) => facts::parse_mlsd(alloc, &room[..count]),
+            None => facts::parse_mlsd(alloc, &chars_of(alloc, line)?),
+        }
     }
 
     /// The file of a line of `MLST`: as `parse_mlsd`, but one leading space is cut first.
     pub fn parse_mlst(alloc: Global, line: &str) -> ParseResult<File>
         ensures exact { UnlessMemory (λ answer. answer ≡ mlst (chars line.now)) result }
     {
-        let text = chars_of(alloc, line)?;
-        facts::parse_mlst(alloc, &text)
+        let mut room = [' '; ROOM];
+        match copied_line(&mut room, line) {
+            Some(count) => facts::parse_mlst(alloc, &room[..count]),
+            None => facts::parse_mlst(alloc, &chars_of(alloc, line)?),
+        }
     }
 }
 
@@ -68,8 +83,11 @@ impl File {
     pub fn from_line(alloc: Global, line: &str, now: Timestamp) -> ParseResult<File>
         ensures exact { UnlessMemory (IsListed (chars line.now) now.nanosecond) result }
     {
-        let text = chars_of(alloc, line)?;
-        listed(alloc, &text, now)
+        let mut room = [' '; ROOM];
+        match copied_line(&mut room, line) {
+            Some(count) => listed(alloc, &room[..count], now),
+            None => listed(alloc, &chars_of(alloc, line)?, now),
+        }
     }
 
     /// The file of a line in the POSIX form: `ListParser::parse_posix`.
