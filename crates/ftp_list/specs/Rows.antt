@@ -17,6 +17,12 @@ IsLongest shape text found =
     MatchOption found ((n : ℕ) → Fits shape text n → ⊥)
     (λ n. Fits shape text n × ((m : ℕ) → Fits shape text m → m ≤ n))
 
+-- The first of the places from first to last where the shape stands, or it stands at none.
+abbrev pub IsFirstStand : Shape → List ℕ → ℕ → ℕ → Option ℕ → Type 0
+IsFirstStand shape text first last found =
+    MatchOption found ((p n : ℕ) → first ≤ p → p ≤ last → Fits shape (drop p text) n → ⊥)
+    (λ q. (p n : ℕ) → first ≤ p → p ≤ last → Fits shape (drop p text) n → q ≤ p)
+
 -- the text has a split
 pub record CanSplit (shapes : List Shape) (text : List ℕ) : Type 0 where
   pub lengths : List ℕ
@@ -65,3 +71,15 @@ pub record IsOnlyFront (shapes : List Shape) (text : List ℕ) (i : ℕ) (length
   pub start : ℕ
   pub within : start ≤ length text
   pub left_is : left ≡ drop start text
+
+-- from first to last there is a place behind which the later shapes have a split
+pub record Reaches (shapes : List Shape) (text : List ℕ) (first last : ℕ) : Type 0 where
+  pub place : ℕ
+  pub low : first ≤ place
+  pub high : place ≤ last
+  pub behind : CanSplit shapes (drop place text)
+
+-- if the text has a split, the first i parts end somewhere from first to last
+pub record IsReach (shapes : List Shape) (text : List ℕ) (i first last : ℕ) : Type 0 where
+  pub within : last ≤ length text
+  pub at : CanSplit shapes text → Reaches (drop i shapes) text first last

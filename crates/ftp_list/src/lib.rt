@@ -5,6 +5,7 @@
 mod class;
 mod dates;
 mod dos;
+mod ends;
 mod error;
 mod facts;
 mod file;

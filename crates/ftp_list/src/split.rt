@@ -5,6 +5,7 @@ ghost use Rattle.std.specs.Prelude.{◌≡◌, ◌≤◌, ◌<◌, true, length,
 ghost use Rattle.ftp_list.specs.Split.{IsGreatestSplit, HasNoSplit, part};
 ghost use Rattle.ftp_list.specs.Rows.{IsTable};
 
+use crate::ends::is_stuck;
 use crate::places::{front, rest};
 use crate::reach::{longest, longest_open};
 use crate::rows::table;
@@ -25,6 +26,9 @@ pub fn greatest_split(
     }
     if let Some(lengths) = split_by_longest(alloc, shapes, text)? {
         return Ok(Some(lengths));
+    }
+    if is_stuck(shapes, text) {
+        return Ok(None);
     }
     let rows = table(alloc, shapes, text)?;
     split_by_table(alloc, shapes, text, &rows)

@@ -1,0 +1,53 @@
+//! Where parts can end. From the places where the part before it can end, the first and the last
+//! of them, each shape gives those where it can end itself, in no memory. Most lines that are
+//! refused have a part that can't stand at any of these places, and need no table of rows.
+ghost use Rattle.std.specs.Prelude.{◌≡◌, ◌≤◌, ◌+◌, ℕ, true, length, drop};
+ghost use Rattle.ftp_list.specs.Split.{HasNoSplit};
+ghost use Rattle.ftp_list.specs.Rows.{Fits, IsFirstStand};
+
+use crate::places::rest;
+use crate::reach::longest;
+use crate::shape::Shape;
+
+/// Whether some part can't stand, wherever the one before it ends, or the last can't come to the
+/// end of the text.
+pub fn is_stuck(shapes: &[Shape], text: &[char]) -> bool
+    ensures { result ≡ true → HasNoSplit shapes.now text.now }
+{
+    let mut first = 0;
+    let mut last = 0;
+    for shape in shapes {
+        let Some(place) = first_stand(*shape, text, first, last) else {
+            return true;
+        };
+        first = place;
+        last = farthest_end(*shape, text, last);
+    }
+    last < text.len()
+}
+
+// The first of these places where the shape can stand.
+fn first_stand(shape: Shape, text: &[char], first: usize, last: usize) -> Option<usize>
+    requires { last ≤ length text.now }
+    ensures { IsFirstStand shape text.now first last result }
+{
+    for place in first..last + 1 {
+        if longest(shape, rest(text, place)).is_some() {
+            return Some(place);
+        }
+    }
+    None
+}
+
+// No part of the shape that stands at the place, or before it, ends behind the result.
+fn farthest_end(shape: Shape, text: &[char], last: usize) -> usize
+    requires { last ≤ length text.now }
+    ensures within { result ≤ length text.now }
+    ensures farthest { (p n : ℕ) → p ≤ last → Fits shape (drop p text.now) n → p + n ≤ result }
+{
+    match shape {
+        Shape::OneOrMore(class) => last + class.run(rest(text, last)),
+        Shape::AnyNumber(class) => last + class.run(rest(text, last)),
+        Shape::Short(form) => last + form.most().min(text.len() - last),
+    }
+}
