@@ -4,6 +4,7 @@ pub mod RowFacts
 pub mod TableFacts
 pub mod SplitFacts
 pub mod EndFacts
+pub mod StartFacts
 pub mod NumberFacts
 pub mod TextFacts
 pub mod DateFacts

@@ -4,7 +4,7 @@ use Rattle.std.specs.declared.vec.Vec.{Vec}
 use Rattle.std.specs.declared.alloc.Global.{Global}
 use Rattle.ftp_list.specs.declared.shape.Shape.{Shape}
 use Rattle.ftp_list.specs.Shapes.{is_shape}
-use Rattle.ftp_list.specs.Split.{IsSplit, IsGreatestSplit, HasNoSplit}
+use Rattle.ftp_list.specs.Split.{IsSplit, IsGreatestSplit, HasNoSplit, part}
 
 -- the first n characters have the shape
 pub record Fits (shape : Shape) (text : List ℕ) (n : ℕ) : Type 0 where
@@ -83,3 +83,15 @@ pub record Reaches (shapes : List Shape) (text : List ℕ) (first last : ℕ) : 
 pub record IsReach (shapes : List Shape) (text : List ℕ) (i first last : ℕ) : Type 0 where
   pub within : last ≤ length text
   pub at : CanSplit shapes text → Reaches (drop i shapes) text first last
+
+-- behind the place where a part begins the later parts are what they are in the whole text
+pub record AreStarts (starts lengths text : List ℕ) : Type 0 where
+  pub at : (j k : ℕ) → j < length lengths → j < 18
+      → part (j + k) lengths text ≡ part k (drop j lengths) (drop (slice_index_or starts j 0) text)
+
+-- the same of the first i parts, and the place behind them
+pub record AreStartsSoFar (starts lengths text : List ℕ) (i start : ℕ) : Type 0 where
+  pub count : length starts ≡ 18
+  pub within : start ≤ length text
+  pub before : (j k : ℕ) → j < i → part (j + k) lengths text ≡ part k (drop j lengths) (drop (slice_index_or starts j 0) text)
+  pub here : (k : ℕ) → part (i + k) lengths text ≡ part k (drop i lengths) (drop start text)
