@@ -1,5 +1,5 @@
 -- Where parts can end, shape by shape.
-use Rattle.std.proofs.Common.{◌≡◌, ℕ, zero, suc, ◌+◌, ◌-◌, ◌<◌, ◌≤◌, Bool, true, false, cond, List, [], ◌∷◌, length, drop, get_or, refl, sym, ◌∙◌, ap, arith, subst}
+use Rattle.std.proofs.Common.{◌≡◌, ℕ, zero, suc, ◌+◌, ◌-◌, ◌<◌, ◌≤◌, Bool, true, false, cond, List, [], ◌∷◌, length, drop, get_or, sym, ◌∙◌, ap, arith, subst}
 use Rattle.std.specs.Prelude.{min}
 use Rattle.std.specs.List.{prefix_len}
 use Rattle.std.proofs.lemmas.List.{drop_more, drop-drop, drop_all, length-drop}
@@ -9,7 +9,7 @@ use Rattle.ftp_list.specs.declared.shape.Shape.{Shape}
 use Rattle.ftp_list.specs.declared.shape.Shape.TheVariants.{OneOrMore, AnyNumber, Short}
 use Rattle.ftp_list.specs.Shapes.{is_in, is_form}
 use Rattle.ftp_list.specs.Split.{IsSplit, HasNoSplit}
-use Rattle.ftp_list.specs.Rows.{Fits, CanSplit, Reaches, IsReach}
+use Rattle.ftp_list.specs.Rows.{Fits, CanSplit, IsReach}
 use Rattle.ftp_list.proofs.ReachFacts.{one_bounded, any_bounded, short_bounded}
 use Rattle.ftp_list.proofs.RowFacts.{First, first_part, not_nil}
 

@@ -1,3 +1,7 @@
+//! The sets of characters that the parts of a listing line are made of. A part is mostly a run
+//! of one class, so a run is found by one loop made for its class: asking at each character which
+//! class it is takes longer than the test itself. A blank is any Unicode White_Space, a digit is
+//! `0` to `9` alone.
 ghost use Rattle.std.specs.Prelude.{◌≡◌, ◌≤◌, length};
 ghost use Rattle.std.specs.List.{prefix_len};
 ghost use Rattle.ftp_list.specs.Shapes.{is_in, all_in};

@@ -1,4 +1,8 @@
 //! The DOS form: `04-08-14  03:09PM  8192 name`.
+//!
+//! IIS answers `LIST` so. The line is split into sixteen parts; the date is tested before the
+//! size, so a line with both wrong has an invalid date. Of users and permissions such a line
+//! says nothing: all permissions are granted, and no number of a user or a group is there.
 ghost use Rattle.std.specs.Prelude.{◌≡◌, ◌==◌, not, IfOk};
 ghost use Rattle.std.specs.List.{filter};
 ghost use Rattle.ftp_list.specs.Listing.{UnlessMemory, dos_file, dos_plain, dos_sized, dos_entry, IsDos};

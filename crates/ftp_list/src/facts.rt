@@ -1,4 +1,8 @@
 //! The facts of a line of MLSD or MLST (RFC 3659, section 7): `type=file;size=8192; name`.
+//!
+//! The end of the facts is looked for once, then each semicolon and each equals sign, from left
+//! to right. A file begins with what holds where nothing is said, and each fact replaces a part
+//! of it; the first fact that is wrong ends the reading. Unknown keys are passed over.
 ghost use Rattle.std.specs.Prelude.{◌≡◌, ◌≤◌, ◌==◌, ◌-◌, true, length, IfOk};
 ghost use Rattle.std.specs.List.{position_or_len, after_last, list_all};
 ghost use Rattle.ftp_list.specs.Pex.{pex_of_bits};

@@ -1,4 +1,7 @@
-//! Where a marker stands in a text.
+//! Where a marker stands in a text, and what stands before and after it.
+//!
+//! Each function works on any text: a count past the end gives all, or nothing. So callers need
+//! no proof that a part is long enough, and a short one fails where its content is tested.
 ghost use Rattle.std.specs.Prelude.{◌≡◌, ◌≤◌, ◌<◌, [], ◌∷◌, length, take, drop, nat_eq, slice_index_or};
 ghost use Rattle.std.specs.Cmp.Lexicographic.{pointwise};
 ghost use Rattle.ftp_list.specs.Places.{begins, place, holds, before, behind};

@@ -1,4 +1,8 @@
 //! The POSIX form: `-rw-r--r-- 1 owner group 1234 Nov 5 13:46 name`.
+//!
+//! Most servers answer `LIST` as `ls -l` prints. The line is split into eighteen parts, the runs
+//! of blanks among them. Names may hold blanks, so the name is the last part and takes all that
+//! is left. The date is tested before the size.
 ghost use Rattle.std.specs.Prelude.{◌≡◌, ◌+◌, ◌<◌, slice_index, IfOk};
 ghost use Rattle.ftp_list.specs.Listing.{UnlessMemory, posix_shapes, is_granted, pex_from, posix_name, posix_type, posix_entry, IsPosix, seconds_since};
 

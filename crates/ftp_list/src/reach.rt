@@ -1,4 +1,7 @@
-//! How long a part can be.
+//! How long a part can be at a place: as long as possible, or as long as a row allows.
+//!
+//! A part of a class is as long as its run, cut where it has a greatest length. The other forms
+//! have at most five characters, and are tried from their greatest length down.
 ghost use Rattle.std.specs.Prelude.{◌≡◌, ◌≤◌, ◌<◌, ◌-◌, ℕ, true, false, length, take, MatchOption, slice_index_or, ⊤};
 ghost use Rattle.ftp_list.specs.Shapes.{is_form};
 ghost use Rattle.ftp_list.specs.Rows.{IsLongest, IsGreatestOpen};

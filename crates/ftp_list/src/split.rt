@@ -1,6 +1,7 @@
 //! The greatest split of a text. A first try takes the longest part each time. Where it doesn't
-//! come to the end, rows say of each end of the text whether the later shapes can split it, and
-//! each part is the longest behind which they can. No part is tried twice at one place.
+//! come to the end, and no part rules a split out, rows say of each end of the text whether the
+//! later shapes can split it, and each part is the longest that leaves such an end. No part is
+//! tried twice at one place.
 ghost use Rattle.std.specs.Prelude.{◌≡◌, ◌≤◌, ◌<◌, true, length, IfOk, IfSome, MatchOption};
 ghost use Rattle.ftp_list.specs.Split.{IsGreatestSplit, HasNoSplit, part};
 ghost use Rattle.ftp_list.specs.Rows.{IsTable, AreStarts};

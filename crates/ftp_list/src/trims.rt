@@ -1,4 +1,7 @@
 //! Blanks at the ends of a text, words, and the characters of a text.
+//!
+//! A line that is ASCII, as most are, is its own list of characters: it is copied without being
+//! decoded, to room on the stack where it fits there. A word is compared in any ASCII case.
 ghost use Rattle.std.specs.Prelude.{◌≡◌, ◌≤◌, IfOk, IfSome, length, take, encode_utf8_all};
 ghost use Rattle.std.specs.Str.{chars};
 ghost use Rattle.ftp_list.specs.Texts.{trim_front, trim_back, trim, is_word};

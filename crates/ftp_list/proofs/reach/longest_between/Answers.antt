@@ -1,4 +1,4 @@
-use Rattle.std.proofs.Common.{◌≡◌, ◌≤◌, length, take, arith, sym, ap, ◌∙◌}
+use Rattle.std.proofs.Common.{◌≡◌, ◌≤◌, length, take, ap, ◌∙◌}
 use Rattle.std.specs.List.{prefix_len}
 use Rattle.ftp_list.specs.Shapes.{is_in}
 use Rattle.ftp_list.proofs.ReachFacts.{longest_between_is, longest_between_none}

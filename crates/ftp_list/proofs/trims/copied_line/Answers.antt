@@ -1,6 +1,5 @@
-use Rattle.std.proofs.Common.{◌≡◌, length, take, arith, true, sym, ◌∙◌, ap}
-use Rattle.std.specs.Bool.{MatchBool}
-use Rattle.std.specs.Str.{chars, IsAscii}
+use Rattle.std.proofs.Common.{◌≡◌, length, take, arith, sym, ◌∙◌}
+use Rattle.std.specs.Str.{IsAscii}
 use Rattle.std.proofs.lemmas.List.{take_all}
 use Rattle.std.proofs.lemmas.Str.{chars-IsAscii}
 use Rattle.ftp_list.proofs.trims.copied_line.Goals as goal
