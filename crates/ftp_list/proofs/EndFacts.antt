@@ -1,7 +1,8 @@
 -- Where parts can end, shape by shape.
-use Rattle.std.proofs.Common.{◌≡◌, ℕ, zero, suc, ◌+◌, ◌-◌, ◌<◌, ◌≤◌, Bool, true, false, cond, List, [], ◌∷◌, length, drop, get_or, sym, ◌∙◌, ap, arith, subst}
+use Rattle.std.proofs.Common.{◌≡◌, ℕ, zero, suc, ◌+◌, ◌-◌, ◌<◌, ◌≤◌, Bool, true, false, cond, List, [], ◌∷◌, length, drop, get_or, refl, sym, ◌∙◌, ap, arith, subst}
 use Rattle.std.specs.Prelude.{min}
 use Rattle.std.specs.List.{prefix_len}
+use Rattle.std.proofs.lemmas.Bool.{false≢true}
 use Rattle.std.proofs.lemmas.List.{drop_more, drop-drop, drop_all, length-drop}
 use Rattle.ftp_list.specs.declared.class.Class.{Class}
 use Rattle.ftp_list.specs.declared.shape.Form.{Form}
@@ -10,7 +11,7 @@ use Rattle.ftp_list.specs.declared.shape.Shape.TheVariants.{OneOrMore, AnyNumber
 use Rattle.ftp_list.specs.Shapes.{is_in, is_form}
 use Rattle.ftp_list.specs.Split.{IsSplit, HasNoSplit}
 use Rattle.ftp_list.specs.Rows.{Fits, CanSplit, IsReach}
-use Rattle.ftp_list.proofs.ReachFacts.{one_bounded, any_bounded, short_bounded}
+use Rattle.ftp_list.proofs.ReachFacts.{one_bounded, any_bounded, one_positive, short_bounded}
 use Rattle.ftp_list.proofs.RowFacts.{First, first_part, not_nil}
 
 run_step : (b : Bool) (k n m : ℕ) → n ≤ k + m → cond b (1 + n) 0 ≤ suc k + m
@@ -44,6 +45,26 @@ far_short form text last most end w bound e p n l f =
     let a : n ≤ most = short_bounded form (drop p text) most n bound f in
     let b : n ≤ length (drop p text) = f.within in
     let size : length (drop p text) ≡ length text - p = length-drop p text in
+    omega arith
+
+-- no part of one or more stands at the end of the text
+pub none_at_end : (class : Class) (text : List ℕ) → length text ≡ 0 → (n : ℕ) → Fits (OneOrMore class) text n → ⊥
+none_at_end class text e n f =
+    let least : 1 ≤ n = one_positive class text n f in
+    let within : n ≤ length text = f.within in
+    omega arith
+
+stops : (b : Bool) (n : ℕ) → b ≡ false → cond b (1 + n) 0 ≡ 0
+stops true n e = absurd (false≢true (sym e))
+stops false n e = refl
+
+-- nor where the first character is outside the class
+pub none_outside : (class : Class) (text : List ℕ) (c : ℕ) → 0 < length text → c ≡ get_or text 0 c → is_in class c ≡ false → (n : ℕ) → Fits (OneOrMore class) text n → ⊥
+none_outside class [] c l is e n f = absurd (omega arith)
+none_outside class (x ∷ xs) c l is e n f =
+    let run : prefix_len (is_in class) (x ∷ xs) ≡ 0 = stops (is_in class x) (prefix_len (is_in class) xs) (ap (is_in class) (sym is) ∙ e) in
+    let least : 1 ≤ n = one_positive class (x ∷ xs) n f in
+    let bound : n ≤ prefix_len (is_in class) (x ∷ xs) = one_bounded class (x ∷ xs) n f in
     omega arith
 
 -- at the start

@@ -4,10 +4,11 @@
 //! where it can end itself. Every split ends its parts within these bounds, so a shape that
 //! stands at no place within them means that there is none. Most lines that are refused are
 //! refused here; a line that passes may still have no split, and the table of rows decides.
-ghost use Rattle.std.specs.Prelude.{◌≡◌, ◌≤◌, ◌+◌, ℕ, true, length, drop};
+ghost use Rattle.std.specs.Prelude.{◌≡◌, ◌≤◌, ◌+◌, ℕ, true, false, length, drop};
 ghost use Rattle.ftp_list.specs.Split.{HasNoSplit};
 ghost use Rattle.ftp_list.specs.Rows.{Fits, IsFirstStand};
 
+use crate::class::Class;
 use crate::places::rest;
 use crate::reach::longest;
 use crate::shape::Shape;
@@ -35,11 +36,32 @@ fn first_stand(shape: Shape, text: &[char], first: usize, last: usize) -> Option
     ensures { IsFirstStand shape text.now first last result }
 {
     for place in first..last + 1 {
-        if longest(shape, rest(text, place)).is_some() {
+        if may_stand(shape, rest(text, place)) {
             return Some(place);
         }
     }
     None
+}
+
+#[inline(always)]
+fn may_stand(shape: Shape, text: &[char]) -> bool
+    ensures { result ≡ false → (n : ℕ) → Fits shape text.now n → ⊥ }
+{
+    match shape {
+        Shape::OneOrMore(class) => may_begin(class, text),
+        Shape::AnyNumber(_) => true,
+        Shape::Short(_) => longest(shape, text).is_some(),
+    }
+}
+
+#[inline(always)]
+fn may_begin(class: Class, text: &[char]) -> bool
+    ensures { result ≡ false → (n : ℕ) → Fits (Shape.OneOrMore class) text.now n → ⊥ }
+{
+    if text.is_empty() {
+        return false;
+    }
+    class.contains(text[0])
 }
 
 // No part of the shape that stands at the place, or before it, ends behind the result.
