@@ -64,7 +64,7 @@ fn may_begin(class: Class, text: &[char]) -> bool
     class.contains(text[0])
 }
 
-// No part of the shape that stands at the place, or before it, ends behind the result.
+// No part of the shape that begins at the last place, or before it, ends after the result.
 fn farthest_end(shape: Shape, text: &[char], last: usize) -> usize
     requires { last ≤ length text.now }
     ensures within { result ≤ length text.now }
