@@ -58,7 +58,9 @@ pub fn day_of(year: i64, month: u64, day: u64) -> Option<i64>
 /// The present: its whole second, rounded down, and the UTC year of it.
 #[derive(Clone, Copy)]
 pub struct Present {
+    /// The whole second since the Unix epoch, rounded down.
     pub second: i64,
+    /// The UTC year on whose date it lies.
     pub year: i64,
     ghost second_in: { IsSecond second },
     ghost year_in: { IsYear year },

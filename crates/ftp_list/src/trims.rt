@@ -31,7 +31,8 @@ fn wide_chars_of(alloc: Global, line: &str) -> Result<Vec<char>, AllocError>
     line.chars().collect(alloc)
 }
 
-/// Copies a line that is ASCII, and for which there is room, into the room. Returns how many characters it has.
+/// Copies the characters of a line that is ASCII to the room, if it holds them, and returns how
+/// many there are.
 pub fn copied_line(room: &mut [char], line: &str) -> Option<usize>
     ensures within { IfSome result (λ count. count ≤ length room.new) }
     ensures copied { IfSome result (λ count. take count room.new ≡ chars line.now) }
