@@ -3,6 +3,8 @@ pub mod ReachFacts
 pub mod RowFacts
 pub mod TableFacts
 pub mod SplitFacts
+pub mod EndFacts
+pub mod StartFacts
 pub mod NumberFacts
 pub mod TextFacts
 pub mod DateFacts

@@ -1,11 +1,12 @@
 -- How long a part can be.
-use Rattle.std.proofs.Common.{◌≡◌, ℕ, zero, suc, ◌+◌, ◌-◌, ◌<◌, ◌≤◌, Bool, true, false, cond, List, [], ◌∷◌, length, take, refl, sym, ◌∙◌, arith, leb, get_or, inl, inr}
+use Rattle.std.proofs.Common.{◌≡◌, ℕ, zero, suc, ◌+◌, ◌-◌, ◌<◌, ◌≤◌, Bool, true, false, cond, List, [], ◌∷◌, length, take, refl, sym, ◌∙◌, ap, arith, leb, get_or, inl, inr}
 use Rattle.std.specs.Prelude.{◌&&◌, MatchOption, ⊤, Option, None, Some}
 use Rattle.std.specs.List.{prefix_len, list_all}
 use Rattle.std.proofs.lemmas.Bool.{false≢true, leb-true, le-leb, cases_lt}
-use Rattle.std.proofs.lemmas.List.{length-take-le}
+use Rattle.std.proofs.lemmas.List.{length-take, length-take-le, take-take}
 use Rattle.ftp_list.specs.declared.class.Class.{Class}
 use Rattle.ftp_list.specs.declared.shape.Form.{Form}
+use Rattle.ftp_list.specs.declared.shape.Form.TheVariants.{Between}
 use Rattle.ftp_list.specs.declared.shape.Shape.TheVariants.{OneOrMore, AnyNumber, Short}
 use Rattle.ftp_list.specs.Shapes.{is_in, is_form, all_in}
 use Rattle.ftp_list.specs.Rows.{Fits, IsGreatestOpen}
@@ -88,6 +89,41 @@ pub longest_none : (class : Class) (text : List ℕ) → 0 ≡ prefix_len (is_in
 longest_none class text e m f =
     let h : m ≤ prefix_len (is_in class) text = one_bounded class text m f in
     let o : 1 ≤ m = one_positive class text m f in
+    omega arith
+
+-- as many of a class as lie between the least and the most
+pub between_fits : (class : Class) (least most : ℕ) (text : List ℕ) (n : ℕ) → least ≤ n → n ≤ most → n ≤ length text → n ≤ prefix_len (is_in class) (take most text) → Fits (Short (Between class least most)) text n
+unfolding is_form
+between_fits class least most text n o m l h =
+    let size : length (take n text) ≡ n = length-take-le n text l in
+    let inside : list_all (is_in class) (take n text) ≡ true = rw (take-take n most text m) at (all_within (is_in class) (take most text) n h) in
+    let sized : (leb least (length (take n text)) && leb (length (take n text)) most) ≡ true = both (leb least (length (take n text))) (leb (length (take n text)) most) (le-leb least (length (take n text)) (omega arith)) (le-leb (length (take n text)) most (omega arith)) in
+    record { within = l; shaped = both (leb least (length (take n text)) && leb (length (take n text)) most) (all_in class (take n text)) sized inside }
+
+pub between_bounded : (class : Class) (least most : ℕ) (text : List ℕ) (n : ℕ) → Fits (Short (Between class least most)) text n → (least ≤ n) × (n ≤ prefix_len (is_in class) (take most text))
+unfolding is_form
+between_bounded class least most text n f =
+    let l : n ≤ length text = f.within in
+    let size : length (take n text) ≡ n = length-take-le n text l in
+    let sized : (leb least (length (take n text)) && leb (length (take n text)) most) ≡ true = first_of_both (leb least (length (take n text)) && leb (length (take n text)) most) (all_in class (take n text)) f.shaped in
+    let o : least ≤ length (take n text) = leb-true least (length (take n text)) (first_of_both (leb least (length (take n text))) (leb (length (take n text)) most) sized) in
+    let m : length (take n text) ≤ most = leb-true (length (take n text)) most (second_of_both (leb least (length (take n text))) (leb (length (take n text)) most) sized) in
+    let inside : list_all (is_in class) (take n text) ≡ true = second_of_both (leb least (length (take n text)) && leb (length (take n text)) most) (all_in class (take n text)) f.shaped in
+    let front : take n (take most text) ≡ take n text = take-take n most text (omega arith) in
+    let there : list_all (is_in class) (take n (take most text)) ≡ true = ap (list_all (is_in class)) front ∙ inside in
+    (omega arith, within_run (is_in class) (take most text) n (omega (arith, length-take most text)) there)
+
+pub longest_between_is : (class : Class) (least most : ℕ) (text : List ℕ) (n : ℕ) → n ≡ prefix_len (is_in class) (take most text) → n ≤ length (take most text) → least ≤ n → Fits (Short (Between class least most)) text n × ((m : ℕ) → Fits (Short (Between class least most)) text m → m ≤ n)
+longest_between_is class least most text n e l o = (
+  between_fits class least most text n o (omega (arith, length-take most text)) (omega (arith, length-take most text)) (omega arith),
+  λ m f. let h : m ≤ prefix_len (is_in class) (take most text) = (between_bounded class least most text m f).1 in omega arith,
+)
+
+pub longest_between_none : (class : Class) (least most : ℕ) (text : List ℕ) (n : ℕ) → n ≡ prefix_len (is_in class) (take most text) → n < least → (m : ℕ) → Fits (Short (Between class least most)) text m → ⊥
+longest_between_none class least most text n e lt m f =
+    let h = between_bounded class least most text m f in
+    let a : least ≤ m = h.0 in
+    let b : m ≤ prefix_len (is_in class) (take most text) = h.1 in
     omega arith
 
 -- what a walk down a run finds, from least to most

@@ -4,7 +4,7 @@ use Rattle.std.specs.declared.vec.Vec.{Vec}
 use Rattle.std.specs.declared.alloc.Global.{Global}
 use Rattle.ftp_list.specs.declared.shape.Shape.{Shape}
 use Rattle.ftp_list.specs.Shapes.{is_shape}
-use Rattle.ftp_list.specs.Split.{IsSplit, IsGreatestSplit, HasNoSplit}
+use Rattle.ftp_list.specs.Split.{IsSplit, IsGreatestSplit, HasNoSplit, part}
 
 -- the first n characters have the shape
 pub record Fits (shape : Shape) (text : List ℕ) (n : ℕ) : Type 0 where
@@ -16,6 +16,12 @@ abbrev pub IsLongest : Shape → List ℕ → Option ℕ → Type 0
 IsLongest shape text found =
     MatchOption found ((n : ℕ) → Fits shape text n → ⊥)
     (λ n. Fits shape text n × ((m : ℕ) → Fits shape text m → m ≤ n))
+
+-- The first of the places from first to last where the shape stands, or it stands at none.
+abbrev pub IsFirstStand : Shape → List ℕ → ℕ → ℕ → Option ℕ → Type 0
+IsFirstStand shape text first last found =
+    MatchOption found ((p n : ℕ) → first ≤ p → p ≤ last → Fits shape (drop p text) n → ⊥)
+    (λ q. (p n : ℕ) → first ≤ p → p ≤ last → Fits shape (drop p text) n → q ≤ p)
 
 -- the text has a split
 pub record CanSplit (shapes : List Shape) (text : List ℕ) : Type 0 where
@@ -65,3 +71,27 @@ pub record IsOnlyFront (shapes : List Shape) (text : List ℕ) (i : ℕ) (length
   pub start : ℕ
   pub within : start ≤ length text
   pub left_is : left ≡ drop start text
+
+-- from first to last there is a place behind which the later shapes have a split
+pub record Reaches (shapes : List Shape) (text : List ℕ) (first last : ℕ) : Type 0 where
+  pub place : ℕ
+  pub low : first ≤ place
+  pub high : place ≤ last
+  pub behind : CanSplit shapes (drop place text)
+
+-- if the text has a split, the first i parts end somewhere from first to last
+pub record IsReach (shapes : List Shape) (text : List ℕ) (i first last : ℕ) : Type 0 where
+  pub within : last ≤ length text
+  pub at : CanSplit shapes text → Reaches (drop i shapes) text first last
+
+-- behind the place where a part begins the later parts are what they are in the whole text
+pub record AreStarts (starts lengths text : List ℕ) : Type 0 where
+  pub at : (j k : ℕ) → j < length lengths → j < 18
+      → part (j + k) lengths text ≡ part k (drop j lengths) (drop (slice_index_or starts j 0) text)
+
+-- the same of the first i parts, and the place behind them
+pub record AreStartsSoFar (starts lengths text : List ℕ) (i start : ℕ) : Type 0 where
+  pub count : length starts ≡ 18
+  pub within : start ≤ length text
+  pub before : (j k : ℕ) → j < i → part (j + k) lengths text ≡ part k (drop j lengths) (drop (slice_index_or starts j 0) text)
+  pub here : (k : ℕ) → part (i + k) lengths text ≡ part k (drop i lengths) (drop start text)

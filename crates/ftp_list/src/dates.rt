@@ -1,4 +1,8 @@
 //! Civil dates and times of day, as seconds since the Unix epoch.
+//!
+//! A time is day number times 86,400 plus seconds, with no time zone: listings name none, and are
+//! read as UTC. Days come from the calendar of `jiff_core`, which knows the leap years; a number
+//! out of its range is refused before it is asked, so that no cast can lose anything.
 ghost use Rattle.std.specs.Prelude.{◌≡◌, pos, IfSome, ◌≤◌, ◌<◌, ◌^◌, length};
 ghost use Rattle.jiff_core.specs.Calendar.{IsEpochDay, IsYear};
 ghost use Rattle.ftp_list.specs.Dates.{second_at, day_number, clock_of, half_clock_of, month_of, number_among, IsUtcYear, IsSecond, whole_second};
@@ -54,7 +58,9 @@ pub fn day_of(year: i64, month: u64, day: u64) -> Option<i64>
 /// The present: its whole second, rounded down, and the UTC year of it.
 #[derive(Clone, Copy)]
 pub struct Present {
+    /// The whole second since the Unix epoch, rounded down.
     pub second: i64,
+    /// The UTC year on whose date it lies.
     pub year: i64,
     ghost second_in: { IsSecond second },
     ghost year_in: { IsYear year },

@@ -1,4 +1,8 @@
 //! The DOS form: `04-08-14  03:09PM  8192 name`.
+//!
+//! IIS answers `LIST` so. The line is split into sixteen parts; the date is tested before the
+//! size, so a line with both wrong has an invalid date. Of users and permissions such a line
+//! says nothing: all permissions are granted, and no number of a user or a group is there.
 ghost use Rattle.std.specs.Prelude.{◌≡◌, ◌==◌, not, IfOk};
 ghost use Rattle.std.specs.List.{filter};
 ghost use Rattle.ftp_list.specs.Listing.{UnlessMemory, dos_file, dos_plain, dos_sized, dos_entry, IsDos};
@@ -14,7 +18,7 @@ use crate::places::is_same;
 use crate::posix::seconds_of;
 use crate::shape::Form::{Between, DirectoryMark, HalfDay};
 use crate::shape::Shape::{self, AnyNumber, OneOrMore, Short};
-use crate::split::{greatest_split, part_at};
+use crate::split::{greatest_split, part_at, starts_of};
 use crate::trims::text_of;
 use std::alloc::{AllocError, Global};
 
@@ -53,19 +57,20 @@ pub fn parse(alloc: Global, text: &[char]) -> ParseResult<File>
 fn file_of(alloc: Global, lengths: &[usize], text: &[char]) -> ParseResult<File>
     ensures { UnlessMemory (λ answer. answer ≡ dos_entry lengths.now text.now) result }
 {
+    let starts = starts_of(text, lengths);
     let Some(moment) = moment_of_dos(
-        part_at(text, lengths, 0),
-        part_at(text, lengths, 2),
-        part_at(text, lengths, 4),
-        part_at(text, lengths, 6),
-        part_at(text, lengths, 8),
-        part_at(text, lengths, 10),
+        part_at(text, lengths, &starts, 0),
+        part_at(text, lengths, &starts, 2),
+        part_at(text, lengths, &starts, 4),
+        part_at(text, lengths, &starts, 6),
+        part_at(text, lengths, &starts, 8),
+        part_at(text, lengths, &starts, 10),
     ) else {
         return Err(ParseError::InvalidDate);
     };
-    let mark = part_at(text, lengths, 12);
-    let size = part_at(text, lengths, 13);
-    let name = part_at(text, lengths, 15);
+    let mark = part_at(text, lengths, &starts, 12);
+    let size = part_at(text, lengths, &starts, 13);
+    let name = part_at(text, lengths, &starts, 15);
     sized_file(alloc, moment, mark, size, name)
 }
 

@@ -1,25 +1,29 @@
+//! Why a line could not be read.
+//!
+//! There is one error for all forms, so that a caller who tries several can compare them. It
+//! holds no text of the line: the caller still has the line, and an error takes no memory.
 ghost use Rattle.std.specs.Prelude.{◌≡◌};
 ghost use Rattle.ftp_list.specs.declared.error.ParseError.TheVariants.{OutOfMemory};
 
 use std::alloc::{AllocError, AllocFailed};
 use thiserror::Error;
 
-/// What a parser answers.
+/// What a parser returns.
 pub type ParseResult<T> = Result<T, ParseError>;
 
 /// Why a line could not be read.
 #[derive(Debug, PartialEq, Eq, Drop, Error)]
 pub enum ParseError {
-    /// The line has not the form, or a fact has a value that it cannot have (P1).
+    /// The line doesn't have the form, or a fact has a value that it cannot have.
     #[error("syntax error in the listing line")]
     SyntaxError,
-    /// A date or a time of day that does not exist (P2).
+    /// A date or a time of day that does not exist.
     #[error("invalid date in the listing line")]
     InvalidDate,
-    /// A size that is no number or is above 2^64 - 1 (P3).
+    /// A size that is no number or is above 2^64 - 1.
     #[error("invalid file size in the listing line")]
     BadSize,
-    /// The allocator had no memory (P4).
+    /// An allocation failed.
     #[error("out of memory")]
     OutOfMemory,
 }

@@ -1,4 +1,8 @@
 //! The facts of a line of MLSD or MLST (RFC 3659, section 7): `type=file;size=8192; name`.
+//!
+//! The end of the facts is looked for once, then each semicolon and each equals sign, from left
+//! to right. A file begins with what holds where nothing is said, and each fact replaces a part
+//! of it; the first fact that is wrong ends the reading. Unknown keys are passed over.
 ghost use Rattle.std.specs.Prelude.{◌≡◌, ◌≤◌, ◌==◌, ◌-◌, true, length, IfOk};
 ghost use Rattle.std.specs.List.{position_or_len, after_last, list_all};
 ghost use Rattle.ftp_list.specs.Pex.{pex_of_bits};
@@ -10,7 +14,7 @@ use crate::file::File;
 use crate::file_type::FileType;
 use crate::numbers::{number_of, small_number_of};
 use crate::pex::PosixPex;
-use crate::places::{begins_with, front, has, part_before, part_behind, place_of, rest};
+use crate::places::{begins_with, front, part_before, place_of, rest};
 use crate::posix::seconds_of;
 use crate::text::Text;
 use crate::times::{Moment, moment_of};
@@ -40,31 +44,24 @@ pub fn parse_mlst(alloc: Global, text: &[char]) -> ParseResult<File>
 pub fn parse_mlsd(alloc: Global, text: &[char]) -> ParseResult<File>
     ensures { UnlessMemory (λ answer. answer ≡ mlsd text.now) result }
 {
-    let file = file_named(alloc, name_in(text))?;
-    with_all_facts(alloc, file, facts_in(text))
+    let (name, facts) = name_and_facts(text);
+    let file = file_named(alloc, name)?;
+    with_all_facts(alloc, file, facts)
 }
 
-fn name_in(text: &[char]) -> &[char]
-    ensures { result.now ≡ mlsx_name text.now }
+// The name, and the text in which the facts stand.
+fn name_and_facts(text: &[char]) -> (&[char], &[char])
+    ensures name { result.0.now ≡ mlsx_name text.now }
+    ensures facts { result.1.now ≡ mlsx_facts text.now }
 {
     if begins_with(text, &SPACE) {
-        rest(text, 1)
-    } else if has(text, &NAME_FOLLOWS) {
-        part_behind(text, &NAME_FOLLOWS)
-    } else {
-        trimmed_front(last_piece(text))
+        return (rest(text, 1), front(text, 0));
     }
-}
-
-fn facts_in(text: &[char]) -> &[char]
-    ensures { result.now ≡ mlsx_facts text.now }
-{
-    if begins_with(text, &SPACE) {
-        front(text, 0)
-    } else if has(text, &NAME_FOLLOWS) {
-        front(text, place_of(text, &NAME_FOLLOWS) + 1)
+    let end = place_of(text, &NAME_FOLLOWS);
+    if end < text.len() {
+        (rest(text, end + 2), front(text, end + 1))
     } else {
-        text
+        (trimmed_front(last_piece(text)), text)
     }
 }
 
@@ -131,12 +128,13 @@ fn semicolon_in(text: &[char]) -> usize
 fn with_one_piece(alloc: Global, file: File, piece: &[char]) -> ParseResult<File>
     ensures { result ≡ with_piece file piece.now }
 {
-    if !has(piece, &EQUALS) {
-        return Ok(file);
+    let end = place_of(piece, &EQUALS);
+    if end < piece.len() {
+        let value = part_before(rest(piece, end + 1), &EQUALS);
+        with_one_fact(alloc, file, front(piece, end), value)
+    } else {
+        Ok(file)
     }
-    let key = part_before(piece, &EQUALS);
-    let value = part_before(part_behind(piece, &EQUALS), &EQUALS);
-    with_one_fact(alloc, file, key, value)
 }
 
 #[tactic(auto, unfolding(crate::specs::Facts::with_fact))]

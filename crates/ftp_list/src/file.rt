@@ -1,3 +1,7 @@
+//! One file of a listing, whatever form its line had.
+//!
+//! Its fields are private, so that the nanoseconds stay below a second and a later form may keep
+//! more. Contracts see a file as an `Entry`, which has texts as bytes and nothing of memory.
 ghost use Rattle.std.specs.Prelude.{◌≡◌, ◌+◌, ◌*◌};
 ghost use Rattle.std.specs.Option.{option_map};
 ghost use Rattle.std.specs.Duration.{as_nanos};

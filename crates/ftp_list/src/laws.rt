@@ -1,4 +1,7 @@
 //! Laws of the definitions, each the contract of a function without a body.
+//!
+//! The definitions of the forms are relations, so that they need not say how a split is found.
+//! These laws say that nothing is lost by that: a line says one thing in each form.
 ghost use Rattle.std.specs.Prelude.{◌≡◌, ℤ, Result, List, ℕ};
 ghost use Rattle.ftp_list.specs.Entry.{Entry};
 ghost use Rattle.ftp_list.specs.Listing.{IsPosix, IsDos};

@@ -1,10 +1,15 @@
 //! Parsers of the lines of FTP directory listings: the POSIX and DOS forms of `LIST`, and the
 //! facts of `MLSD` and `MLST` (RFC 3659, section 7).
+//!
+//! `File::from_line` reads a line of any form, and `ListParser` a line of one form. What a line
+//! says is defined in `specs/Listing`, `Facts` and `Lines`, in terms of the whole line; each parser
+//! returns that, or `OutOfMemory`. The time is linear in the line's length.
 #![tactic(auto)]
 
 mod class;
 mod dates;
 mod dos;
+mod ends;
 mod error;
 mod facts;
 mod file;

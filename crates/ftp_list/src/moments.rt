@@ -1,4 +1,8 @@
 //! The moments that the parts of a line give, as seconds since the Unix epoch.
+//!
+//! A POSIX line has a year or a time of day, never both. Without a year it is of the year of the
+//! present, or of the one before where it would lie more than 180 days ahead: servers leave the
+//! year out of files of the last months, and their clocks may run ahead.
 ghost use Rattle.std.specs.Prelude.{◌≡◌, ◌<◌, pos};
 ghost use Rattle.ftp_list.specs.Dates.{year_of, midnight_of, recent_moment, dated, posix_moment, dos_moment, full_year};
 

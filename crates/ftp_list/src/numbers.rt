@@ -1,4 +1,7 @@
 //! Decimal numbers in a text.
+//!
+//! Sizes and numbers of users come from the server and have any length. Each digit is added with
+//! a test, and a number that doesn't fit is none, so that no number ever wraps.
 ghost use Rattle.std.specs.Prelude.{◌≡◌, ◌^◌, ◌≤◌, ◌<◌, MatchOption};
 ghost use Rattle.ftp_list.specs.Numbers.{digits_after, decimal, number};
 

@@ -1,3 +1,8 @@
+//! Permissions of a file: what its owner, its group and all others may do.
+//!
+//! They are three named fields and no number, since a listing shows letters and only the fact
+//! `UNIX.mode` shows bits. By default all is allowed: a server that says nothing of permissions
+//! decides by itself what it lets a user do.
 /// What one of a file's three classes of users may do.
 #[derive(Clone, Copy, Debug, PartialEq, Eq, Hash)]
 pub struct PosixPex {

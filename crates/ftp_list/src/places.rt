@@ -1,5 +1,8 @@
-//! Where a marker stands in a text.
-ghost use Rattle.std.specs.Prelude.{◌≡◌, ◌≤◌, length, take, drop, nat_eq};
+//! Where a marker stands in a text, and what stands before and after it.
+//!
+//! Each function works on any text: a count past the end gives all, or nothing. So callers need
+//! no proof that a part is long enough, and a short one fails where its content is tested.
+ghost use Rattle.std.specs.Prelude.{◌≡◌, ◌≤◌, ◌<◌, [], ◌∷◌, length, take, drop, nat_eq, slice_index_or};
 ghost use Rattle.std.specs.Cmp.Lexicographic.{pointwise};
 ghost use Rattle.ftp_list.specs.Places.{begins, place, holds, before, behind};
 
@@ -39,18 +42,59 @@ pub fn begins_with(text: &[char], marker: &[char]) -> bool
     text.starts_with(marker)
 }
 
-#[tactic(auto, using(crate::proofs::PlaceFacts::place_passed, crate::proofs::PlaceFacts::place_found, crate::proofs::PlaceFacts::place_end))]
 /// The first place where the marker stands, or the text's length.
 pub fn place_of(text: &[char], marker: &[char]) -> usize
     ensures value { result ≡ place marker.now text.now }
     ensures bound { result ≤ length text.now }
 {
-    for i in 0..text.len() {
-        if begins_with(rest(text, i), marker) {
+    match marker {
+        [] => 0,
+        [only] => place_of_one(text, *only),
+        [first, ..] => place_of_many(text, *first, marker),
+    }
+}
+
+#[tactic(auto, using(crate::proofs::PlaceFacts::one_passed, crate::proofs::PlaceFacts::one_found, crate::proofs::PlaceFacts::place_end))]
+fn place_of_one(text: &[char], only: char) -> usize
+    ensures value { result ≡ place (only ∷ []) text.now }
+    ensures bound { result ≤ length text.now }
+{
+    for (i, c) in text.iter().enumerate() {
+        if *c == only {
             return i;
         }
     }
     text.len()
+}
+
+#[tactic(auto, using(crate::proofs::PlaceFacts::place_passed, crate::proofs::PlaceFacts::place_found, crate::proofs::PlaceFacts::place_end))]
+fn place_of_many(text: &[char], first: char, marker: &[char]) -> usize
+    requires some { 0 < length marker.now }
+    requires head { first ≡ slice_index_or marker.now 0 first }
+    ensures value { result ≡ place marker.now text.now }
+    ensures bound { result ≤ length text.now }
+{
+    for i in 0..text.len() {
+        if begins_there(text, i, first, marker) {
+            return i;
+        }
+    }
+    text.len()
+}
+
+#[inline(always)]
+#[tactic(auto, using(crate::proofs::PlaceFacts::other_first))]
+fn begins_there(text: &[char], i: usize, first: char, marker: &[char]) -> bool
+    requires within { i < length text.now }
+    requires some { 0 < length marker.now }
+    requires head { first ≡ slice_index_or marker.now 0 first }
+    ensures { result ≡ begins marker.now (drop i text.now) }
+{
+    // Most places differ in the first character already.
+    if text[i] != first {
+        return false;
+    }
+    begins_with(rest(text, i), marker)
 }
 
 /// Whether the marker stands in the text.

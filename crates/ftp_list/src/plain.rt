@@ -1,6 +1,7 @@
-//! The greatest split by trying every length of the first part, the longest first: plain and slow. The tests
-//! compare `greatest_split` with it.
-
+//! The greatest split by trying every length of the first part, the longest first.
+//!
+//! It is plain and slow: its time grows as a power of the text's length. It has the contract of
+//! `greatest_split`, which the tests compare with it. The parsers never call it.
 ghost use Rattle.std.specs.Prelude.{IfOk, MatchOption, ◌≡◌, [], ◌∷◌};
 ghost use Rattle.ftp_list.specs.Shapes.{is_shape};
 ghost use Rattle.ftp_list.specs.Split.{IsGreatestSplit, HasNoSplit};

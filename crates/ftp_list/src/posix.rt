@@ -1,4 +1,8 @@
 //! The POSIX form: `-rw-r--r-- 1 owner group 1234 Nov 5 13:46 name`.
+//!
+//! Most servers answer `LIST` as `ls -l` prints. The line is split into eighteen parts, the runs
+//! of blanks among them. Names may hold blanks, so the name is the last part and takes all that
+//! is left. The date is tested before the size.
 ghost use Rattle.std.specs.Prelude.{◌≡◌, ◌+◌, ◌<◌, slice_index, IfOk};
 ghost use Rattle.ftp_list.specs.Listing.{UnlessMemory, posix_shapes, is_granted, pex_from, posix_name, posix_type, posix_entry, IsPosix, seconds_since};
 
@@ -13,7 +17,7 @@ use crate::pex::PosixPex;
 use crate::places::{is_same, part_before, part_behind};
 use crate::shape::Form::{Between, ClockOrYear};
 use crate::shape::Shape::{self, OneOrMore, Short};
-use crate::split::{greatest_split, part_at};
+use crate::split::{greatest_split, part_at, starts_of};
 use crate::text::Text;
 use crate::trims::{text_of, trimmed};
 use jiff::Timestamp;
@@ -59,26 +63,27 @@ fn file_of(alloc: Global, present: Present, lengths: &[usize], text: &[char]) ->
     ensures { UnlessMemory
         (λ answer. answer ≡ posix_entry present.year present.second lengths.now text.now) result }
 {
-    let month = part_at(text, lengths, 11);
-    let day = part_at(text, lengths, 13);
-    let time = part_at(text, lengths, 15);
+    let starts = starts_of(text, lengths);
+    let month = part_at(text, lengths, &starts, 11);
+    let day = part_at(text, lengths, &starts, 13);
+    let time = part_at(text, lengths, &starts, 15);
     let Some(moment) = moment_of_posix(present, month, day, time) else {
         return Err(ParseError::InvalidDate);
     };
-    let Some(size) = decimal_of(part_at(text, lengths, 9)) else {
+    let Some(size) = decimal_of(part_at(text, lengths, &starts, 9)) else {
         return Err(ParseError::BadSize);
     };
-    let kind = part_at(text, lengths, 0);
-    let permissions = part_at(text, lengths, 1);
-    let name = part_at(text, lengths, 17);
+    let kind = part_at(text, lengths, &starts, 0);
+    let permissions = part_at(text, lengths, &starts, 1);
+    let name = part_at(text, lengths, &starts, 17);
     Ok(File {
         name: name_of(alloc, kind, name)?,
         file_type: type_of(alloc, kind, name)?,
         size: size as usize,
         seconds: seconds_of(moment),
         nanoseconds: 0,
-        uid: small_number_of(trimmed(part_at(text, lengths, 5))),
-        gid: small_number_of(trimmed(part_at(text, lengths, 7))),
+        uid: small_number_of(trimmed(part_at(text, lengths, &starts, 5))),
+        gid: small_number_of(trimmed(part_at(text, lengths, &starts, 7))),
         owner: pex_at(permissions, 0),
         group: pex_at(permissions, 3),
         others: pex_at(permissions, 6),

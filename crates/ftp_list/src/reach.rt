@@ -1,8 +1,13 @@
-//! How long a part can be.
+//! How long a part can be at a place: as long as possible, or as long as a row allows.
+//!
+//! A part of a class is as long as its run, cut where it has a greatest length. The other forms
+//! have at most five characters, and are tried from their greatest length down.
 ghost use Rattle.std.specs.Prelude.{◌≡◌, ◌≤◌, ◌<◌, ◌-◌, ℕ, true, false, length, take, MatchOption, slice_index_or, ⊤};
 ghost use Rattle.ftp_list.specs.Shapes.{is_form};
 ghost use Rattle.ftp_list.specs.Rows.{IsLongest, IsGreatestOpen};
 
+use crate::class::Class;
+use crate::places::front;
 use crate::shape::{Form, Shape};
 
 /// The greatest length of a part of the shape at the front of the text.
@@ -20,6 +25,22 @@ pub fn longest(shape: Shape, text: &[char]) -> Option<usize>
 }
 
 fn longest_short(form: Form, text: &[char]) -> Option<usize>
+    ensures { IsLongest (Shape.Short form) text.now result }
+{
+    match form {
+        Form::Between(class, least, most) => longest_between(class, least, most, text),
+        Form::ClockOrYear | Form::HalfDay | Form::DirectoryMark => longest_tried(form, text),
+    }
+}
+
+fn longest_between(class: Class, least: usize, most: usize, text: &[char]) -> Option<usize>
+    ensures { IsLongest (Shape.Short (Form.Between class least most)) text.now result }
+{
+    let count = class.run(front(text, most));
+    if least <= count { Some(count) } else { None }
+}
+
+fn longest_tried(form: Form, text: &[char]) -> Option<usize>
     ensures { IsLongest (Shape.Short form) text.now result }
 {
     let mut count = form.most().min(text.len());

@@ -1,4 +1,8 @@
 //! Where a text can be split, for each end of it: one row for the last shapes, of none first.
+//!
+//! A row is made from the one for one shape less, from the shortest end of the text on, with a
+//! bounded number of steps for each character. So a line that needs the table takes time and
+//! memory in proportion to its length, however its blanks and tabs are laid.
 ghost use Rattle.std.specs.Prelude.{◌≡◌, ◌≤◌, ◌<◌, ◌-◌, ◌+◌, List, ◌∷◌, [], length, drop, IfOk};
 ghost use Rattle.ftp_list.specs.declared.shape.Shape.{Shape as AnyShape};
 ghost use Rattle.ftp_list.specs.Rows.{Tells, TellsAll, IsTable};

@@ -1,3 +1,7 @@
+//! The shapes of the parts of a line: runs of a class, and a few short forms.
+//!
+//! They stand for the regular expressions that such lines are mostly read with. These shapes are
+//! all that the two forms need, and a line is split by them in linear time.
 ghost use Rattle.std.specs.Prelude.{◌≡◌, ◌≤◌, List, length, ℕ, true};
 ghost use Rattle.ftp_list.specs.Shapes.{is_form, is_clock, is_between};
 

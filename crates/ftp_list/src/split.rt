@@ -1,15 +1,20 @@
 //! The greatest split of a text. A first try takes the longest part each time. Where it doesn't
-//! come to the end, rows say of each end of the text whether the later shapes can split it, and
-//! each part is the longest behind which they can. No part is tried twice at one place.
+//! come to the end, and no part rules a split out, rows say of each end of the text whether the
+//! later shapes can split it, and each part is the longest that leaves such an end. No part is
+//! tried twice at one place.
 ghost use Rattle.std.specs.Prelude.{◌≡◌, ◌≤◌, ◌<◌, true, length, IfOk, IfSome, MatchOption};
 ghost use Rattle.ftp_list.specs.Split.{IsGreatestSplit, HasNoSplit, part};
-ghost use Rattle.ftp_list.specs.Rows.{IsTable};
+ghost use Rattle.ftp_list.specs.Rows.{IsTable, AreStarts};
 
+use crate::ends::is_stuck;
 use crate::places::{front, rest};
 use crate::reach::{longest, longest_open};
 use crate::rows::table;
 use crate::shape::Shape;
 use std::alloc::{AllocError, Global};
+
+/// No form has more parts.
+pub const MOST_PARTS: usize = 18;
 
 /// The lengths of the greatest split, or `None` where the text has no split.
 pub fn greatest_split(
@@ -25,6 +30,9 @@ pub fn greatest_split(
     }
     if let Some(lengths) = split_by_longest(alloc, shapes, text)? {
         return Ok(Some(lengths));
+    }
+    if is_stuck(shapes, text) {
+        return Ok(None);
     }
     let rows = table(alloc, shapes, text)?;
     split_by_table(alloc, shapes, text, &rows)
@@ -91,16 +99,34 @@ fn split_by_table(
     Ok(Some(lengths))
 }
 
+/// Where each part begins, of a text in parts of these lengths.
+pub fn starts_of(text: &[char], lengths: &[usize]) -> [usize; MOST_PARTS]
+    ensures { AreStarts result lengths.now text.now }
+{
+    let mut starts = [0; MOST_PARTS];
+    let mut start = 0;
+    let known = lengths.len().min(MOST_PARTS);
+    for i in 0..known {
+        starts[i] = start;
+        start += lengths[i].min(text.len() - start);
+    }
+    starts
+}
+
 /// The part number `k`, counted from 0, of a text in parts of these lengths.
-pub fn part_at<'a>(text: &'a [char], lengths: &[usize], k: usize) -> &'a [char]
+pub fn part_at<'a>(
+    text: &'a [char],
+    lengths: &[usize],
+    starts: &[usize; MOST_PARTS],
+    k: usize,
+) -> &'a [char]
+    requires known { k < 18 }
+    requires starts { AreStarts starts.now lengths.now text.now }
     ensures { result.now ≡ part k lengths.now text.now }
 {
-    let mut left = text;
-    for (i, count) in lengths.iter().enumerate() {
-        if i == k {
-            return front(left, *count);
-        }
-        left = rest(left, *count);
+    if k < lengths.len() {
+        front(rest(text, starts[k]), lengths[k])
+    } else {
+        front(text, 0)
     }
-    front(left, 0)
 }

@@ -1,4 +1,7 @@
 //! A text that contracts see as its bytes.
+//!
+//! A `String` is more than its bytes: it has an address and a room. Names and targets are a
+//! `Text`, so that equal names are equal in contracts, and `==` and `Hash` go by the bytes.
 ghost use Rattle.std.specs.Prelude.{◌≡◌, nat_eq};
 ghost use Rattle.std.specs.String.{string_bytes};
 ghost use Rattle.std.specs.Hash as fed;

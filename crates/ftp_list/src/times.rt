@@ -1,4 +1,7 @@
 //! The times of MLSD and MLST: `YYYYMMDDHHMMSS`, and a fraction or none.
+//!
+//! RFC 3659, section 2.3, allows a leap second, so a second may be 60, which is one after 59.
+//! Nine digits of a fraction count, as many as nanoseconds have; more are passed over.
 ghost use Rattle.std.specs.Prelude.{◌≡◌, ◌<◌, ◌≤◌, ◌-◌, ◌*◌, ◌^◌, pos, true, IfSome};
 ghost use Rattle.ftp_list.specs.Shapes.{all_in};
 ghost use Rattle.jiff_core.specs.Calendar.{IsEpochDay};

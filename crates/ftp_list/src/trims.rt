@@ -1,5 +1,8 @@
 //! Blanks at the ends of a text, words, and the characters of a text.
-ghost use Rattle.std.specs.Prelude.{◌≡◌, IfOk, encode_utf8_all};
+//!
+//! A line that is ASCII, as most are, is its own list of characters: it is copied without being
+//! decoded, to room on the stack where it fits there. A word is compared in any ASCII case.
+ghost use Rattle.std.specs.Prelude.{◌≡◌, ◌≤◌, IfOk, IfSome, length, take, encode_utf8_all};
 ghost use Rattle.std.specs.Str.{chars};
 ghost use Rattle.ftp_list.specs.Texts.{trim_front, trim_back, trim, is_word};
 
@@ -12,14 +15,47 @@ use std::alloc::{AllocError, Global};
 pub fn chars_of(alloc: Global, line: &str) -> Result<Vec<char>, AllocError>
     ensures { IfOk result (λ v. v.items ≡ chars line.now) }
 {
+    if !line.is_ascii() {
+        return wide_chars_of(alloc, line);
+    }
+    let mut text = Vec::with_capacity(alloc, line.len())?;
+    for byte in line.as_bytes() {
+        text.push(char::from(*byte))?;
+    }
+    Ok(text)
+}
+
+fn wide_chars_of(alloc: Global, line: &str) -> Result<Vec<char>, AllocError>
+    ensures { IfOk result (λ v. v.items ≡ chars line.now) }
+{
     line.chars().collect(alloc)
 }
 
+/// Copies the characters of a line that is ASCII to the room, if it holds them, and returns how
+/// many there are.
+pub fn copied_line(room: &mut [char], line: &str) -> Option<usize>
+    ensures within { IfSome result (λ count. count ≤ length room.new) }
+    ensures copied { IfSome result (λ count. take count room.new ≡ chars line.now) }
+{
+    let bytes = line.as_bytes();
+    if bytes.len() > room.len() || !line.is_ascii() {
+        return None;
+    }
+    for (i, byte) in bytes.iter().enumerate() {
+        room[i] = char::from(*byte);
+    }
+    Some(bytes.len())
+}
+
 /// The text of characters.
+#[tactic(auto, using(crate::proofs::TextFacts::encoded_more))]
 pub fn text_of(alloc: Global, characters: &[char]) -> Result<Text, AllocError>
     ensures { IfOk result (λ text. text ≡ encode_utf8_all characters.now) }
 {
-    let text: String = characters.iter().copied().collect(alloc)?;
+    let mut text = String::with_capacity(alloc, characters.len())?;
+    for c in characters {
+        text.push(*c)?;
+    }
     Ok(Text::new(text))
 }
 

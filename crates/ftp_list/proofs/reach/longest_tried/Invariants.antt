@@ -1,7 +1,7 @@
 use Rattle.std.proofs.Common.{ℕ, ◌≤◌, length}
 use Rattle.ftp_list.specs.declared.shape.Shape.TheVariants.{Short}
 use Rattle.ftp_list.specs.Rows.{Fits}
-use Rattle.ftp_list.proofs.reach.longest_short.Given as goal
+use Rattle.ftp_list.proofs.reach.longest_tried.Given as goal
 
 abbrev pub invariant-down : goal.invariant-down
 invariant-down l = (l.count ≤ length l.text) × ((m : ℕ) → Fits (Short l.form) l.text m → m ≤ l.count)

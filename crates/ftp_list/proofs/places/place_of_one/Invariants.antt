@@ -1,0 +1,6 @@
+use Rattle.std.proofs.Common.{◌≡◌, ◌+◌, [], ◌∷◌, drop}
+use Rattle.ftp_list.specs.Places.{place}
+use Rattle.ftp_list.proofs.places.place_of_one.Given as goal
+
+abbrev pub invariant-loop-i : goal.invariant-loop-i
+invariant-loop-i l = place (l.only ∷ []) l.text ≡ l.i + place (l.only ∷ []) (drop l.i l.text)
