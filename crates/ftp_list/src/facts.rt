@@ -16,9 +16,9 @@ use crate::numbers::{number_of, small_number_of};
 use crate::pex::PosixPex;
 use crate::places::{begins_with, front, part_before, place_of, rest};
 use crate::posix::seconds_of;
-use crate::text::Text;
 use crate::times::{Moment, moment_of};
 use crate::trims::{is_that_word, text_of, trimmed_front};
+use ftp_base::types::Text;
 use std::alloc::{AllocError, Global};
 
 const SPACE: [char; 1] = [' '];
@@ -187,7 +187,7 @@ fn type_in(alloc: Global, value: &[char]) -> Option<FileType>
     } else if is_that_word(value, &['f', 'i', 'l', 'e']) {
         Some(FileType::File)
     } else if is_that_word(value, &['l', 'i', 'n', 'k']) {
-        Some(FileType::Symlink(Text::new(String::new(alloc))))
+        Some(FileType::Symlink(Text::from_string(String::new(alloc))))
     } else {
         None
     }

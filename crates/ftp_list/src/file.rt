@@ -9,7 +9,7 @@ ghost use Rattle.ftp_list.specs.FileTypes.{is_directory, is_file, is_symlink, ta
 
 use crate::file_type::FileType;
 use crate::pex::{PosixPex, PosixPexQuery};
-use crate::text::Text;
+use ftp_base::types::Text;
 use std::alloc::AllocError;
 use std::marker::Model;
 use std::time::Duration;

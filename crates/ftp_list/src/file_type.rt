@@ -6,7 +6,7 @@ ghost use Rattle.std.specs.Prelude.{◌≡◌};
 ghost use Rattle.std.specs.Option.{option_map};
 ghost use Rattle.ftp_list.specs.FileTypes.{is_directory, is_file, is_symlink, target_of};
 
-use crate::text::Text;
+use ftp_base::types::Text;
 use std::alloc::AllocError;
 
 /// What kind of file a listing line names.

@@ -26,7 +26,6 @@ mod reach;
 mod rows;
 mod shape;
 mod split;
-mod text;
 mod times;
 mod trims;
 
@@ -35,4 +34,4 @@ pub use crate::file::File;
 pub use crate::file_type::FileType;
 pub use crate::parser::ListParser;
 pub use crate::pex::{PosixPex, PosixPexQuery};
-pub use crate::text::Text;
+pub use ftp_base::types::Text;

@@ -18,8 +18,8 @@ use crate::places::{is_same, part_before, part_behind};
 use crate::shape::Form::{Between, ClockOrYear};
 use crate::shape::Shape::{self, OneOrMore, Short};
 use crate::split::{greatest_split, part_at, starts_of};
-use crate::text::Text;
 use crate::trims::{text_of, trimmed};
+use ftp_base::types::Text;
 use jiff::Timestamp;
 use std::alloc::{AllocError, Global};
 

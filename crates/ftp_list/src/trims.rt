@@ -8,7 +8,7 @@ ghost use Rattle.ftp_list.specs.Texts.{trim_front, trim_back, trim, is_word};
 
 use crate::class::Class;
 use crate::places::{front, rest};
-use crate::text::Text;
+use ftp_base::types::Text;
 use std::alloc::{AllocError, Global};
 
 /// The characters of a text.
@@ -56,7 +56,7 @@ pub fn text_of(alloc: Global, characters: &[char]) -> Result<Text, AllocError>
     for c in characters {
         text.push(*c)?;
     }
-    Ok(Text::new(text))
+    Ok(Text::from_string(text))
 }
 
 /// The text without the blanks at its front.

@@ -14,7 +14,7 @@ fn some_file(alloc: Global) -> Result<File, Fail> {
 }
 
 fn some_link(alloc: Global) -> Result<FileType, Fail> {
-    Ok(FileType::Symlink(Text::new(String::from_str(alloc, "to")?)))
+    Ok(FileType::Symlink(Text::from_string(String::from_str(alloc, "to")?)))
 }
 
 /// The kind of a file's type, and what it leads to.
@@ -56,7 +56,7 @@ fn what_a_file_type_is(rt: HostRuntime) -> Result<(), Fail> {
 
 #[test]
 fn a_text_gives_its_string_back(rt: HostRuntime) -> Result<(), Fail> {
-    let text = Text::new(String::from_str(rt.alloc(), "a")?);
+    let text = Text::from_string(String::from_str(rt.alloc(), "a")?);
     assert_eq!(rt; text.as_str(), "a");
     assert_eq!(rt; text.into_string().as_str(), "a");
     assert!(rt; PosixPex::default() == PosixPex::from(7));
