@@ -1,63 +1,31 @@
 -- Lemmas on what a poll leaves of a connection: which bytes came, what is read of them, and the room.
-use Rattle.std.proofs.Common.{◌≡◌, ℕ, ◌+◌, ◌<◌, ◌≤◌, Bool, true, false, cond, ◌||◌, eqb, Option, Some, None, List, [], ◌∷◌, ◌++◌, length, take, drop, Result, Ok, Err, inl, inr, ◌⊎◌, refl, ap, sym, ◌∙◌, subst, append_assoc, append-nil, length-append, arith, eq-eqb}
-use Rattle.std.proofs.lemmas.Bool.{le-leb, lt-leb, eqb-true}
+use Rattle.std.proofs.Common.{◌≡◌, ℕ, ◌+◌, ◌<◌, ◌≤◌, Bool, true, false, cond, ◌||◌, eqb, List, [], ◌∷◌, ◌++◌, length, drop, inl, inr, ◌⊎◌, refl, ap, sym, ◌∙◌, subst, append_assoc, append-nil, length-append, arith, eq-eqb}
+use Rattle.std.proofs.lemmas.Bool.{lt-leb, eqb-true}
 use Rattle.std.proofs.lemmas.List.{append_cancel_left, take_all}
-use Rattle.std.proofs.Math.Seq.{drop-append_seam, take-append_seam, drop-length}
-use Rattle.futures.specs.declared.task.Poll.{Poll}
-use Rattle.futures.specs.declared.task.Poll.TheVariants.{Ready, Pending}
-use Rattle.ftp_base.specs.declared.types.fault.FtpError.{FtpError}
-use Rattle.ftp_base.specs.declared.types.fault.FtpError.TheVariants.{SessionFailed}
-use Rattle.ftp_base.specs.declared.types.fault.ConnectionError.{ConnectionError as Cause}
-use Rattle.ftp_base.specs.declared.types.reply.Response.{Response}
-use Rattle.ftp_base.specs.declared.status.Status.{Status}
-use Rattle.ftp_base.specs.declared.status.Status.TheVariants.{System}
-use Rattle.ftp_base.specs.declared.command.Command.{Command}
-use Rattle.ftp_base.specs.Command.{text_of}
-use Rattle.ftp_base.specs.Wire.{wire}
-use Rattle.ftp_control.specs.declared.control.rule.ReplyRule.{ReplyRule}
+use Rattle.std.proofs.Math.Seq.{drop-append_seam, take-append_seam}
 use Rattle.ftp_control.specs.declared.transport.room.Room.{Room}
 use Rattle.ftp_control.specs.declared.transport.room.Room.TheVariants.{Any, UpTo}
 use Rattle.ftp_control.specs.declared.transport.request.Asked.{Asked}
 use Rattle.ftp_control.specs.Asking.{outcomes_of}
-use Rattle.ftp_control.specs.Told.{Told, HasRoomFor, HasNoRoom, IsDry, IsFull, EndsAsTold}
+use Rattle.ftp_control.specs.Told.{Told, HasRoomFor, HasNoRoom, EndsAsTold}
 use Rattle.ftp_control.specs.Memory.{IsGiven}
 use Rattle.ftp_control.specs.Reading.{GoesOn}
 use Rattle.ftp_control.specs.Channel.{Channel, IsSound, untaken}
 use Rattle.ftp_control.specs.Saying.{said}
 use Rattle.ftp_control.specs.declared.control.outcome.Outcome.TheVariants.{Waits}
 use Rattle.ftp_control.specs.Grammar.{outcome}
-use Rattle.ftp_control.specs.Answer.{is_among}
-use Rattle.ftp_session.specs.declared.session.state.State.{State}
 use Rattle.ftp_calls.specs.declared.call.Answer.{Answer}
-use Rattle.ftp_calls.specs.declared.call.Answer.TheVariants.{Fault}
-use Rattle.ftp_calls.specs.declared.call.Call.{Call}
-use Rattle.ftp_calls.specs.declared.exchange.Turn.TheVariants.{First}
-use Rattle.ftp_session.specs.declared.session.stage.Stage.{Stage}
-use Rattle.ftp_session.specs.declared.session.stage.Stage.TheVariants.{At}
-use Rattle.ftp_session.specs.declared.model.Standing.{Standing}
-use Rattle.ftp_session.specs.declared.model.Wait.{Wait}
-use Rattle.ftp_session.specs.declared.model.Wait.TheVariants as wait
 use Rattle.ftp_session.specs.declared.model.Played.TheVariants as played
-use Rattle.ftp_session.specs.declared.model.Ran.{Ran}
-use Rattle.ftp_session.specs.declared.model.Ran.TheVariants.{Finished, Waiting}
 use Rattle.ftp_session.specs.declared.model.Script.{Script}
 use Rattle.ftp_session.specs.State.{SessionValue}
-use Rattle.ftp_session.specs.Coding.{Coding}
-use Rattle.ftp_calls.specs.Exchanges.{exchange_of, statuses, is_read}
-use Rattle.ftp_session.specs.Dialogue.{Tree, Say, Hear, saying, awaiting, later, dialogue}
-use Rattle.ftp_session.specs.Play.{play, fits, heard_then}
-use Rattle.ftp_session.specs.declared.model.Played.{Played}
-use Rattle.ftp_session.specs.Run.{run, before, and_then, Resumes, Silent}
-use Rattle.ftp_session.specs.Promises.{standing, before_all, However, Goes, Leads, Rests, Aborts}
-use Rattle.ftp_session.specs.Script.{unread, is_over, start_of, front, seen_in, seen_at, system_at, hears_system, polled_as, run_with, poll_script, HearsNothing, MayCancel, MayPoll}
-use Rattle.ftp_session.specs.Scripted.{SaysFrontOf, SaysNothing, Stands, SaysOrTakes, CallHasBegun, Reaches, LeftOf}
-use Rattle.ftp_session.specs.Steps.Stages.{remaining, begun_at}
-use Rattle.ftp_session.specs.Steps.Moving.{BeginsHere, HasBegun, HasGoneOut, NothingTouched, Speaks, StillSays, Keeps, Shrinks, Calm, Advances, Ends, PollSteps, WaitsFor, WaitsToSay}
-use Rattle.ftp_session.specs.Steps.Following.{Since, Started, UnderWay, Unheard, Place, Follows, PollsHere, AbortsCall}
-use Rattle.ftp_session.proofs.Moving.{goes_after, fitted, play-Say}
-use Rattle.ftp_session.proofs.Hearing.{play-Hear, nothing_says}
-use Rattle.ftp_session.proofs.Unheard.{LacksRoomFor, lacks_room, says_no_read}
-use Rattle.ftp_session.proofs.Running.{run-nil, run-cons, before_all-snoc, before_all-Finished, before_all-Waiting, refuses_on}
+use Rattle.ftp_session.specs.Dialogue.{Tree}
+use Rattle.ftp_session.specs.Play.{play, fits}
+use Rattle.ftp_session.specs.Run.{Resumes}
+use Rattle.ftp_session.specs.Promises.{standing, However, Goes, Leads}
+use Rattle.ftp_session.specs.Script.{unread, is_over, front, seen_in}
+use Rattle.ftp_session.specs.Scripted.{SaysFrontOf}
+use Rattle.ftp_session.specs.Steps.Moving.{Keeps, Shrinks, Ends}
+use Rattle.ftp_session.proofs.Hearing.{nothing_says}
 use Rattle.ftp_session.specs.Link.{over_memory}
 
 -- Bytes

@@ -27,7 +27,7 @@ use Rattle.ftp_session.specs.declared.model.Played.TheVariants as played
 use Rattle.ftp_session.specs.State.{SessionValue}
 use Rattle.ftp_session.specs.Dialogue.{Tree, Say, Hear, Ask, Leaf}
 use Rattle.ftp_session.specs.Play.{play, fits, said_then}
-use Rattle.ftp_session.specs.Run.{Resumes, Silent}
+use Rattle.ftp_session.specs.Run.{Silent}
 use Rattle.ftp_session.specs.Promises.{IsFault, However, SaidOrTaken, standing, Rests, Goes, Leads, Fails, Touched, Untouched, LacksMemory, Aborts, failed_from}
 use Rattle.ftp_session.specs.Steps.Moving.{NothingTouched, StillSays, HasGoneOut, Keeps, Shrinks, Calm, Moves, Advances, Ends, WaitsFor, Steps, TakesLine, after_line, step_of}
 use Rattle.ftp_session.specs.Link.{Link}

@@ -1,6 +1,6 @@
 -- Lemmas on calls that wait for room before they hear: a dialogue that waits and hasn't heard says a line that isn't
 -- within the room.
-use Rattle.std.proofs.Common.{◌≡◌, ℕ, ◌+◌, ◌-◌, ◌<◌, ◌≤◌, Bool, true, false, cond, eqb, Option, Some, None, is_none, List, [], ◌∷◌, ◌++◌, length, length-append, drop, leb, ltb, Result, Ok, Err, inl, inr, ◌⊎◌, refl, ap, sym, ◌∙◌, subst, arith}
+use Rattle.std.proofs.Common.{◌≡◌, ℕ, ◌+◌, ◌<◌, ◌≤◌, Bool, true, false, cond, eqb, Option, Some, None, is_none, List, [], ◌∷◌, ◌++◌, length, leb, ltb, Result, Ok, Err, refl, ap, sym, ◌∙◌, subst, arith}
 use Rattle.std.proofs.lemmas.Bool.{eqb-true}
 use Rattle.std.proofs.lemmas.List.{length-drop}
 use Rattle.ftp_base.specs.declared.status.Status.{Status}
@@ -17,7 +17,6 @@ use Rattle.ftp_base.specs.declared.types.fault.ConnectionError.TheVariants as co
 use Rattle.ftp_control.specs.declared.control.rule.ReplyRule.{ReplyRule}
 use Rattle.ftp_control.specs.declared.control.rule.ReplyRule.TheVariants.{Lenient}
 use Rattle.ftp_control.specs.declared.transport.room.Room.{Room}
-use Rattle.ftp_control.specs.declared.transport.request.Request.{Request}
 use Rattle.ftp_control.specs.declared.transport.request.RequestOutcome.{RequestOutcome}
 use Rattle.ftp_control.specs.declared.plain.Found.{Found}
 use Rattle.ftp_control.specs.declared.plain.Found.TheVariants.{Reply, NoReply, Unfinished}
@@ -42,7 +41,7 @@ use Rattle.ftp_session.specs.declared.model.Played.TheVariants.{Done, Pending}
 use Rattle.ftp_session.specs.declared.model.Script.{Script}
 use Rattle.ftp_session.specs.Coding.{Coding}
 use Rattle.ftp_session.specs.Dialogue.{Tree, Say, Hear, Ask, Leaf, saying, awaiting, concluded, later, dialogue}
-use Rattle.ftp_session.specs.Play.{play, fits, said_then, heard_then, taken, asked_then}
+use Rattle.ftp_session.specs.Play.{play, fits, heard_then, taken, asked_then}
 use Rattle.ftp_session.specs.Script.{heard_in, heard_at}
 use Rattle.ftp_session.specs.Steps.Stages.{remaining}
 use Rattle.ftp_session.proofs.Stages.{no_read}

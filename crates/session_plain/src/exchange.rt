@@ -16,11 +16,11 @@ use ftp_base::command::Command;
 use ftp_base::encoding::{Encoding, WelcomeMessage};
 use ftp_base::status::Status;
 use ftp_base::types::{Bytes, ConnectionError, FtpError, FtpResult, Items, Response};
+use ftp_calls::exchange::{Codes, Ending, Turn, exchange_of};
 use ftp_control::control::{Outcome, REPLY_LIMIT, WireLine, expected_reply, is_among};
 use ftp_control::plain::outcome;
 use ftp_control::transport::Room;
 use ftp_session::model::{Played, Standing, Wait};
-use ftp_calls::exchange::{Codes, Ending, Turn, exchange_of};
 use ftp_session::session::{Answer, Call, State};
 use std::alloc::{AllocError, Global};
 

@@ -7,9 +7,9 @@ ghost use Rattle.ftp_session.specs.Play.{play_call};
 use crate::exchange::{Progress, exchange};
 use ftp_base::encoding::Encoding;
 use ftp_base::types::FtpError;
+use ftp_calls::exchange::Turn;
 use ftp_control::transport::Room;
 use ftp_session::model::{Played, Standing};
-use ftp_calls::exchange::Turn;
 use ftp_session::session::{Answer, Call};
 use std::alloc::{AllocError, Global};
 
