@@ -5,12 +5,13 @@
 //!
 //! A copy counts what it writes, and gives up before it would write more than an upload may.
 
-ghost use Rattle.std.specs.Prelude.{◌≡◌, ◌+◌, ◌<◌, ◌≤◌, ℕ, Bool, List, [], ◌++◌, OnOk, OnErr, IfOk, IfErr, IfSome, length, take};
+ghost use Rattle.std.specs.Prelude.{◌≡◌, ◌+◌, ◌<◌, ◌≤◌, ℕ, Bool, List, [], ◌∷◌, ◌++◌, OnOk, OnErr, IfOk, IfErr, IfSome, length, take};
 ghost use Rattle.std.specs.Io.KnownBytes.{Appends, IsAtEnd, ReadConsumes, WriteAppends};
 ghost use Rattle.ftp_base.specs.Ascii.{crlf, ends_in_return, AddsPiece, AppendsFront, IsCopyFault, converted, last_return};
 
 use crate::retry::{read_retrying, write_all_retrying};
 use crate::types::{ConnectionError, FtpError, FtpResult};
+use memchr::memchr;
 use std::alloc::{AllocError, Global};
 use std::io::{Read, Write};
 use std::marker::Model;
@@ -83,15 +84,43 @@ fn push_converted(
     ensures last { IfOk result (λ last. last ≡ last_return after_return input.now) }
     ensures err { OnErr result (take (length out.old.items) out.new.items ≡ out.old.items) }
 {
-    for byte in input {
-        if *byte == b'\n' && !after_return {
-            out.extend_from_slice(b"\r\n")?;
-        } else {
-            out.push(*byte)?;
-        }
-        after_return = *byte == b'\r';
+    let mut rest = input;
+    while let Some(end) = memchr(b'\n', rest) {
+        let (line, behind) = rest.split_at(end);
+        push_line(after_return, line, out)?;
+        after_return = false;
+        rest = &behind[1..];
     }
-    Ok(after_return)
+    out.extend_from_slice(rest)?;
+    Ok(is_return_last(after_return, rest))
+}
+
+/// Adds the wire bytes of a line and of its LF. A line without LF stands on the wire as it is.
+fn push_line(after_return: bool, line: &[u8], out: &mut Vec<u8>) -> Result<(), AllocError>
+    requires plain { converted after_return line.now ≡ line.now }
+    ensures written { OnOk result (out.new.items ≡
+        out.old.items ++ converted after_return (line.now ++ 10 ∷ [])) }
+    ensures err { OnErr result (take (length out.old.items) out.new.items ≡ out.old.items) }
+{
+    out.extend_from_slice(line)?;
+    if is_return_last(after_return, line) {
+        out.push(b'\n')?;
+    } else {
+        out.extend_from_slice(b"\r\n")?;
+    }
+    Ok(())
+}
+
+/// Whether the last byte is CR, or the byte before where there is none.
+fn is_return_last(after_return: bool, bytes: &[u8]) -> bool
+    ensures { result ≡ last_return after_return bytes.now }
+{
+    let count = bytes.len();
+    if count == 0 {
+        after_return
+    } else {
+        bytes[count - 1] == b'\r'
+    }
 }
 
 /// How many bytes an upload has written once it has written these, too.
