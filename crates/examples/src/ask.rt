@@ -2,34 +2,27 @@
 
 use std::net::{Net, TcpStream};
 use std::process::ExitCode;
-use suppaftp::session::Session;
-use suppaftp::transport::{TcpConn, TcpTransport};
+use std::sync::Wait;
 use suppaftp::types::Response;
-use suppaftp::{FtpError, FtpResult, Status};
+use suppaftp::{FtpError, FtpResult, FtpStream, Status};
 
 /// Logs in, changes to a directory, and asks the server what it is.
 pub fn ask<R>(rt: &R, address: &str) -> FtpResult<Response>
 where
-    R: Net<Stream = TcpStream> + AllocGlobal,
+    R: Net<Stream = TcpStream> + Wait + AllocGlobal,
 {
-    let alloc = rt.alloc();
-    let conn = TcpConn::new(TcpStream::connect(rt, address)?);
-    let mut session: Session<TcpTransport> = Session::connect_with_stream(
-        alloc,
-        TcpTransport,
-        conn,
-    )?;
-    session.login(alloc, "anonymous", "guest@example.org")?;
-    session.cwd(alloc, "pub")?;
-    let reply = session.custom_command(alloc, "SYST", &[Status::Name])?;
-    session.quit(alloc)?;
+    let client = FtpStream::connect_with_stream(rt, TcpStream::connect(rt, address)?)?;
+    client.login(rt, "anonymous", "guest@example.org")?;
+    client.cwd(rt, "pub")?;
+    let reply = client.custom_command(rt, "SYST", &[Status::Name])?;
+    client.quit(rt)?;
     Ok(reply)
 }
 
 /// Prints the answer, or why there is none.
 pub fn print_system<R>(rt: &R, address: &str) -> ExitCode
 where
-    R: Net<Stream = TcpStream> + AllocGlobal + Print + Eprint,
+    R: Net<Stream = TcpStream> + Wait + AllocGlobal + Print + Eprint,
 {
     match ask(rt, address) {
         Ok(reply) => {

@@ -1,16 +1,19 @@
 //! An FTP client whose behaviour is proved.
 //!
-//! This crate has no client of its own: it gathers those below it under one name, module by module, so that a program
-//! needs one dependency. `session::Session` is where to begin, `list` reads the lines of listings, and `FtpError` is
-//! what calls answer.
+//! [`FtpStream`] is the blocking client, a session under a lock, and is where to begin; `session::Session` is the
+//! session itself, for a program of one thread. The other crates' modules are gathered here, each under its own name,
+//! so that a program needs one dependency: `list` reads the lines of listings, and `FtpError` is what calls fail with.
 #![tactic(auto)]
 
 pub mod program;
+pub mod sync_ftp;
 
 pub use ftp_base::encoding::{Encoding, Utf8Encoding};
 pub use ftp_base::status::Status;
 pub use ftp_base::types::{ActivePeerCheck, FtpError, FtpResult, Mode, ReplyTooLarge};
 pub use ftp_base::{ascii, command, encoding, laws, retry, status, types};
-pub use ftp_control::{control, transport};
+pub use ftp_calls::{call, exchange};
+pub use ftp_control::{control, plain, transport};
 pub use ftp_list as list;
-pub use ftp_session::session;
+pub use ftp_session::{model, session};
+pub use sync_ftp::{ControlSocket, FtpStream, ImplFtpStream};

@@ -7,6 +7,7 @@ mod loopback;
 pub use loopback::{DemoError, demo};
 use std::net::{Net, TcpListener, TcpStream};
 use std::process::ExitCode;
+use std::sync::Wait;
 
 /// How the program is called.
 pub const USAGE: &str = "usage: suppaftp play|demo";
@@ -15,7 +16,7 @@ pub const USAGE: &str = "usage: suppaftp play|demo";
 /// understood.
 pub fn run<R>(rt: &R, words: &[String]) -> ExitCode
 where
-    R: Net<Listener = TcpListener, Stream = TcpStream> + AllocGlobal + Print + Eprint,
+    R: Net<Listener = TcpListener, Stream = TcpStream> + Wait + AllocGlobal + Print + Eprint,
 {
     let is_demo = words.len() == 1 && words[0].as_str() == "demo";
     if !is_demo {

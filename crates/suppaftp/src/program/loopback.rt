@@ -1,14 +1,14 @@
-//! A session with itself, over a loopback socket.
+//! A client that talks with itself, over a loopback socket.
 //!
 //! Client and server are one thread: the server's lines are written before the client reads them, which a socket's
 //! buffer is large enough for.
 
-use ftp_base::types::{FtpError, FtpResult};
-use ftp_control::transport::{TcpConn, TcpTransport};
-use ftp_session::session::Session;
+use crate::sync_ftp::FtpStream;
+use ftp_base::types::FtpError;
 use std::io;
 use std::io::{BufRead, BufReader, Write};
 use std::net::{Net, TcpListener, TcpStream};
+use std::sync::Wait;
 use thiserror::Error;
 
 /// Why the demo failed.
@@ -28,29 +28,24 @@ pub enum DemoError {
 /// A fault of a socket or of the output, or of the session.
 pub fn demo<R>(rt: &R) -> Result<(), DemoError>
 where
-    R: Net<Listener = TcpListener, Stream = TcpStream> + AllocGlobal + Print,
+    R: Net<Listener = TcpListener, Stream = TcpStream> + Wait + AllocGlobal + Print,
 {
     let listener = TcpListener::bind(rt, "127.0.0.1:0")?;
-    let client = TcpStream::connect(rt, listener.local_addr()?)?;
+    let stream = TcpStream::connect(rt, listener.local_addr()?)?;
     let (mut server, _peer) = listener.accept()?;
     server.write_all(b"220 ready\r\n200 noop\r\n221 bye\r\n")?;
-    talk(rt, client)?;
+    talk(rt, stream)?;
     show_sent(rt, server)
 }
 
 /// The client's side.
-fn talk<R: AllocGlobal + Print>(rt: &R, client: TcpStream) -> Result<(), DemoError> {
-    let alloc = rt.alloc();
-    let mut session: Session<TcpTransport> = Session::connect_with_stream(
-        alloc,
-        TcpTransport,
-        TcpConn::new(client),
-    )?;
-    let welcome = session.get_welcome_msg().unwrap_or("");
-    println!(rt; "welcome {welcome}")?;
-    session.noop(alloc)?;
+fn talk<R: Wait + AllocGlobal + Print>(rt: &R, stream: TcpStream) -> Result<(), DemoError> {
+    let client = FtpStream::connect_with_stream(rt, stream)?;
+    let welcome = client.get_welcome_msg(rt)?;
+    println!(rt; "welcome {}", welcome.as_deref().unwrap_or(""))?;
+    client.noop(rt)?;
     println!(rt; "noop ok")?;
-    session.quit(alloc)?;
+    client.quit(rt)?;
     println!(rt; "quit ok")?;
     Ok(())
 }

@@ -1,0 +1,38 @@
+//! The control connection of a client, lent out while its lock is held.
+
+use super::ImplFtpStream;
+use ftp_base::encoding::{Encoding, Utf8Encoding};
+use ftp_control::transport::Network;
+use ftp_session::session::{NoStreamBuilder, NoTlsConnector, Session};
+use std::sync::{MutexGuard, Wait};
+
+/// A hold of a client's lock, which lends the control connection. Dropping it lets the lock go.
+///
+/// While it is kept, every call of the client waits, also one that the same thread makes: that thread would wait
+/// forever.
+#[derive(Drop)]
+pub struct ControlSocket<
+    'a,
+    Tr: Network,
+    K: Drop = NoTlsConnector,
+    E: Encoding = Utf8Encoding,
+    B: Drop = NoStreamBuilder,
+> {
+    session: MutexGuard<'a, Session<Tr, K, E, B>>,
+}
+
+impl<Tr: Network, K: Drop, E: Encoding, B: Drop> ControlSocket<'_, Tr, K, E, B> {
+    /// The control connection, as [`Session::get_ref`] lends it.
+    pub fn socket(&self) -> &Tr::Conn {
+        self.session.get_ref()
+    }
+}
+
+impl<Tr: Network, K: Drop, E: Encoding, B: Drop> ImplFtpStream<Tr, K, E, B> {
+    /// Takes the lock, and keeps it for as long as the result lives, which lends the control connection.
+    pub fn get_ref<R: Wait>(&self, rt: &R) -> ControlSocket<'_, Tr, K, E, B> {
+        ControlSocket {
+            session: self.session.lock(rt),
+        }
+    }
+}
