@@ -1,5 +1,6 @@
 //! The ways in which a row is played.
 
+mod client;
 mod definition;
 mod methods;
 mod session;
@@ -9,6 +10,7 @@ use crate::transcript::{Mark, Standing};
 use ftp_session::session::Event;
 use row_text::RowError;
 use std::alloc::{AllocError, Global};
+use std::sync::Wait;
 
 /// A way in which a row is played.
 #[derive(Clone, Copy, Debug, PartialEq, Eq)]
@@ -21,6 +23,8 @@ pub enum Face {
     Run,
     /// One call of the session after another.
     Methods,
+    /// One call of the blocking client after another.
+    Client,
     /// A polled run.
     Polled,
 }
@@ -73,16 +77,17 @@ impl Agreement {
 
 impl Face {
     /// The faces of a row without events.
-    pub const OF_CALLS: [Face; 5] = [
+    pub const OF_CALLS: [Face; 6] = [
         Face::Definition,
         Face::Script,
         Face::Run,
         Face::Methods,
+        Face::Client,
         Face::Polled,
     ];
 
     /// Those of them that are sessions.
-    pub const SESSIONS_OF_CALLS: [Face; 3] = [Face::Run, Face::Methods, Face::Polled];
+    pub const SESSIONS_OF_CALLS: [Face; 4] = [Face::Run, Face::Methods, Face::Client, Face::Polled];
 
     /// The faces of a row with events.
     pub const OF_EVENTS: [Face; 2] = [Face::Script, Face::Polled];
@@ -97,20 +102,35 @@ impl Face {
             Face::Script => "the definition of polled runs",
             Face::Run => "a run",
             Face::Methods => "one call after another",
+            Face::Client => "the blocking client",
             Face::Polled => "a polled run",
         }
     }
 
+    /// Whether a row can be played on it: the blocking client has no method that reads a reply alone.
+    pub fn plays(self, play: &Play) -> bool {
+        match self {
+            Face::Client => client::has_methods(&play.calls),
+            Face::Definition | Face::Script | Face::Run | Face::Methods | Face::Polled => true,
+        }
+    }
+
     /// What a row comes to.
-    pub fn play(self, alloc: Global, play: &Play, welcome: bool) -> Result<Came, RowError> {
+    pub fn play<R: Wait + AllocGlobal>(
+        self,
+        rt: &R,
+        play: &Play,
+        welcome: bool,
+    ) -> Result<Came, RowError> {
+        let alloc = rt.alloc();
         let places = self.places(alloc, play)?;
         let mut marks = Vec::new(alloc);
         for count in &places {
             if *count < self.length(play) {
-                marks.push(self.mark(alloc, play, *count)?)?;
+                marks.push(self.mark(rt, play, *count)?)?;
             }
         }
-        let end = self.standing(alloc, play, self.length(play))?;
+        let end = self.standing(rt, play, self.length(play))?;
         if marks.len() < places.len() {
             marks.push(end.mark())?;
         }
@@ -126,7 +146,7 @@ impl Face {
     /// How many calls or events the row has.
     fn length(self, play: &Play) -> usize {
         match self {
-            Face::Definition | Face::Run | Face::Methods => play.calls.len(),
+            Face::Definition | Face::Run | Face::Methods | Face::Client => play.calls.len(),
             Face::Script | Face::Polled => play.events.len(),
         }
     }
@@ -134,18 +154,32 @@ impl Face {
     /// After how many calls or events the transcript has its lines: after each call, or each poll.
     fn places(self, alloc: Global, play: &Play) -> Result<Vec<usize>, AllocError> {
         match self {
-            Face::Definition | Face::Run | Face::Methods => ends(alloc, play.calls.len()),
+            Face::Definition | Face::Run | Face::Methods | Face::Client => ends(
+                alloc,
+                play.calls.len(),
+            ),
             Face::Script | Face::Polled => polls(alloc, &play.events),
         }
     }
 
     /// How far the row has come after so many calls or events.
-    fn mark(self, alloc: Global, play: &Play, count: usize) -> Result<Mark, RowError> {
-        Ok(self.standing(alloc, play, count)?.mark())
+    fn mark<R: Wait + AllocGlobal>(
+        self,
+        rt: &R,
+        play: &Play,
+        count: usize,
+    ) -> Result<Mark, RowError> {
+        Ok(self.standing(rt, play, count)?.mark())
     }
 
     /// Where the row stands after so many calls or events.
-    fn standing(self, alloc: Global, play: &Play, count: usize) -> Result<Standing, RowError> {
+    fn standing<R: Wait + AllocGlobal>(
+        self,
+        rt: &R,
+        play: &Play,
+        count: usize,
+    ) -> Result<Standing, RowError> {
+        let alloc = rt.alloc();
         let calls = front(&play.calls, count);
         let events = front(&play.events, count);
         match self {
@@ -153,6 +187,7 @@ impl Face {
             Face::Script => definition::scripted(alloc, events, play),
             Face::Run => session::ran(alloc, calls, play),
             Face::Methods => methods::called(alloc, calls, play),
+            Face::Client => client::called(rt, calls, play),
             Face::Polled => session::polled(alloc, events, play),
         }
     }

@@ -1,5 +1,5 @@
 //! Plays the worked rows of the client, which come by standard input, each on every face: what the definition says,
-//! whole runs, one call at a time, and polled. It prints each row that differs, and a line for each set.
+//! whole runs, one call at a time by a session and by a client, and polled. It prints each row that differs, and a line for each set.
 //!
 //! A row is a heading `== SET: TITLE`, what happens line by line, a line `--`, and the transcript that is due; an
 //! empty line ends it. docs/ROWS.md has the words. A line that isn't understood ends the program with status 1, so that

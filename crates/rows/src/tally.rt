@@ -6,8 +6,8 @@ use crate::play::Play;
 use crate::row::Row;
 use anyhow::Result;
 use row_text::RowError;
-use std::alloc::Global;
 use std::fmt;
+use std::sync::Wait;
 
 /// The sizes of the pieces in which the server's bytes come: as they are written, and one by one.
 const PIECES: [usize; 2] = [usize::MAX, 1];
@@ -44,7 +44,7 @@ impl<'a> Tally<'a> {
     }
 
     /// Plays a row on all its faces, and prints what differs.
-    pub fn play<R: Print + AllocGlobal>(&mut self, rt: &R, row: &Row<'_>) -> Result<()> {
+    pub fn play<R: Wait + Print + AllocGlobal>(&mut self, rt: &R, row: &Row<'_>) -> Result<()> {
         self.rows = self.rows.saturating_add(1);
         if let Some(longest) = row.lists() {
             return self.play_lists(rt, row, longest);
@@ -56,7 +56,7 @@ impl<'a> Tally<'a> {
     }
 
     /// Plays a row whose bytes come in pieces of so many.
-    fn play_in_pieces<R: Print + AllocGlobal>(
+    fn play_in_pieces<R: Wait + Print + AllocGlobal>(
         &mut self,
         rt: &R,
         row: &Row<'_>,
@@ -66,7 +66,10 @@ impl<'a> Tally<'a> {
         let play = Play::of(alloc, &row.steps, row.has_events(), piece)?;
         let mut agreement = Agreement::new();
         for face in faces_of(row) {
-            let came = face.play(alloc, &play, row.wants_welcome())?;
+            if !face.plays(&play) {
+                continue;
+            }
+            let came = face.play(rt, &play, row.wants_welcome())?;
             let agrees = agreement.agrees(&came);
             self.count(agrees && came.transcript.as_str() == row.due()?);
             if !agrees || came.transcript.as_str() != row.due()? {
@@ -77,7 +80,7 @@ impl<'a> Tally<'a> {
     }
 
     /// Plays each list of the row's steps, of at most so many, on both faces.
-    fn play_lists<R: Print + AllocGlobal>(
+    fn play_lists<R: Wait + Print + AllocGlobal>(
         &mut self,
         rt: &R,
         row: &Row<'_>,
@@ -89,8 +92,8 @@ impl<'a> Tally<'a> {
         }
         let mut lists = Lists::new(alloc, row, longest)?;
         for _ in 0..u64::MAX {
-            let due = play_list(alloc, &lists, Face::Script)?;
-            let came = play_list(alloc, &lists, Face::Polled)?;
+            let due = play_list(rt, &lists, Face::Script)?;
+            let came = play_list(rt, &lists, Face::Polled)?;
             self.count(due.is_same(&came));
             if !due.is_same(&came) {
                 show_list(rt, row, &lists, &due, &came)?;
@@ -122,10 +125,14 @@ fn faces_of(row: &Row<'_>) -> &'static [Face] {
 }
 
 /// What a list comes to on a face, its bytes one by one.
-fn play_list(alloc: Global, lists: &Lists<'_>, face: Face) -> Result<Came, RowError> {
-    let steps = lists.steps(alloc)?;
-    let play = Play::of(alloc, &steps, true, 1)?;
-    face.play(alloc, &play, false)
+fn play_list<R: Wait + AllocGlobal>(
+    rt: &R,
+    lists: &Lists<'_>,
+    face: Face,
+) -> Result<Came, RowError> {
+    let steps = lists.steps(rt.alloc())?;
+    let play = Play::of(rt.alloc(), &steps, true, 1)?;
+    face.play(rt, &play, false)
 }
 
 /// Prints a play that differs.

@@ -1,6 +1,6 @@
 //! The calls of a session, one after another.
 
-use super::session::{Client, begun, conn_of, encoded, stands};
+use super::session::{NamedSession, conn_of, encoded, stands, unread};
 use crate::answers::{reply, unit};
 use crate::play::Play;
 use crate::transcript::Standing;
@@ -10,24 +10,58 @@ use ftp_session::session::{Answer, Call, Session};
 use row_text::RowError;
 use std::alloc::{AllocError, Global};
 
-/// Where these calls lead to, each made by its method. A greeting that comes first is read by `connect_with_stream`.
-pub fn called(alloc: Global, calls: &[Call], play: &Play) -> Result<Standing, RowError> {
+/// A session that has read a greeting, where that is the first of a row's calls.
+#[derive(Drop)]
+pub struct Opening<'a> {
+    /// The session.
+    pub session: NamedSession,
+    /// The answer to the greeting, if it was read.
+    pub answers: Vec<Answer>,
+    /// The calls that are still to be made.
+    pub others: &'a [Call],
+}
+
+/// The session of these calls. A greeting that comes first is read by `connect_with_stream`.
+pub fn greeted<'a>(alloc: Global, calls: &'a [Call], play: &Play) -> Result<Opening<'a>, RowError> {
     let conn = conn_of(alloc, play)?;
     let Some((Call::Greet, others)) = calls.split_first() else {
-        return made(alloc, begun(alloc, conn, play)?, Vec::new(alloc), calls);
+        return Ok(Opening {
+            session: unread(alloc, conn)?,
+            answers: Vec::new(alloc),
+            others: calls,
+        });
     };
     match Session::connect_with_stream(alloc, MemoryTransport, conn) {
-        Ok(session) => {
-            let session = encoded(alloc, session, play)?;
-            made(alloc, session, first(alloc, Answer::Unit)?, others)
-        }
+        Ok(session) => Ok(Opening {
+            session,
+            answers: first(alloc, Answer::Unit)?,
+            others,
+        }),
         // The session is gone with its connection: another that reads the same bytes stands for it.
         Err(fault) => {
-            let mut session = begun(alloc, conn_of(alloc, play)?, play)?;
+            let mut session = unread(alloc, conn_of(alloc, play)?)?;
             let _again = session.read_response(alloc, Status::Ready);
-            made(alloc, session, first(alloc, Answer::Fault(fault))?, others)
+            Ok(Opening {
+                session,
+                answers: first(alloc, Answer::Fault(fault))?,
+                others,
+            })
         }
     }
+}
+
+/// Where these calls lead to, each made by its method.
+pub fn called(alloc: Global, calls: &[Call], play: &Play) -> Result<Standing, RowError> {
+    let Opening {
+        session,
+        mut answers,
+        others,
+    } = greeted(alloc, calls, play)?;
+    let mut session = encoded(alloc, session, play)?;
+    for call in others {
+        answers.push(make(alloc, &mut session, call)?)?;
+    }
+    stands(alloc, &session, &answers)
 }
 
 /// A first answer.
@@ -37,21 +71,8 @@ fn first(alloc: Global, answer: Answer) -> Result<Vec<Answer>, AllocError> {
     Ok(answers)
 }
 
-/// Where further calls lead to.
-fn made(
-    alloc: Global,
-    mut session: Client,
-    mut answers: Vec<Answer>,
-    calls: &[Call],
-) -> Result<Standing, RowError> {
-    for call in calls {
-        answers.push(make(alloc, &mut session, call)?)?;
-    }
-    stands(alloc, &session, &answers)
-}
-
 /// Makes a call by its method.
-fn make(alloc: Global, session: &mut Client, call: &Call) -> Result<Answer, AllocError> {
+fn make(alloc: Global, session: &mut NamedSession, call: &Call) -> Result<Answer, AllocError> {
     Ok(match call {
         Call::Greet => reply(session.read_response(alloc, Status::Ready)),
         Call::Login(user, password) => {

@@ -11,7 +11,7 @@ use row_text::RowError;
 use std::alloc::{AllocError, Global};
 
 /// A session over memory whose encoding a row may choose.
-pub type Client = Session<MemoryTransport, NoTlsConnector, Named>;
+pub type NamedSession = Session<MemoryTransport, NoTlsConnector, Named>;
 
 /// A connection that the server's bytes came on, in their pieces.
 pub fn conn_of(alloc: Global, play: &Play) -> Result<MemoryConn, AllocError> {
@@ -23,15 +23,24 @@ pub fn conn_of(alloc: Global, play: &Play) -> Result<MemoryConn, AllocError> {
 }
 
 /// A session on which nothing was read.
-pub fn begun(alloc: Global, conn: MemoryConn, play: &Play) -> Result<Client, RowError> {
+pub fn unread(alloc: Global, conn: MemoryConn) -> Result<NamedSession, RowError> {
     match Session::new(alloc, MemoryTransport, conn) {
-        Ok(session) => encoded(alloc, session, play),
+        Ok(session) => Ok(session),
         Err(_) => Err(RowError::OutOfMemory),
     }
 }
 
+/// Such a session with the row's encoding.
+fn begun(alloc: Global, conn: MemoryConn, play: &Play) -> Result<NamedSession, RowError> {
+    encoded(alloc, unread(alloc, conn)?, play)
+}
+
 /// A session with the row's encoding.
-pub fn encoded(alloc: Global, mut session: Client, play: &Play) -> Result<Client, RowError> {
+pub fn encoded(
+    alloc: Global,
+    mut session: NamedSession,
+    play: &Play,
+) -> Result<NamedSession, RowError> {
     let Some(encoding) = play.encoding else {
         return Ok(session);
     };
@@ -72,7 +81,7 @@ pub fn polled(alloc: Global, events: &[Event], play: &Play) -> Result<Standing, 
 /// Lets these events happen in one run.
 fn happen(
     alloc: Global,
-    session: &mut Client,
+    session: &mut NamedSession,
     events: &[Event],
     answers: &mut Vec<Answer>,
 ) -> Result<(), RowError> {
@@ -86,7 +95,11 @@ fn happen(
 }
 
 /// Where a session stands that gave these answers.
-pub fn stands(alloc: Global, session: &Client, answers: &[Answer]) -> Result<Standing, RowError> {
+pub fn stands(
+    alloc: Global,
+    session: &NamedSession,
+    answers: &[Answer],
+) -> Result<Standing, RowError> {
     let conn = session.get_ref();
     let answers = texts_of(alloc, answers)?;
     let welcome = welcome(alloc, session.state())?;

@@ -1,0 +1,121 @@
+//! The calls of the blocking client, one after another.
+
+use super::methods::{Opening, greeted};
+use crate::answers::{reply, texts_of, unit};
+use crate::encodings::Named;
+use crate::play::Play;
+use crate::transcript::Standing;
+use ftp_base::types::{FtpError, FtpResult};
+use ftp_control::transport::MemoryTransport;
+use ftp_session::session::{Answer, Call, NoTlsConnector};
+use row_text::RowError;
+use std::alloc::AllocError;
+use std::sync::Wait;
+use suppaftp::ImplFtpStream;
+
+/// A blocking client over memory whose encoding a row may choose.
+type Client = ImplFtpStream<MemoryTransport, NoTlsConnector, Named>;
+
+/// Whether the client has a method for each of these calls. It reads a reply alone only where it is the greeting,
+/// which a session has read before the client is made.
+pub fn has_methods(calls: &[Call]) -> bool {
+    let others = match calls.split_first() {
+        Some((Call::Greet, others)) => others,
+        _ => calls,
+    };
+    !others.iter().any(|call| is_read(call))
+}
+
+/// Whether a call reads a reply and says nothing.
+fn is_read(call: &Call) -> bool {
+    matches!(
+        call,
+        Call::Greet | Call::ReadResponse(_) | Call::ReadResponseIn(_)
+    )
+}
+
+/// Where these calls lead to, each made by the client's method.
+pub fn called<R: Wait + AllocGlobal>(
+    rt: &R,
+    calls: &[Call],
+    play: &Play,
+) -> Result<Standing, RowError> {
+    let Opening {
+        session,
+        mut answers,
+        others,
+    } = greeted(rt.alloc(), calls, play)?;
+    let client = had(ImplFtpStream::new(rt.alloc(), session))?;
+    if let Some(encoding) = play.encoding {
+        had(client.set_encoding(rt, encoding))?;
+    }
+    for call in others {
+        answers.push(make(rt, &client, call)?)?;
+    }
+    stands(rt, &client, &answers)
+}
+
+/// What fails only where memory ran out.
+fn had<T: Drop>(outcome: FtpResult<T>) -> Result<T, RowError> {
+    match outcome {
+        Ok(value) => Ok(value),
+        Err(_) => Err(RowError::OutOfMemory),
+    }
+}
+
+/// Makes a call by its method.
+fn make<R: Wait + AllocGlobal>(rt: &R, client: &Client, call: &Call) -> Result<Answer, RowError> {
+    Ok(match call {
+        Call::Login(user, password) => unit(client.login(rt, user.as_str(), password.as_str())),
+        Call::Cwd(path) => unit(client.cwd(rt, path.as_str())),
+        Call::Cdup => unit(client.cdup(rt)),
+        Call::Noop => unit(client.noop(rt)),
+        Call::Eprt(address) => unit(client.eprt(rt, *address)),
+        Call::Opts(option, value) => unit(client.opts(
+            rt,
+            option.as_str(),
+            value.as_ref().map(|value| value.as_str()),
+        )),
+        Call::Site(command) => reply(client.site(rt, command.as_str())),
+        Call::TransferType(kind) => unit(client.transfer_type(rt, kind.clone()?)),
+        Call::Mkdir(path) => unit(client.mkdir(rt, path.as_str())),
+        Call::Rmdir(path) => unit(client.rmdir(rt, path.as_str())),
+        Call::Rm(path) => unit(client.rm(rt, path.as_str())),
+        Call::Rename(from, to) => unit(client.rename(rt, from.as_str(), to.as_str())),
+        Call::Quit => unit(client.quit(rt)),
+        Call::CustomCommand(line, codes) => {
+            reply(client.custom_command(rt, line.as_str(), codes.as_slice()))
+        }
+        Call::Greet | Call::ReadResponse(_) | Call::ReadResponseIn(_) => {
+            return Err(RowError::NotUnderstood);
+        }
+    })
+}
+
+/// Where a client stands that gave these answers.
+fn stands<R: Wait + AllocGlobal>(
+    rt: &R,
+    client: &Client,
+    answers: &[Answer],
+) -> Result<Standing, RowError> {
+    let answers = texts_of(rt.alloc(), answers)?;
+    let welcome = had(client.get_welcome_msg(rt))?;
+    let (sent, taken) = traffic(rt, client)?;
+    // A client doesn't tell whether its session has failed, but its next call does.
+    let failed = matches!(client.noop(rt), Err(FtpError::SessionFailed));
+    Ok(Standing {
+        sent,
+        answers,
+        taken,
+        seen: None,
+        failed,
+        welcome,
+    })
+}
+
+/// What was sent, and how many bytes were taken: a call that blocks receives none beyond its reply.
+fn traffic<R: Wait + AllocGlobal>(rt: &R, client: &Client) -> Result<(Vec<u8>, usize), AllocError> {
+    let control = client.get_ref(rt);
+    let conn = control.socket();
+    Ok((Vec::from_slice(rt.alloc(), conn.sent())?, conn.received()))
+}
