@@ -4,6 +4,8 @@
 #[cfg(test)]
 mod channel;
 #[cfg(test)]
+mod clients;
+#[cfg(test)]
 mod grammar;
 #[cfg(test)]
 mod reads;
