@@ -10,7 +10,6 @@ use std::sync::{MutexGuard, Wait};
 ///
 /// While it is kept, every call of the client waits, also one that the same thread makes: that thread would wait
 /// forever.
-#[derive(Drop)]
 pub struct ControlSocket<
     'a,
     Tr: Network,
@@ -19,6 +18,15 @@ pub struct ControlSocket<
     B: Drop = NoStreamBuilder,
 > {
     session: MutexGuard<'a, Session<Tr, K, E, B>>,
+}
+
+// By hand, since the borrow checker doesn't cover the drop that is derived for a guard of a value with a field of an
+// associated type, as the session's connection is.
+impl<Tr: Network, K: Drop, E: Encoding, B: Drop> Drop for ControlSocket<'_, Tr, K, E, B> {
+    fn drop(self) {
+        let Self { session } = self;
+        drop(session);
+    }
 }
 
 impl<Tr: Network, K: Drop, E: Encoding, B: Drop> ControlSocket<'_, Tr, K, E, B> {
