@@ -17,7 +17,11 @@ pub fn greeting_and_noop(alloc: Global) -> FtpResult<Vec<Answer>>
 {
     let mut conn = MemoryConn::new(alloc);
     conn.feed(b"220 r\r\n200 ok\r\n")?;
-    let mut session: Session<MemoryTransport> = Session::new(alloc, MemoryTransport, conn)?;
+    let mut session: Session<MemoryTransport> = Session::new(
+        alloc,
+        MemoryTransport::new(alloc),
+        conn,
+    )?;
     let answers = session.run(alloc, &[Call::Greet, Call::Noop])?;
     session.get_ref().unread();
     Ok(answers)

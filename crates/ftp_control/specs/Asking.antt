@@ -1,8 +1,21 @@
--- What a transport was asked, and with what outcomes.
-use Rattle.std.specs.Prelude.{List, [], ◌∷◌}
+-- What a transport is asked, what that comes to, and where the outcomes come from.
+use Rattle.std.specs.Prelude.{◌≡◌, ◌⊎◌, List, [], ◌∷◌, ◌++◌, Option, Result, Ok, Err}
+use Rattle.std.specs.declared.alloc.AllocError.{AllocError}
+use Rattle.std.specs.declared.io.ErrorKind.{ErrorKind}
+use Rattle.std.specs.declared.net.socket_addr.SocketAddr.{SocketAddr}
+use Rattle.std.specs.declared.time.Duration.{Duration}
+use Rattle.futures.specs.declared.task.Poll.{Poll}
+use Rattle.futures.specs.declared.task.Poll.TheVariants.{Ready, Pending}
+use Rattle.ftp_base.specs.declared.types.fault.ConnectionError.{ConnectionError}
+use Rattle.ftp_base.specs.declared.types.fault.ConnectionError.TheVariants.{Io}
+use Rattle.ftp_control.specs.Told.{Told}
 use Rattle.ftp_control.specs.declared.transport.request.Request.{Request}
+use Rattle.ftp_control.specs.declared.transport.request.Request.TheVariants.{Connect}
 use Rattle.ftp_control.specs.declared.transport.request.RequestOutcome.{RequestOutcome}
+use Rattle.ftp_control.specs.declared.transport.request.RequestOutcome.TheVariants.{Done, Refused}
 use Rattle.ftp_control.specs.declared.transport.request.Asked.{Asked}
+use Rattle.ftp_control.specs.declared.transport.supply.Supply.{Supply}
+use Rattle.ftp_control.specs.declared.transport.supply.Supply.TheVariants.{Connects, Refuses}
 
 abbrev pub requests_of : List Asked → List Request
 requests_of [] = []
@@ -11,3 +24,69 @@ requests_of (one ∷ more) = one.request ∷ requests_of more
 abbrev pub outcomes_of : List Asked → List RequestOutcome
 outcomes_of [] = []
 outcomes_of (one ∷ more) = one.outcome ∷ outcomes_of more
+
+-- the outcome of a request for a connection
+abbrev pub outcome_of : {C : Type 0} → Result C ConnectionError → RequestOutcome
+outcome_of (Ok conn) = Done
+outcome_of (Err fault) = Refused fault
+
+-- one request more is on record, with its outcome
+abbrev pub recorded : Request → RequestOutcome → List Asked → List Asked
+recorded request outcome asked = asked ++ (record { request = request; outcome = outcome }) ∷ []
+
+-- what a request for a connection leaves on record; where memory ran out nothing was asked, and one that waits isn't
+-- on record yet
+abbrev pub Asks : {C : Type 0} → Request → Poll (Result (Result C ConnectionError) AllocError) → List Asked → List Asked → Type 0
+Asks request (Ready (Ok made)) before after = after ≡ recorded request (outcome_of made) before
+Asks request (Ready (Err full)) before after = after ≡ before
+Asks request Pending before after = after ≡ before
+
+-- a fault is the next outcome that was handed in, or one that may come where none is due
+abbrev pub IsDue : (List Supply → ConnectionError → Type 0) → ConnectionError → List Supply → List Supply → Type 0
+IsDue refuses fault before after =
+    ((kind : ErrorKind) × (fault ≡ Io kind) × (before ≡ Refuses kind ∷ after)) ⊎ ((after ≡ before) × refuses before fault)
+
+-- what was handed in is what comes: a connection is the next one, as its record says
+abbrev pub Supplies : {C : Type 0} → (C → Told) → (List Supply → ConnectionError → Type 0) → Poll (Result (Result C ConnectionError) AllocError) → List Supply → List Supply → Type 0
+Supplies told refuses (Ready (Ok (Ok conn))) before after = before ≡ Connects (told conn) ∷ after
+Supplies told refuses (Ready (Ok (Err fault))) before after = IsDue refuses fault before after
+Supplies told refuses (Ready (Err full)) before after = after ≡ before
+Supplies told refuses Pending before after = after ≡ before
+
+-- a connection to each of these addresses, within this time
+abbrev pub connects_to : Option Duration → List SocketAddr → List Request
+connects_to limit [] = []
+connects_to limit (address ∷ addresses) = Connect address limit ∷ connects_to limit addresses
+
+-- each of these was refused in turn: the last fault, or the one from before where there are none
+abbrev pub AreRefused : (List Supply → ConnectionError → Type 0) → List Asked → ConnectionError → ConnectionError → List Supply → List Supply → Type 0
+AreRefused refuses [] fault last before after = (last ≡ fault) × (after ≡ before)
+AreRefused refuses (one ∷ more) fault last before after =
+    (cause : ConnectionError) × (between : List Supply) × (one.outcome ≡ Refused cause) × IsDue refuses cause before between × AreRefused refuses more cause last between after
+
+-- the first of these requests were made in order, and each was refused; these are left
+pub record RefusedInTurn (refuses : List Supply → ConnectionError → Type 0) (requests left : List Request) (fault last : ConnectionError) (ready ready' : List Supply) (asked asked' : List Asked) : Type 0 where
+  pub answered : List Asked
+  pub in_order : requests ≡ requests_of answered ++ left
+  pub refused : AreRefused refuses answered fault last ready ready'
+  pub recorded_are : asked' ≡ asked ++ answered
+
+-- the first of these requests were made in order: each was refused but for the last, which came to the connection of
+-- this record, the next one that was handed in
+pub record ConnectsInTurn (refuses : List Supply → ConnectionError → Type 0) (requests : List Request) (fault : ConnectionError) (told : Told) (ready ready' : List Supply) (asked asked' : List Asked) : Type 0 where
+  pub request : Request
+  pub left : List Request
+  pub last : ConnectionError
+  pub due : List Supply
+  pub before : List Asked
+  pub refused : RefusedInTurn refuses requests (request ∷ left) fault last ready due asked before
+  pub connected : due ≡ Connects told ∷ ready'
+  pub recorded_is : asked' ≡ recorded request Done before
+
+-- what the requests in turn come to: a connection; the last fault, where each was refused; or memory ran out, or one
+-- waits, and those before it were refused
+abbrev pub TriesInTurn : {C : Type 0} → (C → Told) → (List Supply → ConnectionError → Type 0) → List Request → List Request → ConnectionError → ConnectionError → Poll (Result (Result C ConnectionError) AllocError) → List Supply → List Supply → List Asked → List Asked → Type 0
+TriesInTurn told refuses requests left fault last (Ready (Ok (Ok conn))) ready ready' asked asked' = ConnectsInTurn refuses requests fault (told conn) ready ready' asked asked'
+TriesInTurn told refuses requests left fault last (Ready (Ok (Err cause))) ready ready' asked asked' = RefusedInTurn refuses requests [] fault cause ready ready' asked asked'
+TriesInTurn told refuses requests left fault last (Ready (Err full)) ready ready' asked asked' = RefusedInTurn refuses requests left fault last ready ready' asked asked'
+TriesInTurn told refuses requests left fault last Pending ready ready' asked asked' = RefusedInTurn refuses requests left fault last ready ready' asked asked'

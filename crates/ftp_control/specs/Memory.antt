@@ -2,6 +2,11 @@
 use Rattle.std.specs.Prelude.{◌≡◌, ℕ, ◌+◌, ◌||◌, true, false, None, List, [], ◌++◌, length, if◌then◌else◌, min}
 use Rattle.ftp_control.specs.declared.transport.room.Room.{Room}
 use Rattle.ftp_control.specs.declared.transport.room.Room.TheVariants.{Any, UpTo}
+use Rattle.std.specs.declared.io.ErrorKind.TheVariants.{ConnectionRefused}
+use Rattle.ftp_base.specs.declared.types.fault.ConnectionError.{ConnectionError}
+use Rattle.ftp_base.specs.declared.types.fault.ConnectionError.TheVariants.{Io}
+use Rattle.ftp_control.specs.declared.transport.request.Asked.{Asked}
+use Rattle.ftp_control.specs.declared.transport.supply.Supply.{Supply}
 use Rattle.ftp_control.specs.Told.{Told}
 
 -- no byte came, and there is room for any number
@@ -30,3 +35,15 @@ more_room more sent (UpTo room) = UpTo (min (room + more) 18446744073709551615)
 
 abbrev pub widened : ℕ → Told → Told
 widened more t = record t { given = record t.given { room = more_room more (length t.sent) t.given.room } }
+
+-- a transport over memory: what it was asked, with the outcomes, and what its next requests come to
+pub record Asking : Type 0 where
+  pub answered : List Asked
+  pub ready : List Supply
+
+abbrev pub nothing_asked : Asking
+nothing_asked = record { answered = []; ready = [] }
+
+-- where no outcome is left each connection is refused
+abbrev pub over_memory : List Supply → ConnectionError → Type 0
+over_memory ready fault = (ready ≡ []) × (fault ≡ Io ConnectionRefused)

@@ -5,18 +5,24 @@
 //! written once, over `PollConn`. `MemoryConn` records all its traffic, and what is proved of a client is said of such
 //! a record; `TcpConn` is a socket, of which nothing can be proved.
 
+mod connecting;
 mod connection;
 mod memory;
+mod memory_transport;
 mod network;
 mod request;
 mod room;
 mod socket;
+mod supply;
 mod task;
 
+pub use connecting::{Tried, poll_connect_in_turn};
 pub use connection::{Conn, NeverWaits, PollConn, Tells};
-pub use memory::{MemoryConn, MemoryTransport};
-pub use network::Network;
+pub use memory::MemoryConn;
+pub use memory_transport::MemoryTransport;
+pub use network::{Connected, Network, PollTransport, Transport};
 pub use request::{Asked, Request, RequestOutcome};
 pub use room::Room;
 pub use socket::{TcpConn, TcpTransport};
+pub use supply::Supply;
 pub use task::TaskConn;

@@ -1,4 +1,5 @@
 pub mod Carried
+pub mod Connecting
 pub mod Events
 pub mod Following
 pub mod Hearing

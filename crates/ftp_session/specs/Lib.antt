@@ -1,5 +1,6 @@
 pub mod Calls
 pub mod Coding
+pub mod Connecting
 pub mod Dialogue
 pub mod Link
 pub mod Play

@@ -7,6 +7,7 @@
 mod chosen;
 mod client;
 mod commands;
+mod connecting;
 mod machine;
 mod nodes;
 mod parameters;

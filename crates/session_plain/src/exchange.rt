@@ -1,5 +1,5 @@
-//! One exchange on all bytes at once: a line is said, a reply is heard and accepted. Nothing here is for a request,
-//! since no call of today asks.
+//! One exchange on all bytes at once: a line is said, a reply is heard and accepted. No call of today asks: requests
+//! are made in `connecting`.
 
 ghost use Rattle.std.specs.Prelude.{◌≡◌, ◌++◌, [], true, IfOk, IfErr, Ok, Some, Result, drop};
 ghost use Rattle.ftp_base.specs.Command.{text_of};

@@ -2,11 +2,13 @@
 //! session with them. What each call says and hears is read from the session's own table, `exchange_of`.
 #![tactic(auto)]
 
+mod connecting;
 mod events;
 mod exchange;
 mod play;
 mod runs;
 
+pub use connecting::connect_in_turn;
 pub use events::run_polled;
 pub use play::play_call;
 pub use runs::run;

@@ -2,7 +2,8 @@
 
 ghost use Rattle.std.specs.Prelude.{◌≡◌, IfOk};
 ghost use Rattle.ftp_session.specs.Coding.{coding_of};
-ghost use Rattle.ftp_session.specs.Play.{play_call};
+ghost use Rattle.ftp_session.specs.Dialogue.{dialogue};
+ghost use Rattle.ftp_session.specs.Play.{play, play_call};
 
 use crate::exchange::{Progress, exchange};
 use ftp_base::encoding::Encoding;
@@ -28,6 +29,20 @@ pub fn play_call<E: Encoding>(
         let fault = Answer::Fault(FtpError::SessionFailed);
         return Ok(Played::Done(fault, standing));
     }
+    play_dialogue(alloc, room, encoding, call, standing)
+}
+
+/// What the dialogue of a call comes to.
+pub(crate) fn play_dialogue<E: Encoding>(
+    alloc: Global,
+    room: Room,
+    encoding: &E,
+    call: &Call,
+    standing: Standing,
+) -> Result<Played, AllocError>
+    ensures { IfOk result (λ played. played ≡ play room
+        (dialogue (coding_of E.decoded E.encoded encoding.now) call.now standing.state) standing) }
+{
     match exchange(alloc, room, encoding, call, Turn::First, standing)? {
         Progress::Stops(played) => Ok(played),
         Progress::Continues(here) => {

@@ -4,12 +4,12 @@
 //! connection of which the theorems say most: its record is true, it fails only as it says, and a run over it is
 //! determined by what was fed.
 
-ghost use Rattle.std.specs.Prelude.{◌≡◌, ◌≤◌, ◌<◌, ◌+◌, ◌⊎◌, IfErr, OnOk, OnErr, [], length, take, drop, min};
+ghost use Rattle.std.specs.Prelude.{◌≡◌, ◌≤◌, ◌<◌, ◌+◌, ◌⊎◌, IfErr, OnOk, OnErr, length, take, drop, min};
 ghost use Rattle.std.specs.declared.io.ErrorKind.TheVariants as kinds;
 ghost use Rattle.ftp_control.specs.Told.{after_read, as_poll, Fits, HasFailed, HasRoomFor, IsFull, WritesSome, WriteTells};
 ghost use Rattle.ftp_control.specs.Memory.{fresh_memory, fed, closed_memory, widened, IsGiven};
 
-use super::{Conn, Network, PollConn, Room, Tells};
+use super::{Conn, PollConn, Room, Tells};
 use futures::task::Poll;
 use std::alloc::{AllocError, Global};
 use std::io::ErrorKind;
@@ -274,14 +274,4 @@ impl PollConn<()> for MemoryConn {
             Err(kind) => Err(kind),
         }
     }
-}
-
-/// A transport whose connections the caller supplies. It is asked nothing yet.
-#[derive(Drop)]
-pub struct MemoryTransport;
-
-impl Network for MemoryTransport {
-    type Conn = MemoryConn;
-
-    ghost asked = { λ _. [] };
 }

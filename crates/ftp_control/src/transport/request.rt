@@ -1,20 +1,21 @@
-//! What a transport is asked for a data connection, and what that results in.
+//! What a transport is asked for, and what that results in.
 //!
 //! A request and its outcome are plain data, so that a dialogue that asks for a connection can be defined, and played,
-//! without one. No call asks yet.
+//! without one.
 
 use ftp_base::types::ConnectionError;
 use std::net::SocketAddr;
+use std::time::Duration;
 
-/// What is asked for a data connection.
+/// What a transport is asked for.
 #[derive(Clone, Copy, Debug)]
 pub enum Request {
     /// The address of the control connection at this end.
     LocalAddress,
     /// The address of the control connection's peer.
     PeerAddress,
-    /// A connection to this address.
-    Connect(SocketAddr),
+    /// A connection to this address, within this time where there is a limit.
+    Connect(SocketAddr, Option<Duration>),
     /// A listener on this address.
     Listen(SocketAddr),
     /// A peer's connection on the listener.

@@ -6,10 +6,12 @@
 ghost use Rattle.std.specs.Prelude.{[]};
 ghost use Rattle.ftp_control.specs.Memory.{fresh_memory};
 
-use super::{Conn, Network, Tells};
+use super::{Conn, Connected, Network, Tells, Transport};
 use ftp_base::retry::{read_retrying, write_retrying};
+use ftp_base::types::ConnectionError;
 use std::io::ErrorKind;
-use std::net::TcpStream;
+use std::net::{Net, SocketAddr, TcpStream};
+use std::time::Duration;
 
 /// A connection over a TCP socket.
 #[derive(Drop)]
@@ -58,7 +60,7 @@ impl Conn for TcpConn {
     }
 }
 
-/// The transport over TCP sockets. It is asked nothing yet.
+/// The transport over TCP sockets. Its runtime is one that has the network (`Net`).
 #[derive(Drop)]
 pub struct TcpTransport;
 
@@ -66,4 +68,37 @@ impl Network for TcpTransport {
     type Conn = TcpConn;
 
     ghost asked = { λ _. [] };
+
+    ghost ready = { λ _. [] };
+
+    ghost refuses = { λ _ _. Unit {0} };
+}
+
+impl<R: Net<Stream = TcpStream>> Transport<R> for TcpTransport {
+    fn connect(&mut self, rt: &R, address: SocketAddr) -> Connected<TcpConn> {
+        match rt.connect(address) {
+            Ok(stream) => Ok(Ok(TcpConn::new(stream))),
+            Err(error) => Ok(Err(ConnectionError::Io(error.kind()))),
+        }
+    }
+
+    fn connect_timeout(
+        &mut self,
+        rt: &R,
+        address: SocketAddr,
+        limit: Duration,
+    ) -> Connected<TcpConn> {
+        match rt.connect_timeout(address, limit) {
+            Ok(stream) => Ok(Ok(TcpConn::new(stream))),
+            Err(error) => Ok(Err(deadline_fault(error.kind()))),
+        }
+    }
+}
+
+/// How a fault under a deadline is told: that the deadline passed is a fault of its own.
+fn deadline_fault(kind: ErrorKind) -> ConnectionError {
+    match kind {
+        ErrorKind::TimedOut => ConnectionError::TimedOut,
+        other => ConnectionError::Io(other),
+    }
 }

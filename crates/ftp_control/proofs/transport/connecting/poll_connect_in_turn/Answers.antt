@@ -1,0 +1,15 @@
+use Rattle.std.proofs.Common.{arith}
+use Rattle.ftp_control.proofs.Asking.{refused_another}
+use Rattle.ftp_control.proofs.transport.connecting.poll_connect_in_turn.Goals as goal
+
+-- the next address was refused, too
+pub loop-tried-preserved-in-Ready-Ok-Err-2 : goal.loop-tried-preserved-in-Ready-Ok-Err-2
+loop-tried-preserved-in-Ready-Ok-Err-2 g c =
+    let held = c.loop-tried.invariant in
+    let arm = c.in-Ready-Ok-Err in
+    let asks = rw (arm.is, arm.field-0-is, arm.field-0-0-is) at c.poll_connect.ensures.asks in
+    let supplies = rw (arm.is, arm.field-0-is, arm.field-0-0-is) at c.poll_connect.ensures.supplies in
+    record {
+      within = omega (arith, c.loop-tried-test.true);
+      so_far = λ h. refused_another g.Tr.Network.refuses _ c.args.limit c.args.addresses.now c.loop-tried.tried.count _ _ _ _ _ _ _ _ _ _ c.loop-tried-test.true (held.so_far h) (asks h) (supplies h);
+    }

@@ -1,0 +1,79 @@
+-- How a session comes to its connection: RFC 1123, section 2.3: one address after another.
+use Rattle.std.specs.Prelude.{◌≡◌, ◌⊎◌, ◌==◌, List, [], ◌∷◌, ◌++◌, Some, Result, Err, if◌then◌else◌}
+use Rattle.std.specs.Duration.{as_nanos}
+use Rattle.std.specs.declared.net.socket_addr.SocketAddr.{SocketAddr}
+use Rattle.std.specs.declared.time.Duration.{Duration}
+use Rattle.ftp_base.specs.declared.types.fault.FtpError.{FtpError}
+use Rattle.ftp_base.specs.declared.types.fault.FtpError.TheVariants.{ConnectionError as Connection, OutOfMemory}
+use Rattle.ftp_base.specs.declared.types.fault.ConnectionError.{ConnectionError}
+use Rattle.ftp_control.specs.Asking.{requests_of, outcomes_of, connects_to, RefusedInTurn, ConnectsInTurn}
+use Rattle.ftp_control.specs.Told.{Told}
+use Rattle.ftp_control.specs.declared.transport.room.Room.{Room}
+use Rattle.ftp_control.specs.declared.transport.request.Asked.{Asked}
+use Rattle.ftp_control.specs.declared.transport.request.Request.{Request}
+use Rattle.ftp_control.specs.declared.transport.request.RequestOutcome.{RequestOutcome}
+use Rattle.ftp_control.specs.declared.transport.request.RequestOutcome.TheVariants.{Done, Address, Refused}
+use Rattle.ftp_control.specs.declared.transport.supply.Supply.{Supply}
+use Rattle.ftp_calls.specs.declared.call.Answer.TheVariants.{Fault}
+use Rattle.ftp_calls.specs.declared.call.Call.TheVariants.{Greet}
+use Rattle.ftp_session.specs.declared.session.state.State.{State}
+use Rattle.ftp_session.specs.declared.model.Standing.{Standing}
+use Rattle.ftp_session.specs.Calls.{Connects}
+use Rattle.ftp_session.specs.Coding.{Coding}
+use Rattle.ftp_session.specs.Dialogue.{Tree, Ask, Leaf, dialogue}
+use Rattle.ftp_session.specs.Link.{Link}
+use Rattle.ftp_session.specs.Play.{play}
+use Rattle.ftp_session.specs.State.{SessionValue}
+
+-- a request for a connection came to one, or was refused with this fault
+abbrev pub if_connected : Tree → (ConnectionError → Tree) → RequestOutcome → Tree
+if_connected next others Done = next
+if_connected next others (Address address) = next
+if_connected next others (Refused fault) = others fault
+
+-- connections are asked for in turn until there is one, on which the greeting is heard; where each is refused the last
+-- fault is the answer, and where none is asked for this one
+unfoldable pub connecting : Coding → List Request → ConnectionError → State → Tree
+connecting coding [] fault state = Leaf (Fault (Connection fault)) state
+connecting coding (request ∷ requests) fault state =
+    Ask request (if_connected (dialogue coding Greet state) (λ cause. connecting coding requests cause state))
+
+-- the requests of a connection to one address within a time: none where there is no time
+abbrev pub connects_within : Duration → SocketAddr → List Request
+connects_within limit address = if as_nanos limit == 0 then [] else connects_to (Some limit) (address ∷ [])
+
+-- these requests were made and came to these outcomes; whatever else is known, a dialogue comes with them to what is
+-- left of it
+pub record AsksAll (tree left : State → Tree) (asked asked' : List Asked) : Type 0 where
+  pub answered : List Asked
+  pub asked_are : asked' ≡ asked ++ answered
+  pub plays : (state : State) (room : Room) (s : Standing) → play room (tree state) (record s { outcomes = outcomes_of answered ++ s.outcomes }) ≡ play room (left state) (record s { asked = s.asked ++ requests_of answered })
+
+-- a transport that was handed these outcomes, and was asked this before, made a connection of this record; the requests
+-- before it were refused
+pub record IsConnected (link : Link) (coding : Coding) (refuses : List Supply → ConnectionError → Type 0) (requests : List Request) (fault : ConnectionError) (ready : List Supply) (asked asked' : List Asked) (told : Told) : Type 0 where
+  pub unused : List Supply
+  pub in_turn : link.tells → ConnectsInTurn refuses requests fault told ready unused asked asked'
+  pub asks : link.tells → AsksAll (connecting coding requests fault) (dialogue coding Greet) asked asked'
+
+-- the connection was asked for, and the greeting's dialogue was made on it
+pub record ConnectsBy (link : Link) (coding : Coding) (refuses : List Supply → ConnectionError → Type 0) (requests : List Request) (fault : ConnectionError) (ready : List Supply) (asked : List Asked) (new : SessionValue) (result : Result (Unit {0}) FtpError) : Type 0 where
+  pub told : Told
+  pub asked_by : List Asked
+  pub connected : IsConnected link coding refuses requests fault ready asked asked_by told
+  pub connects : Connects link coding told asked_by new result
+
+-- each request was refused, and the last fault is the answer
+pub record NoneConnects (link : Link) (coding : Coding) (refuses : List Supply → ConnectionError → Type 0) (requests : List Request) (fault : ConnectionError) (ready : List Supply) (asked : List Asked) (answer : FtpError) : Type 0 where
+  pub last : ConnectionError
+  pub is : answer ≡ Connection last
+  pub unused : List Supply
+  pub asked_by : List Asked
+  pub in_turn : link.tells → RefusedInTurn refuses requests [] fault last ready unused asked asked_by
+  pub asks : link.tells → AsksAll (connecting coding requests fault) (λ state. Leaf (Fault answer) state) asked asked_by
+
+-- no session is connected: each request was refused; or the greeting's dialogue on the connection failed; or memory ran
+-- out
+abbrev pub FailsToConnectBy : Link → Coding → (List Supply → ConnectionError → Type 0) → List Request → ConnectionError → List Supply → List Asked → FtpError → Type 0
+FailsToConnectBy link coding refuses requests fault ready asked answer =
+    NoneConnects link coding refuses requests fault ready asked answer ⊎ ((new : SessionValue) × ConnectsBy link coding refuses requests fault ready asked new (Err answer)) ⊎ (answer ≡ OutOfMemory)

@@ -1,0 +1,123 @@
+//! How a session comes to its connection.
+//!
+//! The addresses are asked for in turn, and the greeting is read on the first that connects. What is asked and what it
+//! comes to are nodes of a dialogue (`connecting`), as all requests of a session are.
+
+ghost use Rattle.std.specs.Prelude.{◌≡◌, IfOk, MatchResult, Ok, Some, None};
+ghost use Rattle.ftp_base.specs.declared.types.fault.ConnectionError.TheVariants as faults;
+ghost use Rattle.ftp_control.specs.Asking.{connects_to};
+ghost use Rattle.ftp_session.specs.Coding.{chosen};
+ghost use Rattle.ftp_session.specs.Connecting.{ConnectsBy, FailsToConnectBy, connects_within};
+ghost use Rattle.ftp_session.specs.Link.{link};
+
+use super::client::Session;
+use ftp_base::encoding::Encoding;
+use ftp_base::types::{ConnectionError, FtpError, FtpResult};
+use ftp_control::transport::{Conn, Network, NeverWaits, Transport, Tried, poll_connect_in_turn};
+use futures::task::Poll;
+use std::alloc::{AllocError, Global};
+use std::net::SocketAddr;
+use std::time::Duration;
+
+impl<Tr: Network, K: Drop, E: Encoding, B: Drop> Session<Tr, K, E, B>
+where
+    Tr::Conn: Conn,
+{
+    /// Connects to the first of these addresses that doesn't refuse, in their order, and reads the greeting (220).
+    ///
+    /// # Errors
+    /// The last address's fault where each refused, `NoAddress` where there is none; else those of the greeting's
+    /// read, and the connection is closed then.
+    pub fn connect<R>(
+        alloc: Global,
+        rt: &R,
+        transport: Tr,
+        addresses: &[SocketAddr],
+    ) -> FtpResult<Session<Tr, K, E, B>>
+    where
+        Tr: Transport<R>,
+        ensures encoding { IfOk result (λ session. session.encoding.0 ≡ None) }
+        ensures connects { MatchResult result
+            (λ session. ConnectsBy (link Tr.Conn.tells Tr.Conn.blocking_read_faults Tr.Conn.blocking_write_faults) (chosen E.decoded E.encoded None) Tr.refuses (connects_to None addresses.now) faults.NoAddress (Tr.ready transport) (Tr.asked transport) session.machine (Ok tt))
+            (λ fault. FailsToConnectBy (link Tr.Conn.tells Tr.Conn.blocking_read_faults Tr.Conn.blocking_write_faults) (chosen E.decoded E.encoded None) Tr.refuses (connects_to None addresses.now) faults.NoAddress (Tr.ready transport) (Tr.asked transport) fault) }
+    {
+        Session::connect_in_turn(
+            alloc,
+            rt,
+            transport,
+            addresses,
+            None,
+            ConnectionError::NoAddress,
+        )
+    }
+
+    /// Connects to this address within this time, and reads the greeting (220), for which there is no limit. No time
+    /// at all asks for no connection.
+    ///
+    /// # Errors
+    /// `TimedOut` where the time passed or was zero; the address's fault; those of the greeting's read, and the
+    /// connection is closed then.
+    pub fn connect_timeout<R>(
+        alloc: Global,
+        rt: &R,
+        transport: Tr,
+        address: SocketAddr,
+        limit: Duration,
+    ) -> FtpResult<Session<Tr, K, E, B>>
+    where
+        Tr: Transport<R>,
+        ensures encoding { IfOk result (λ session. session.encoding.0 ≡ None) }
+        ensures connects { MatchResult result
+            (λ session. ConnectsBy (link Tr.Conn.tells Tr.Conn.blocking_read_faults Tr.Conn.blocking_write_faults) (chosen E.decoded E.encoded None) Tr.refuses (connects_within limit address) faults.TimedOut (Tr.ready transport) (Tr.asked transport) session.machine (Ok tt))
+            (λ fault. FailsToConnectBy (link Tr.Conn.tells Tr.Conn.blocking_read_faults Tr.Conn.blocking_write_faults) (chosen E.decoded E.encoded None) Tr.refuses (connects_within limit address) faults.TimedOut (Tr.ready transport) (Tr.asked transport) fault) }
+    {
+        let addresses = [address];
+        let count = if limit.is_zero() { 0 } else { 1 };
+        Session::connect_in_turn(
+            alloc,
+            rt,
+            transport,
+            &addresses[..count],
+            Some(limit),
+            ConnectionError::TimedOut,
+        )
+    }
+
+    /// Connects to the first of these addresses that doesn't refuse, each within this time where there is a limit;
+    /// where there is no address this is the fault.
+    fn connect_in_turn<R>(
+        alloc: Global,
+        rt: &R,
+        mut transport: Tr,
+        addresses: &[SocketAddr],
+        limit: Option<Duration>,
+        fault: ConnectionError,
+    ) -> FtpResult<Session<Tr, K, E, B>>
+    where
+        Tr: Transport<R>,
+        ensures encoding { IfOk result (λ session. session.encoding.0 ≡ None) }
+        ensures connects { MatchResult result
+            (λ session. ConnectsBy (link Tr.Conn.tells Tr.Conn.blocking_read_faults Tr.Conn.blocking_write_faults) (chosen E.decoded E.encoded None) Tr.refuses (connects_to limit addresses.now) fault (Tr.ready transport) (Tr.asked transport) session.machine (Ok tt))
+            (λ cause. FailsToConnectBy (link Tr.Conn.tells Tr.Conn.blocking_read_faults Tr.Conn.blocking_write_faults) (chosen E.decoded E.encoded None) Tr.refuses (connects_to limit addresses.now) fault (Tr.ready transport) (Tr.asked transport) cause) }
+    {
+        let mut tried = Tried { count: 0, fault };
+        match poll_connect_in_turn(
+            &mut transport,
+            rt,
+            &mut NeverWaits,
+            addresses,
+            limit,
+            &mut tried,
+        ) {
+            Poll::Ready(Ok(Ok(conn))) => match Session::connect_with_stream(
+                alloc, transport, conn,
+            ) {
+                Ok(session) => Ok(session),
+                Err(cause) => Err(cause),
+            },
+            Poll::Ready(Ok(Err(cause))) => Err(FtpError::ConnectionError(cause)),
+            Poll::Ready(Err(AllocError)) => Err(FtpError::OutOfMemory),
+            Poll::Pending => unreachable!(),
+        }
+    }
+}
