@@ -107,11 +107,13 @@ impl Face {
         }
     }
 
-    /// Whether a row can be played on it: the blocking client has no method that reads a reply alone.
+    /// Whether a row can be played on it: the blocking client has no method that reads a reply alone, and a run is
+    /// made on a connection.
     pub fn plays(self, play: &Play) -> bool {
         match self {
             Face::Client => client::has_methods(&play.calls),
-            Face::Definition | Face::Script | Face::Run | Face::Methods | Face::Polled => true,
+            Face::Definition | Face::Methods => true,
+            Face::Script | Face::Run | Face::Polled => play.dial.is_none(),
         }
     }
 

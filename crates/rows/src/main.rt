@@ -9,6 +9,7 @@
 mod alphabet;
 mod answers;
 mod calls;
+mod dial;
 mod encodings;
 mod faces;
 mod play;

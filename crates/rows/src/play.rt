@@ -1,6 +1,7 @@
 //! A row as bytes, calls and events.
 
 use crate::calls::call;
+use crate::dial::Dial;
 use crate::encodings::Named;
 use crate::step::Step;
 use ftp_base::types::Bytes;
@@ -24,6 +25,8 @@ pub struct Play {
     pub piece: usize,
     /// The encoding that the session is given.
     pub encoding: Option<Named>,
+    /// How the session comes to its connection, where the row says so.
+    pub dial: Option<Dial>,
 }
 
 impl Play {
@@ -41,9 +44,13 @@ impl Play {
             runs: Vec::new(alloc),
             piece,
             encoding: None,
+            dial: None,
         };
         for step in steps {
             play.add_input(alloc, *step)?;
+        }
+        if let Some(dial) = &play.dial {
+            play.input = dial.input(alloc)?.unwrap_or(Vec::new(alloc));
         }
         if !has_events {
             play.add_all(alloc)?;
@@ -56,10 +63,19 @@ impl Play {
 
     /// Adds what the server sends.
     fn add_input(&mut self, alloc: Global, step: Step<'_>) -> Result<(), RowError> {
-        if let Step::Server(bytes) = step {
-            self.input.extend_from_slice(&bytes_of(alloc, bytes)?)?;
+        match step {
+            Step::Server(bytes) => Ok(self.input.extend_from_slice(&bytes_of(alloc, bytes)?)?),
+            Step::Host(bytes) => self.dialled(alloc).add_host(alloc, bytes),
+            Step::Refuses => self.dialled(alloc).add_refusal(),
+            Step::Connect(words) => self.dialled(alloc).connect(words),
+            Step::Within(words) => self.dialled(alloc).connect_within(words),
+            _ => Ok(()),
         }
-        Ok(())
+    }
+
+    /// How the session comes to its connection.
+    fn dialled(&mut self, alloc: Global) -> &mut Dial {
+        self.dial.get_or_insert(Dial::new(alloc))
     }
 
     /// All bytes come, and they end.
@@ -90,7 +106,8 @@ impl Play {
             Step::Leave => self.push(Event::Leave),
             Step::Later => self.begin_run(),
             Step::Encoding(name) => self.set_encoding(name),
-            Step::Server(_) => Ok(()),
+            Step::Connect(_) | Step::Within(_) => Ok(self.calls.push(Call::Greet)?),
+            Step::Server(_) | Step::Host(_) | Step::Refuses => Ok(()),
             Step::Welcome | Step::Sessions | Step::Lists(_) => Ok(()),
         }
     }

@@ -7,6 +7,14 @@ use row_text::RowError;
 pub enum Step<'a> {
     /// `server BYTES`: the server sends these. Without events they are all there from the start.
     Server(&'a str),
+    /// `host BYTES`: the next address that is connected to is a server's that sends these.
+    Host(&'a str),
+    /// `refuses`: the next address that is connected to refuses.
+    Refuses,
+    /// `connect ADDRESSES`: these are connected to in turn, and the greeting is read.
+    Connect(&'a str),
+    /// `within SECONDS ADDRESS`: the same of one address, within a time.
+    Within(&'a str),
     /// `encoding NAME`: the encoding of the session's texts.
     Encoding(&'a str),
     /// `call WORDS`: a call, made whole; among events it begins and is polled.
@@ -41,6 +49,9 @@ impl<'a> Step<'a> {
     pub fn of(line: &'a str) -> Result<Step<'a>, RowError> {
         match line.split_once(' ') {
             Some(("server", bytes)) => Ok(Step::Server(bytes)),
+            Some(("host", bytes)) => Ok(Step::Host(bytes)),
+            Some(("connect", addresses)) => Ok(Step::Connect(addresses)),
+            Some(("within", words)) => Ok(Step::Within(words)),
             Some(("encoding", name)) => Ok(Step::Encoding(name)),
             Some(("call", words)) => Ok(Step::Call(words)),
             Some(("feed", bytes)) => Ok(Step::Feed(bytes)),
@@ -55,6 +66,7 @@ impl<'a> Step<'a> {
     /// A step of one word.
     fn bare(word: &str) -> Result<Step<'a>, RowError> {
         match word {
+            "refuses" => Ok(Step::Refuses),
             "end" => Ok(Step::End),
             "poll" => Ok(Step::Poll),
             "cancel" => Ok(Step::Cancel),
@@ -70,6 +82,7 @@ impl<'a> Step<'a> {
     pub fn is_event(self) -> bool {
         match self {
             Step::Server(_) | Step::Encoding(_) | Step::Call(_) => false,
+            Step::Host(_) | Step::Refuses | Step::Connect(_) | Step::Within(_) => false,
             Step::Feed(_) | Step::End | Step::Room(_) | Step::Start(_) => true,
             Step::Poll | Step::Cancel | Step::Leave | Step::Later => true,
             Step::Welcome | Step::Sessions | Step::Lists(_) => false,

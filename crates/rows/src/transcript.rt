@@ -6,6 +6,8 @@ use std::alloc::{AllocError, Global};
 /// Where a session or a definition stands after a part of a row.
 #[derive(Drop)]
 pub struct Standing {
+    /// The addresses that were asked for, where there is a session.
+    pub asked: Vec<String>,
     /// What went out.
     pub sent: Vec<u8>,
     /// The answers of the calls that are done.
@@ -39,6 +41,9 @@ impl Standing {
     /// The transcript of a row that ended here and had come so far at these places.
     pub fn transcript(&self, alloc: Global, marks: &[Mark]) -> Result<String, AllocError> {
         let mut text = String::new(alloc);
+        for address in &self.asked {
+            write!(text, "D: {address}\n")?;
+        }
         let mut before = Mark {
             sent: 0,
             answers: 0,

@@ -2,6 +2,7 @@
 
 use super::methods::{Opening, greeted};
 use crate::answers::{reply, texts_of, unit};
+use crate::dial::addresses_of;
 use crate::encodings::Named;
 use crate::play::Play;
 use crate::transcript::Standing;
@@ -45,6 +46,8 @@ pub fn called<R: Wait + AllocGlobal>(
         mut answers,
         others,
     } = greeted(rt.alloc(), calls, play)?;
+    let requests = session.transport().asked().iter().map(|one| &one.request);
+    let asked = addresses_of(rt.alloc(), requests)?;
     let client = had(ImplFtpStream::new(rt.alloc(), session))?;
     if let Some(encoding) = play.encoding {
         had(client.set_encoding(rt, encoding))?;
@@ -52,7 +55,9 @@ pub fn called<R: Wait + AllocGlobal>(
     for call in others {
         answers.push(make(rt, &client, call)?)?;
     }
-    stands(rt, &client, &answers)
+    let mut end = stands(rt, &client, &answers)?;
+    end.asked = asked;
+    Ok(end)
 }
 
 /// What fails only where memory ran out.
@@ -104,6 +109,7 @@ fn stands<R: Wait + AllocGlobal>(
     // A client doesn't tell whether its session has failed, but its next call does.
     let failed = matches!(client.noop(rt), Err(FtpError::SessionFailed));
     Ok(Standing {
+        asked: Vec::new(rt.alloc()),
         sent,
         answers,
         taken,

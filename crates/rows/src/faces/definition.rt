@@ -1,16 +1,17 @@
 //! What the definitions of runs say.
 
 use crate::answers::texts_of;
+use crate::dial::{Dial, addresses_of};
 use crate::encodings::Named;
 use crate::play::Play;
 use crate::transcript::Standing;
 use ftp_base::types::{Bytes, Items};
 use ftp_control::control::ReplyRule;
 use ftp_control::transport::Room;
-use ftp_session::model::{self, Ran, Script};
+use ftp_session::model::{self, Played, Ran, Script};
 use ftp_session::session::{Answer, Call, Event, State};
 use row_text::RowError;
-use session_plain::{run, run_polled};
+use session_plain::{connect_in_turn, run, run_polled};
 use std::alloc::{AllocError, Global};
 
 /// A run that begins: these are all bytes of the server.
@@ -58,10 +59,46 @@ fn encoding_of(play: &Play) -> Named {
 /// Where a run of these calls ends.
 pub fn ran(alloc: Global, calls: &[Call], play: &Play) -> Result<Standing, RowError> {
     let first = first(alloc, &play.input)?;
+    if let (Some(dial), Some((_greet, others))) = (&play.dial, calls.split_first()) {
+        return dialled(alloc, dial, others, play, first);
+    }
     match run(alloc, Room::Any, &encoding_of(play), calls, first)? {
         Ran::Finished(answers, here) | Ran::Waiting(answers, _, here) => {
             stands(alloc, answers, here, play.input.len())
         }
+    }
+}
+
+/// Where a session comes to that connects first, and then makes these calls. Without a connection it makes none.
+fn dialled(
+    alloc: Global,
+    dial: &Dial,
+    others: &[Call],
+    play: &Play,
+    mut first: model::Standing,
+) -> Result<Standing, RowError> {
+    first.outcomes = Items::from_vec(dial.outcomes(alloc)?);
+    let requests = dial.requests(alloc)?;
+    let encoding = encoding_of(play);
+    match connect_in_turn(alloc, Room::Any, &encoding, &requests, dial.fault(), first)? {
+        Played::Done(Answer::Unit, here) => {
+            let asked = addresses_of(alloc, here.asked.as_slice().iter())?;
+            match run(alloc, Room::Any, &encoding, others, here)? {
+                Ran::Finished(answers, here) | Ran::Waiting(answers, _, here) => {
+                    let mut all = answers.into_vec();
+                    all.insert(0, Answer::Unit)?;
+                    let mut there = stands(alloc, Items::from_vec(all), here, play.input.len())?;
+                    there.asked = asked;
+                    Ok(there)
+                }
+            }
+        }
+        Played::Done(answer, here) => {
+            let mut all = Vec::new(alloc);
+            all.push(answer)?;
+            stands(alloc, Items::from_vec(all), here, play.input.len())
+        }
+        Played::Pending(_, _) => Err(RowError::NotUnderstood),
     }
 }
 
@@ -75,6 +112,7 @@ fn stands(
     let answers = texts_of(alloc, answers.as_slice())?;
     let welcome = welcome(alloc, &here.state)?;
     Ok(Standing {
+        asked: Vec::new(alloc),
         sent: here.said.into_vec(),
         answers,
         taken: came.saturating_sub(here.bytes.len()),
@@ -100,6 +138,7 @@ pub fn scripted(alloc: Global, events: &[Event], play: &Play) -> Result<Standing
     let answers = texts_of(alloc, script.answers.as_slice())?;
     let welcome = welcome(alloc, &script.state)?;
     Ok(Standing {
+        asked: Vec::new(alloc),
         sent: Vec::from_slice(alloc, script.sent.as_slice())?,
         answers,
         taken: script.bytes.len().saturating_sub(script.untaken.len()),

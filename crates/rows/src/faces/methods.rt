@@ -5,6 +5,7 @@ use crate::answers::{reply, unit};
 use crate::play::Play;
 use crate::transcript::Standing;
 use ftp_base::status::Status;
+use ftp_base::types::FtpResult;
 use ftp_control::transport::MemoryTransport;
 use ftp_session::session::{Answer, Call, Session};
 use row_text::RowError;
@@ -23,15 +24,14 @@ pub struct Opening<'a> {
 
 /// The session of these calls. A greeting that comes first is read by `connect_with_stream`.
 pub fn greeted<'a>(alloc: Global, calls: &'a [Call], play: &Play) -> Result<Opening<'a>, RowError> {
-    let conn = conn_of(alloc, play)?;
     let Some((Call::Greet, others)) = calls.split_first() else {
         return Ok(Opening {
-            session: unread(alloc, conn)?,
+            session: unread(alloc, conn_of(alloc, play)?)?,
             answers: Vec::new(alloc),
             others: calls,
         });
     };
-    match Session::connect_with_stream(alloc, MemoryTransport, conn) {
+    match connected(alloc, play)? {
         Ok(session) => Ok(Opening {
             session,
             answers: first(alloc, Answer::Unit)?,
@@ -40,13 +40,31 @@ pub fn greeted<'a>(alloc: Global, calls: &'a [Call], play: &Play) -> Result<Open
         // The session is gone with its connection: another that reads the same bytes stands for it.
         Err(fault) => {
             let mut session = unread(alloc, conn_of(alloc, play)?)?;
-            let _again = session.read_response(alloc, Status::Ready);
+            if play.dial.is_none() {
+                let _again = session.read_response(alloc, Status::Ready);
+            }
             Ok(Opening {
                 session,
                 answers: first(alloc, Answer::Fault(fault))?,
                 others,
             })
         }
+    }
+}
+
+/// The session that connects as the row says: on the connection itself, or to addresses.
+fn connected(alloc: Global, play: &Play) -> Result<FtpResult<NamedSession>, RowError> {
+    let Some(dial) = &play.dial else {
+        let conn = conn_of(alloc, play)?;
+        let transport = MemoryTransport::new(alloc);
+        return Ok(Session::connect_with_stream(alloc, transport, conn));
+    };
+    let transport = dial.transport(alloc, play.piece)?;
+    match (dial.limit, dial.addresses.first()) {
+        (Some(limit), Some(address)) => {
+            Ok(Session::connect_timeout(alloc, &(), transport, *address, limit))
+        }
+        _ => Ok(Session::connect(alloc, &(), transport, &dial.addresses)),
     }
 }
 

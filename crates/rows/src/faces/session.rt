@@ -2,6 +2,7 @@
 
 use super::definition::welcome;
 use crate::answers::texts_of;
+use crate::dial::{addresses_of, conn_with};
 use crate::encodings::Named;
 use crate::play::Play;
 use crate::transcript::Standing;
@@ -15,16 +16,12 @@ pub type NamedSession = Session<MemoryTransport, NoTlsConnector, Named>;
 
 /// A connection that the server's bytes came on, in their pieces.
 pub fn conn_of(alloc: Global, play: &Play) -> Result<MemoryConn, AllocError> {
-    let mut conn = MemoryConn::new(alloc);
-    for part in play.input.chunks(play.piece.max(1)) {
-        conn.feed(part)?;
-    }
-    Ok(conn)
+    conn_with(alloc, &play.input, play.piece)
 }
 
 /// A session on which nothing was read.
 pub fn unread(alloc: Global, conn: MemoryConn) -> Result<NamedSession, RowError> {
-    match Session::new(alloc, MemoryTransport, conn) {
+    match Session::new(alloc, MemoryTransport::new(alloc), conn) {
         Ok(session) => Ok(session),
         Err(_) => Err(RowError::OutOfMemory),
     }
@@ -103,7 +100,9 @@ pub fn stands(
     let conn = session.get_ref();
     let answers = texts_of(alloc, answers)?;
     let welcome = welcome(alloc, session.state())?;
+    let requests = session.transport().asked().iter().map(|one| &one.request);
     Ok(Standing {
+        asked: addresses_of(alloc, requests)?,
         sent: Vec::from_slice(alloc, conn.sent())?,
         answers,
         taken: conn.received().saturating_sub(session.untaken()),
