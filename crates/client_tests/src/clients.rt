@@ -153,7 +153,7 @@ fn the_two_lines_of_a_rename_stay_together(rt: HostRuntime) -> Result<(), Fail> 
 fn an_encoding_that_is_set_reads_the_welcome_again(rt: HostRuntime) -> Result<(), Fail> {
     let conn = conn_with(rt.alloc(), b"220 caf\xe9\r\n")?;
     let session: Session<MemoryTransport, NoTlsConnector, ReadsLatin1> =
-        Session::connect_with_stream(rt.alloc(), MemoryTransport, conn)?;
+        Session::connect_with_stream(rt.alloc(), MemoryTransport::new(rt.alloc()), conn)?;
     let client = ImplFtpStream::new(rt.alloc(), session)?;
     let before = client.get_welcome_msg(&rt)?;
     assert_eq!(rt; before.as_deref(), Some("220 caf\u{fffd}"));

@@ -6,6 +6,8 @@ mod channel;
 #[cfg(test)]
 mod clients;
 #[cfg(test)]
+mod connects;
+#[cfg(test)]
 mod grammar;
 #[cfg(test)]
 mod reads;

@@ -66,7 +66,7 @@ fn read(
 #[test]
 fn a_reply_is_read_whole_and_an_unexpected_one_returned(rt: HostRuntime) -> Result<(), Fail> {
     let alloc = rt.alloc();
-    let mut session = Session::new(alloc, MemoryTransport, MemoryConn::new(alloc))?;
+    let mut session = Session::new(alloc, MemoryTransport::new(alloc), MemoryConn::new(alloc))?;
     for (kind, bytes, due) in REPLIES {
         feed(alloc, &mut session, bytes)?;
         let text = read(alloc, &mut session, kind)?;

@@ -81,7 +81,7 @@ fn two_commands(alloc: Global, room: u64) -> FtpResult<String> {
     conn.allow(room);
     let mut session: Session<MemoryTransport> = Session::connect_with_stream(
         alloc,
-        MemoryTransport,
+        MemoryTransport::new(alloc),
         conn,
     )?;
     let words = (word(session.noop(alloc)), word(session.noop(alloc)));

@@ -16,7 +16,7 @@ pub fn conn_with(alloc: Global, input: &[u8]) -> Result<MemoryConn, AllocError> 
 
 /// A session whose server sent these bytes, the greeting first.
 pub fn greeted(alloc: Global, input: &[u8]) -> FtpResult<Session<MemoryTransport>> {
-    Session::connect_with_stream(alloc, MemoryTransport, conn_with(alloc, input)?)
+    Session::connect_with_stream(alloc, MemoryTransport::new(alloc), conn_with(alloc, input)?)
 }
 
 /// The number of a fault; 0 where there is none.

@@ -35,7 +35,7 @@ fn settings_text(alloc: Global, settings: &Settings) -> Result<String, AllocErro
 fn begun(alloc: Global, greeting: Option<&[u8]>) -> FtpResult<Session<MemoryTransport>> {
     match greeting {
         Some(greeting) => greeted(alloc, greeting),
-        None => Session::new(alloc, MemoryTransport, MemoryConn::new(alloc)),
+        None => Session::new(alloc, MemoryTransport::new(alloc), MemoryConn::new(alloc)),
     }
 }
 

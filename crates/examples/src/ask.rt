@@ -1,6 +1,6 @@
 //! A session with a server.
 
-use std::net::{Net, TcpStream};
+use std::net::{Net, SocketAddr, TcpStream, ToSocketAddrs};
 use std::process::ExitCode;
 use std::sync::Wait;
 use suppaftp::types::Response;
@@ -11,7 +11,8 @@ pub fn ask<R>(rt: &R, address: &str) -> FtpResult<Response>
 where
     R: Net<Stream = TcpStream> + Wait + AllocGlobal,
 {
-    let client = FtpStream::connect_with_stream(rt, TcpStream::connect(rt, address)?)?;
+    let addresses: Vec<SocketAddr> = address.to_socket_addrs(rt)?.collect(rt.alloc())?;
+    let client = FtpStream::connect(rt, &addresses)?;
     client.login(rt, "anonymous", "guest@example.org")?;
     client.cwd(rt, "pub")?;
     let reply = client.custom_command(rt, "SYST", &[Status::Name])?;

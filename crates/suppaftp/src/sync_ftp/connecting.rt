@@ -5,11 +5,39 @@ use ftp_base::encoding::Encoding;
 use ftp_base::types::FtpResult;
 use ftp_control::transport::{TcpConn, TcpTransport};
 use ftp_session::session::Session;
-use std::net::TcpStream;
+use std::net::{Net, SocketAddr, TcpStream};
+use std::time::Duration;
 
 impl<K: Drop, E: Encoding, B: Drop> ImplFtpStream<TcpTransport, K, E, B> {
-    // TODO connect(rt, addresses: &[SocketAddr]), over Session::connect.
-    // TODO connect_timeout(rt, address: SocketAddr, limit: Duration), over Session::connect_timeout.
+    /// A client on the first of these addresses that doesn't refuse, in their order, once the server's greeting (220)
+    /// was read (RFC 959, section 5.4).
+    ///
+    /// # Errors
+    /// The last address's fault where each refused, `NoAddress` where there is none; those of a read of one reply, and
+    /// `OutOfMemory`. The connection is closed then.
+    pub fn connect<R>(rt: &R, addresses: &[SocketAddr]) -> FtpResult<Self>
+    where
+        R: Net<Stream = TcpStream> + AllocGlobal,
+    {
+        let alloc = rt.alloc();
+        let session = Session::connect(alloc, rt, TcpTransport, addresses)?;
+        ImplFtpStream::new(alloc, session)
+    }
+
+    /// A client on this address, connected to within this time, once the server's greeting (220) was read. There is no
+    /// limit to how long the greeting is waited for. No time at all asks for no connection.
+    ///
+    /// # Errors
+    /// `TimedOut` where the time passed or was zero; the address's fault; those of a read of one reply, and
+    /// `OutOfMemory`. The connection is closed then.
+    pub fn connect_timeout<R>(rt: &R, address: SocketAddr, limit: Duration) -> FtpResult<Self>
+    where
+        R: Net<Stream = TcpStream> + AllocGlobal,
+    {
+        let alloc = rt.alloc();
+        let session = Session::connect_timeout(alloc, rt, TcpTransport, address, limit)?;
+        ImplFtpStream::new(alloc, session)
+    }
 
     /// A client over a socket that is connected, once the server's greeting (220) was read (RFC 959, section 5.4).
     ///

@@ -1,0 +1,224 @@
+//! How a client comes to its connection: which addresses are asked for, and what is answered where none connects.
+
+ghost use Rattle.std.specs.Prelude.{[]};
+
+use crate::scene::{conn_with, number};
+use ftp_base::types::{ConnectionError, FtpError, FtpResult};
+use ftp_control::transport::{
+    Asked, Connected, MemoryTransport, Network, Request, RequestOutcome, Supply, TcpConn, Transport,
+};
+use ftp_session::session::Session;
+use std::alloc::{AllocError, Global};
+use std::io::{ErrorKind, Write};
+use std::net::{Net, SocketAddr, TcpListener, TcpStream};
+use std::sync::{Arc, Mutex, Wait};
+use std::test::Fail;
+use std::time::Duration;
+use std::{io, thread};
+use suppaftp::FtpStream;
+
+/// An address of the documentation's network.
+fn address(last: u8) -> SocketAddr {
+    SocketAddr::from(([192, 0, 2, last], 21))
+}
+
+/// A transport that refuses twice, and then connects to a server that sends this.
+fn after_two_refusals(alloc: Global, input: &[u8]) -> Result<MemoryTransport, AllocError> {
+    let mut transport = MemoryTransport::new(alloc);
+    transport.supply(Supply::Refuses(ErrorKind::HostUnreachable))?;
+    transport.supply(Supply::Refuses(ErrorKind::ConnectionReset))?;
+    transport.supply(Supply::Connects(conn_with(alloc, input)?))?;
+    Ok(transport)
+}
+
+/// The addresses that were asked for, each with a plus where it connected, and a minus where it refused.
+fn asked_text(alloc: Global, asked: &[Asked]) -> Result<String, AllocError> {
+    let mut text = String::new(alloc);
+    for one in asked {
+        let sign = match one.outcome {
+            RequestOutcome::Done | RequestOutcome::Address(_) => '+',
+            RequestOutcome::Refused(_) => '-',
+        };
+        match one.request {
+            Request::Connect(address, None) => write!(text, "{sign}{address} ")?,
+            Request::Connect(address, Some(limit)) => {
+                let seconds = limit.as_secs();
+                write!(text, "{sign}{address} in {seconds} ")?
+            }
+            Request::LocalAddress | Request::PeerAddress => text.push('?')?,
+            Request::Listen(_) | Request::Accept => text.push('?')?,
+        }
+    }
+    Ok(text)
+}
+
+/// The kind of a connection's fault.
+fn kind_of<T: Drop>(answer: &FtpResult<T>) -> Option<ErrorKind> {
+    match answer {
+        Err(FtpError::ConnectionError(fault)) => Some(fault.kind()),
+        _ => None,
+    }
+}
+
+/// A transport without a network, which counts what it is asked.
+#[derive(Drop)]
+struct Counting {
+    count: Arc<Mutex<u32>, Global>,
+}
+
+impl Network for Counting {
+    type Conn = TcpConn;
+
+    ghost asked = { λ _. [] };
+
+    ghost ready = { λ _. [] };
+
+    ghost refuses = { λ _ _. Unit {0} };
+}
+
+impl<R: Wait> Transport<R> for Counting {
+    fn connect(&mut self, rt: &R, _address: SocketAddr) -> Connected<TcpConn> {
+        let mut count = self.count.lock(rt);
+        *count = count.saturating_add(1);
+        Ok(Err(ConnectionError::Io(ErrorKind::ConnectionRefused)))
+    }
+
+    fn connect_timeout(
+        &mut self,
+        rt: &R,
+        address: SocketAddr,
+        _limit: Duration,
+    ) -> Connected<TcpConn> {
+        self.connect(rt, address)
+    }
+}
+
+/// The number of the refusal of a client that connects within so many seconds, and how often it asked.
+fn within<R: Wait + AllocGlobal>(rt: &R, seconds: u64) -> Result<(u8, u32), AllocError> {
+    let alloc = rt.alloc();
+    let count = Arc::new(alloc, Mutex::new(0u32))?;
+    let transport = Counting {
+        count: count.clone()?,
+    };
+    let limit = Duration::from_secs(seconds);
+    let session: FtpResult<Session<Counting>> = Session::connect_timeout(
+        alloc,
+        rt,
+        transport,
+        address(1),
+        limit,
+    );
+    let asked = *count.lock(rt);
+    Ok((number(&session), asked))
+}
+
+/// A server of one client: it sends all its replies at once, and returns what it received.
+fn serve(alloc: Global, listener: &TcpListener, replies: &[u8]) -> io::Result<String> {
+    let (mut server, _peer) = listener.accept()?;
+    server.write_all(replies)?;
+    io::read_to_string(alloc, server)
+}
+
+/// Logs in, asks for an answer, and says goodbye.
+fn visit<R>(rt: &R, addresses: &[SocketAddr]) -> FtpResult<()>
+where
+    R: Net<Stream = TcpStream> + Wait + AllocGlobal,
+{
+    let client = FtpStream::connect(rt, addresses)?;
+    client.login(rt, "anonymous", "guest@example.org")?;
+    client.noop(rt)?;
+    client.quit(rt)
+}
+
+#[test]
+fn the_first_address_that_does_not_refuse_is_taken(rt: HostRuntime) -> Result<(), Fail> {
+    let alloc = rt.alloc();
+    let transport = after_two_refusals(alloc, b"220 r\r\n200 ok\r\n")?;
+    let addresses = [address(1), address(2), address(3), address(4)];
+    let mut session: Session<MemoryTransport> = Session::connect(
+        alloc, &rt, transport, &addresses,
+    )?;
+    assert_eq!(rt; number(&session.noop(alloc)), 0);
+    let asked = asked_text(alloc, session.transport().asked())?;
+    assert_eq!(rt;
+        asked.as_str(),
+        "-192.0.2.1:21 -192.0.2.2:21 +192.0.2.3:21 "
+    );
+    Ok(())
+}
+
+#[test]
+fn the_last_address_says_why_none_connects(rt: HostRuntime) -> Result<(), Fail> {
+    let alloc = rt.alloc();
+    let transport = after_two_refusals(alloc, b"220 r\r\n")?;
+    let session: FtpResult<Session<MemoryTransport>> = Session::connect(
+        alloc,
+        &rt,
+        transport,
+        &[address(1), address(2)],
+    );
+    assert_eq!(rt; kind_of(&session), Some(ErrorKind::ConnectionReset));
+    let session: FtpResult<Session<MemoryTransport>> = Session::connect(
+        alloc,
+        &rt,
+        MemoryTransport::new(alloc),
+        &[address(1)],
+    );
+    assert_eq!(rt; kind_of(&session), Some(ErrorKind::ConnectionRefused));
+    Ok(())
+}
+
+#[test]
+fn a_connection_within_a_time_is_asked_for_with_it(rt: HostRuntime) -> Result<(), Fail> {
+    let alloc = rt.alloc();
+    let mut transport = MemoryTransport::new(alloc);
+    transport.supply(Supply::Connects(conn_with(alloc, b"220 r\r\n")?))?;
+    let limit = Duration::from_secs(7);
+    let session: Session<MemoryTransport> = Session::connect_timeout(
+        alloc,
+        &rt,
+        transport,
+        address(1),
+        limit,
+    )?;
+    let asked = asked_text(alloc, session.transport().asked())?;
+    assert_eq!(rt; asked.as_str(), "+192.0.2.1:21 in 7 ");
+    Ok(())
+}
+
+#[test]
+fn no_time_asks_for_no_connection(rt: HostRuntime) -> Result<(), Fail> {
+    assert_eq!(rt; within(&rt, 0)?, (8, 0));
+    assert_eq!(rt; within(&rt, 1)?, (1, 1));
+    Ok(())
+}
+
+#[test]
+fn a_client_logs_in_on_the_address_that_answers(rt: HostRuntime) -> Result<(), Fail> {
+    let closed = TcpListener::bind(&rt, "127.0.0.1:0")?.local_addr()?;
+    let listener = TcpListener::bind(&rt, "127.0.0.1:0")?;
+    let open = listener.local_addr()?;
+    let replies = b"220 ready\r\n331 pw\r\n230 in\r\n200 ok\r\n221 bye\r\n";
+    let server = thread::spawn(&rt, move || serve(rt.alloc(), &listener, replies))?;
+    assert_eq!(rt; number(&visit(&rt, &[closed, open])), 0);
+    let received = server.join(&rt)?;
+    let lines = "USER anonymous\r\nPASS guest@example.org\r\nNOOP\r\nQUIT\r\n";
+    assert_eq!(rt; received.as_str(), lines);
+    Ok(())
+}
+
+#[test]
+fn a_client_connects_within_a_time_and_not_in_none(rt: HostRuntime) -> Result<(), Fail> {
+    let listener = TcpListener::bind(&rt, "127.0.0.1:0")?;
+    let address = listener.local_addr()?;
+    let server = thread::spawn(&rt, move || serve(rt.alloc(), &listener, b"220 ready\r\n"))?;
+    assert_eq!(rt;
+        number(&FtpStream::connect_timeout(&rt, address, Duration::ZERO)),
+        8
+    );
+    let client = FtpStream::connect_timeout(&rt, address, Duration::from_secs(5))?;
+    assert_eq!(rt; client.get_welcome_msg(&rt)?.as_deref(), Some("220 ready"));
+    drop(client);
+    assert_eq!(rt; server.join(&rt)?.as_str(), "");
+    Ok(())
+}
