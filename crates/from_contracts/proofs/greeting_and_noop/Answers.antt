@@ -1,6 +1,6 @@
 use Rattle.std.proofs.Common.{[], ap, ◌∙◌, subst}
 use Rattle.ftp_control.specs.Told.{Told}
-use Rattle.ftp_control.specs.Memory.{IsGiven, fed}
+use Rattle.ftp_control.specs.Memory.{Asking, IsGiven, fed}
 use Rattle.ftp_session.specs.Calls.{Begins}
 use Rattle.from_contracts.proofs.Noop.{server, answered}
 use Rattle.from_contracts.proofs.greeting_and_noop.Goals as goal
@@ -10,6 +10,8 @@ returns c =
     let old = c.in_ok-session.session.machine in
     let P : Told → Type 0 = λ t. Begins (Unit {0}) t [] old in
     let Q : Told → Type 0 = IsGiven in
-    let begins = subst P (c.in_ok-feed.ensures.ok ∙ ap (fed server) c.new-conn.ensures) c.in_ok-session.ensures.begins in
+    let R : Asking → Type 0 = λ a. Begins (Unit {0}) c.feed.new.self a.answered old in
+    let unasked = subst R c.new.ensures c.in_ok-session.ensures.begins in
+    let begins = subst P (c.in_ok-feed.ensures.ok ∙ ap (fed server) c.new-conn.ensures) unasked in
     let given = subst Q c.get_ref.ensures c.unread.ensures.given in
     answered _ old c.run.new.self.machine _ begins given c.in_ok-answers.ensures.sound.channel (rw c.in_ok-session.ensures.encoding at c.in_ok-answers.ensures.runs)
