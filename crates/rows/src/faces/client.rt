@@ -2,7 +2,7 @@
 
 use super::methods::{Opening, greeted};
 use crate::answers::{reply, texts_of, unit};
-use crate::dial::addresses_of;
+use crate::dial::asked_addresses;
 use crate::encodings::Named;
 use crate::play::Play;
 use crate::transcript::Standing;
@@ -46,8 +46,7 @@ pub fn called<R: Wait + AllocGlobal>(
         mut answers,
         others,
     } = greeted(rt.alloc(), calls, play)?;
-    let requests = session.transport().asked().iter().map(|one| &one.request);
-    let asked = addresses_of(rt.alloc(), requests)?;
+    let asked = asked_addresses(rt.alloc(), session.transport().asked())?;
     let client = had(ImplFtpStream::new(rt.alloc(), session))?;
     if let Some(encoding) = play.encoding {
         had(client.set_encoding(rt, encoding))?;

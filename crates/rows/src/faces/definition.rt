@@ -82,7 +82,7 @@ fn dialled(
     let encoding = encoding_of(play);
     match connect_in_turn(alloc, Room::Any, &encoding, &requests, dial.fault(), first)? {
         Played::Done(Answer::Unit, here) => {
-            let asked = addresses_of(alloc, here.asked.as_slice().iter())?;
+            let asked = addresses_of(alloc, here.asked.as_slice())?;
             match run(alloc, Room::Any, &encoding, others, here)? {
                 Ran::Finished(answers, here) | Ran::Waiting(answers, _, here) => {
                     let mut all = answers.into_vec();

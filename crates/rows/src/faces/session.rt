@@ -2,7 +2,7 @@
 
 use super::definition::welcome;
 use crate::answers::texts_of;
-use crate::dial::{addresses_of, conn_with};
+use crate::dial::{asked_addresses, conn_with};
 use crate::encodings::Named;
 use crate::play::Play;
 use crate::transcript::Standing;
@@ -100,9 +100,8 @@ pub fn stands(
     let conn = session.get_ref();
     let answers = texts_of(alloc, answers)?;
     let welcome = welcome(alloc, session.state())?;
-    let requests = session.transport().asked().iter().map(|one| &one.request);
     Ok(Standing {
-        asked: addresses_of(alloc, requests)?,
+        asked: asked_addresses(alloc, session.transport().asked())?,
         sent: Vec::from_slice(alloc, conn.sent())?,
         answers,
         taken: conn.received().saturating_sub(session.untaken()),
