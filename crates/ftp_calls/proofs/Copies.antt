@@ -1,7 +1,7 @@
 -- A clone of a call is the call.
 use Rattle.std.proofs.Common.{◌≡◌, rules}
 use Rattle.ftp_calls.specs.declared.call.Call.{Call}
-use Rattle.ftp_calls.specs.declared.call.Call.TheVariants.{Greet, Login, Cwd, Cdup, Noop, Eprt, Opts, Site, TransferType, Mkdir, Rmdir, Rm, Rename, Quit, CustomCommand, ReadResponse, ReadResponseIn}
+use Rattle.ftp_calls.specs.declared.call.Call.TheVariants.{Greet, Login, Cwd, Cdup, Pwd, Noop, Eprt, Opts, Site, TransferType, Mkdir, Rmdir, Rm, Rename, Quit, Mlst, Mdtm, Size, Feat, CustomCommand, ReadResponse, ReadResponseIn}
 use Rattle.ftp_calls.specs.contracts.call.CallClone.TheImpl.{by_variants}
 
 pub same_call : (call copy : Call) → by_variants call copy → copy ≡ call
@@ -9,6 +9,7 @@ same_call Greet copy is = search rules
 same_call (Login user password) copy is = search rules
 same_call (Cwd path) copy is = search rules
 same_call Cdup copy is = search rules
+same_call Pwd copy is = search rules
 same_call Noop copy is = search rules
 same_call (Eprt address) copy is = search rules
 same_call (Opts name value) copy is = search rules
@@ -19,6 +20,10 @@ same_call (Rmdir path) copy is = search rules
 same_call (Rm path) copy is = search rules
 same_call (Rename one other) copy is = search rules
 same_call Quit copy is = search rules
+same_call (Mlst path) copy is = search rules
+same_call (Mdtm path) copy is = search rules
+same_call (Size path) copy is = search rules
+same_call Feat copy is = search rules
 same_call (CustomCommand line codes) copy is = search rules
 same_call (ReadResponse status) copy is = search rules
 same_call (ReadResponseIn codes) copy is = search rules

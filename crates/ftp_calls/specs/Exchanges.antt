@@ -1,20 +1,21 @@
--- What each call says and hears, one row an exchange: RFC 959, sections 4.1, 5.4 and 6; RFC 2389, section 4
--- (OPTS); RFC 2428, section 2 (EPRT). All that a call does follows from its row.
+-- What each call says and hears, one row an exchange: RFC 959, sections 4.1, 5.4 and 6; RFC 2389, sections
+-- 3 (FEAT) and 4 (OPTS); RFC 2428, section 2 (EPRT); RFC 3659, sections 3 (MDTM), 4 (SIZE) and 7 (MLST). All that a call
+-- does follows from its row.
 use Rattle.std.specs.Prelude.{Bool, true, false, ◌&&◌, List, [], ◌∷◌, Some, None, is_none}
 use Rattle.ftp_base.specs.declared.status.Status.{Status}
-use Rattle.ftp_base.specs.declared.status.Status.TheVariants.{CommandOk, Ready, Closing, LoggedIn, RequestedFileActionOk, PathCreated, NeedPassword, RequestFilePending}
+use Rattle.ftp_base.specs.declared.status.Status.TheVariants.{CommandOk, System, File, Ready, Closing, LoggedIn, RequestedFileActionOk, PathCreated, NeedPassword, RequestFilePending}
 use Rattle.ftp_base.specs.declared.types.file_type.FileType.{FileType}
 use Rattle.ftp_base.specs.declared.types.file_type.FileType.TheVariants.{Ascii, Ebcdic, Image, Binary, Local}
 use Rattle.ftp_base.specs.declared.command.Command.{Command}
 use Rattle.ftp_base.specs.declared.command.Command.TheVariants as command
 use Rattle.ftp_calls.specs.declared.call.Call.{Call}
-use Rattle.ftp_calls.specs.declared.call.Call.TheVariants.{Greet, Login, Cwd, Cdup, Noop, Eprt, Opts, Site, TransferType, Mkdir, Rmdir, Rm, Rename, Quit, CustomCommand, ReadResponse, ReadResponseIn}
+use Rattle.ftp_calls.specs.declared.call.Call.TheVariants.{Greet, Login, Cwd, Cdup, Pwd, Noop, Eprt, Opts, Site, TransferType, Mkdir, Rmdir, Rm, Rename, Quit, Mlst, Mdtm, Size, Feat, CustomCommand, ReadResponse, ReadResponseIn}
 use Rattle.ftp_calls.specs.declared.exchange.Turn.{Turn}
 use Rattle.ftp_calls.specs.declared.exchange.Turn.TheVariants.{First, Second}
 use Rattle.ftp_calls.specs.declared.exchange.Codes.{Codes}
-use Rattle.ftp_calls.specs.declared.exchange.Codes.TheVariants.{One, Either, Given}
+use Rattle.ftp_calls.specs.declared.exchange.Codes.TheVariants.{One, Either, Given, Features}
 use Rattle.ftp_calls.specs.declared.exchange.Ending.{Ending}
-use Rattle.ftp_calls.specs.declared.exchange.Ending.TheVariants.{Done, GivesReply, Greets, SetsText, GoesOn}
+use Rattle.ftp_calls.specs.declared.exchange.Ending.TheVariants.{Done, GivesReply, Greets, GivesPath, GivesSecondLine, GivesTime, GivesSize, GivesFeatures, SetsText, GoesOn}
 use Rattle.ftp_calls.specs.declared.exchange.Exchange.{Exchange}
 
 -- the statuses that a reply may have
@@ -22,6 +23,7 @@ abbrev pub statuses : Codes → List Status
 statuses (One status) = status ∷ []
 statuses (Either one other) = one ∷ other ∷ []
 statuses (Given codes) = codes
+statuses Features = System ∷ []
 
 -- a command and its reply
 abbrev pub says : Command → Codes → Ending → Exchange
@@ -46,6 +48,7 @@ exchange_of (Login user password) First = says (command.User user) (Either Logge
 exchange_of (Login user password) Second = says (command.Pass password) (One LoggedIn) Done
 exchange_of (Cwd directory) turn = says (command.Cwd directory) (Either CommandOk RequestedFileActionOk) Done
 exchange_of Cdup turn = says command.Cdup (Either CommandOk RequestedFileActionOk) Done
+exchange_of Pwd turn = says command.Pwd (One PathCreated) GivesPath
 exchange_of Noop turn = says command.Noop (One CommandOk) Done
 exchange_of (Eprt address) turn = says (command.Eprt address) (One CommandOk) Done
 exchange_of (Opts name value) turn = says (command.Opts name value) (One CommandOk) Done
@@ -57,15 +60,45 @@ exchange_of (Rm path) turn = says (command.Dele path) (Either RequestedFileActio
 exchange_of (Rename one other) First = says (command.RenameFrom one) (One RequestFilePending) (GoesOn RequestFilePending)
 exchange_of (Rename one other) Second = says (command.RenameTo other) (Either RequestedFileActionOk CommandOk) Done
 exchange_of Quit turn = says command.Quit (One Closing) Done
+exchange_of (Mlst path) turn = says (command.Mlst path) (One RequestedFileActionOk) GivesSecondLine
+exchange_of (Mdtm path) turn = says (command.Mdtm path) (One File) GivesTime
+exchange_of (Size path) turn = says (command.Size path) (One File) GivesSize
+exchange_of Feat turn = says command.Feat Features GivesFeatures
 exchange_of (CustomCommand line codes) turn = says (command.Custom line) (Given codes) GivesReply
 exchange_of (ReadResponse status) turn = hears (One status) GivesReply
 exchange_of (ReadResponseIn codes) turn = hears (Given codes) GivesReply
+
+-- what a call that succeeds gives: nothing, a reply, a text, a time, a number of bytes or features
+pub data Kind : Type 0 where
+  Nothing : Kind
+  Replies : Kind
+  Texts : Kind
+  Times : Kind
+  Sizes : Kind
+  Lists : Kind
+
+abbrev pub kind_of : Ending → Kind
+kind_of Done = Nothing
+kind_of GivesReply = Replies
+kind_of Greets = Nothing
+kind_of GivesPath = Texts
+kind_of GivesSecondLine = Texts
+kind_of GivesTime = Times
+kind_of GivesSize = Sizes
+kind_of GivesFeatures = Lists
+kind_of (SetsText text) = Nothing
+kind_of (GoesOn status) = Nothing
 
 -- a reply is the answer
 abbrev pub gives_reply : Ending → Bool
 gives_reply Done = false
 gives_reply GivesReply = true
 gives_reply Greets = false
+gives_reply GivesPath = false
+gives_reply GivesSecondLine = false
+gives_reply GivesTime = false
+gives_reply GivesSize = false
+gives_reply GivesFeatures = false
 gives_reply (SetsText text) = false
 gives_reply (GoesOn status) = false
 

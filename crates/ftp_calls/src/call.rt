@@ -5,7 +5,8 @@
 //! dropped.
 
 use ftp_base::status::Status;
-use ftp_base::types::{Bytes, FileType, FtpError, Items, Response, Text};
+use ftp_base::types::{Bytes, Features, FileType, FtpError, Items, Response, Text};
+use jiff::civil::DateTime;
 use std::net::SocketAddr;
 
 /// A call of a session, with its arguments.
@@ -19,6 +20,8 @@ pub enum Call {
     Cwd(Text),
     /// `CDUP` (200, 250).
     Cdup,
+    /// `PWD` (257).
+    Pwd,
     /// `NOOP` (200).
     Noop,
     /// `EPRT` (200).
@@ -39,6 +42,14 @@ pub enum Call {
     Rename(Text, Text),
     /// `QUIT` (221).
     Quit,
+    /// `MLST`, of a path or of the current directory (250).
+    Mlst(Option<Text>),
+    /// `MDTM` (213).
+    Mdtm(Text),
+    /// `SIZE` (213).
+    Size(Text),
+    /// `FEAT` (211), whose reply a list of features may follow.
+    Feat,
     /// A caller-supplied line, and the statuses that its reply may have.
     CustomCommand(Text, Items<Status>),
     /// A reply of this status is read; nothing is said.
@@ -54,6 +65,14 @@ pub enum Answer {
     Unit,
     /// The call succeeded with this reply.
     Reply(Response),
+    /// It succeeded with this text: a path, or the facts of a file.
+    Text(Text),
+    /// It succeeded with this time.
+    Time(DateTime),
+    /// It succeeded with this number of bytes.
+    Size(usize),
+    /// It succeeded with these features.
+    Features(Features),
     /// The call failed.
     Fault(FtpError),
 }

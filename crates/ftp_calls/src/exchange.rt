@@ -30,6 +30,8 @@ pub enum Codes {
     Either(Status, Status),
     /// One of a caller's.
     Given(Items<Status>),
+    /// 211, by the answer to `FEAT`: after a dash a list of features belongs to the reply.
+    Features,
 }
 
 /// How an exchange ends once a reply was accepted.
@@ -41,6 +43,16 @@ pub enum Ending {
     GivesReply,
     /// The reply is the server's greeting.
     Greets,
+    /// The path between the reply's quotes is the answer.
+    GivesPath,
+    /// The reply's second line is the answer.
+    GivesSecondLine,
+    /// The time that the reply tells is the answer.
+    GivesTime,
+    /// The number of bytes that the reply tells is the answer.
+    GivesSize,
+    /// The features that the reply lists are the answer.
+    GivesFeatures,
     /// Transfers are of text from now on, or aren't.
     SetsText(bool),
     /// A reply of this status goes on to the next exchange; with another the call is done.
@@ -77,6 +89,11 @@ pub fn exchange_of(call: Call, turn: Turn) -> Exchange
         Call::Login(user, password) => login(user, password, turn),
         Call::Cwd(directory) => says(Command::Cwd(directory), ok_or_done(), Ending::Done),
         Call::Cdup => says(Command::Cdup, ok_or_done(), Ending::Done),
+        Call::Pwd => says(
+            Command::Pwd,
+            Codes::One(Status::PathCreated),
+            Ending::GivesPath,
+        ),
         Call::Noop => says(Command::Noop, ok(), Ending::Done),
         Call::Eprt(address) => says(Command::Eprt(address), ok(), Ending::Done),
         Call::Opts(name, value) => says(Command::Opts(name, value), ok(), Ending::Done),
@@ -90,6 +107,21 @@ pub fn exchange_of(call: Call, turn: Turn) -> Exchange
         Call::Rm(path) => says(Command::Dele(path), done_or_ok(), Ending::Done),
         Call::Rename(from, to) => rename(from, to, turn),
         Call::Quit => says(Command::Quit, Codes::One(Status::Closing), Ending::Done),
+        Call::Mlst(path) => {
+            let codes = Codes::One(Status::RequestedFileActionOk);
+            says(Command::Mlst(path), codes, Ending::GivesSecondLine)
+        }
+        Call::Mdtm(path) => says(
+            Command::Mdtm(path),
+            Codes::One(Status::File),
+            Ending::GivesTime,
+        ),
+        Call::Size(path) => says(
+            Command::Size(path),
+            Codes::One(Status::File),
+            Ending::GivesSize,
+        ),
+        Call::Feat => says(Command::Feat, Codes::Features, Ending::GivesFeatures),
         Call::CustomCommand(line, codes) => {
             says(
                 Command::Custom(line),

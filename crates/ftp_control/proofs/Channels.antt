@@ -1,6 +1,10 @@
 -- The sound channel goes on.
 use Rattle.std.proofs.Common.{◌≡◌, ℕ, Bool, true, false, List, [], ◌++◌, length, drop, Result, Ok, Err, refl, ap, sym, ◌∙◌, subst, append_assoc, append-nil, arith}
 use Rattle.ftp_control.specs.declared.control.rule.ReplyRule.{ReplyRule}
+use Rattle.ftp_control.specs.declared.control.form.ReplyForm.TheVariants.{Features}
+use Rattle.ftp_control.specs.declared.control.grammar.Phase.{Phase}
+use Rattle.ftp_control.specs.declared.control.grammar.Phase.TheVariants.{InReply}
+use Rattle.ftp_control.specs.Inside.Verdict.{waiting_form}
 use Rattle.ftp_control.specs.declared.transport.room.Room.{Room}
 use Rattle.ftp_control.specs.declared.transport.room.Room.TheVariants.{Any, UpTo}
 use Rattle.ftp_control.specs.declared.control.broken.Broken.{Broken}
@@ -55,12 +59,12 @@ nothing_ahead : (kept whole : List ℕ) → IsEndOf kept whole → IsEndOf (kept
 nothing_ahead kept whole a = let P : List ℕ → Type 0 = λ k. IsEndOf k whole in subst P (sym (append-nil kept)) a
 
 -- after a read
-pub read_holds : (tells : Type 0) (t u : Told) (kept kept' : List ℕ) (start start' : ℕ) (line : List ℕ) (sent : ℕ) (ended ended' failed failed' : Bool) (rule : ReplyRule) (says : List ℕ → Bool → Outcome) (result : Result Outcome Broken) → Holds tells t kept start line sent ended failed rule → IsUnderWay rule kept' start' → (tells → u.ended ≡ ended') → Hears tells says kept kept' ended ended' t u result → Holds tells u kept' start' line sent ended' failed' rule
-read_holds tells t u kept kept' start start' line sent ended ended' failed failed' rule says result held under known heard = record {
+pub read_holds : (tells : Type 0) (t u : Told) (kept kept' : List ℕ) (start start' : ℕ) (phase phase' : Phase) (line : List ℕ) (sent : ℕ) (ended ended' failed failed' : Bool) (rule : ReplyRule) (says : List ℕ → Bool → Outcome) (result : Result Outcome Broken) → Holds tells t kept start phase line sent ended failed rule → IsUnderWay rule kept' start' phase' → (tells → u.ended ≡ ended') → Hears tells says kept kept' ended ended' t u result → Holds tells u kept' start' phase' line sent ended' failed' rule
+read_holds tells t u kept kept' start start' phase phase' line sent ended ended' failed failed' rule says result held under known heard = record {
   under_way = under;
   within = held.within;
   sound = record {
-    waits = under.waits;
+    waits = (waiting_form phase', under.waits);
     kept = λ h.
         let reads = only_reads result heard.came ended' t u (heard.told h) in
         let before : IsEndOf kept t.received = let P : List ℕ → Type 0 = λ k. IsEndOf k t.received in subst P (append-nil kept) (held.sound.kept h) in
@@ -84,12 +88,12 @@ fresh_fits Any sent none = tt
 fresh_fits (UpTo most) sent none = rw none (omega arith)
 
 -- a channel begins
-pub idle_holds : (tells : Type 0) (t : Told) (rule : ReplyRule) → (tells → (t.ended ≡ false) × (t.sent ≡ [])) → Holds tells t [] 0 [] 0 false false rule
+pub idle_holds : (tells : Type 0) (t : Told) (rule : ReplyRule) → (tells → (t.ended ≡ false) × (t.sent ≡ [])) → Holds tells t [] 0 InReply [] 0 false false rule
 idle_holds tells t rule begins = record {
   under_way = nothing_under_way rule;
   within = omega arith;
   sound = record {
-    waits = (nothing_under_way rule).waits;
+    waits = (Features, (nothing_under_way rule).waits);
     kept = λ h. record { front = t.received; is = sym (append-nil t.received) };
     lines = λ h. let P : List ℕ → Type 0 = λ s. IsLines (s ++ []) [] in subst P (sym (begins h).1) (record { whole = refl; lines = tt; end_of_last = omega arith });
     ended = λ h. (begins h).0;
@@ -98,8 +102,8 @@ idle_holds tells t rule begins = record {
 }
 
 -- a line is taken whole, to go out
-pub push_holds : (tells : Type 0) (t : Told) (kept : List ℕ) (start : ℕ) (old line : List ℕ) (sent : ℕ) (ended failed : Bool) (rule : ReplyRule) → Holds tells t kept start old sent ended failed rule → drop sent old ≡ [] → is_wire_line line ≡ true → Holds tells t kept start line 0 ended failed rule
-push_holds tells t kept start old line sent ended failed rule held none is = record {
+pub push_holds : (tells : Type 0) (t : Told) (kept : List ℕ) (start : ℕ) (phase : Phase) (old line : List ℕ) (sent : ℕ) (ended failed : Bool) (rule : ReplyRule) → Holds tells t kept start phase old sent ended failed rule → drop sent old ≡ [] → is_wire_line line ≡ true → Holds tells t kept start phase line 0 ended failed rule
+push_holds tells t kept start phase old line sent ended failed rule held none is = record {
   under_way = held.under_way;
   within = omega arith;
   sound = record {

@@ -2,6 +2,7 @@
 use Rattle.std.proofs.Common.{◌≡◌, ℕ, ◌+◌, ◌≤◌, ◌<◌, Bool, true, false, ◌||◌, List, [], ◌∷◌, ◌++◌, length, drop, Result, Ok, Err, refl, ap, sym, ◌∙◌, subst, append-nil, arith}
 use Rattle.std.proofs.Math.Seq.{drop-append_seam, drop-length}
 use Rattle.ftp_control.specs.declared.control.rule.ReplyRule.{ReplyRule}
+use Rattle.ftp_control.specs.declared.control.form.ReplyForm.{ReplyForm}
 use Rattle.ftp_control.specs.declared.control.broken.Broken.{Broken}
 use Rattle.ftp_control.specs.declared.control.outcome.Outcome.{Outcome}
 use Rattle.ftp_control.specs.declared.control.outcome.Outcome.TheVariants.{Whole, Bad, TooLarge, Ended, Waits}
@@ -32,61 +33,61 @@ leaves_bytes (Err broken) bytes new none all = untaken_kept new none ∙ all
 later_left : (count : ℕ) (bytes left more : List ℕ) → count ≡ length bytes → left ≡ [] → drop count (bytes ++ more) ≡ left ++ more
 later_left count bytes left more is none = ap (λ n. drop n (bytes ++ more)) is ∙ drop-append_seam bytes more ∙ sym (ap (λ l. l ++ more) none)
 
-stays_settled : (rule : ReplyRule) (system : Bool) (bytes left : List ℕ) (ended : Bool) (result : Result Outcome Broken) (kept : List ℕ) → (kept ≡ [] → left ≡ []) → TakesAll result bytes kept → AnswersOutcome result (outcome rule system bytes ended) → StaysSettled result (outcome rule system) bytes left ended
-stays_settled rule system bytes left ended (Ok (Whole reply code)) kept none all is = λ more e on. (
-  answer_stays rule system bytes ended (Whole reply code) (λ w. let clash : Whole reply code ≡ Waits = w in cc) is more e on,
+stays_settled : (rule : ReplyRule) (form : ReplyForm) (bytes left : List ℕ) (ended : Bool) (result : Result Outcome Broken) (kept : List ℕ) → (kept ≡ [] → left ≡ []) → TakesAll result bytes kept → AnswersOutcome result (outcome rule form bytes ended) → StaysSettled result (outcome rule form) bytes left ended
+stays_settled rule form bytes left ended (Ok (Whole reply code)) kept none all is = λ more e on. (
+  answer_stays rule form bytes ended (Whole reply code) (λ w. let clash : Whole reply code ≡ Waits = w in cc) is more e on,
   later_left (length reply) bytes left more (ap length all.0) (none all.1),
 )
-stays_settled rule system bytes left ended (Ok (Bad line)) kept none all is = λ more e on. (
-  answer_stays rule system bytes ended (Bad line) (λ w. let clash : Bad line ≡ Waits = w in cc) is more e on,
+stays_settled rule form bytes left ended (Ok (Bad line)) kept none all is = λ more e on. (
+  answer_stays rule form bytes ended (Bad line) (λ w. let clash : Bad line ≡ Waits = w in cc) is more e on,
   later_left (length line) bytes left more (ap length all.0) (none all.1),
 )
-stays_settled rule system bytes left ended (Ok TooLarge) kept none all is = λ more e on. (
-  answer_stays rule system bytes ended TooLarge (λ w. let clash : TooLarge ≡ Waits = w in cc) is more e on,
+stays_settled rule form bytes left ended (Ok TooLarge) kept none all is = λ more e on. (
+  answer_stays rule form bytes ended TooLarge (λ w. let clash : TooLarge ≡ Waits = w in cc) is more e on,
   later_left (reply_limit + 1) bytes left more (sym all.0) (none all.1),
 )
-stays_settled rule system bytes left ended (Ok Ended) kept none all is = λ more e on.
-    let last : ended ≡ true = ended_last rule system bytes ended (Ok Ended) is refl in (
-      answer_stays rule system bytes ended Ended (λ w. let clash : Ended ≡ Waits = w in cc) is more e on,
+stays_settled rule form bytes left ended (Ok Ended) kept none all is = λ more e on.
+    let last : ended ≡ true = ended_last rule form bytes ended (Ok Ended) is refl in (
+      answer_stays rule form bytes ended Ended (λ w. let clash : Ended ≡ Waits = w in cc) is more e on,
       rw (none all, on.nothing last),
     )
-stays_settled rule system bytes left ended (Ok Waits) kept none all is = tt
-stays_settled rule system bytes left ended (Err broken) kept none all is = tt
+stays_settled rule form bytes left ended (Ok Waits) kept none all is = tt
+stays_settled rule form bytes left ended (Err broken) kept none all is = tt
 
 -- nothing settles nothing
-empty_clash : (rule : ReplyRule) (system ended : Bool) (heard : Outcome) → heard ≡ outcome rule system [] ended → (heard ≡ Ended → ⊥) → (heard ≡ Waits → ⊥) → ⊥
+empty_clash : (rule : ReplyRule) (form : ReplyForm) (ended : Bool) (heard : Outcome) → heard ≡ outcome rule form [] ended → (heard ≡ Ended → ⊥) → (heard ≡ Waits → ⊥) → ⊥
 unfolding outcome
-empty_clash rule system true heard is other waits = other is
-empty_clash rule system false heard is other waits = waits is
+empty_clash rule form true heard is other waits = other is
+empty_clash rule form false heard is other waits = waits is
 
 some_taken : (bytes left : List ℕ) → left ≡ [] → (bytes ≡ [] → ⊥) → length left < length bytes
 some_taken [] left none some = absurd (some refl)
 some_taken (b ∷ bytes) left none some = rw none (omega arith)
 
-takes_some : (rule : ReplyRule) (system : Bool) (bytes left : List ℕ) (ended : Bool) (result : Result Outcome Broken) (kept : List ℕ) → (kept ≡ [] → left ≡ []) → TakesAll result bytes kept → AnswersOutcome result (outcome rule system bytes ended) → TakesSome result bytes left
-takes_some rule system bytes left ended (Ok (Whole reply code)) kept none all is =
-    some_taken bytes left (none all.1) (λ e. let P : List ℕ → Type 0 = λ bs. Whole reply code ≡ outcome rule system bs ended in empty_clash rule system ended (Whole reply code) (subst P e is) (λ w. let clash : Whole reply code ≡ Ended = w in cc) (λ w. let clash : Whole reply code ≡ Waits = w in cc))
-takes_some rule system bytes left ended (Ok (Bad line)) kept none all is =
-    some_taken bytes left (none all.1) (λ e. let P : List ℕ → Type 0 = λ bs. Bad line ≡ outcome rule system bs ended in empty_clash rule system ended (Bad line) (subst P e is) (λ w. let clash : Bad line ≡ Ended = w in cc) (λ w. let clash : Bad line ≡ Waits = w in cc))
-takes_some rule system bytes left ended (Ok TooLarge) kept none all is = rw (none all.1) (omega (arith, all.0))
-takes_some rule system bytes left ended (Ok Ended) kept none all is = tt
-takes_some rule system bytes left ended (Ok Waits) kept none all is = tt
-takes_some rule system bytes left ended (Err broken) kept none all is = tt
+takes_some : (rule : ReplyRule) (form : ReplyForm) (bytes left : List ℕ) (ended : Bool) (result : Result Outcome Broken) (kept : List ℕ) → (kept ≡ [] → left ≡ []) → TakesAll result bytes kept → AnswersOutcome result (outcome rule form bytes ended) → TakesSome result bytes left
+takes_some rule form bytes left ended (Ok (Whole reply code)) kept none all is =
+    some_taken bytes left (none all.1) (λ e. let P : List ℕ → Type 0 = λ bs. Whole reply code ≡ outcome rule form bs ended in empty_clash rule form ended (Whole reply code) (subst P e is) (λ w. let clash : Whole reply code ≡ Ended = w in cc) (λ w. let clash : Whole reply code ≡ Waits = w in cc))
+takes_some rule form bytes left ended (Ok (Bad line)) kept none all is =
+    some_taken bytes left (none all.1) (λ e. let P : List ℕ → Type 0 = λ bs. Bad line ≡ outcome rule form bs ended in empty_clash rule form ended (Bad line) (subst P e is) (λ w. let clash : Bad line ≡ Ended = w in cc) (λ w. let clash : Bad line ≡ Waits = w in cc))
+takes_some rule form bytes left ended (Ok TooLarge) kept none all is = rw (none all.1) (omega (arith, all.0))
+takes_some rule form bytes left ended (Ok Ended) kept none all is = tt
+takes_some rule form bytes left ended (Ok Waits) kept none all is = tt
+takes_some rule form bytes left ended (Err broken) kept none all is = tt
 
 module _ (tells : Type 0) (old new : Channel) (result : Result Outcome Broken) (before : old.ahead ≡ []) (after : new.ahead ≡ []) (same : new ≡ record old { told = new.told; kept = new.kept; ahead = new.ahead; ended = new.ended; failed = old.failed || fails_by result }) where
   -- a read of a reply
-  pub reads_reply : (system : Bool) → Hears tells (outcome old.rule system) old.kept new.kept old.ended new.ended old.told new.told result → ReadsReply tells system old new result
-  reads_reply system heard =
+  pub reads_reply : (form : ReplyForm) → Hears tells (outcome old.rule form) old.kept new.kept old.ended new.ended old.told new.told result → ReadsReply tells form old new result
+  reads_reply form heard =
       record {
         came = heard.came;
         over = heard.over;
         unended = heard.unended;
         leaves = leaves_bytes result (untaken old ++ heard.came) new after all;
         past = let P : List ℕ → Type 0 = λ a. length a ≤ length old.ahead + length heard.came in subst P (sym after) (omega arith);
-        takes = λ w. takes_some old.rule system (untaken old ++ heard.came) (untaken new) new.ended result new.kept (λ none. untaken_kept new after ∙ none) all (answer w);
+        takes = λ w. takes_some old.rule form (untaken old ++ heard.came) (untaken new) new.ended result new.kept (λ none. untaken_kept new after ∙ none) all (answer w);
         answer = answer;
-        stays = λ w. stays_settled old.rule system (untaken old ++ heard.came) (untaken new) new.ended result new.kept (λ none. untaken_kept new after ∙ none) all (answer w);
-        last = λ w. ended_last old.rule system (untaken old ++ heard.came) new.ended result (answer w);
+        stays = λ w. stays_settled old.rule form (untaken old ++ heard.came) (untaken new) new.ended result new.kept (λ none. untaken_kept new after ∙ none) all (answer w);
+        last = λ w. ended_last old.rule form (untaken old ++ heard.came) new.ended result (answer w);
         told = heard.told;
         same = same;
       }
@@ -97,18 +98,18 @@ module _ (tells : Type 0) (old new : Channel) (result : Result Outcome Broken) (
       all : TakesAll result (untaken old ++ heard.came) new.kept
       all = let P : List ℕ → Type 0 = λ bs. TakesAll result bs new.kept in subst P bytes heard.all
 
-      answer : outcome old.rule system old.kept false ≡ Waits → AnswersOutcome result (outcome old.rule system (untaken old ++ heard.came) new.ended)
-      answer w = let P : List ℕ → Type 0 = λ bs. AnswersOutcome result (outcome old.rule system bs new.ended) in subst P bytes (heard.answer w)
+      answer : outcome old.rule form old.kept false ≡ Waits → AnswersOutcome result (outcome old.rule form (untaken old ++ heard.came) new.ended)
+      answer w = let P : List ℕ → Type 0 = λ bs. AnswersOutcome result (outcome old.rule form bs new.ended) in subst P bytes (heard.answer w)
 
   -- a read of one line
-  pub reads_line : outcome old.rule false old.kept false ≡ Waits → whole_lines old.kept ≡ [] → Hears tells line_outcome old.kept new.kept old.ended new.ended old.told new.told result → ReadsLine tells old new result
-  reads_line waits none heard =
+  pub reads_line : (form : ReplyForm) → outcome old.rule form old.kept false ≡ Waits → whole_lines old.kept ≡ [] → Hears tells line_outcome old.kept new.kept old.ended new.ended old.told new.told result → ReadsLine tells old new result
+  reads_line form waits none heard =
       record {
         came = heard.came;
         over = heard.over;
         unended = heard.unended;
         leaves = leaves_bytes result (untaken old ++ heard.came) new after (let P : List ℕ → Type 0 = λ bs. TakesAll result bs new.kept in subst P bytes heard.all);
-        answer = let P : List ℕ → Type 0 = λ bs. AnswersOutcome result (line_outcome bs new.ended) in subst P bytes (heard.answer (line_waits_on old.rule old.kept waits none));
+        answer = let P : List ℕ → Type 0 = λ bs. AnswersOutcome result (line_outcome bs new.ended) in subst P bytes (heard.answer (line_waits_on old.rule form old.kept waits none));
         told = heard.told;
         same = same;
       }

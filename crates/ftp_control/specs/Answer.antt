@@ -18,10 +18,16 @@ use Rattle.ftp_control.specs.declared.control.outcome.Outcome.TheVariants.{Whole
 use Rattle.ftp_control.specs.Memory.{IsGiven}
 use Rattle.ftp_control.specs.Reading.{MayBreak}
 use Rattle.ftp_control.specs.Channel.{Channel, ReadsReply}
+use Rattle.ftp_control.specs.declared.control.form.ReplyForm.{ReplyForm}
+use Rattle.ftp_control.specs.declared.control.form.ReplyForm.TheVariants as form
 
 -- a status is among these
 abbrev pub is_among : List Status → Status → Bool
 is_among statuses status = list_any (λ s. code_of s == code_of status) statuses
+
+-- the form of a reply that is expected under these statuses
+abbrev pub form_of : List Status → ReplyForm
+form_of expected = if is_among expected System then form.System else form.Plain
 
 -- a reply whose status is expected, or the refusal of another
 abbrev pub expected_reply : List Status → Response → Result Response FtpError
@@ -37,10 +43,10 @@ answer_of expected (Ok Waits) = Pending
 answer_of expected (Err (Connection kind)) = Ready (Err (fault.ConnectionError (connection.Io kind)))
 answer_of expected (Err OutOfMemory) = Ready (Err fault.OutOfMemory)
 
--- a read that expects these: what was read, and its answer
-pub record AnswersRead (tells : Type 0) (faults : ErrorKind → Type 0) (expected : List Status) (old new : Channel) (answer : Poll (Result Response FtpError)) : Type 0 where
+-- a read of this form that expects these: what was read, and its answer
+pub record AnswersRead (tells : Type 0) (faults : ErrorKind → Type 0) (form : ReplyForm) (expected : List Status) (old new : Channel) (answer : Poll (Result Response FtpError)) : Type 0 where
   pub result : Result Outcome Broken
-  pub reads : ReadsReply tells (is_among expected System) old new result
+  pub reads : ReadsReply tells form old new result
   pub fault : MayBreak faults result
   pub given : tells → IsGiven old.told → IsGiven new.told
   pub is : answer ≡ answer_of expected result

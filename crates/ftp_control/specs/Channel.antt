@@ -3,6 +3,7 @@ use Rattle.std.specs.Prelude.{◌≡◌, ℕ, ◌+◌, ◌≤◌, ◌<◌, lengt
 use Rattle.std.specs.declared.io.ErrorKind.{ErrorKind}
 use Rattle.futures.specs.declared.task.Poll.{Poll}
 use Rattle.ftp_control.specs.declared.control.rule.ReplyRule.{ReplyRule}
+use Rattle.ftp_control.specs.declared.control.form.ReplyForm.{ReplyForm}
 use Rattle.ftp_control.specs.declared.control.broken.Broken.{Broken}
 use Rattle.ftp_control.specs.declared.control.broken.Broken.TheVariants.{Connection, OutOfMemory}
 use Rattle.ftp_control.specs.declared.control.outcome.Outcome.{Outcome}
@@ -33,10 +34,10 @@ pub record IsEndOf (part whole : List ℕ) : Type 0 where
   pub front : List ℕ
   pub is : whole ≡ front ++ part
 
--- the sound channel: what is kept says nothing yet, and what is untaken ends what was received; what went out is
+-- the sound channel: what is kept says nothing yet of some form, and what is untaken ends what was received; what went out is
 -- within the room, and with what is unsent it is whole wire lines
 pub record IsSound (tells : Type 0) (c : Channel) : Type 0 where
-  pub waits : outcome c.rule false c.kept false ≡ Waits
+  pub waits : (form : ReplyForm) × (outcome c.rule form c.kept false ≡ Waits)
   pub kept : tells → IsEndOf (untaken c) c.told.received
   pub lines : tells → IsLines (c.told.sent ++ c.unsent) c.unsent
   pub ended : tells → c.told.ended ≡ c.ended
@@ -82,16 +83,16 @@ TakesSome (Ok Waits) bytes left = Unit {0}
 TakesSome (Err broken) bytes left = Unit {0}
 
 -- a read of a reply
-pub record ReadsReply (tells : Type 0) (system : Bool) (old new : Channel) (result : Result Outcome Broken) : Type 0 where
+pub record ReadsReply (tells : Type 0) (form : ReplyForm) (old new : Channel) (result : Result Outcome Broken) : Type 0 where
   pub came : List ℕ
   pub over : GoesOn old.ended came new.ended
   pub unended : result ≡ Ok Waits → new.ended ≡ false
   pub leaves : LeavesBytes result (untaken old ++ came) new
   pub past : length new.ahead ≤ length old.ahead + length came
-  pub takes : outcome old.rule system old.kept false ≡ Waits → TakesSome result (untaken old ++ came) (untaken new)
-  pub answer : outcome old.rule system old.kept false ≡ Waits → AnswersOutcome result (outcome old.rule system (untaken old ++ came) new.ended)
-  pub stays : outcome old.rule system old.kept false ≡ Waits → StaysSettled result (outcome old.rule system) (untaken old ++ came) (untaken new) new.ended
-  pub last : outcome old.rule system old.kept false ≡ Waits → result ≡ Ok Ended → new.ended ≡ true
+  pub takes : outcome old.rule form old.kept false ≡ Waits → TakesSome result (untaken old ++ came) (untaken new)
+  pub answer : outcome old.rule form old.kept false ≡ Waits → AnswersOutcome result (outcome old.rule form (untaken old ++ came) new.ended)
+  pub stays : outcome old.rule form old.kept false ≡ Waits → StaysSettled result (outcome old.rule form) (untaken old ++ came) (untaken new) new.ended
+  pub last : outcome old.rule form old.kept false ≡ Waits → result ≡ Ok Ended → new.ended ≡ true
   pub told : tells → HearTells result came new.ended old.told new.told
   pub same : new ≡ record old { told = new.told; kept = new.kept; ahead = new.ahead; ended = new.ended; failed = old.failed || fails_by result }
 

@@ -1,11 +1,14 @@
 -- The grammar of replies: RFC 959, section 4.2. A definition speaks of all bytes that came, and of whether
 -- they have ended.
-use Rattle.std.specs.Prelude.{ℕ, ◌+◌, ◌*◌, ◌-◌, Bool, ◌||◌, ◌&&◌, ◌==◌, nat_eq, nat_le, nat_lt, List, [], ◌∷◌, ◌++◌, length, take, drop, slice_index, if◌then◌else◌}
-use Rattle.std.specs.List.{list_any, list_all}
+use Rattle.std.specs.Prelude.{ℕ, ◌+◌, ◌*◌, ◌-◌, Bool, true, false, ◌||◌, ◌&&◌, ◌==◌, codes, nat_eq, nat_le, nat_lt, List, [], ◌∷◌, ◌++◌, length, take, drop, slice_index, if◌then◌else◌}
+use Rattle.std.specs.List.{list_any, list_all, starts_with}
 use Rattle.std.specs.Cmp.Lexicographic.{pointwise}
 use Rattle.std.specs.Char.{is_ascii_digit}
 use Rattle.ftp_control.specs.declared.control.rule.ReplyRule.{ReplyRule}
 use Rattle.ftp_control.specs.declared.control.rule.ReplyRule.TheVariants.{Lenient}
+use Rattle.ftp_control.specs.declared.control.form.ReplyForm.{ReplyForm}
+use Rattle.ftp_control.specs.declared.control.form.ReplyForm.TheVariants.{Plain, System, Features}
+use Rattle.ftp_base.specs.Features.{is_last}
 use Rattle.ftp_control.specs.declared.plain.Found.{Found}
 use Rattle.ftp_control.specs.declared.plain.Found.TheVariants.{Reply, NoReply, Unfinished}
 use Rattle.ftp_control.specs.declared.control.outcome.Outcome.{Outcome}
@@ -64,13 +67,29 @@ opens Lenient line =
     nat_le 5 (length line)
     && (begins_with_digits line || ((slice_index line 0 == 43) && list_all is_ascii_digit (take 2 (drop 1 line))))
 
--- a last line: at least 4 bytes, three digits and a space; where the reply to a system status is read, also
--- the first line's three digits and '-'
+-- a last line: at least 4 bytes, three digits and a space; where a dash ends a reply, also the first line's three
+-- digits and '-'
 abbrev pub ends : ReplyRule → Bool → List ℕ → List ℕ → Bool
-ends Lenient system first line =
+ends Lenient dash first line =
     nat_le 4 (length line)
     && begins_with_digits line
-    && ((slice_index line 3 == 32) || (system && (slice_index line 3 == 45) && pointwise nat_eq (take 3 line) (take 3 first)))
+    && ((slice_index line 3 == 32) || (dash && (slice_index line 3 == 45) && pointwise nat_eq (take 3 line) (take 3 first)))
+
+-- a dash ends a reply of 211, be it a system status or the first line of the answer to FEAT
+abbrev pub by_dash : ReplyForm → Bool
+by_dash Plain = false
+by_dash System = true
+by_dash Features = true
+
+-- a reply that is followed by a list of features: RFC 2389, section 3.2
+abbrev pub lists : ReplyForm → Bool
+lists Plain = false
+lists System = false
+lists Features = true
+
+-- a line that ends a reply and opens the list
+abbrev pub opens_list : List ℕ → Bool
+opens_list line = starts_with nat_eq line (codes "211-")
 
 -- A reply
 
@@ -82,19 +101,24 @@ after_line line (Reply bytes code) = Reply (line ++ bytes) code
 after_line line (NoReply other) = NoReply other
 after_line line Unfinished = Unfinished
 
--- the lines up to and with the first that ends the reply
-abbrev pub to_end : ReplyRule → Bool → List ℕ → List (List ℕ) → Found
-to_end rule system first [] = Unfinished
-to_end rule system first (line ∷ lines) =
-    if ends rule system first line
-    then Reply line (code_at_start line)
-    else after_line line (to_end rule system first lines)
+-- the lines of a list of features: those up to and with the first that begins "211 ", or all where the input has ended
+abbrev pub to_list_end : Bool → List (List ℕ) → Found
+to_list_end ended [] = if ended then Reply [] 211 else Unfinished
+to_list_end ended (line ∷ lines) = if is_last line then Reply line 211 else after_line line (to_list_end ended lines)
+
+-- the lines up to and with the first that ends the reply, and the list of features that it opens
+abbrev pub to_end : ReplyRule → ReplyForm → Bool → List ℕ → List (List ℕ) → Found
+to_end rule form ended first [] = Unfinished
+to_end rule form ended first (line ∷ lines) =
+    if ends rule (by_dash form) first line
+    then (if lists form && opens_list line then after_line line (to_list_end ended lines) else Reply line (code_at_start line))
+    else after_line line (to_end rule form ended first lines)
 
 -- the reply that the lines begin with
-abbrev pub reply_in : ReplyRule → Bool → List (List ℕ) → Found
-reply_in rule system [] = Unfinished
-reply_in rule system (line ∷ lines) =
-    if opens rule line then to_end rule system line (line ∷ lines) else NoReply line
+abbrev pub reply_in : ReplyRule → ReplyForm → Bool → List (List ℕ) → Found
+reply_in rule form ended [] = Unfinished
+reply_in rule form ended (line ∷ lines) =
+    if opens rule line then to_end rule form ended line (line ∷ lines) else NoReply line
 
 -- The outcome of a read: a whole reply, with its bytes and its code; a first line that opens none; more bytes
 -- than a reply may have; an end of input before the reply's; or nothing yet
@@ -110,8 +134,8 @@ within count ended (NoReply line) = if nat_le (length line) reply_limit then Bad
 within count ended Unfinished = if nat_lt reply_limit count then TooLarge else (if ended then Ended else Waits)
 
 -- what a read says of all bytes that came since the reply began
-unfoldable pub outcome : ReplyRule → Bool → List ℕ → Bool → Outcome
-outcome rule system bytes ended = within (length bytes) ended (reply_in rule system (lines bytes ended))
+unfoldable pub outcome : ReplyRule → ReplyForm → List ℕ → Bool → Outcome
+outcome rule form bytes ended = within (length bytes) ended (reply_in rule form ended (lines bytes ended))
 
 -- the bytes that an outcome leaves for the next read
 abbrev pub left_by : Outcome → List ℕ → List ℕ

@@ -1,5 +1,6 @@
 -- The law of outcomes: what is settled stays, however the input goes on.
 use Rattle.std.specs.Prelude.{◌≡◌, ℕ, Bool, false, List, ◌++◌}
+use Rattle.ftp_control.specs.declared.control.form.ReplyForm.{ReplyForm}
 use Rattle.ftp_control.specs.declared.control.rule.ReplyRule.{ReplyRule}
 use Rattle.ftp_control.specs.declared.control.outcome.Outcome.{Outcome}
 use Rattle.ftp_control.specs.declared.control.outcome.Outcome.TheVariants.{Whole, Bad, TooLarge, Ended, Waits}
@@ -15,5 +16,5 @@ IsSettled Waits = ⊥
 
 abbrev pub SettledStays : Type 0
 SettledStays =
-    (rule : ReplyRule) (system : Bool) (bytes more : List ℕ) (ended : Bool) → IsSettled (outcome rule system bytes false)
-    → outcome rule system (bytes ++ more) ended ≡ outcome rule system bytes false
+    (rule : ReplyRule) (form : ReplyForm) (bytes more : List ℕ) (ended : Bool) → IsSettled (outcome rule form bytes false)
+    → outcome rule form (bytes ++ more) ended ≡ outcome rule form bytes false

@@ -5,10 +5,12 @@
 
 ghost use Rattle.std.specs.Prelude.{◌≡◌, ◌∷◌, [], ◌++◌, IfOk};
 ghost use Rattle.ftp_control.specs.Law.{SettledStays};
-ghost use Rattle.ftp_control.specs.Grammar.{whole_lines, rest, last_line, lines, to_end, reply_in, after_line, within, outcome, has_line_feed};
+ghost use Rattle.ftp_control.specs.Grammar.{whole_lines, rest, last_line, lines, to_end, to_list_end, reply_in, after_line, within, outcome, has_line_feed};
 
-use crate::control::grammar::{code_at_start, ends, opens};
-use crate::control::{Outcome, REPLY_LIMIT, ReplyRule};
+use crate::control::grammar::{
+    by_dash, closes_list, code_at_start, ends, lists, opens, opens_list,
+};
+use crate::control::{Outcome, REPLY_LIMIT, ReplyForm, ReplyRule};
 use ftp_base::types::Bytes;
 use std::alloc::{AllocError, Global};
 
@@ -74,16 +76,17 @@ pub fn lines(alloc: Global, bytes: &[u8], ended: bool) -> Result<Vec<Bytes>, All
 pub fn reply_in(
     alloc: Global,
     rule: ReplyRule,
-    system: bool,
+    form: ReplyForm,
+    ended: bool,
     lines: &[Bytes],
 ) -> Result<Found, AllocError>
-    ensures { IfOk result (λ found. found ≡ reply_in rule system lines.now) }
+    ensures { IfOk result (λ found. found ≡ reply_in rule form ended lines.now) }
 {
     let Some((first, _others)) = lines.split_first() else {
         return Ok(Found::Unfinished);
     };
     if opens(rule, first.as_slice()) {
-        to_end(alloc, rule, system, first, lines)
+        to_end(alloc, rule, form, ended, first, lines)
     } else {
         Ok(Found::NoReply(Bytes::from_slice(alloc, first.as_slice())?))
     }
@@ -94,14 +97,14 @@ pub fn reply_in(
 pub fn outcome(
     alloc: Global,
     rule: ReplyRule,
-    system: bool,
+    form: ReplyForm,
     bytes: &[u8],
     ended: bool,
 ) -> Result<Outcome, AllocError>
-    ensures { IfOk result (λ answer. answer ≡ outcome rule system bytes.now ended) }
+    ensures { IfOk result (λ answer. answer ≡ outcome rule form bytes.now ended) }
 {
     let lines = lines(alloc, bytes, ended)?;
-    let found = reply_in(alloc, rule, system, lines.as_slice())?;
+    let found = reply_in(alloc, rule, form, ended, lines.as_slice())?;
     Ok(within(bytes.len(), ended, found))
 }
 
@@ -136,24 +139,47 @@ fn within(count: usize, ended: bool, found: Found) -> Outcome
     }
 }
 
-/// The lines up to and with the first that ends the reply.
+/// The lines up to and with the first that ends the reply, and the list of features that it opens.
 fn to_end(
     alloc: Global,
     rule: ReplyRule,
-    system: bool,
+    form: ReplyForm,
+    ended: bool,
     first: &Bytes,
     lines: &[Bytes],
 ) -> Result<Found, AllocError>
-    ensures { IfOk result (λ found. found ≡ to_end rule system first.now lines.now) }
+    ensures { IfOk result (λ found. found ≡ to_end rule form ended first.now lines.now) }
 {
     let Some((line, others)) = lines.split_first() else {
         return Ok(Found::Unfinished);
     };
-    if ends(rule, system, first.as_slice(), line.as_slice()) {
-        let code = code_at_start(line.as_slice());
-        return Ok(Found::Reply(Bytes::from_slice(alloc, line.as_slice())?, code));
+    if !ends(rule, by_dash(form), first.as_slice(), line.as_slice()) {
+        let later = to_end(alloc, rule, form, ended, first, others)?;
+        return after_line(alloc, line, later);
     }
-    let later = to_end(alloc, rule, system, first, others)?;
+    if lists(form) && opens_list(line.as_slice()) {
+        let later = to_list_end(alloc, ended, others)?;
+        return after_line(alloc, line, later);
+    }
+    let code = code_at_start(line.as_slice());
+    Ok(Found::Reply(Bytes::from_slice(alloc, line.as_slice())?, code))
+}
+
+/// The lines of a list of features, up to and with the one that ends it, or all where the input has ended.
+fn to_list_end(alloc: Global, ended: bool, lines: &[Bytes]) -> Result<Found, AllocError>
+    ensures { IfOk result (λ found. found ≡ to_list_end ended lines.now) }
+{
+    let Some((line, others)) = lines.split_first() else {
+        return Ok(if ended {
+            Found::Reply(Bytes::from_slice(alloc, &[])?, 211)
+        } else {
+            Found::Unfinished
+        });
+    };
+    if closes_list(line.as_slice()) {
+        return Ok(Found::Reply(Bytes::from_slice(alloc, line.as_slice())?, 211));
+    }
+    let later = to_list_end(alloc, ended, others)?;
     after_line(alloc, line, later)
 }
 

@@ -22,12 +22,12 @@ ByteTells (Err kind) t u = HasFailed kind t u
 
 -- what all bytes since the read began say of what is sought
 abbrev pub says_of : ReplyRule → Sought → List ℕ → Bool → Outcome
-says_of rule (Reply system) = outcome rule system
+says_of rule (Reply form) = outcome rule form
 says_of rule Line = line_outcome
 
 -- bytes from which the search can go on: a single line is sought where no whole line is kept
 abbrev pub CanSeek : Sought → List ℕ → Type 0
-CanSeek (Reply system) bytes = Unit {0}
+CanSeek (Reply form) bytes = Unit {0}
 CanSeek Line bytes = whole_lines bytes ≡ []
 
 -- what is settled takes all bytes that were read, and nothing of them is kept

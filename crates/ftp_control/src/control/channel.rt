@@ -14,11 +14,12 @@ ghost use Rattle.futures.specs.declared.task.Poll.TheVariants as poll;
 ghost use Rattle.ftp_control.specs.declared.control.outcome.Outcome.TheVariants as outcomes;
 ghost use Rattle.ftp_control.specs.Channel.{fails_by};
 
+use super::grammar::Phase;
 use super::outbox::{Outbox, flush};
 use super::read_loop::hear;
 use super::reply_buffer::ReplyBuffer;
 use super::sought::Sought;
-use super::{Broken, Outcome, ReplyRule, WireLine};
+use super::{Broken, Outcome, ReplyForm, ReplyRule, WireLine};
 use crate::transport::{PollConn, Tells};
 use futures::task::Poll;
 use std::alloc::Global;
@@ -57,7 +58,7 @@ impl<C: Tells + Drop> Model for ControlChannel<C> {
       rule = c.rule;
     } };
 
-    ghost invariant = { λ c. Holds C.tells (C.told c.conn) c.reply.bytes.items c.reply.line_start
+    ghost invariant = { λ c. Holds C.tells (C.told c.conn) c.reply.bytes.items c.reply.line_start c.reply.phase
         c.outbox.line.items c.outbox.sent c.ended c.failed c.rule };
 }
 
@@ -68,7 +69,7 @@ impl<C: Tells + Drop> ControlChannel<C> {
     ghost use Rattle.ftp_control.specs.Told.{EndsAsTold, before_fault, begun};
     ghost use Rattle.ftp_control.specs.Channel.{Channel, IsIdle, IsSound, ReadsReply, FlushesTail, untaken};
 
-    /// Reads a reply as far as it has come, and consumes exactly its bytes. Returns `Waits` where the connection
+    /// Reads a reply of this form as far as it has come, and consumes exactly its bytes. Returns `Waits` where the connection
     /// waits.
     ///
     /// # Errors
@@ -76,7 +77,7 @@ impl<C: Tells + Drop> ControlChannel<C> {
     pub(crate) fn poll_outcome<W>(
         &mut self,
         alloc: Global,
-        system: bool,
+        form: ReplyForm,
         w: &mut W,
     ) -> Result<Outcome, Broken>
     where
@@ -86,7 +87,7 @@ impl<C: Tells + Drop> ControlChannel<C> {
             EndsAsTold self.old.ended self.new.ended self.old.told }
         ensures fault { MayBreak C.read_faults result }
         ensures given { C.Tells.tells → IsGiven self.old.told → IsGiven self.new.told }
-        ensures reads { ReadsReply C.Tells.tells system self.old self.new result }
+        ensures reads { ReadsReply C.Tells.tells form self.old self.new result }
     {
         let result = hear(
             alloc,
@@ -94,7 +95,7 @@ impl<C: Tells + Drop> ControlChannel<C> {
             &mut self.reply,
             &mut self.ended,
             self.rule,
-            Sought::Reply(system),
+            Sought::Reply(form),
             w,
         );
         self.failed = fails(self.failed, &result);
@@ -113,6 +114,7 @@ impl<C: Tells + Drop> ControlChannel<C> {
             reply: ReplyBuffer {
                 bytes: Vec::new(alloc),
                 line_start: 0,
+                phase: Phase::InReply,
             },
             outbox: Outbox {
                 line: Vec::new(alloc),

@@ -1,16 +1,17 @@
 //! Reads of a reply whose status is among those expected.
 //!
-//! Which statuses those are also decides how the reply is read: where 211 is among them, the last line of an answer to
-//! `FEAT` or `STAT` may begin as its first one does. The status is tested once the reply is whole, so a reply that
-//! wasn't expected is consumed and given to the caller.
+//! Which statuses those are also decides the reply's form: where 211 is among them, a first line `211-` may be the whole
+//! answer, as to `STAT`. The answer to `FEAT` has a form of its own. The status is tested once the reply is whole, so a
+//! reply that wasn't expected is consumed and given to the caller.
 
 ghost use Rattle.std.specs.Prelude.{◌≡◌, Err, true, false, ◌∷◌, []};
 ghost use Rattle.futures.specs.declared.task.Poll.TheVariants as poll;
 ghost use Rattle.ftp_control.specs.Told.{EndsAsTold};
-ghost use Rattle.ftp_control.specs.Answer.{AnswersRead, answer_of, is_among, expected_reply};
+ghost use Rattle.ftp_control.specs.Answer.{AnswersRead, answer_of, form_of, expected_reply};
 
-use super::expected_statuses::{expected_reply, is_among};
-use super::{Broken, ControlChannel, Outcome};
+use super::expected_statuses::expected_reply;
+use super::form::form_of;
+use super::{Broken, ControlChannel, Outcome, ReplyForm};
 use crate::transport::{Conn, NeverWaits, PollConn, Tells};
 use ftp_base::status::Status;
 use ftp_base::types::{ConnectionError, FtpError, FtpResult, ReplyTooLarge, Response};
@@ -41,13 +42,37 @@ impl<C: Tells + Drop> ControlChannel<C> {
         ensures failed { self.old.failed ≡ true →
             (result ≡ poll.Ready (Err FtpError.SessionFailed)) × (self.new ≡ self.old) }
         ensures reads { self.old.failed ≡ false →
-            AnswersRead C.Tells.tells C.read_faults expected.now self.old self.new result }
+            AnswersRead C.Tells.tells C.read_faults (form_of expected.now) expected.now self.old self.new result }
+    {
+        self.poll_read_reply(alloc, form_of(expected), expected, w)
+    }
+
+    /// Reads one reply of this form whose status is among the expected, as `poll_read_response_in` does. A list of
+    /// features belongs to the reply and to its body (RFC 2389, section 3.2).
+    ///
+    /// # Errors
+    /// Those of `poll_read_response_in`.
+    pub fn poll_read_reply<W>(
+        &mut self,
+        alloc: Global,
+        form: ReplyForm,
+        expected: &[Status],
+        w: &mut W,
+    ) -> Poll<FtpResult<Response>>
+    where
+        C: PollConn<W>,
+        ensures waits { result ≡ poll.Pending → C.may_wait }
+        ensures end { C.Tells.tells → C.may_wait →
+            EndsAsTold self.old.ended self.new.ended self.old.told }
+        ensures failed { self.old.failed ≡ true →
+            (result ≡ poll.Ready (Err FtpError.SessionFailed)) × (self.new ≡ self.old) }
+        ensures reads { self.old.failed ≡ false →
+            AnswersRead C.Tells.tells C.read_faults form expected.now self.old self.new result }
     {
         if self.failed() {
             return Poll::Ready(Err(FtpError::SessionFailed));
         }
-        let system = is_among(expected, Status::System);
-        let heard = self.poll_outcome(alloc, system, w);
+        let heard = self.poll_outcome(alloc, form, w);
         answer(expected, heard)
     }
 
@@ -69,7 +94,7 @@ impl<C: Tells + Drop> ControlChannel<C> {
         ensures failed { self.old.failed ≡ true →
             (result ≡ poll.Ready (Err FtpError.SessionFailed)) × (self.new ≡ self.old) }
         ensures reads { self.old.failed ≡ false →
-            AnswersRead C.Tells.tells C.read_faults (expected ∷ []) self.old self.new result }
+            AnswersRead C.Tells.tells C.read_faults (form_of (expected ∷ [])) (expected ∷ []) self.old self.new result }
     {
         self.poll_read_response_in(alloc, &[expected], w)
     }
@@ -84,7 +109,7 @@ impl<C: Tells + Drop> ControlChannel<C> {
         ensures failed { self.old.failed ≡ true → (result ≡ Err FtpError.SessionFailed) ×
             (self.new ≡ self.old) }
         ensures reads { self.old.failed ≡ false →
-            AnswersRead C.Tells.tells C.blocking_read_faults expected.now self.old self.new (poll.Ready result) }
+            AnswersRead C.Tells.tells C.blocking_read_faults (form_of expected.now) expected.now self.old self.new (poll.Ready result) }
     {
         match self.poll_read_response_in(alloc, expected, &mut NeverWaits) {
             Poll::Ready(answer) => answer,
@@ -102,7 +127,7 @@ impl<C: Tells + Drop> ControlChannel<C> {
         ensures failed { self.old.failed ≡ true → (result ≡ Err FtpError.SessionFailed) ×
             (self.new ≡ self.old) }
         ensures reads { self.old.failed ≡ false →
-            AnswersRead C.Tells.tells C.blocking_read_faults (expected ∷ []) self.old self.new (poll.Ready result) }
+            AnswersRead C.Tells.tells C.blocking_read_faults (form_of (expected ∷ [])) (expected ∷ []) self.old self.new (poll.Ready result) }
     {
         self.read_response_in(alloc, &[expected])
     }

@@ -19,12 +19,12 @@ pub(super) fn take_line_byte(
     rule: ReplyRule,
     byte: u8,
 ) -> Outcome
-    requires under_way { IsUnderWay rule reply.old.bytes.items reply.old.line_start }
+    requires under_way { IsUnderWay rule reply.old.bytes.items reply.old.line_start reply.old.phase }
     requires no_line { whole_lines reply.old.bytes.items ≡ [] }
     requires room { vec_len reply.old.bytes < vec_capacity reply.old.bytes }
     ensures outcome { result ≡ line_outcome (reply.old.bytes.items ++ byte ∷ []) false }
     ensures all { TakesAll (Ok result) (reply.old.bytes.items ++ byte ∷ []) reply.new.bytes.items }
-    ensures under_way { IsUnderWay rule reply.new.bytes.items reply.new.line_start }
+    ensures under_way { IsUnderWay rule reply.new.bytes.items reply.new.line_start reply.new.phase }
     ensures no_line { whole_lines reply.new.bytes.items ≡ [] }
 {
     reply.bytes.push(byte).unwrap();
@@ -40,12 +40,12 @@ pub(super) fn take_line_byte(
 
 /// The end of the input, for a line.
 pub(super) fn take_line_end(alloc: Global, reply: &mut ReplyBuffer, rule: ReplyRule) -> Outcome
-    requires under_way { IsUnderWay rule reply.old.bytes.items reply.old.line_start }
+    requires under_way { IsUnderWay rule reply.old.bytes.items reply.old.line_start reply.old.phase }
     requires no_line { whole_lines reply.old.bytes.items ≡ [] }
     ensures outcome { result ≡ line_outcome reply.old.bytes.items true }
     ensures settled { result ≡ Outcome.Waits → ⊥ }
     ensures all { TakesAll (Ok result) reply.old.bytes.items reply.new.bytes.items }
-    ensures under_way { IsUnderWay rule reply.new.bytes.items reply.new.line_start }
+    ensures under_way { IsUnderWay rule reply.new.bytes.items reply.new.line_start reply.new.phase }
 {
     if count(reply) == 0 {
         return Outcome::Ended;

@@ -33,10 +33,10 @@ pub(crate) fn hear<W, C: PollConn<W>>(
     sought: Sought,
     w: &mut W,
 ) -> Result<Outcome, Broken>
-    requires under_way { IsUnderWay rule reply.old.bytes.items reply.old.line_start }
+    requires under_way { IsUnderWay rule reply.old.bytes.items reply.old.line_start reply.old.phase }
     requires can_seek { CanSeek sought reply.old.bytes.items }
     requires known { C.Tells.tells → (C.Tells.told conn.old).ended ≡ ended.old }
-    ensures under_way { IsUnderWay rule reply.new.bytes.items reply.new.line_start }
+    ensures under_way { IsUnderWay rule reply.new.bytes.items reply.new.line_start reply.new.phase }
     ensures known { C.Tells.tells → (C.Tells.told conn.new).ended ≡ ended.new }
     ensures waits { result ≡ Ok outcomes.Waits → C.may_wait }
     ensures end { C.Tells.tells → C.may_wait →

@@ -8,14 +8,14 @@ ghost use Rattle.ftp_control.specs.Inside.UnderWay.{IsUnderWay};
 
 use super::line_buffer::{take_line_byte, take_line_end};
 use super::reply_buffer::{ReplyBuffer, take_reply_byte, take_reply_end};
-use super::{Outcome, ReplyRule};
+use super::{Outcome, ReplyForm, ReplyRule};
 use std::alloc::Global;
 
 /// What a read looks for.
 #[derive(Clone, Copy)]
 pub(crate) enum Sought {
-    /// A reply, and whether the one to a system status is expected.
-    Reply(bool),
+    /// A reply of this form.
+    Reply(ReplyForm),
     /// One line, where no whole line is kept.
     Line,
 }
@@ -29,33 +29,33 @@ impl Sought {
         rule: ReplyRule,
         byte: u8,
     ) -> Outcome
-        requires under_way { IsUnderWay rule reply.old.bytes.items reply.old.line_start }
+        requires under_way { IsUnderWay rule reply.old.bytes.items reply.old.line_start reply.old.phase }
         requires can_seek { CanSeek self reply.old.bytes.items }
         requires room { vec_len reply.old.bytes < vec_capacity reply.old.bytes }
         ensures outcome { says_of rule self reply.old.bytes.items false ≡ Outcome.Waits → result ≡
             says_of rule self (reply.old.bytes.items ++ byte ∷ []) false }
         ensures all { TakesAll (Ok result) (reply.old.bytes.items ++ byte ∷ []) reply.new.bytes.items }
-        ensures under_way { IsUnderWay rule reply.new.bytes.items reply.new.line_start }
+        ensures under_way { IsUnderWay rule reply.new.bytes.items reply.new.line_start reply.new.phase }
         ensures can_seek { CanSeek self reply.new.bytes.items }
     {
         match self {
-            Sought::Reply(system) => take_reply_byte(alloc, reply, rule, system, byte),
+            Sought::Reply(form) => take_reply_byte(alloc, reply, rule, form, byte),
             Sought::Line => take_line_byte(alloc, reply, rule, byte),
         }
     }
 
     /// The end of the input.
     pub(crate) fn take_end(self, alloc: Global, reply: &mut ReplyBuffer, rule: ReplyRule) -> Outcome
-        requires under_way { IsUnderWay rule reply.old.bytes.items reply.old.line_start }
+        requires under_way { IsUnderWay rule reply.old.bytes.items reply.old.line_start reply.old.phase }
         requires can_seek { CanSeek self reply.old.bytes.items }
         ensures outcome { says_of rule self reply.old.bytes.items false ≡ Outcome.Waits → result ≡
             says_of rule self reply.old.bytes.items true }
         ensures settled { result ≡ Outcome.Waits → ⊥ }
         ensures all { TakesAll (Ok result) reply.old.bytes.items reply.new.bytes.items }
-        ensures under_way { IsUnderWay rule reply.new.bytes.items reply.new.line_start }
+        ensures under_way { IsUnderWay rule reply.new.bytes.items reply.new.line_start reply.new.phase }
     {
         match self {
-            Sought::Reply(system) => take_reply_end(alloc, reply, rule, system),
+            Sought::Reply(form) => take_reply_end(alloc, reply, rule, form),
             Sought::Line => take_line_end(alloc, reply, rule),
         }
     }

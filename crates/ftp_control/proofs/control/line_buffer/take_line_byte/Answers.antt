@@ -11,7 +11,7 @@ returns-then-count-gt-REPLY_LIMIT-clause-outcome c =
 
 pub returns-then-count-gt-REPLY_LIMIT-clause-under_way :
     goal.returns-then-count-gt-REPLY_LIMIT-clause-under_way
-returns-then-count-gt-REPLY_LIMIT-clause-under_way c = rw (c.take_all.ensures.left, c.take_all.ensures.start) (nothing_under_way _)
+returns-then-count-gt-REPLY_LIMIT-clause-under_way c = rw (c.take_all.ensures.left, c.take_all.ensures.start, c.take_all.ensures.phase) (nothing_under_way _)
 
 pub returns-then-byte-ne10-clause-outcome : goal.returns-then-byte-ne10-clause-outcome
 returns-then-byte-ne10-clause-outcome c =
@@ -23,7 +23,7 @@ pub returns-then-byte-ne10-clause-under_way : goal.returns-then-byte-ne10-clause
 returns-then-byte-ne10-clause-under_way c =
     let pushed : c.push.new.self.items ≡ c.args.reply.now.bytes.items ++ c.args.byte ∷ [] = rw c.unwrap.ensures at c.push.ensures.items in
     let count : c.count.result ≡ length c.args.reply.now.bytes.items + 1 = c.count.ensures ∙ ap length pushed ∙ length-append _ _ in
-    rw pushed (byte_leaves _ _ _ _ c.requires.under_way (ne_eqb _ _ c.if-byte-ne10.true) (omega (arith, count, c.if-count-gt-REPLY_LIMIT.false)))
+    rw pushed (byte_leaves _ _ _ _ _ c.requires.under_way (ne_eqb _ _ c.if-byte-ne10.true) (omega (arith, count, c.if-count-gt-REPLY_LIMIT.false)))
 
 pub returns-then-byte-ne10-clause-no_line : goal.returns-then-byte-ne10-clause-no_line
 returns-then-byte-ne10-clause-no_line c =
@@ -39,7 +39,7 @@ returns-clause-outcome c =
     (sym (line_closes _ c.requires.no_line (omega (arith, count, c.if-count-gt-REPLY_LIMIT.false))))
 
 pub returns-clause-under_way : goal.returns-clause-under_way
-returns-clause-under_way c = rw (c.take_all-2.ensures.left, c.take_all-2.ensures.start) (nothing_under_way _)
+returns-clause-under_way c = rw (c.take_all-2.ensures.left, c.take_all-2.ensures.start, c.take_all-2.ensures.phase) (nothing_under_way _)
 
 pub returns-then-count-gt-REPLY_LIMIT-clause-all : goal.returns-then-count-gt-REPLY_LIMIT-clause-all
 returns-then-count-gt-REPLY_LIMIT-clause-all c =

@@ -18,4 +18,4 @@ returns-clause-outcome c =
     (sym (line_ends _ c.requires.no_line held.fits (omega (arith, c.count.ensures, c.if-count-eq0.false))))
 
 pub returns-clause-under_way : goal.returns-clause-under_way
-returns-clause-under_way c = rw (c.take_all.ensures.left, c.take_all.ensures.start) (nothing_under_way _)
+returns-clause-under_way c = rw (c.take_all.ensures.left, c.take_all.ensures.start, c.take_all.ensures.phase) (nothing_under_way _)

@@ -11,7 +11,7 @@ abbrev pub invariant-loop-ended : goal.invariant-loop-ended
 invariant-loop-ended g l =
     let told = g.C.Tells.told in
     record {
-      under_way : IsUnderWay l.rule l.reply.bytes.items l.reply.line_start;
+      under_way : IsUnderWay l.rule l.reply.bytes.items l.reply.line_start l.reply.phase;
       can_seek : CanSeek l.sought l.reply.bytes.items;
       known : g.C.Tells.tells → (told l.conn).ended ≡ l.ended;
       given : g.C.Tells.tells → IsGiven (told l.fn.conn) → IsGiven (told l.conn);
