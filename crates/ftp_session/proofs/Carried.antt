@@ -116,8 +116,8 @@ seen_kept P s v w came seen untaken_is split shrinks (inr same) =
     seen_same s (untaken w.channel ++ unread w.channel.told) left ∙ seen ∙ ap length (sym same.0)
 
 -- what is kept says nothing yet under the list that it was read under
-pub waits_kept : (P : Type 0) (s : Script) (v w : SessionValue) (came : List ℕ) → w.channel.rule ≡ v.channel.rule → outcome v.channel.rule s.system v.channel.kept false ≡ Waits → Keeps P came v w → outcome w.channel.rule s.system w.channel.kept false ≡ Waits
-waits_kept P s v w came rule waits (inl none) = rw none (nothing_says w.channel.rule s.system)
+pub waits_kept : (P : Type 0) (s : Script) (v w : SessionValue) (came : List ℕ) → w.channel.rule ≡ v.channel.rule → outcome v.channel.rule s.form v.channel.kept false ≡ Waits → Keeps P came v w → outcome w.channel.rule s.form w.channel.kept false ≡ Waits
+waits_kept P s v w came rule waits (inl none) = rw none (nothing_says w.channel.rule s.form)
 waits_kept P s v w came rule waits (inr same) = rw (same.0, rule) waits
 
 pub positive : (l : List ℕ) → (l ≡ [] → ⊥) → 0 < length l

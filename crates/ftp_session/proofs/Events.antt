@@ -1,4 +1,5 @@
 -- Lemmas on the events of a script but Poll.
+use Rattle.ftp_control.specs.declared.control.form.ReplyForm.{ReplyForm}
 use Rattle.std.proofs.Common.{◌≡◌, ℕ, Bool, true, false, cond, ◌||◌, Option, Some, None, List, [], ◌∷◌, ◌++◌, length, drop, inl, inr, ◌⊎◌, refl, ap, sym, ◌∙◌, subst, append_assoc, append-nil}
 use Rattle.std.proofs.Math.Seq.{drop-append_seam}
 use Rattle.ftp_control.specs.Told.{Told, Given}
@@ -238,8 +239,8 @@ module _ (coding : Coding) where
       go (Some call) stage (inr (inr place)) (inr read) = let clash : true ≡ false = sym read ∙ place.no_read in cc
 
   -- a script begins
-  pub begins : (v : SessionValue) (system : Bool) (stage : Stage) → IsGiven v.channel.told → IsSound (Unit {0}) v.channel → outcome v.channel.rule system v.channel.kept false ≡ Waits → Follows coding v (script_of v system) v None stage []
-  begins v system stage given sound waits = record {
+  pub begins : (v : SessionValue) (form : ReplyForm) (stage : Stage) → IsGiven v.channel.told → IsSound (Unit {0}) v.channel → outcome v.channel.rule form v.channel.kept false ≡ Waits → Follows coding v (script_of v form) v None stage []
+  begins v form stage given sound waits = record {
     came = [];
     place = λ later room more ended fit on. refl;
     rule = refl;

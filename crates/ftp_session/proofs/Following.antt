@@ -41,13 +41,13 @@ use Rattle.ftp_session.specs.declared.model.Ran.TheVariants.{Finished, Waiting}
 use Rattle.ftp_session.specs.declared.model.Script.{Script}
 use Rattle.ftp_session.specs.State.{SessionValue}
 use Rattle.ftp_session.specs.Coding.{Coding}
-use Rattle.ftp_calls.specs.Exchanges.{exchange_of, statuses, is_read}
-use Rattle.ftp_session.specs.Dialogue.{Tree, Say, Hear, saying, awaiting, later, dialogue}
+use Rattle.ftp_calls.specs.Exchanges.{exchange_of, is_read}
+use Rattle.ftp_session.specs.Dialogue.{Expected, expected_of, Tree, Say, Hear, saying, awaiting, later, dialogue}
 use Rattle.ftp_session.specs.Play.{play, fits, heard_then}
 use Rattle.ftp_session.specs.declared.model.Played.{Played}
 use Rattle.ftp_session.specs.Run.{run, before, and_then, Resumes, Silent}
 use Rattle.ftp_session.specs.Promises.{standing, before_all, However, Goes, Leads, Rests, Aborts}
-use Rattle.ftp_session.specs.Script.{unread, is_over, start_of, front, seen_at, system_at, hears_system, polled_as, run_with, poll_script, HearsNothing, MayCancel, MayPoll}
+use Rattle.ftp_session.specs.Script.{unread, is_over, start_of, front, seen_at, form_at, first_form, polled_as, run_with, poll_script, HearsNothing, MayCancel, MayPoll}
 use Rattle.ftp_session.specs.Scripted.{SaysFrontOf, SaysNothing, Stands, SaysOrTakes, CallHasBegun, Reaches, LeftOf}
 use Rattle.ftp_session.specs.Steps.Stages.{remaining, begun_at}
 use Rattle.ftp_session.specs.Steps.Moving.{BeginsHere, HasBegun, HasGoneOut, NothingTouched, Speaks, StillSays, Keeps, Shrinks, Calm, Advances, Ends, PollSteps, WaitsFor, WaitsToSay}
@@ -113,17 +113,17 @@ module _ (coding : Coding) where
       (first ∙ ap (λ s. before_all answers (run room coding later s)) (rests.stays tt more ended []))
 
   -- a reply that says nothing yet under a call's list is resumed by the call
-  resumes_dialogue : (rule : ReplyRule) (kept : List ℕ) (call : Call) (state : State) → outcome rule (hears_system call) kept false ≡ Waits → Resumes rule kept (dialogue coding call state)
+  resumes_dialogue : (rule : ReplyRule) (kept : List ℕ) (call : Call) (state : State) → outcome rule (first_form call) kept false ≡ Waits → Resumes rule kept (dialogue coding call state)
   resumes_dialogue rule kept call state waits = go (exchange_of call First).says
     where
       next : Tree
-      next = awaiting coding (statuses (exchange_of call First).hears) (exchange_of call First).ending state (later coding call First)
+      next = awaiting coding (expected_of (exchange_of call First).hears) (exchange_of call First).ending state (later coding call First)
 
-      line : (l : Result (List ℕ) Cause) → Resumes rule kept (Say l (awaiting coding (statuses (exchange_of call First).hears) (exchange_of call First).ending state (later coding call First)))
+      line : (l : Result (List ℕ) Cause) → Resumes rule kept (Say l (awaiting coding (expected_of (exchange_of call First).hears) (exchange_of call First).ending state (later coding call First)))
       line (Ok bytes) = waits
       line (Err cause) = tt
 
-      go : (command : Option Command) → Resumes rule kept (saying coding command (awaiting coding (statuses (exchange_of call First).hears) (exchange_of call First).ending state (later coding call First)))
+      go : (command : Option Command) → Resumes rule kept (saying coding command (awaiting coding (expected_of (exchange_of call First).hears) (exchange_of call First).ending state (later coding call First)))
       go None = waits
       go (Some command) = line (wire coding.encode (text_of command))
 
@@ -239,7 +239,7 @@ module _ (coding : Coding) where
             cc
 
     -- the call waits
-    wait_on : (tree : Tree) (stage' : Stage) (wait : Wait) (t : Standing) → Reaches coding old s.items (f.came ++ came) w s.answers call tree → play s.room tree here ≡ played.Pending wait t → front s.room t.said ≡ w.channel.told.sent → SaysFrontOf w.channel (t.said ++ t.unsent) → t.bytes ≡ untaken w.channel ++ unread w.channel.told → seen_at wait s t.bytes ≡ length w.channel.kept → outcome w.channel.rule (system_at wait s) w.channel.kept false ≡ Waits → t.state ≡ w.state → t.failed ≡ w.channel.failed → (MayCancel (Some call) true → s.unsent ≡ w.channel.unsent) → Place coding old (polled_as (Waiting s.answers wait t) call s) (f.came ++ came) w (Some call) stage' → Follows coding old (poll_script coding (start_of old) (Some call) s) w (Some call) stage' answers
+    wait_on : (tree : Tree) (stage' : Stage) (wait : Wait) (t : Standing) → Reaches coding old s.items (f.came ++ came) w s.answers call tree → play s.room tree here ≡ played.Pending wait t → front s.room t.said ≡ w.channel.told.sent → SaysFrontOf w.channel (t.said ++ t.unsent) → t.bytes ≡ untaken w.channel ++ unread w.channel.told → seen_at wait s t.bytes ≡ length w.channel.kept → outcome w.channel.rule (form_at wait s) w.channel.kept false ≡ Waits → t.state ≡ w.state → t.failed ≡ w.channel.failed → (MayCancel (Some call) true → s.unsent ≡ w.channel.unsent) → Place coding old (polled_as (Waiting s.answers wait t) call s) (f.came ++ came) w (Some call) stage' → Follows coding old (poll_script coding (start_of old) (Some call) s) w (Some call) stage' answers
     wait_on tree stage' wait t reaches waits sent begins bytes seen says_nothing state failed unsent place =
         let ran = waits_ran tree wait t reaches waits in
         let Q : Ran → Type 0 = λ r. Follows coding old (polled_as r call s) w (Some call) stage' answers in
@@ -282,14 +282,14 @@ module _ (coding : Coding) where
         let none : unread t ≡ [] = ap (λ r. drop (length r) t.given.bytes) dry.all ∙ drop-length t.given.bytes in
         ap (λ u. untaken w.channel ++ u) none ∙ append-nil (untaken w.channel) ∙ ap (λ a. w.channel.kept ++ a) none_ahead ∙ append-nil w.channel.kept
 
-    hear_waits : (codes : List Status) (next : Result Response FtpError → Tree) → IsDry w.channel.told → w.channel.ahead ≡ [] → w.channel.ended ≡ false → Resumes w.channel.rule w.channel.kept (Hear codes next) → play s.room (Hear codes next) here ≡ played.Pending (wait.Bytes (is_among codes System)) here
+    hear_waits : (codes : Expected) (next : Result Response FtpError → Tree) → IsDry w.channel.told → w.channel.ahead ≡ [] → w.channel.ended ≡ false → Resumes w.channel.rule w.channel.kept (Hear codes next) → play s.room (Hear codes next) here ≡ played.Pending (wait.Bytes codes.form) here
     hear_waits codes next dry none_ahead unended resumes =
         let t = w.channel.told in
         let on : is_over t ≡ false = ap (λ b. b || t.ended) dry.open_end ∙ c.sound.ended tt ∙ unended in
-        let system = is_among codes System in
-        let more : outcome w.channel.rule system (untaken w.channel ++ unread t) (is_over t) ≡ Waits =
-        ap (λ k. outcome w.channel.rule system k (is_over t)) (all_read none_ahead dry)
-        ∙ ap (λ o. outcome w.channel.rule system w.channel.kept o) on
+        let form = codes.form in
+        let more : outcome w.channel.rule form (untaken w.channel ++ unread t) (is_over t) ≡ Waits =
+        ap (λ k. outcome w.channel.rule form k (is_over t)) (all_read none_ahead dry)
+        ∙ ap (λ o. outcome w.channel.rule form w.channel.kept o) on
         ∙ resumes in
         play-Hear s.room codes next here ∙ ap (λ h. heard_then h codes here (λ heard u. play s.room (next heard) u)) more
 
@@ -452,7 +452,7 @@ module _ (coding : Coding) where
             let stuck = hear_waits old s v w call stage answers f moves.leads.came c hears.codes hears.next (hears.dry tt) hears.none_ahead hears.unended resumed in
             let seen : length (untaken w.channel ++ unread w.channel.told) ≡ length w.channel.kept = ap length (all_read old s v w call stage answers f moves.leads.came c hears.none_ahead (hears.dry tt)) in
             let sent = front_fits s.room w.channel.told.sent (fits_here old s v w call stage answers f moves.leads.came c) in
-            let b : Wait = wait.Bytes (is_among hears.codes System) in
+            let b : Wait = wait.Bytes hears.codes.form in
             wait_on old s v w call stage answers f moves.leads.came c (Hear hears.codes hears.next) stage' b t (subst P hears.is reaches') stuck sent (all_said w.channel) refl seen resumed refl refl unsent' (inr (inl (under_way t b)))
 
     -- a poll that completes the call
@@ -479,7 +479,7 @@ module _ (coding : Coding) where
         kept : take s.seen s.untaken ≡ v.channel.kept
         kept = ap (λ n. take n s.untaken) f.seen ∙ ap (λ u. take (length v.channel.kept) u) (f.untaken ∙ append_assoc v.channel.kept v.channel.ahead (unread v.channel.told)) ∙ take-append_seam v.channel.kept (v.channel.ahead ++ unread v.channel.told)
 
-        pick : (hears_system call ≡ s.system) ⊎ Resumes old.channel.rule (take s.seen s.untaken) (dialogue coding call s.state) ⊎ HearsNothing (run_with coding (start_of old) call s) s → Resumes v.channel.rule v.channel.kept (dialogue coding call v.state) ⊎ HearsNothing (run_with coding (start_of old) call s) s
+        pick : (first_form call ≡ s.form) ⊎ Resumes old.channel.rule (take s.seen s.untaken) (dialogue coding call s.state) ⊎ HearsNothing (run_with coding (start_of old) call s) s → Resumes v.channel.rule v.channel.kept (dialogue coding call v.state) ⊎ HearsNothing (run_with coding (start_of old) call s) s
         pick (inl same) = inl (resumes_dialogue v.channel.rule v.channel.kept call v.state (ap (λ b. outcome v.channel.rule b v.channel.kept false) same ∙ f.waits))
         pick (inr (inl waits)) =
             let P : State → Type 0 = λ state. Resumes old.channel.rule (take s.seen s.untaken) (dialogue coding call state) in

@@ -1,4 +1,5 @@
 -- Lemmas on a dialogue's reading of a reply.
+use Rattle.ftp_control.specs.declared.control.form.ReplyForm.{ReplyForm}
 use Rattle.std.proofs.Common.{◌≡◌, ℕ, ◌+◌, ◌≤◌, Bool, true, false, cond, ◌||◌, List, [], ◌++◌, length, Result, Ok, Err, inl, inr, refl, ap, sym, ◌∙◌, subst, append_assoc, append-nil, length-append, arith}
 use Rattle.std.specs.declared.io.ErrorKind.{ErrorKind}
 use Rattle.futures.specs.declared.task.Poll.{Poll}
@@ -28,26 +29,26 @@ use Rattle.ftp_session.specs.declared.session.state.State.{State}
 use Rattle.ftp_session.specs.declared.model.Standing.{Standing}
 use Rattle.ftp_session.specs.declared.model.Played.{Played}
 use Rattle.ftp_session.specs.State.{SessionValue}
-use Rattle.ftp_session.specs.Dialogue.{Tree, Say, Hear, Ask, Leaf}
+use Rattle.ftp_session.specs.Dialogue.{Expected, Tree, Say, Hear, Ask, Leaf}
 use Rattle.ftp_session.specs.Play.{play, heard_then}
 use Rattle.ftp_session.specs.Run.{Resumes}
 use Rattle.ftp_session.specs.Promises.{standing, Goes, Leads, Rests}
 use Rattle.ftp_session.specs.Steps.Moving.{Moves, Advances, WaitsFor, AbortsRead, Hears, Takes}
 use Rattle.ftp_session.specs.Link.{Link}
 
-pub play-Hear : (room : Room) (codes : List Status) (next : Result Response FtpError → Tree) (s : Standing) → play room (Hear codes next) s ≡ heard_then (outcome s.rule (is_among codes System) s.bytes s.ended) codes s (λ heard t. play room (next heard) t)
+pub play-Hear : (room : Room) (codes : Expected) (next : Result Response FtpError → Tree) (s : Standing) → play room (Hear codes next) s ≡ heard_then (outcome s.rule codes.form s.bytes s.ended) codes s (λ heard t. play room (next heard) t)
 unfolding play
 play-Hear room codes next s = refl
 
-pub nothing_says : (rule : ReplyRule) (system : Bool) → outcome rule system [] false ≡ Waits
+pub nothing_says : (rule : ReplyRule) (form : ReplyForm) → outcome rule form [] false ≡ Waits
 unfolding outcome
-nothing_says rule system = refl
+nothing_says rule form = refl
 
 -- where nothing is kept, a reply is begun anew
 pub nothing_resumes : (rule : ReplyRule) (tree : Tree) → Resumes rule [] tree
 nothing_resumes rule (Say (Ok line) next) = nothing_resumes rule next
 nothing_resumes rule (Say (Err cause) next) = tt
-nothing_resumes rule (Hear codes next) = nothing_says rule (is_among codes System)
+nothing_resumes rule (Hear codes next) = nothing_says rule codes.form
 nothing_resumes rule (Ask request next) = λ answer. nothing_resumes rule (next answer)
 nothing_resumes rule (Leaf answer state) = tt
 
@@ -60,7 +61,7 @@ tells_input Ended came ended t u told = told
 tells_input Waits came ended t u told = told.0
 
 -- a session that hasn't failed, and what a read leaves of it
-module _ (link : Link) (state : State) (asked : List Asked) (t : Told) (kept ahead unsent : List ℕ) (first : Bool) (rule : ReplyRule) (codes : List Status) (next : Result Response FtpError → Tree) (kept' ahead' : List ℕ) (ended : Bool) where
+module _ (link : Link) (state : State) (asked : List Asked) (t : Told) (kept ahead unsent : List ℕ) (first : Bool) (rule : ReplyRule) (codes : Expected) (next : Result Response FtpError → Tree) (kept' ahead' : List ℕ) (ended : Bool) where
   abbrev old : SessionValue
   old = record { channel = record { told = t; kept = kept; ahead = ahead; unsent = unsent; ended = first; failed = false; rule = rule }; state = state; asked = asked }
 
@@ -97,7 +98,7 @@ module _ (link : Link) (state : State) (asked : List Asked) (t : Told) (kept ahe
     fewer_left none shrinks = omega (arith, shrinks, ap length (ap (λ k. k ++ ahead') none), length-append kept ahead)
 
     -- a settled outcome hands its answer on, and takes exactly its bytes, however the input goes on
-    settles : (failed : Bool) (heard : Outcome) (answer : Result Response FtpError) → (link.tells → u ≡ after_input came ended t) → kept' ≡ [] → length ahead' ≤ length ahead + length came → ((s : Standing) (k : Result Response FtpError → Standing → Played) → heard_then heard codes (record s { failed = false }) k ≡ k answer (record s { bytes = left_by heard s.bytes; failed = failed })) → (outcome rule (is_among codes System) kept false ≡ Waits → (more : List ℕ) (e : Bool) → GoesOn ended more e → (outcome rule (is_among codes System) (((kept ++ ahead) ++ came) ++ more) e ≡ heard) × (left_by heard (((kept ++ ahead) ++ came) ++ more) ≡ (kept' ++ ahead') ++ more)) → Moves link (Hear codes next) (next answer) old (new u failed)
+    settles : (failed : Bool) (heard : Outcome) (answer : Result Response FtpError) → (link.tells → u ≡ after_input came ended t) → kept' ≡ [] → length ahead' ≤ length ahead + length came → ((s : Standing) (k : Result Response FtpError → Standing → Played) → heard_then heard codes (record s { failed = false }) k ≡ k answer (record s { bytes = left_by heard s.bytes; failed = failed })) → (outcome rule codes.form kept false ≡ Waits → (more : List ℕ) (e : Bool) → GoesOn ended more e → (outcome rule codes.form (((kept ++ ahead) ++ came) ++ more) e ≡ heard) × (left_by heard (((kept ++ ahead) ++ came) ++ more) ≡ (kept' ++ ahead') ++ more)) → Moves link (Hear codes next) (next answer) old (new u failed)
     settles failed heard answer told none shrinks then_is stays = record {
       leads = record {
         came = came;
@@ -107,7 +108,7 @@ module _ (link : Link) (state : State) (asked : List Asked) (t : Told) (kept ahe
             let s : Standing = standing old (came ++ more) e outcomes in
             let k : Result Response FtpError → Standing → Played = λ a x. play room (next a) x in
             let is = stays resumes more e on in
-            let at : List ℕ → Played = λ b. heard_then (outcome rule (is_among codes System) b e) codes (record s { bytes = b }) k in
+            let at : List ℕ → Played = λ b. heard_then (outcome rule codes.form b e) codes (record s { bytes = b }) k in
             let there : Standing = record s { bytes = ((kept ++ ahead) ++ came) ++ more } in
             let said : u.sent ≡ t.sent = ap (λ x. x.sent) (told h) in
             play-Hear room codes next s
@@ -140,7 +141,7 @@ module _ (link : Link) (state : State) (asked : List Asked) (t : Told) (kept ahe
       plays = λ h resumes room more e outcomes fit on. ap (λ s. play room (Hear codes next) s) (stays_on told all h more e outcomes);
     }
 
-    waits_on : (link.tells → u ≡ after_input came ended t) → kept' ≡ (kept ++ ahead) ++ came → ahead' ≡ [] → ended ≡ false → (outcome rule (is_among codes System) kept false ≡ Waits → outcome rule (is_among codes System) kept' false ≡ Waits) → (link.tells → IsDry u) → Advances link (Hear codes next) (Hear codes next) old (new u false) × WaitsFor link (Hear codes next) (new u false) × Rests link old (new u false)
+    waits_on : (link.tells → u ≡ after_input came ended t) → kept' ≡ (kept ++ ahead) ++ came → ahead' ≡ [] → ended ≡ false → (outcome rule codes.form kept false ≡ Waits → outcome rule codes.form kept' false ≡ Waits) → (link.tells → IsDry u) → Advances link (Hear codes next) (Hear codes next) old (new u false) × WaitsFor link (Hear codes next) (new u false) × Rests link old (new u false)
     unfolding leads_on
     waits_on told all none unended waits dry =
         let all' : kept' ++ ahead' ≡ (kept ++ ahead) ++ came = ap (λ a. kept' ++ a) none ∙ append-nil kept' ∙ all in
@@ -202,13 +203,13 @@ module _ (link : Link) (state : State) (asked : List Asked) (t : Told) (kept ahe
       cause = inr (refl, refl, record { said = λ h. ap (λ x. x.sent ++ unsent) (told h); untaken = all });
     }
 
-  hears : (u : Told) (result : Result Outcome Broken) → MayBreak link.reads result → (link.tells → IsGiven t → IsGiven u) → ReadsReply link.tells (is_among codes System) old.channel (new u (fails_by result)).channel result → Hears link codes next old (new u (fails_by result)) (answer_of codes result)
+  hears : (u : Told) (result : Result Outcome Broken) → MayBreak link.reads result → (link.tells → IsGiven t → IsGiven u) → ReadsReply link.tells codes.form old.channel (new u (fails_by result)).channel result → Hears link codes next old (new u (fails_by result)) (answer_of codes.statuses result)
   hears u (Ok (Whole reply code)) may was reads =
       let told : link.tells → u ≡ after_input reads.came ended t = λ h. tells_input (Whole reply code) reads.came ended t u (reads.told h) in
       let answer : Response = record { status = status_of code; body = reply } in
-      let moves = settles u reads.came reads.over was false (Whole reply code) (expected_reply codes answer) told reads.leaves.0 reads.past (λ s k. refl) reads.stays in
+      let moves = settles u reads.came reads.over was false (Whole reply code) (expected_reply codes.statuses answer) told reads.leaves.0 reads.past (λ s k. refl) reads.stays in
       let takes : Takes link (Hear codes next) old (new u false) = λ h resumes. omega (arith, reads.takes resumes, length-append (kept ++ ahead) reads.came, ap length (ap (λ x. x.received) (told h)), length-append t.received reads.came) in
-      elim (is_among codes (status_of code)) as (λ among. Moves link (Hear codes next) (next (cond among (Ok answer) (Err (fault.UnexpectedResponse answer)))) old (new u false) → Hears link codes next old (new u false) (Ready (cond among (Ok answer) (Err (fault.UnexpectedResponse answer))))) [
+      elim (is_among codes.statuses (status_of code)) as (λ among. Moves link (Hear codes next) (next (cond among (Ok answer) (Err (fault.UnexpectedResponse answer)))) old (new u false) → Hears link codes next old (new u false) (Ready (cond among (Ok answer) (Err (fault.UnexpectedResponse answer))))) [
         | true ↦ λ m. (record { moves = m; failed = refl }, takes)
         | false ↦ λ m. inl (m, λ e. let clash : fault.UnexpectedResponse answer ≡ fault.OutOfMemory = e in cc)
       ] moves
@@ -229,14 +230,14 @@ module _ (link : Link) (state : State) (asked : List Asked) (t : Told) (kept ahe
   hears u (Err OutOfMemory) may was reads = inr (lacks_memory u reads.came reads.over was reads.leaves reads.told)
 
 -- a reply is heard
-pub reply_heard : (link : Link) (state : State) (asked : List Asked) (a b : Channel) (codes : List Status) (answer : Poll (Result Response FtpError)) → a.failed ≡ false → AnswersRead link.tells link.reads codes a b answer → (next : Result Response FtpError → Tree) → Hears link codes next (record { channel = a; state = state; asked = asked }) (record { channel = b; state = state; asked = asked }) answer
+pub reply_heard : (link : Link) (state : State) (asked : List Asked) (a b : Channel) (codes : Expected) (answer : Poll (Result Response FtpError)) → a.failed ≡ false → AnswersRead link.tells link.reads codes.form codes.statuses a b answer → (next : Result Response FtpError → Tree) → Hears link codes next (record { channel = a; state = state; asked = asked }) (record { channel = b; state = state; asked = asked }) answer
 reply_heard link state asked a b codes answer going read next =
     let result = read.result in
     let V : Channel → SessionValue = λ c. record { channel = c; state = state; asked = asked } in
     let P : Poll (Result Response FtpError) → Type 0 = λ x. Hears link codes next (V a) (V b) x in
-    let Q : Channel → Type 0 = λ c. ReadsReply link.tells (is_among codes System) a c result → Hears link codes next (V a) (V c) (answer_of codes result) in
+    let Q : Channel → Type 0 = λ c. ReadsReply link.tells codes.form a c result → Hears link codes next (V a) (V c) (answer_of codes.statuses result) in
     let N : Bool → Channel = λ f. record a { told = b.told; kept = b.kept; ahead = b.ahead; ended = b.ended; failed = f || fails_by result } in
-    let S : Bool → Type 0 = λ f. ReadsReply link.tells (is_among codes System) (record a { failed = f }) (N f) result → Hears link codes next (V (record a { failed = f })) (V (N f)) (answer_of codes result) in
+    let S : Bool → Type 0 = λ f. ReadsReply link.tells codes.form (record a { failed = f }) (N f) result → Hears link codes next (V (record a { failed = f })) (V (N f)) (answer_of codes.statuses result) in
     subst P (sym read.is)
     (subst Q (sym read.reads.same)
     (subst S (sym going) (hears link state asked a.told a.kept a.ahead a.unsent a.ended a.rule codes next b.kept b.ahead b.ended b.told result read.fault read.given))

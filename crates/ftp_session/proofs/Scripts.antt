@@ -1,4 +1,5 @@
 -- Lemmas on lists of events.
+use Rattle.ftp_control.specs.declared.control.form.ReplyForm.{ReplyForm}
 use Rattle.std.proofs.Common.{◌≡◌, Bool, false, ℕ, zero, suc, ◌+◌, ◌<◌, ◌≤◌, Option, Some, None, List, [], ◌∷◌, ◌++◌, length, take, drop, get_or, inl, inr, ◌⊎◌, refl, ap, sym, ◌∙◌, subst, append_assoc, arith}
 use Rattle.std.specs.Prelude.{OnErr, Result, Ok, Err}
 use Rattle.std.proofs.lemmas.List.{drop_more, take_more, take_all, take-append-drop}
@@ -37,19 +38,19 @@ module _ (coding : Coding) where
   abbrev pub Happened : ℕ → SessionValue → List Event → SessionValue → Option Call → Stage → List Answer → Type 0
   Happened zero old done v call stage answers = Unit {0}
   Happened (suc depth) old done v call stage answers =
-      (system : Bool) → outcome old.channel.rule system old.channel.kept false ≡ Waits → Lawful coding (start_of old) (script_of old system) done → Follows coding old (script coding (start_of old) (script_of old system) done) v call stage answers ⊎ ScriptAborts (λ after later rest. Happened depth after later v call stage rest) coding old system done v answers
+      (form : ReplyForm) → outcome old.channel.rule form old.channel.kept false ≡ Waits → Lawful coding (start_of old) (script_of old form) done → Follows coding old (script coding (start_of old) (script_of old form) done) v call stage answers ⊎ ScriptAborts (λ after later rest. Happened depth after later v call stage rest) coding old form done v answers
 
   -- nothing has happened
   pub starts_script : (depth : ℕ) (old : SessionValue) (call : Option Call) (stage : Stage) → call ≡ None → IsGiven old.channel.told → IsSound (Unit {0}) old.channel → Happened depth old [] old call stage []
   starts_script zero old call stage none given sound = tt
-  starts_script (suc depth) old call stage none given sound = λ system waits lawful.
-      let P : Option Call → Type 0 = λ c. Follows coding old (script_of old system) old c stage [] in
-      inl (subst P (sym none) (begins coding old system stage given sound waits))
+  starts_script (suc depth) old call stage none given sound = λ form waits lawful.
+      let P : Option Call → Type 0 = λ c. Follows coding old (script_of old form) old c stage [] in
+      inl (subst P (sym none) (begins coding old form stage given sound waits))
 
   -- the session stands where its script does
-  script_holds : (old : SessionValue) (system : Bool) (done : List Event) (v : SessionValue) (call : Option Call) (stage : Stage) (answers : List Answer) → Follows coding old (script coding (start_of old) (script_of old system) done) v call stage answers → ScriptHolds coding old system done v answers
-  script_holds old system done v call stage answers f =
-      let s = script coding (start_of old) (script_of old system) done in
+  script_holds : (old : SessionValue) (form : ReplyForm) (done : List Event) (v : SessionValue) (call : Option Call) (stage : Stage) (answers : List Answer) → Follows coding old (script coding (start_of old) (script_of old form) done) v call stage answers → ScriptHolds coding old form done v answers
+  script_holds old form done v call stage answers f =
+      let s = script coding (start_of old) (script_of old form) done in
       record {
         at = record {
           answers_are = sym f.answers_are;
@@ -79,9 +80,9 @@ module _ (coding : Coding) where
   -- one event more
   module _ (event : Event) (v w : SessionValue) (call call' : Option Call) (stage stage' : Stage) (result : Option Answer) (stays : FailedStays v w result) (happens : Happens coding v w call call' stage stage' event result) where
     -- a call is aborted
-    aborts_at : (depth : ℕ) (old : SessionValue) (system : Bool) (done : List Event) (answers : List Answer) → Follows coding old (script coding (start_of old) (script_of old system) done) v call stage answers → (broke : (under_way : Call) × (call ≡ Some under_way) × AbortsCall coding under_way stage v w result) → call' ≡ None → event ≡ Poll → ScriptAborts (λ after later rest. Happened depth after later w call' stage' rest) coding old system (done ++ event ∷ []) w (answers ++ given_answer result)
-    aborts_at depth old system done answers follows broke none polled =
-        let s = script coding (start_of old) (script_of old system) done in
+    aborts_at : (depth : ℕ) (old : SessionValue) (form : ReplyForm) (done : List Event) (answers : List Answer) → Follows coding old (script coding (start_of old) (script_of old form) done) v call stage answers → (broke : (under_way : Call) × (call ≡ Some under_way) × AbortsCall coding under_way stage v w result) → call' ≡ None → event ≡ Poll → ScriptAborts (λ after later rest. Happened depth after later w call' stage' rest) coding old form (done ++ event ∷ []) w (answers ++ given_answer result)
+    aborts_at depth old form done answers follows broke none polled =
+        let s = script coding (start_of old) (script_of old form) done in
         let aborts = broke.2 in
         let F : Option Call → Type 0 = λ c. Follows coding old s v c stage answers in
         record {
@@ -90,7 +91,7 @@ module _ (coding : Coding) where
           split = ap (λ e. done ++ e ∷ []) polled;
           first = answers;
           middle = v;
-          at = script_holds old system done v call stage answers follows;
+          at = script_holds old form done v call stage answers follows;
           call = broke.0;
           begun = begun_at stage;
           tree = remaining coding broke.0 v.state stage;
@@ -105,8 +106,8 @@ module _ (coding : Coding) where
         }
 
     -- an event after a call that was aborted
-    goes_after : (depth : ℕ) (old : SessionValue) (system : Bool) (done : List Event) (answers : List Answer) → (broke : ScriptAborts (λ after later rest. Happened depth after later v call stage rest) coding old system done v answers) → Happened depth broke.after (broke.later ++ event ∷ []) w call' stage' (broke.others ++ given_answer result) → ScriptAborts (λ after later rest. Happened depth after later w call' stage' rest) coding old system (done ++ event ∷ []) w (answers ++ given_answer result)
-    goes_after depth old system done answers broke goes_on = record {
+    goes_after : (depth : ℕ) (old : SessionValue) (form : ReplyForm) (done : List Event) (answers : List Answer) → (broke : ScriptAborts (λ after later rest. Happened depth after later v call stage rest) coding old form done v answers) → Happened depth broke.after (broke.later ++ event ∷ []) w call' stage' (broke.others ++ given_answer result) → ScriptAborts (λ after later rest. Happened depth after later w call' stage' rest) coding old form (done ++ event ∷ []) w (answers ++ given_answer result)
+    goes_after depth old form done answers broke goes_on = record {
       before = broke.before;
       later = broke.later ++ event ∷ [];
       split = ap (λ e. e ++ event ∷ []) broke.split ∙ append_assoc broke.before (Poll ∷ broke.later) (event ∷ []);
@@ -128,19 +129,19 @@ module _ (coding : Coding) where
 
     pub one_more : (depth : ℕ) (old : SessionValue) (done : List Event) (answers : List Answer) → Happened depth old done v call stage answers → Happened depth old (done ++ event ∷ []) w call' stage' (answers ++ given_answer result)
     one_more zero old done answers so_far = tt
-    one_more (suc depth) old done answers so_far = λ system waits lawful.
-        let may = lawful-snoc (start_of old) (script_of old system) done event lawful in
-        go (one_more depth) system may.1 (so_far system waits may.0)
+    one_more (suc depth) old done answers so_far = λ form waits lawful.
+        let may = lawful-snoc (start_of old) (script_of old form) done event lawful in
+        go (one_more depth) form may.1 (so_far form waits may.0)
       where
-        go : ((later : SessionValue) (done' : List Event) (rest : List Answer) → Happened depth later done' v call stage rest → Happened depth later (done' ++ event ∷ []) w call' stage' (rest ++ given_answer result)) → (system : Bool) → IsLawful coding (start_of old) (script coding (start_of old) (script_of old system) done) event → Follows coding old (script coding (start_of old) (script_of old system) done) v call stage answers ⊎ ScriptAborts (λ after later rest. Happened depth after later v call stage rest) coding old system done v answers → Follows coding old (script coding (start_of old) (script_of old system) (done ++ event ∷ [])) w call' stage' (answers ++ given_answer result) ⊎ ScriptAborts (λ after later rest. Happened depth after later w call' stage' rest) coding old system (done ++ event ∷ []) w (answers ++ given_answer result)
-        go again system may (inl follows) = next (happens old (script coding (start_of old) (script_of old system) done) answers follows may)
+        go : ((later : SessionValue) (done' : List Event) (rest : List Answer) → Happened depth later done' v call stage rest → Happened depth later (done' ++ event ∷ []) w call' stage' (rest ++ given_answer result)) → (form : ReplyForm) → IsLawful coding (start_of old) (script coding (start_of old) (script_of old form) done) event → Follows coding old (script coding (start_of old) (script_of old form) done) v call stage answers ⊎ ScriptAborts (λ after later rest. Happened depth after later v call stage rest) coding old form done v answers → Follows coding old (script coding (start_of old) (script_of old form) (done ++ event ∷ [])) w call' stage' (answers ++ given_answer result) ⊎ ScriptAborts (λ after later rest. Happened depth after later w call' stage' rest) coding old form (done ++ event ∷ []) w (answers ++ given_answer result)
+        go again form may (inl follows) = next (happens old (script coding (start_of old) (script_of old form) done) answers follows may)
           where
-            next : Follows coding old (after_event coding (start_of old) (script coding (start_of old) (script_of old system) done) event) w call' stage' (answers ++ given_answer result) ⊎ (((under_way : Call) × (call ≡ Some under_way) × AbortsCall coding under_way stage v w result) × (call' ≡ None) × (event ≡ Poll)) → Follows coding old (script coding (start_of old) (script_of old system) (done ++ event ∷ [])) w call' stage' (answers ++ given_answer result) ⊎ ScriptAborts (λ after later rest. Happened depth after later w call' stage' rest) coding old system (done ++ event ∷ []) w (answers ++ given_answer result)
+            next : Follows coding old (after_event coding (start_of old) (script coding (start_of old) (script_of old form) done) event) w call' stage' (answers ++ given_answer result) ⊎ (((under_way : Call) × (call ≡ Some under_way) × AbortsCall coding under_way stage v w result) × (call' ≡ None) × (event ≡ Poll)) → Follows coding old (script coding (start_of old) (script_of old form) (done ++ event ∷ [])) w call' stage' (answers ++ given_answer result) ⊎ ScriptAborts (λ after later rest. Happened depth after later w call' stage' rest) coding old form (done ++ event ∷ []) w (answers ++ given_answer result)
             next (inl later) =
                 let P : Script → Type 0 = λ s. Follows coding old s w call' stage' (answers ++ given_answer result) in
-                inl (subst P (sym (script-snoc (start_of old) (script_of old system) done event)) later)
-            next (inr broke) = inr (aborts_at depth old system done answers follows broke.0 broke.1 broke.2)
-        go again system may (inr broke) = inr (goes_after depth old system done answers broke (again broke.after broke.later broke.others broke.goes_on))
+                inl (subst P (sym (script-snoc (start_of old) (script_of old form) done event)) later)
+            next (inr broke) = inr (aborts_at depth old form done answers follows broke.0 broke.1 broke.2)
+        go again form may (inr broke) = inr (goes_after depth old form done answers broke (again broke.after broke.later broke.others broke.goes_on))
 
   pub next_event : (depth : ℕ) (old : SessionValue) (events : List Event) (i : ℕ) (event : Event) (v w : SessionValue) (call call' : Option Call) (stage stage' : Stage) (answers answers' : List Answer) (result : Option Answer) → i < length events → event ≡ get_or events i event → answers' ≡ answers ++ given_answer result → FailedStays v w result → Happens coding v w call call' stage stage' event result → Happened depth old (take i events) v call stage answers → Happened depth old (take (i + 1) events) w call' stage' answers'
   next_event depth old events i event v w call call' stage stage' answers answers' result inside is pushed stays happens so_far =
@@ -152,11 +153,11 @@ module _ (coding : Coding) where
   -- what has happened is what the events come to
   pub happened_scripted : (depth : ℕ) (old : SessionValue) (done : List Event) (v : SessionValue) (call : Option Call) (stage : Stage) (answers : List Answer) → Happened depth old done v call stage answers → ScriptsHold depth coding old done v answers
   happened_scripted zero old done v call stage answers so_far = tt
-  happened_scripted (suc depth) old done v call stage answers so_far = λ system waits lawful. go (λ later done' rest. happened_scripted depth later done' v call stage rest) system (so_far system waits lawful)
+  happened_scripted (suc depth) old done v call stage answers so_far = λ form waits lawful. go (λ later done' rest. happened_scripted depth later done' v call stage rest) form (so_far form waits lawful)
     where
-      go : ((later : SessionValue) (done' : List Event) (rest : List Answer) → Happened depth later done' v call stage rest → ScriptsHold depth coding later done' v rest) → (system : Bool) → Follows coding old (script coding (start_of old) (script_of old system) done) v call stage answers ⊎ ScriptAborts (λ after later rest. Happened depth after later v call stage rest) coding old system done v answers → ScriptHolds coding old system done v answers ⊎ ScriptAborts (λ after later rest. ScriptsHold depth coding after later v rest) coding old system done v answers
-      go again system (inl follows) = inl (script_holds old system done v call stage answers follows)
-      go again system (inr broke) = inr (record {
+      go : ((later : SessionValue) (done' : List Event) (rest : List Answer) → Happened depth later done' v call stage rest → ScriptsHold depth coding later done' v rest) → (form : ReplyForm) → Follows coding old (script coding (start_of old) (script_of old form) done) v call stage answers ⊎ ScriptAborts (λ after later rest. Happened depth after later v call stage rest) coding old form done v answers → ScriptHolds coding old form done v answers ⊎ ScriptAborts (λ after later rest. ScriptsHold depth coding after later v rest) coding old form done v answers
+      go again form (inl follows) = inl (script_holds old form done v call stage answers follows)
+      go again form (inr broke) = inr (record {
         before = broke.before;
         later = broke.later;
         split = broke.split;

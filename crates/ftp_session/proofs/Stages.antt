@@ -10,8 +10,8 @@ use Rattle.ftp_session.specs.declared.session.stage.Awaits.{Awaits}
 use Rattle.ftp_session.specs.declared.session.stage.Stage.{Stage}
 use Rattle.ftp_session.specs.declared.session.stage.Stage.TheVariants.{At, Saying, Hearing}
 use Rattle.ftp_session.specs.Coding.{Coding}
-use Rattle.ftp_calls.specs.Exchanges.{exchange_of, statuses, gives_reply, is_read}
-use Rattle.ftp_session.specs.Dialogue.{Tree, Say, saying, awaiting, later}
+use Rattle.ftp_calls.specs.Exchanges.{exchange_of, gives_reply, is_read}
+use Rattle.ftp_session.specs.Dialogue.{expected_of, Tree, Say, saying, awaiting, later}
 use Rattle.ftp_session.specs.Steps.Stages.{is_second, begun_at, nodes_from, line_of, awaits_of, NodeOf, Begun}
 use Rattle.ftp_session.specs.declared.session.stage.Step.{Step}
 use Rattle.ftp_session.specs.declared.session.stage.Step.TheVariants.{Next}
@@ -55,7 +55,7 @@ node_begins coding call turn (Saying line a) read node =
     let e = exchange_of call turn in
     let P : Awaits → Type 0 = λ x. Begun coding call turn (Saying line x) in
     subst P (sym node.3) (record {
-      same = λ state. said_first coding e.says (due line) (awaiting coding (statuses e.hears) e.ending state (later coding call turn)) node.2 node.0;
+      same = λ state. said_first coding e.says (due line) (awaiting coding (expected_of e.hears) e.ending state (later coding call turn)) node.2 node.0;
       fewer = one_fewer turn;
       stage_of = (refl, no_read call turn read node.2);
       begun = unbegun line (awaits_of turn e) node.1;
@@ -64,7 +64,7 @@ node_begins coding call turn (Hearing a) read node =
     let e = exchange_of call turn in
     let P : Awaits → Type 0 = λ x. Begun coding call turn (Hearing x) in
     subst P (sym node.1) (record {
-      same = λ state. ap (λ s. saying coding s (awaiting coding (statuses e.hears) e.ending state (later coding call turn))) (sym node.0);
+      same = λ state. ap (λ s. saying coding s (awaiting coding (expected_of e.hears) e.ending state (later coding call turn))) (sym node.0);
       fewer = two_fewer turn;
       stage_of = (refl, read);
       begun = refl;

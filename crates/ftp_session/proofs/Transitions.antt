@@ -25,8 +25,8 @@ use Rattle.ftp_session.specs.declared.session.stage.Step.{Step}
 use Rattle.ftp_session.specs.declared.session.stage.Step.TheVariants.{Next, Pending, Done}
 use Rattle.ftp_session.specs.State.{SessionValue}
 use Rattle.ftp_session.specs.Coding.{Coding}
-use Rattle.ftp_calls.specs.Exchanges.{exchange_of, statuses, is_read}
-use Rattle.ftp_session.specs.Dialogue.{Tree, Say, Hear, Leaf, saying, awaiting, accepted, later, from_turn, dialogue}
+use Rattle.ftp_calls.specs.Exchanges.{exchange_of, is_read}
+use Rattle.ftp_session.specs.Dialogue.{Expected, expected_of, Tree, Say, Hear, Leaf, saying, awaiting, accepted, later, from_turn, dialogue}
 use Rattle.ftp_session.specs.Promises.{IsFault, HasFault, Aborts, Fails, SaidOrTaken, Touched, Untouched, LacksMemory, Plays, GivesFault, Reads, Rests, failed_from}
 use Rattle.ftp_control.specs.Channel.{untaken}
 use Rattle.ftp_session.specs.Run.{Resumes}
@@ -48,7 +48,7 @@ line_refused link coding (Some command) cause next v is =
 pub refused_ends : (link : Link) (coding : Coding) (call : Call) (turn : Turn) (fault : FtpError) (v : SessionValue) → v.channel.failed ≡ false → IsRefusalOf (line_of coding (exchange_of call turn).says) fault → Ends link (from_turn coding call turn v.state) (Fault fault) v (after_fault (is_second turn) fault v) ⊎ Aborts link (is_second turn) (from_turn coding call turn v.state) (Fault fault) v (after_fault (is_second turn) fault v)
 refused_ends link coding call turn (ConnectionError cause) v going is =
     let e = exchange_of call turn in
-    inl (line_refused link coding e.says cause (awaiting coding (statuses e.hears) e.ending v.state (later coding call turn)) v is)
+    inl (line_refused link coding e.says cause (awaiting coding (expected_of e.hears) e.ending v.state (later coding call turn)) v is)
 refused_ends link coding call turn (SecureError text) v going is = absurd is
 refused_ends link coding call turn (UnexpectedResponse reply) v going is = absurd is
 refused_ends link coding call turn BadResponse v going is = absurd is
@@ -127,7 +127,7 @@ not_memory OutOfMemory other = absurd (other refl)
 not_memory SessionFailed other = refl
 
 -- a read that ends with a fault
-pub fault_ends : (link : Link) (codes : List Status) (next : Result Response FtpError → Tree) (begun : Bool) (fault : FtpError) (old mid : SessionValue) → next (Err fault) ≡ Leaf (Fault fault) old.state → Hears link codes next old mid (poll.Ready (Err fault)) → Ends link (Hear codes next) (Fault fault) old (after_fault begun fault mid) ⊎ Aborts link begun (Hear codes next) (Fault fault) old (after_fault begun fault mid)
+pub fault_ends : (link : Link) (codes : Expected) (next : Result Response FtpError → Tree) (begun : Bool) (fault : FtpError) (old mid : SessionValue) → next (Err fault) ≡ Leaf (Fault fault) old.state → Hears link codes next old mid (poll.Ready (Err fault)) → Ends link (Hear codes next) (Fault fault) old (after_fault begun fault mid) ⊎ Aborts link begun (Hear codes next) (Fault fault) old (after_fault begun fault mid)
 fault_ends link codes next begun fault old mid leaf (inl (moves, other)) =
     let T : Tree → Type 0 = λ t. Moves link (Hear codes next) t old mid in
     let L : State → Tree = λ s. Leaf (Fault fault) s in
@@ -280,7 +280,7 @@ copied_plays link coding call copy made old new answer is same plays =
     subst Q (subst P is same) plays
 
 -- what a read promises
-pub hears_reads : (link : Link) (codes : List Status) (next : Result Response FtpError → Tree) (old new : SessionValue) (result : Poll (Result Response FtpError)) → Hears link codes next old new result → Reads link codes next old new result
+pub hears_reads : (link : Link) (codes : Expected) (next : Result Response FtpError → Tree) (old new : SessionValue) (result : Poll (Result Response FtpError)) → Hears link codes next old new result → Reads link codes next old new result
 hears_reads link codes next old new (poll.Ready (Ok reply)) heard = heard.0.moves.leads
 hears_reads link codes next old new (poll.Ready (Err fault)) (inl moved) = inl moved.0.leads
 hears_reads link codes next old new (poll.Ready (Err fault)) (inr aborts) = inr (record {
@@ -300,7 +300,7 @@ hears_reads link codes next old new (poll.Ready (Err fault)) (inr aborts) = inr 
 hears_reads link codes next old new poll.Pending heard = (heard.0.moves.leads, heard.2)
 
 -- a read fails the session only where it gives a fault
-pub hears_fail : (link : Link) (codes : List Status) (next : Result Response FtpError → Tree) (old new : SessionValue) (result : Poll (Result Response FtpError)) → Hears link codes next old new result → new.channel.failed ≡ true → (old.channel.failed ≡ true) ⊎ GivesFault result
+pub hears_fail : (link : Link) (codes : Expected) (next : Result Response FtpError → Tree) (old new : SessionValue) (result : Poll (Result Response FtpError)) → Hears link codes next old new result → new.channel.failed ≡ true → (old.channel.failed ≡ true) ⊎ GivesFault result
 hears_fail link codes next old new (poll.Ready (Ok reply)) heard failed = inl (sym heard.0.failed ∙ failed)
 hears_fail link codes next old new (poll.Ready (Err fault)) heard failed = inr tt
 hears_fail link codes next old new poll.Pending heard failed = inl (sym heard.0.failed ∙ failed)

@@ -1,6 +1,7 @@
 -- Lemmas on calls that wait for room before they hear: a dialogue that waits and hasn't heard says a line that isn't
 -- within the room.
-use Rattle.std.proofs.Common.{◌≡◌, ℕ, ◌+◌, ◌<◌, ◌≤◌, Bool, true, false, cond, eqb, Option, Some, None, is_none, List, [], ◌∷◌, ◌++◌, length, leb, ltb, Result, Ok, Err, refl, ap, sym, ◌∙◌, subst, arith}
+use Rattle.ftp_control.specs.declared.control.form.ReplyForm.{ReplyForm}
+use Rattle.std.proofs.Common.{◌≡◌, ◌&&◌, ℕ, ◌+◌, ◌<◌, ◌≤◌, Bool, true, false, cond, eqb, Option, Some, None, is_none, List, [], ◌∷◌, ◌++◌, length, leb, ltb, Result, Ok, Err, refl, ap, sym, ◌∙◌, subst, arith}
 use Rattle.std.proofs.lemmas.Bool.{eqb-true}
 use Rattle.std.proofs.lemmas.List.{length-drop}
 use Rattle.ftp_base.specs.declared.status.Status.{Status}
@@ -22,14 +23,14 @@ use Rattle.ftp_control.specs.declared.plain.Found.{Found}
 use Rattle.ftp_control.specs.declared.plain.Found.TheVariants.{Reply, NoReply, Unfinished}
 use Rattle.ftp_control.specs.declared.control.outcome.Outcome.{Outcome}
 use Rattle.ftp_control.specs.declared.control.outcome.Outcome.TheVariants.{Whole, Bad, TooLarge, Ended, Waits}
-use Rattle.ftp_control.specs.Grammar.{outcome, within, reply_in, to_end, ends, opens, lines, code_at_start, left_by, after_line, reply_limit}
+use Rattle.ftp_control.specs.Grammar.{outcome, within, reply_in, to_end, to_list_end, ends, by_dash, lists, opens, opens_list, lines, code_at_start, left_by, after_line, reply_limit}
 use Rattle.ftp_control.specs.Answer.{is_among, expected_reply}
 use Rattle.ftp_control.specs.Saying.{due}
 use Rattle.ftp_calls.specs.declared.call.Answer.TheVariants.{Fault}
 use Rattle.ftp_calls.specs.declared.call.Call.{Call}
 use Rattle.ftp_calls.specs.declared.exchange.Ending.{Ending}
 use Rattle.ftp_calls.specs.declared.exchange.Turn.TheVariants.{First}
-use Rattle.ftp_calls.specs.Exchanges.{exchange_of, statuses, is_read}
+use Rattle.ftp_calls.specs.Exchanges.{exchange_of, is_read}
 use Rattle.ftp_session.specs.declared.session.state.State.{State}
 use Rattle.ftp_session.specs.declared.session.stage.Stage.{Stage}
 use Rattle.ftp_session.specs.declared.session.stage.Stage.TheVariants.{At, Saying, Hearing}
@@ -40,7 +41,7 @@ use Rattle.ftp_session.specs.declared.model.Played.{Played}
 use Rattle.ftp_session.specs.declared.model.Played.TheVariants.{Done, Pending}
 use Rattle.ftp_session.specs.declared.model.Script.{Script}
 use Rattle.ftp_session.specs.Coding.{Coding}
-use Rattle.ftp_session.specs.Dialogue.{Tree, Say, Hear, Ask, Leaf, saying, awaiting, concluded, later, dialogue}
+use Rattle.ftp_session.specs.Dialogue.{Expected, expected_of, Tree, Say, Hear, Ask, Leaf, saying, awaiting, concluded, later, dialogue}
 use Rattle.ftp_session.specs.Play.{play, fits, heard_then, taken, asked_then}
 use Rattle.ftp_session.specs.Script.{heard_in, heard_at}
 use Rattle.ftp_session.specs.Steps.Stages.{remaining}
@@ -60,17 +61,21 @@ line_found b line (Reply others number) bytes code is = omega (arith, ap length 
 line_found b line (NoReply other) bytes code is = let clash : NoReply other ≡ Reply bytes code = is in cc
 line_found b line Unfinished bytes code is = let clash : Unfinished ≡ Reply bytes code = is in cc
 
-reply_found : (system : Bool) (lines : List (List ℕ)) (bytes : List ℕ) (code : ℕ) → reply_in Lenient system lines ≡ Reply bytes code → 0 < length bytes
-reply_found system [] bytes code is = let clash : Unfinished ≡ Reply bytes code = is in cc
-reply_found system ([] ∷ lines) bytes code is = let clash : NoReply [] ≡ Reply bytes code = is in cc
-reply_found system ((b ∷ line) ∷ lines) bytes code is =
+reply_found : (form : ReplyForm) (ended : Bool) (lines : List (List ℕ)) (bytes : List ℕ) (code : ℕ) → reply_in Lenient form ended lines ≡ Reply bytes code → 0 < length bytes
+reply_found form ended [] bytes code is = let clash : Unfinished ≡ Reply bytes code = is in cc
+reply_found form ended ([] ∷ lines) bytes code is = let clash : NoReply [] ≡ Reply bytes code = is in cc
+reply_found form ended ((b ∷ line) ∷ lines) bytes code is =
     let first : List ℕ = b ∷ line in
-    let others : Found = after_line first (to_end Lenient system first lines) in
+    let others : Found = after_line first (to_end Lenient form ended first lines) in
+    let listed : Found = after_line first (to_list_end ended lines) in
     let number : ℕ = code_at_start first in
-    elim (opens Lenient first) as (λ o. cond o (cond (ends Lenient system first first) (Reply first number) others) (NoReply first) ≡ Reply bytes code → 0 < length bytes) [
-      | true ↦ λ e. (elim (ends Lenient system first first) as (λ t. cond t (Reply first number) others ≡ Reply bytes code → 0 < length bytes) [
-        | true ↦ λ f. omega (arith, ap length (ap bytes_found f))
-        | false ↦ λ f. line_found b line (to_end Lenient system first lines) bytes code f
+    elim (opens Lenient first) as (λ o. cond o (cond (ends Lenient (by_dash form) first first) (cond (lists form && opens_list first) listed (Reply first number)) others) (NoReply first) ≡ Reply bytes code → 0 < length bytes) [
+      | true ↦ λ e. (elim (ends Lenient (by_dash form) first first) as (λ t. cond t (cond (lists form && opens_list first) listed (Reply first number)) others ≡ Reply bytes code → 0 < length bytes) [
+        | true ↦ λ f. (elim (lists form && opens_list first) as (λ t. cond t listed (Reply first number) ≡ Reply bytes code → 0 < length bytes) [
+          | true ↦ λ g. line_found b line (to_list_end ended lines) bytes code g
+          | false ↦ λ g. omega (arith, ap length (ap bytes_found g))
+        ] f)
+        | false ↦ λ f. line_found b line (to_end Lenient form ended first lines) bytes code f
       ] e)
       | false ↦ λ e. (let clash : NoReply first ≡ Reply bytes code = e in cc)
     ] is
@@ -106,15 +111,15 @@ within_some count ended (NoReply line) reply code some is =
     ] is
 within_some count ended Unfinished reply code some is = absurd (unfinished count ended reply code is)
 
-whole_some : (rule : ReplyRule) (system : Bool) (bytes : List ℕ) (ended : Bool) (reply : List ℕ) (code : ℕ) → outcome rule system bytes ended ≡ Whole reply code → 0 < length reply
+whole_some : (rule : ReplyRule) (form : ReplyForm) (bytes : List ℕ) (ended : Bool) (reply : List ℕ) (code : ℕ) → outcome rule form bytes ended ≡ Whole reply code → 0 < length reply
 unfolding outcome
-whole_some Lenient system bytes ended reply code is =
-    within_some (length bytes) ended (reply_in Lenient system (lines bytes ended)) reply code (reply_found system (lines bytes ended)) is
+whole_some Lenient form bytes ended reply code is =
+    within_some (length bytes) ended (reply_in Lenient form ended (lines bytes ended)) reply code (reply_found form ended (lines bytes ended)) is
 
-some_bytes : (rule : ReplyRule) (system : Bool) (bytes : List ℕ) (ended : Bool) (reply : List ℕ) (code : ℕ) → outcome rule system bytes ended ≡ Whole reply code → 0 < length bytes
+some_bytes : (rule : ReplyRule) (form : ReplyForm) (bytes : List ℕ) (ended : Bool) (reply : List ℕ) (code : ℕ) → outcome rule form bytes ended ≡ Whole reply code → 0 < length bytes
 unfolding outcome
-some_bytes rule system [] ended reply code is = absurd (unfinished 0 ended reply code is)
-some_bytes rule system (b ∷ bytes) ended reply code is = omega arith
+some_bytes rule form [] ended reply code is = absurd (unfinished 0 ended reply code is)
+some_bytes rule form (b ∷ bytes) ended reply code is = omega arith
 
 -- What a dialogue plays takes bytes, and puts none back
 
@@ -141,8 +146,8 @@ play_shrinks room (Say (Ok line) next) s how t is =
 play_shrinks room (Say (Err cause) next) s how t is = let clash : Done (Fault (fault.ConnectionError cause)) s ≡ Pending how t = is in cc
 play_shrinks room (Hear codes next) s how t is =
     let k : Result Response FtpError → Standing → Played = λ heard u. play room (next heard) u in
-    elim (outcome s.rule (is_among codes System) s.bytes s.ended) as (λ o. heard_then o codes s k ≡ Pending how t → length t.bytes ≤ length s.bytes) [
-      | Whole reply code ↦ λ e. (let heard = expected_reply codes (record { status = status_of code; body = reply }) in omega (arith, play_shrinks room (next heard) (taken (left_by (Whole reply code) s.bytes) s) how t e, left_shrinks (Whole reply code) s.bytes))
+    elim (outcome s.rule codes.form s.bytes s.ended) as (λ o. heard_then o codes s k ≡ Pending how t → length t.bytes ≤ length s.bytes) [
+      | Whole reply code ↦ λ e. (let heard = expected_reply codes.statuses (record { status = status_of code; body = reply }) in omega (arith, play_shrinks room (next heard) (taken (left_by (Whole reply code) s.bytes) s) how t e, left_shrinks (Whole reply code) s.bytes))
       | Bad line ↦ λ e. omega (arith, play_shrinks room (next (Err fault.BadResponse)) (taken (left_by (Bad line) s.bytes) s) how t e, left_shrinks (Bad line) s.bytes)
       | TooLarge ↦ λ e. omega (arith, play_shrinks room (next (Err (fault.ConnectionError connection.ReplyTooLarge))) (record (taken (left_by TooLarge s.bytes) s) { failed = true }) how t e, left_shrinks TooLarge s.bytes)
       | Ended ↦ λ e. omega (arith, play_shrinks room (next (Err (fault.ConnectionError connection.UnexpectedEof))) (record (taken (left_by Ended s.bytes) s) { failed = true }) how t e, left_shrinks Ended s.bytes)
@@ -174,7 +179,7 @@ fewer_heard how script left fewer = go how
 
     go : (w : Wait) → heard_at w script left ≡ true
     go wait.Room = some
-    go (wait.Bytes system) = refl
+    go (wait.Bytes form) = refl
     go wait.Outcome = some
 
 -- a line that isn't within the room is said first
@@ -186,8 +191,8 @@ pub record LacksRoomFor (room : Room) (s : Standing) (tree : Tree) : Type 0 wher
 
 module _ (coding : Coding) (room : Room) (script : Script) (s : Standing) (untaken : s.bytes ≡ script.untaken) (how : Wait) (t : Standing) (unheard : heard_at how script t.bytes ≡ false) where
   -- a reply that is awaited is heard, or waited for
-  hears_none : (codes : List Status) (ending : Ending) (state : State) (after : State → Tree) (said unsent : List ℕ) → play room (awaiting coding codes ending state after) (record s { said = said; unsent = unsent }) ≡ Pending how t → ⊥
-  hears_none codes ending state after said unsent is = go (outcome s.rule (is_among codes System) s.bytes s.ended) refl (sym (play-Hear room codes (concluded coding ending state after) here) ∙ is)
+  hears_none : (codes : Expected) (ending : Ending) (state : State) (after : State → Tree) (said unsent : List ℕ) → play room (awaiting coding codes ending state after) (record s { said = said; unsent = unsent }) ≡ Pending how t → ⊥
+  hears_none codes ending state after said unsent is = go (outcome s.rule codes.form s.bytes s.ended) refl (sym (play-Hear room codes (concluded coding ending state after) here) ∙ is)
     where
       here : Standing
       here = record s { said = said; unsent = unsent }
@@ -198,23 +203,23 @@ module _ (coding : Coding) (room : Room) (script : Script) (s : Standing) (untak
       fails : (cause : FtpError) (u : Standing) → k (Err cause) u ≡ Pending how t → ⊥
       fails cause u e = let clash : Done (Fault cause) (record u { state = state }) ≡ Pending how t = sym (play-Leaf room (Fault cause) state u) ∙ e in cc
 
-      go : (o : Outcome) → outcome s.rule (is_among codes System) s.bytes s.ended ≡ o → heard_then o codes here k ≡ Pending how t → ⊥
+      go : (o : Outcome) → outcome s.rule codes.form s.bytes s.ended ≡ o → heard_then o codes here k ≡ Pending how t → ⊥
       go (Whole reply code) is e =
-          let heard = expected_reply codes (record { status = status_of code; body = reply }) in
+          let heard = expected_reply codes.statuses (record { status = status_of code; body = reply }) in
           let less = play_shrinks room (concluded coding ending state after heard) (taken (left_by (Whole reply code) s.bytes) here) how t e in
-          let fewer : length t.bytes < length script.untaken = omega (arith, less, length-drop (length reply) s.bytes, whole_some s.rule (is_among codes System) s.bytes s.ended reply code is, some_bytes s.rule (is_among codes System) s.bytes s.ended reply code is, ap length untaken) in
+          let fewer : length t.bytes < length script.untaken = omega (arith, less, length-drop (length reply) s.bytes, whole_some s.rule codes.form s.bytes s.ended reply code is, some_bytes s.rule codes.form s.bytes s.ended reply code is, ap length untaken) in
           let clash : true ≡ false = sym (fewer_heard how script t.bytes fewer) ∙ unheard in
           cc
       go (Bad line) is e = fails fault.BadResponse _ e
       go TooLarge is e = fails (fault.ConnectionError connection.ReplyTooLarge) _ e
       go Ended is e = fails (fault.ConnectionError connection.UnexpectedEof) _ e
       go Waits is e =
-          let waits : wait.Bytes (is_among codes System) ≡ how = ap waits_in e in
+          let waits : wait.Bytes codes.form ≡ how = ap waits_in e in
           let P : Wait → Type 0 = λ w. heard_at w script t.bytes ≡ false in
           let clash : true ≡ false = subst P (sym waits) unheard in
           cc
 
-  says_more : (line : List ℕ) (codes : List Status) (ending : Ending) (state : State) (after : State → Tree) → play room (Say (Ok line) (awaiting coding codes ending state after)) s ≡ Pending how t → LacksRoomFor room s (Say (Ok line) (awaiting coding codes ending state after))
+  says_more : (line : List ℕ) (codes : Expected) (ending : Ending) (state : State) (after : State → Tree) → play room (Say (Ok line) (awaiting coding codes ending state after)) s ≡ Pending how t → LacksRoomFor room s (Say (Ok line) (awaiting coding codes ending state after))
   says_more line codes ending state after is = go (fits room (s.said ++ s.unsent ++ line)) refl (sym (play-Say room line next s) ∙ is)
     where
       next : Tree
@@ -232,28 +237,28 @@ module _ (coding : Coding) (room : Room) (script : Script) (s : Standing) (untak
   lacks_room call state (At turn) is = go (exchange_of call turn).says is
     where
       next : Tree
-      next = awaiting coding (statuses (exchange_of call turn).hears) (exchange_of call turn).ending state (later coding call turn)
+      next = awaiting coding (expected_of (exchange_of call turn).hears) (exchange_of call turn).ending state (later coding call turn)
 
-      line : (l : Result (List ℕ) Cause) → play room (Say l (awaiting coding (statuses (exchange_of call turn).hears) (exchange_of call turn).ending state (later coding call turn))) s ≡ Pending how t → LacksRoomFor room s (Say l (awaiting coding (statuses (exchange_of call turn).hears) (exchange_of call turn).ending state (later coding call turn)))
-      line (Ok bytes) is = says_more bytes (statuses (exchange_of call turn).hears) (exchange_of call turn).ending state (later coding call turn) is
+      line : (l : Result (List ℕ) Cause) → play room (Say l (awaiting coding (expected_of (exchange_of call turn).hears) (exchange_of call turn).ending state (later coding call turn))) s ≡ Pending how t → LacksRoomFor room s (Say l (awaiting coding (expected_of (exchange_of call turn).hears) (exchange_of call turn).ending state (later coding call turn)))
+      line (Ok bytes) is = says_more bytes (expected_of (exchange_of call turn).hears) (exchange_of call turn).ending state (later coding call turn) is
       line (Err cause) is = let clash : Done (Fault (fault.ConnectionError cause)) s ≡ Pending how t = sym (play-Refused room cause next s) ∙ is in cc
 
-      go : (says : Option Command) → play room (saying coding says (awaiting coding (statuses (exchange_of call turn).hears) (exchange_of call turn).ending state (later coding call turn))) s ≡ Pending how t → LacksRoomFor room s (saying coding says (awaiting coding (statuses (exchange_of call turn).hears) (exchange_of call turn).ending state (later coding call turn)))
-      go None is = absurd (hears_none (statuses (exchange_of call turn).hears) (exchange_of call turn).ending state (later coding call turn) s.said s.unsent is)
+      go : (says : Option Command) → play room (saying coding says (awaiting coding (expected_of (exchange_of call turn).hears) (exchange_of call turn).ending state (later coding call turn))) s ≡ Pending how t → LacksRoomFor room s (saying coding says (awaiting coding (expected_of (exchange_of call turn).hears) (exchange_of call turn).ending state (later coding call turn)))
+      go None is = absurd (hears_none (expected_of (exchange_of call turn).hears) (exchange_of call turn).ending state (later coding call turn) s.said s.unsent is)
       go (Some command) is = line (wire coding.encode (text_of command)) is
-  lacks_room call state (Saying line a) is = says_more (due line) (statuses a.hears) a.ending state (later coding call a.turn) is
-  lacks_room call state (Hearing a) is = absurd (hears_none (statuses a.hears) a.ending state (later coding call a.turn) s.said s.unsent is)
+  lacks_room call state (Saying line a) is = says_more (due line) (expected_of a.hears) a.ending state (later coding call a.turn) is
+  lacks_room call state (Hearing a) is = absurd (hears_none (expected_of a.hears) a.ending state (later coding call a.turn) s.said s.unsent is)
 
 -- a call that says a line first is no plain read
 pub says_no_read : (coding : Coding) (call : Call) (state : State) (line : List ℕ) (next : Tree) → dialogue coding call state ≡ Say (Ok line) next → is_read call ≡ false
 says_no_read coding call state line next is = go (exchange_of call First).says refl
   where
     after : Tree
-    after = awaiting coding (statuses (exchange_of call First).hears) (exchange_of call First).ending state (later coding call First)
+    after = awaiting coding (expected_of (exchange_of call First).hears) (exchange_of call First).ending state (later coding call First)
 
     go : (says : Option Command) → (exchange_of call First).says ≡ says → is_read call ≡ false
     go None none =
-        let T : Option Command → Tree = λ o. saying coding o (awaiting coding (statuses (exchange_of call First).hears) (exchange_of call First).ending state (later coding call First)) in
+        let T : Option Command → Tree = λ o. saying coding o (awaiting coding (expected_of (exchange_of call First).hears) (exchange_of call First).ending state (later coding call First)) in
         let clash : after ≡ Say (Ok line) next = sym (ap T none) ∙ is in
         cc
     go (Some command) some = no_read call First (λ second. (let clash : false ≡ true = second in cc)) (ap is_none some)

@@ -31,8 +31,8 @@ use Rattle.ftp_session.specs.declared.model.Played.{Played}
 use Rattle.ftp_session.specs.declared.model.Played.TheVariants.{Done}
 use Rattle.ftp_session.specs.State.{SessionValue}
 use Rattle.ftp_session.specs.Coding.{Coding}
-use Rattle.ftp_calls.specs.Exchanges.{exchange_of, statuses}
-use Rattle.ftp_session.specs.Dialogue.{Tree, Say, Leaf, saying, awaiting, concluded, accepted, exchanging, later, dialogue}
+use Rattle.ftp_calls.specs.Exchanges.{exchange_of}
+use Rattle.ftp_session.specs.Dialogue.{Expected, expected_of, Tree, Say, Leaf, saying, awaiting, concluded, accepted, exchanging, later, dialogue}
 use Rattle.ftp_session.specs.Play.{play, heard_then}
 use Rattle.ftp_session.specs.Promises.{standing, Completes, IsSuccess, Says, Exchanged, ExchangedIf, Succeeds, Wired, goes_on_with}
 use Rattle.ftp_session.proofs.Moving.{play-Say, play-Leaf, play-Refused}
@@ -53,15 +53,15 @@ leaf_at answer answer' state s t is =
     cc
 
 -- a reply that was heard
-pub record HeardOne (coding : Coding) (codes : List Status) (how : Ending) (state : State) (next : State → Tree) (answer : Answer) (s t : Standing) : Type 0 where
+pub record HeardOne (coding : Coding) (codes : Expected) (how : Ending) (state : State) (next : State → Tree) (answer : Answer) (s t : Standing) : Type 0 where
   pub reply : Response
   pub code : ℕ
-  pub whole : outcome s.rule (is_among codes System) s.bytes s.ended ≡ Whole reply.body code
+  pub whole : outcome s.rule codes.form s.bytes s.ended ≡ Whole reply.body code
   pub status : reply.status ≡ status_of code
-  pub among : is_among codes reply.status ≡ true
+  pub among : is_among codes.statuses reply.status ≡ true
   pub goes : play Any (accepted coding how state reply next) (record s { bytes = left_by (Whole reply.body code) s.bytes }) ≡ Done answer t
 
-module _ (coding : Coding) (codes : List Status) (how : Ending) (state : State) (next : State → Tree) (answer : Answer) (s t : Standing) (success : IsSuccess answer) where
+module _ (coding : Coding) (codes : Expected) (how : Ending) (state : State) (next : State → Tree) (answer : Answer) (s t : Standing) (success : IsSuccess answer) where
   abbrev k : Result Response FtpError → Standing → Played
   k a x = play Any (concluded coding how state next a) x
 
@@ -69,13 +69,13 @@ module _ (coding : Coding) (codes : List Status) (how : Ending) (state : State) 
   found fault x is = no_success fault answer (record x { state = state }) t (sym (play-Leaf Any (Fault fault) state x) ∙ is) success
 
   pub one_reply : play Any (awaiting coding codes how state next) s ≡ Done answer t → HeardOne coding codes how state next answer s t
-  one_reply is = go (outcome s.rule (is_among codes System) s.bytes s.ended) refl (sym (play-Hear Any codes (concluded coding how state next) s) ∙ is)
+  one_reply is = go (outcome s.rule codes.form s.bytes s.ended) refl (sym (play-Hear Any codes (concluded coding how state next) s) ∙ is)
     where
-      go : (o : Outcome) → outcome s.rule (is_among codes System) s.bytes s.ended ≡ o → heard_then o codes s (λ a x. play Any (concluded coding how state next a) x) ≡ Done answer t → HeardOne coding codes how state next answer s t
+      go : (o : Outcome) → outcome s.rule codes.form s.bytes s.ended ≡ o → heard_then o codes s (λ a x. play Any (concluded coding how state next a) x) ≡ Done answer t → HeardOne coding codes how state next answer s t
       go (Whole body code) whole done =
           let reply : Response = record { status = status_of code; body = body } in
           let here : Standing = record s { bytes = left_by (Whole body code) s.bytes } in
-          elim (is_among codes (status_of code)) as (λ b. is_among codes (status_of code) ≡ b → k (cond b (Ok reply) (Err (fault.UnexpectedResponse reply))) here ≡ Done answer t → HeardOne coding codes how state next answer s t) [
+          elim (is_among codes.statuses (status_of code)) as (λ b. is_among codes.statuses (status_of code) ≡ b → k (cond b (Ok reply) (Err (fault.UnexpectedResponse reply))) here ≡ Done answer t → HeardOne coding codes how state next answer s t) [
             | true ↦ λ among done. record { reply = reply; code = code; whole = whole; status = refl; among = among; goes = done }
             | false ↦ λ among done. absurd (found (fault.UnexpectedResponse reply) here done)
           ] refl done
@@ -94,12 +94,9 @@ pub record ExchangedOne (coding : Coding) (exchange : Exchange) (state : State) 
 pub one_exchange : (coding : Coding) (exchange : Exchange) (state : State) (next : State → Tree) (answer : Answer) (s t : Standing) → IsSuccess answer → play Any (exchanging coding exchange state next) s ≡ Done answer t → ExchangedOne coding exchange state next answer s t
 one_exchange coding exchange state next answer s t success is = go exchange.says refl is
   where
-    codes : List Status
-    codes = statuses exchange.hears
-
-    go : (command : Option Command) → exchange.says ≡ command → play Any (saying coding command (awaiting coding (statuses exchange.hears) exchange.ending state next)) s ≡ Done answer t → ExchangedOne coding exchange state next answer s t
+    go : (command : Option Command) → exchange.says ≡ command → play Any (saying coding command (awaiting coding (expected_of exchange.hears) exchange.ending state next)) s ≡ Done answer t → ExchangedOne coding exchange state next answer s t
     go None says done =
-        let one = one_reply coding (statuses exchange.hears) exchange.ending state next answer s t success done in
+        let one = one_reply coding (expected_of exchange.hears) exchange.ending state next answer s t success done in
         let here : Standing = record s { bytes = left_by (Whole one.reply.body one.code) s.bytes } in
         let P : Option Command → Type 0 = λ c. Says coding c s here in
         record {
@@ -110,11 +107,11 @@ one_exchange coding exchange state next answer s t success is = go exchange.says
         }
     go (Some command) says done = line (wire coding.encode (text_of command)) refl done
       where
-        line : (l : Result (List ℕ) Cause) → wire coding.encode (text_of command) ≡ l → play Any (Say l (awaiting coding (statuses exchange.hears) exchange.ending state next)) s ≡ Done answer t → ExchangedOne coding exchange state next answer s t
-        line (Err cause) refused done = absurd (no_success (fault.ConnectionError cause) answer s t (sym (play-Refused Any cause (awaiting coding (statuses exchange.hears) exchange.ending state next) s) ∙ done) success)
+        line : (l : Result (List ℕ) Cause) → wire coding.encode (text_of command) ≡ l → play Any (Say l (awaiting coding (expected_of exchange.hears) exchange.ending state next)) s ≡ Done answer t → ExchangedOne coding exchange state next answer s t
+        line (Err cause) refused done = absurd (no_success (fault.ConnectionError cause) answer s t (sym (play-Refused Any cause (awaiting coding (expected_of exchange.hears) exchange.ending state next) s) ∙ done) success)
         line (Ok bytes) wired done =
             let there : Standing = record s { said = s.said ++ s.unsent ++ bytes; unsent = [] } in
-            let one = one_reply coding (statuses exchange.hears) exchange.ending state next answer there t success (sym (play-Say Any bytes (awaiting coding (statuses exchange.hears) exchange.ending state next) s) ∙ done) in
+            let one = one_reply coding (expected_of exchange.hears) exchange.ending state next answer there t success (sym (play-Say Any bytes (awaiting coding (expected_of exchange.hears) exchange.ending state next) s) ∙ done) in
             let here : Standing = record there { bytes = left_by (Whole one.reply.body one.code) s.bytes } in
             let P : Option Command → Type 0 = λ c. Says coding c s here in
             record {
@@ -129,6 +126,11 @@ accepted_leaf : (coding : Coding) (how : Ending) (state : State) (reply : Respon
 accepted_leaf coding ending.Done state reply = (Unit, state, refl)
 accepted_leaf coding ending.GivesReply state reply = (Reply reply, state, refl)
 accepted_leaf coding ending.Greets state reply = (Unit, _, refl)
+accepted_leaf coding ending.GivesPath state reply = (_, state, refl)
+accepted_leaf coding ending.GivesSecondLine state reply = (_, state, refl)
+accepted_leaf coding ending.GivesTime state reply = (_, state, refl)
+accepted_leaf coding ending.GivesSize state reply = (_, state, refl)
+accepted_leaf coding ending.GivesFeatures state reply = (_, state, refl)
 accepted_leaf coding (ending.SetsText text) state reply = (Unit, _, refl)
 accepted_leaf coding (ending.GoesOn status) state reply = (Unit, state, same (eqb (code_of reply.status) (code_of status)))
   where
@@ -180,6 +182,11 @@ call_succeeds coding call answer s t state success is = record {
     go ending.Done done = stays _ _ done
     go ending.GivesReply done = stays _ _ done
     go ending.Greets done = stays _ _ done
+    go ending.GivesPath done = stays _ _ done
+    go ending.GivesSecondLine done = stays _ _ done
+    go ending.GivesTime done = stays _ _ done
+    go ending.GivesSize done = stays _ _ done
+    go ending.GivesFeatures done = stays _ _ done
     go (ending.SetsText text) done = stays _ _ done
     go (ending.GoesOn status) done =
         elim (eqb (code_of one.reply.status) (code_of status)) as (λ b. play Any (cond b (later coding call First state) (Leaf Unit state)) one.between ≡ Done answer t → ExchangedIf b coding (exchange_of call Second) one.between t) [

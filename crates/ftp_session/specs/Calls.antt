@@ -1,5 +1,9 @@
 -- The calls of a session: each is its dialogue.
-use Rattle.std.specs.Prelude.{◌≡◌, List, Result, Ok, Err}
+use Rattle.std.specs.Prelude.{◌≡◌, ℕ, List, Result, Ok, Err, string_bytes}
+use Rattle.std.specs.declared.string.String.{String}
+use Rattle.std.specs.declared.alloc.Global.{Global}
+use Rattle.jiff_core.specs.declared.civil.datetime.DateTime.{DateTime}
+use Rattle.ftp_base.specs.Features.{Entries}
 use Rattle.ftp_base.specs.declared.types.reply.Response.{Response}
 use Rattle.ftp_base.specs.declared.types.fault.FtpError.{FtpError}
 use Rattle.ftp_control.specs.Told.{Told, begun}
@@ -7,6 +11,7 @@ use Rattle.ftp_control.specs.declared.transport.request.Asked.{Asked}
 use Rattle.ftp_control.specs.Channel.{IsIdle}
 use Rattle.ftp_calls.specs.declared.call.Answer.{Answer}
 use Rattle.ftp_calls.specs.declared.call.Answer.TheVariants.{Unit as Done, Reply, Fault}
+use Rattle.ftp_calls.specs.declared.call.Answer.TheVariants as answers
 use Rattle.ftp_calls.specs.declared.call.Call.TheVariants.{Greet}
 use Rattle.ftp_session.specs.Coding.{Coding}
 use Rattle.ftp_session.specs.State.{SessionValue, IsFirst}
@@ -22,6 +27,26 @@ unit_answer (Err fault) = Fault fault
 abbrev pub reply_answer : Result Response FtpError → Answer
 reply_answer (Ok reply) = Reply reply
 reply_answer (Err fault) = Fault fault
+
+-- the answer of a call that gives a text
+abbrev pub text_answer : Result (String Global) FtpError → Answer
+text_answer (Ok text) = answers.Text (string_bytes text)
+text_answer (Err fault) = Fault fault
+
+-- the answer of a call that gives a time
+abbrev pub time_answer : Result DateTime FtpError → Answer
+time_answer (Ok time) = answers.Time time
+time_answer (Err fault) = Fault fault
+
+-- the answer of a call that gives a number of bytes
+abbrev pub size_answer : Result ℕ FtpError → Answer
+size_answer (Ok size) = answers.Size size
+size_answer (Err fault) = Fault fault
+
+-- the answer of a call that gives features
+abbrev pub features_answer : Result Entries FtpError → Answer
+features_answer (Ok features) = answers.Features features
+features_answer (Err fault) = Fault fault
 
 -- a session begins on a connection that told this, over a transport that was asked this: nothing is read or sent,
 -- and what came and wasn't read is still to come

@@ -13,7 +13,7 @@ use Rattle.ftp_control.specs.declared.transport.room.Room.TheVariants.{Any, UpTo
 use Rattle.ftp_control.specs.declared.control.outcome.Outcome.{Outcome}
 use Rattle.ftp_control.specs.declared.control.outcome.Outcome.TheVariants.{Whole, Bad, TooLarge, Ended, Waits}
 use Rattle.ftp_control.specs.Grammar.{outcome, left_by}
-use Rattle.ftp_control.specs.Answer.{is_among, expected_reply}
+use Rattle.ftp_control.specs.Answer.{expected_reply}
 use Rattle.ftp_control.specs.declared.transport.request.Request.{Request}
 use Rattle.ftp_control.specs.declared.transport.request.RequestOutcome.{RequestOutcome}
 use Rattle.ftp_calls.specs.declared.call.Answer.TheVariants.{Fault}
@@ -23,7 +23,7 @@ use Rattle.ftp_session.specs.declared.model.Wait.TheVariants.{Room, Bytes, Outco
 use Rattle.ftp_session.specs.declared.model.Played.{Played}
 use Rattle.ftp_session.specs.declared.model.Played.TheVariants.{Done, Pending}
 use Rattle.ftp_session.specs.Coding.{Coding}
-use Rattle.ftp_session.specs.Dialogue.{Tree, Say, Hear, Ask, Leaf, dialogue}
+use Rattle.ftp_session.specs.Dialogue.{Tree, Expected, Say, Hear, Ask, Leaf, dialogue}
 
 -- so much is within the room
 abbrev pub fits : Rooms → List ℕ → Bool
@@ -43,15 +43,15 @@ taken left s = record s { bytes = left }
 
 -- what the bytes say: a reply that is expected or another, a first line that opens none, a reply too large or an end
 -- of input, the last two of which fail the session; or nothing yet
-abbrev pub heard_then : Outcome → List Status → Standing → (Result Response FtpError → Standing → Played) → Played
+abbrev pub heard_then : Outcome → Expected → Standing → (Result Response FtpError → Standing → Played) → Played
 heard_then (Whole reply code) codes s next =
-    next (expected_reply codes (record { status = status_of code; body = reply })) (taken (left_by (Whole reply code) s.bytes) s)
+    next (expected_reply codes.statuses (record { status = status_of code; body = reply })) (taken (left_by (Whole reply code) s.bytes) s)
 heard_then (Bad line) codes s next = next (Err fault.BadResponse) (taken (left_by (Bad line) s.bytes) s)
 heard_then TooLarge codes s next =
     next (Err (fault.ConnectionError connection.ReplyTooLarge)) (record (taken (left_by TooLarge s.bytes) s) { failed = true })
 heard_then Ended codes s next =
     next (Err (fault.ConnectionError connection.UnexpectedEof)) (record (taken (left_by Ended s.bytes) s) { failed = true })
-heard_then Waits codes s next = Pending (Bytes (is_among codes System)) s
+heard_then Waits codes s next = Pending (Bytes codes.form) s
 
 -- the next outcome that is known is the request's
 abbrev pub asked_then : List RequestOutcome → Request → Standing → (RequestOutcome → Standing → Played) → Played
@@ -64,7 +64,7 @@ unfoldable pub play : Rooms → Tree → Standing → Played
 play room (Say (Ok line) next) s = said_then room line s (λ t. play room next t)
 play room (Say (Err cause) next) s = Done (Fault (fault.ConnectionError cause)) s
 play room (Hear codes next) s =
-    heard_then (outcome s.rule (is_among codes System) s.bytes s.ended) codes s (λ heard t. play room (next heard) t)
+    heard_then (outcome s.rule codes.form s.bytes s.ended) codes s (λ heard t. play room (next heard) t)
 play room (Ask request next) s = asked_then s.outcomes request s (λ answer t. play room (next answer) t)
 play room (Leaf answer state) s = Done answer (record s { state = state })
 

@@ -31,7 +31,7 @@ use Rattle.ftp_calls.specs.declared.call.Answer.TheVariants.{Fault}
 use Rattle.ftp_calls.specs.declared.call.Answer.TheVariants as answers
 use Rattle.ftp_calls.specs.declared.exchange.Turn.TheVariants.{First, Second}
 use Rattle.ftp_calls.specs.declared.exchange.Ending.{Ending}
-use Rattle.ftp_calls.specs.declared.exchange.Ending.TheVariants.{Done, GivesReply, Greets, SetsText, GoesOn}
+use Rattle.ftp_calls.specs.declared.exchange.Ending.TheVariants.{Done, GivesReply, Greets, GivesPath, GivesSecondLine, GivesTime, GivesSize, GivesFeatures, SetsText, GoesOn}
 use Rattle.ftp_calls.specs.declared.exchange.Exchange.{Exchange}
 use Rattle.ftp_calls.specs.declared.call.Call.{Call}
 use Rattle.ftp_session.specs.declared.model.Standing.{Standing}
@@ -40,8 +40,8 @@ use Rattle.ftp_session.specs.declared.model.Ran.{Ran}
 use Rattle.ftp_session.specs.declared.model.Ran.TheVariants.{Finished}
 use Rattle.ftp_session.specs.State.{SessionValue}
 use Rattle.ftp_session.specs.Coding.{Coding}
-use Rattle.ftp_calls.specs.Exchanges.{exchange_of, statuses}
-use Rattle.ftp_session.specs.Dialogue.{Tree, Say, Hear, Ask, Leaf, dialogue}
+use Rattle.ftp_calls.specs.Exchanges.{exchange_of}
+use Rattle.ftp_session.specs.Dialogue.{Expected, expected_of, Tree, Say, Hear, Ask, Leaf, dialogue}
 use Rattle.ftp_session.specs.Play.{play}
 use Rattle.ftp_session.specs.Run.{run, before, OneView, Resumes}
 use Rattle.ftp_session.specs.Link.{Link}
@@ -51,6 +51,10 @@ use Rattle.ftp_session.specs.Link.{Link}
 abbrev pub IsSuccess : Answer → Type 0
 IsSuccess answers.Unit = Unit {0}
 IsSuccess (answers.Reply reply) = Unit {0}
+IsSuccess (answers.Text text) = Unit {0}
+IsSuccess (answers.Time time) = Unit {0}
+IsSuccess (answers.Size size) = Unit {0}
+IsSuccess (answers.Features features) = Unit {0}
 IsSuccess (Fault fault) = ⊥
 
 -- a command's line was said after what was unsent, or nothing was
@@ -62,9 +66,9 @@ Says coding (Some command) s t = (line : List ℕ) × (wire coding.encode (text_
 pub record Exchanged (coding : Coding) (exchange : Exchange) (reply : Response) (s t : Standing) : Type 0 where
   pub says : Says coding exchange.says s t
   pub code : ℕ
-  pub whole : outcome s.rule (is_among (statuses exchange.hears) System) s.bytes s.ended ≡ Whole reply.body code
+  pub whole : outcome s.rule (expected_of exchange.hears).form s.bytes s.ended ≡ Whole reply.body code
   pub status : reply.status ≡ status_of code
-  pub accepted : is_among (statuses exchange.hears) reply.status ≡ true
+  pub accepted : is_among (expected_of exchange.hears).statuses reply.status ≡ true
   pub consumed : t.bytes ≡ left_by (Whole reply.body code) s.bytes
 
 -- a reply goes on to the second exchange
@@ -72,6 +76,11 @@ abbrev pub goes_on_with : Ending → Response → Bool
 goes_on_with Done reply = false
 goes_on_with GivesReply reply = false
 goes_on_with Greets reply = false
+goes_on_with GivesPath reply = false
+goes_on_with GivesSecondLine reply = false
+goes_on_with GivesTime reply = false
+goes_on_with GivesSize reply = false
+goes_on_with GivesFeatures reply = false
 goes_on_with (SetsText text) reply = false
 goes_on_with (GoesOn status) reply = code_of reply.status == code_of status
 
@@ -91,6 +100,10 @@ pub record Succeeds (coding : Coding) (call : Call) (s t : Standing) : Type 0 wh
 abbrev pub IsFault : Answer → Type 0
 IsFault answers.Unit = ⊥
 IsFault (answers.Reply reply) = ⊥
+IsFault (answers.Text text) = ⊥
+IsFault (answers.Time time) = ⊥
+IsFault (answers.Size size) = ⊥
+IsFault (answers.Features features) = ⊥
 IsFault (Fault fault) = Unit {0}
 
 -- where a run stands in a session, where these bytes are still to come, and these outcomes
@@ -222,7 +235,7 @@ pub record Rests (link : Link) (old new : SessionValue) : Type 0 where
   pub stays : link.tells → (more : List ℕ) (ended : Bool) (outcomes : List RequestOutcome) → standing old (came ++ more) ended outcomes ≡ standing new more ended outcomes
 
 -- a read of one reply: it is heard, or a fault in its place; or the read is aborted, or waits
-abbrev pub Reads : Link → List Status → (Result Response FtpError → Tree) → SessionValue → SessionValue → Poll (Result Response FtpError) → Type 0
+abbrev pub Reads : Link → Expected → (Result Response FtpError → Tree) → SessionValue → SessionValue → Poll (Result Response FtpError) → Type 0
 Reads link codes next old new (Ready (Ok reply)) = Leads link (Hear codes next) (next (Ok reply)) old new
 Reads link codes next old new (Ready (Err fault)) =
     Leads link (Hear codes next) (next (Err fault)) old new ⊎ Aborts link false (Hear codes next) (Fault fault) old new

@@ -5,7 +5,6 @@ use Rattle.ftp_control.specs.declared.control.rule.ReplyRule.{ReplyRule}
 use Rattle.ftp_control.specs.declared.control.outcome.Outcome.TheVariants.{Waits}
 use Rattle.ftp_control.specs.declared.transport.room.Room.{Room}
 use Rattle.ftp_control.specs.Grammar.{outcome}
-use Rattle.ftp_control.specs.Answer.{is_among}
 use Rattle.ftp_control.specs.declared.transport.request.RequestOutcome.{RequestOutcome}
 use Rattle.ftp_session.specs.declared.session.state.State.{State}
 use Rattle.ftp_calls.specs.declared.call.Answer.{Answer}
@@ -48,7 +47,7 @@ Silent (Leaf answer state) = Unit {0}
 abbrev pub Resumes : ReplyRule → List ℕ → Tree → Type 0
 Resumes rule seen (Say (Ok line) next) = Resumes rule seen next
 Resumes rule seen (Say (Err cause) next) = Unit {0}
-Resumes rule seen (Hear codes next) = outcome rule (is_among codes System) seen false ≡ Waits
+Resumes rule seen (Hear codes next) = outcome rule codes.form seen false ≡ Waits
 Resumes rule seen (Ask request next) = (answer : RequestOutcome) → Resumes rule seen (next answer)
 Resumes rule seen (Leaf answer state) = Unit {0}
 

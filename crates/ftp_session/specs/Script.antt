@@ -14,12 +14,11 @@ use Rattle.ftp_session.specs.declared.model.Wait.{Wait}
 use Rattle.ftp_session.specs.declared.model.Wait.TheVariants as wait
 use Rattle.ftp_session.specs.declared.model.Ran.{Ran}
 use Rattle.ftp_session.specs.declared.model.Ran.TheVariants.{Finished, Waiting}
-use Rattle.ftp_base.specs.declared.status.Status.TheVariants.{System}
-use Rattle.ftp_control.specs.Answer.{is_among}
+use Rattle.ftp_control.specs.declared.control.form.ReplyForm.{ReplyForm}
 use Rattle.ftp_calls.specs.declared.exchange.Turn.TheVariants.{First}
 use Rattle.ftp_session.specs.Coding.{Coding}
-use Rattle.ftp_calls.specs.Exchanges.{exchange_of, statuses, is_read}
-use Rattle.ftp_session.specs.Dialogue.{dialogue}
+use Rattle.ftp_calls.specs.Exchanges.{exchange_of, is_read}
+use Rattle.ftp_session.specs.Dialogue.{expected_of, dialogue}
 use Rattle.ftp_session.specs.Run.{run, Resumes}
 use Rattle.ftp_session.specs.Promises.{standing}
 use Rattle.ftp_control.specs.Channel.{untaken}
@@ -38,9 +37,9 @@ is_over t = t.given.closed || t.ended
 abbrev pub start_of : SessionValue → Standing
 start_of v = standing v (unread v.channel.told) (is_over v.channel.told) []
 
--- a script begins; what an earlier read left was read under a list that holds System, or not
-abbrev pub script_of : SessionValue → Bool → Script
-script_of v system = record {
+-- a script begins; what an earlier read left was read as a reply of this form
+abbrev pub script_of : SessionValue → ReplyForm → Script
+script_of v form = record {
   items = [];
   answers = [];
   call = None;
@@ -54,14 +53,14 @@ script_of v system = record {
   unsent = v.channel.unsent;
   untaken = untaken v.channel ++ unread v.channel.told;
   seen = length v.channel.kept;
-  system = system;
+  form = form;
   state = v.state;
   failed = v.channel.failed;
 }
 
--- whether the list that a call first hears under holds System
-abbrev pub hears_system : Call → Bool
-hears_system call = is_among (statuses (exchange_of call First).hears) System
+-- the form of the reply that a call first hears
+abbrev pub first_form : Call → ReplyForm
+first_form call = (expected_of (exchange_of call First).hears).form
 
 -- what goes out of what was said
 abbrev pub front : Room → List ℕ → List ℕ
@@ -78,17 +77,17 @@ heard_in s left = if length left == length s.untaken then s.heard else true
 
 abbrev pub heard_at : Wait → Script → List ℕ → Bool
 heard_at wait.Room s left = heard_in s left
-heard_at (wait.Bytes system) s left = true
+heard_at (wait.Bytes form) s left = true
 heard_at wait.Outcome s left = heard_in s left
 
-abbrev pub system_at : Wait → Script → Bool
-system_at wait.Room s = s.system
-system_at (wait.Bytes system) s = system
-system_at wait.Outcome s = s.system
+abbrev pub form_at : Wait → Script → ReplyForm
+form_at wait.Room s = s.form
+form_at (wait.Bytes form) s = form
+form_at wait.Outcome s = s.form
 
 abbrev pub seen_at : Wait → Script → List ℕ → ℕ
 seen_at wait.Room s left = seen_in s left
-seen_at (wait.Bytes system) s left = length left
+seen_at (wait.Bytes form) s left = length left
 seen_at wait.Outcome s left = seen_in s left
 
 -- a Poll completes the call under way exactly if the run of all calls has its answer
@@ -114,7 +113,7 @@ polled_as (Waiting answers wait t) call s = record s {
   sent = front s.room t.said;
   untaken = t.bytes;
   seen = seen_at wait s t.bytes;
-  system = system_at wait s;
+  form = form_at wait s;
   state = t.state;
   failed = t.failed;
 }
@@ -151,8 +150,7 @@ script coding start s [] = s
 script coding start s (event ∷ events) = script coding start (after_event coding start s event) events
 
 -- Lawful lists: a call is dropped before its first Poll, or it is a plain read; and a reply under way is resumed
--- under a list that holds System where the one before did, and else doesn't, unless it is no whole reply under
--- the call's list. Of a session that has failed, of a call that is refused and of one that waits for room before it
+-- as one of the form that it was read as before, unless it is no whole reply of the call's form. Of a session that has failed, of a call that is refused and of one that waits for room before it
 -- hears nothing is asked
 
 abbrev pub MayCancel : Option Call → Bool → Type 0
@@ -167,7 +165,7 @@ HearsNothing (Waiting answers wait t) s = heard_at wait s t.bytes ≡ false
 abbrev pub MayPoll : Coding → Standing → Option Call → Script → Type 0
 MayPoll coding start None s = Unit {0}
 MayPoll coding start (Some call) s =
-    s.heard ≡ false → s.failed ≡ false → (hears_system call ≡ s.system) ⊎ Resumes start.rule (take s.seen s.untaken) (dialogue coding call s.state) ⊎ HearsNothing (run_with coding start call s) s
+    s.heard ≡ false → s.failed ≡ false → (first_form call ≡ s.form) ⊎ Resumes start.rule (take s.seen s.untaken) (dialogue coding call s.state) ⊎ HearsNothing (run_with coding start call s) s
 
 abbrev pub IsLawful : Coding → Standing → Script → Event → Type 0
 IsLawful coding start s (event.Feed more) = Unit {0}

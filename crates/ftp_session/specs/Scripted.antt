@@ -1,6 +1,7 @@
 -- What a session promises of a list of events: what their script says, until the connection fails or memory runs out.
 use Rattle.std.specs.Prelude.{◌≡◌, ◌⊎◌, ◌<◌, ◌+◌, ℕ, zero, suc, Bool, true, false, Some, List, [], ◌∷◌, ◌++◌, length}
 use Rattle.ftp_base.specs.declared.types.fault.FtpError.{FtpError}
+use Rattle.ftp_control.specs.declared.control.form.ReplyForm.{ReplyForm}
 use Rattle.ftp_control.specs.declared.transport.room.Room.{Room}
 use Rattle.ftp_control.specs.declared.control.outcome.Outcome.TheVariants.{Waits}
 use Rattle.ftp_control.specs.Grammar.{outcome}
@@ -37,7 +38,7 @@ pub record StandsAt (s : Script) (new : SessionValue) (answers : List Answer) : 
   pub said : SaysFrontOf new.channel s.said
   pub untaken : untaken new.channel ++ unread new.channel.told ≡ s.untaken
   pub seen : length new.channel.kept ≡ s.seen
-  pub waits : outcome new.channel.rule s.system new.channel.kept false ≡ Waits
+  pub waits : outcome new.channel.rule s.form new.channel.kept false ≡ Waits
   pub ended : is_over new.channel.told ≡ s.ended
   pub room : new.channel.told.given.room ≡ s.room
   pub unsent : MayCancel s.call s.polled → new.channel.unsent ≡ s.unsent
@@ -46,11 +47,11 @@ pub record StandsAt (s : Script) (new : SessionValue) (answers : List Answer) : 
 
 -- the events come to their script; what was received and what is unread are the bytes that came; nothing fails, and
 -- which lines open and end a reply stays
-pub record ScriptHolds (coding : Coding) (old : SessionValue) (system : Bool) (events : List Event) (new : SessionValue) (answers : List Answer) : Type 0 where
-  pub at : StandsAt (script coding (start_of old) (script_of old system) events) new answers
+pub record ScriptHolds (coding : Coding) (old : SessionValue) (form : ReplyForm) (events : List Event) (new : SessionValue) (answers : List Answer) : Type 0 where
+  pub at : StandsAt (script coding (start_of old) (script_of old form) events) new answers
   pub came : List ℕ
   pub received : new.channel.told.received ≡ old.channel.told.received ++ came
-  pub bytes : (script coding (start_of old) (script_of old system) events).bytes ≡ untaken old.channel ++ came ++ unread new.channel.told
+  pub bytes : (script coding (start_of old) (script_of old form) events).bytes ≡ untaken old.channel ++ came ++ unread new.channel.told
   pub rule : new.channel.rule ≡ old.channel.rule
   pub failures : new.channel.told.failures ≡ old.channel.told.failures
 
@@ -99,17 +100,17 @@ pub record LeftOf (coding : Coding) (old : SessionValue) (s : Script) (v : Sessi
 
 -- a call was aborted at a Poll, in a session that the events before had come to; the later events find no call under
 -- way, and come to `Later`
-pub record ScriptAborts (Later : SessionValue → List Event → List Answer → Type 0) (coding : Coding) (old : SessionValue) (system : Bool) (events : List Event) (new : SessionValue) (answers : List Answer) : Type 0 where
+pub record ScriptAborts (Later : SessionValue → List Event → List Answer → Type 0) (coding : Coding) (old : SessionValue) (form : ReplyForm) (events : List Event) (new : SessionValue) (answers : List Answer) : Type 0 where
   pub before : List Event
   pub later : List Event
   pub split : events ≡ before ++ Poll ∷ later
   pub first : List Answer
   pub middle : SessionValue
-  pub at : ScriptHolds coding old system before middle first
+  pub at : ScriptHolds coding old form before middle first
   pub call : Call
   pub begun : Bool
   pub tree : Tree
-  pub under_way : LeftOf coding old (script coding (start_of old) (script_of old system) before) middle call begun tree
+  pub under_way : LeftOf coding old (script coding (start_of old) (script_of old form) before) middle call begun tree
   pub fault : FtpError
   pub after : SessionValue
   pub aborts : Aborts over_memory begun tree (Fault fault) middle after
@@ -118,13 +119,13 @@ pub record ScriptAborts (Later : SessionValue → List Event → List Answer →
   pub goes_on : Later after later others
   pub failed : after.channel.failed ≡ true → (new.channel.failed ≡ true) × AllRefused others
 
--- for every lawful list, from any session, where what an earlier read left of a reply says nothing yet under its
--- list: the events come to their script, or a call is aborted and the later ones are such a list again; that is
+-- for every lawful list, from any session, where what an earlier read left of a reply says nothing yet as one
+-- of this form: the events come to their script, or a call is aborted and the later ones are such a list again; that is
 -- said of so many calls that are aborted
 abbrev pub ScriptsHold : ℕ → Coding → SessionValue → List Event → SessionValue → List Answer → Type 0
 ScriptsHold zero coding old events new answers = Unit {0}
 ScriptsHold (suc depth) coding old events new answers =
-    (system : Bool) → outcome old.channel.rule system old.channel.kept false ≡ Waits → Lawful coding (start_of old) (script_of old system) events → ScriptHolds coding old system events new answers ⊎ ScriptAborts (λ after later others. ScriptsHold depth coding after later new others) coding old system events new answers
+    (form : ReplyForm) → outcome old.channel.rule form old.channel.kept false ≡ Waits → Lawful coding (start_of old) (script_of old form) events → ScriptHolds coding old form events new answers ⊎ ScriptAborts (λ after later others. ScriptsHold depth coding after later new others) coding old form events new answers
 
 -- that is said of however many
 abbrev pub IsScripted : Coding → SessionValue → List Event → SessionValue → List Answer → Type 0

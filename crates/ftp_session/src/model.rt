@@ -6,7 +6,7 @@
 
 use crate::session::{Answer, Call, State};
 use ftp_base::types::{Bytes, Items};
-use ftp_control::control::ReplyRule;
+use ftp_control::control::{ReplyForm, ReplyRule};
 use ftp_control::transport::{Request, RequestOutcome, Room};
 
 /// Where a run stands.
@@ -37,8 +37,8 @@ pub struct Standing {
 pub enum Wait {
     /// Room for the line that was said last.
     Room,
-    /// More bytes, or their end, for a reply under a list that holds System, or doesn't.
-    Bytes(bool),
+    /// More bytes, or their end, for a reply of this form.
+    Bytes(ReplyForm),
     /// The outcome of a request.
     Outcome,
 }
@@ -90,8 +90,8 @@ pub struct Script {
     pub untaken: Bytes,
     /// How many of these a Poll has read.
     pub seen: usize,
-    /// Whether the list that it read them under holds System.
-    pub system: bool,
+    /// The form of the reply that it read them as.
+    pub form: ReplyForm,
     /// What the session keeps beside its channel.
     pub state: State,
     /// Whether it has failed.

@@ -4,6 +4,7 @@
 //! of them, polled; a blocking call is the same poll over a connection that never waits. A user holds a `Session`,
 //! which is that machine and the encoding of its texts.
 
+pub mod answers;
 mod chosen;
 mod client;
 mod commands;
@@ -11,6 +12,7 @@ mod connecting;
 mod machine;
 mod nodes;
 mod parameters;
+mod questions;
 mod run;
 mod run_polled;
 mod stage;

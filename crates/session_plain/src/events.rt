@@ -4,7 +4,7 @@ ghost use Rattle.std.specs.Prelude.{◌≡◌, ℕ, List, [], ◌∷◌, ◌++�
 ghost use Rattle.ftp_control.specs.Memory.{more_room};
 ghost use Rattle.ftp_session.specs.Coding.{coding_of};
 ghost use Rattle.ftp_session.specs.Run.{run};
-ghost use Rattle.ftp_session.specs.Script.{after_event, fed, front, heard_at, heard_in, poll_script, script, seen_at, seen_in, start_script, system_at};
+ghost use Rattle.ftp_session.specs.Script.{after_event, fed, front, heard_at, heard_in, poll_script, script, seen_at, seen_in, start_script, form_at};
 
 use crate::exchange::copy_of;
 use crate::runs::run;
@@ -196,7 +196,7 @@ fn suspend(here: &mut Script, wait: Wait, there: Standing) -> Result<(), AllocEr
       sent = front here.old.room there.said;
       untaken = there.bytes;
       seen = seen_at wait here.old there.bytes;
-      system = system_at wait here.old;
+      form = form_at wait here.old;
       state = there.state;
       failed = there.failed;
     }) }
@@ -206,10 +206,10 @@ fn suspend(here: &mut Script, wait: Wait, there: Standing) -> Result<(), AllocEr
             here.seen = seen_in(here, there.bytes.len());
             here.heard = heard_in(here, there.bytes.len());
         }
-        Wait::Bytes(system) => {
+        Wait::Bytes(form) => {
             here.seen = there.bytes.len();
             here.heard = true;
-            here.system = system;
+            here.form = form;
         }
     }
     here.polled = true;

@@ -7,8 +7,8 @@ ghost use Rattle.ftp_base.specs.Wire.{wire};
 ghost use Rattle.ftp_control.specs.Grammar.{left_by};
 ghost use Rattle.ftp_control.specs.Refusal.{IsRefusalOf};
 ghost use Rattle.ftp_session.specs.Coding.{coding_of};
-ghost use Rattle.ftp_session.specs.Dialogue.{Tree, accepted, awaiting, concluded, exchanging, greeting_of, saying};
-ghost use Rattle.ftp_calls.specs.Exchanges.{exchange_of, statuses};
+ghost use Rattle.ftp_session.specs.Dialogue.{Tree, accepted, awaiting, concluded, exchanging, expected_of, greeting_of, saying};
+ghost use Rattle.ftp_calls.specs.Exchanges.{exchange_of};
 ghost use Rattle.ftp_session.specs.Play.{fits, heard_then, play, said_then, taken};
 ghost use Rattle.session_plain.specs.Progress.{ComesTo};
 
@@ -17,10 +17,13 @@ use ftp_base::encoding::{Encoding, WelcomeMessage};
 use ftp_base::status::Status;
 use ftp_base::types::{Bytes, ConnectionError, FtpError, FtpResult, Items, Response};
 use ftp_calls::exchange::{Codes, Ending, Turn, exchange_of};
-use ftp_control::control::{Outcome, REPLY_LIMIT, WireLine, expected_reply, is_among};
+use ftp_control::control::{Outcome, REPLY_LIMIT, ReplyForm, WireLine, expected_reply, form_of};
 use ftp_control::plain::outcome;
 use ftp_control::transport::Room;
 use ftp_session::model::{Played, Standing, Wait};
+use ftp_session::session::answers::{
+    features_answer, line_answer, path_answer, size_answer, time_answer,
+};
 use ftp_session::session::{Answer, Call, State};
 use std::alloc::{AllocError, Global};
 
@@ -110,12 +113,25 @@ fn line_of<E: Encoding>(alloc: Global, encoding: &E, command: Command) -> FtpRes
 
 /// The statuses that a reply may have.
 fn statuses(alloc: Global, codes: Codes) -> Result<Items<Status>, AllocError>
-    ensures { IfOk result (λ all. all ≡ statuses codes) }
+    ensures { IfOk result (λ all. all ≡ (expected_of codes).statuses) }
 {
     match codes {
         Codes::One(status) => Ok(Items::from_vec(vec![in alloc; status]?)),
         Codes::Either(one, other) => Ok(Items::from_vec(vec![in alloc; one, other]?)),
         Codes::Given(given) => Ok(given),
+        Codes::Features => Ok(Items::from_vec(vec![in alloc; Status::System]?)),
+    }
+}
+
+/// The form of the reply that is awaited.
+fn form_of_codes(codes: &Codes) -> ReplyForm
+    ensures { result ≡ (expected_of codes.now).form }
+{
+    match codes {
+        Codes::One(status) => form_of(&[*status]),
+        Codes::Either(one, other) => form_of(&[*one, *other]),
+        Codes::Given(given) => form_of(given.as_slice()),
+        Codes::Features => ReplyForm::Features,
     }
 }
 
@@ -151,16 +167,17 @@ fn hear<E: Encoding>(
     ensures { IfOk result (λ progress. (room : Room) (later : State → Tree) →
         let coding = coding_of E.decoded E.encoded encoding.now in
         ComesTo room later
-        (play room (awaiting coding (statuses codes) ending standing.state later) standing)
+        (play room (awaiting coding (expected_of codes) ending standing.state later) standing)
         progress) }
 {
+    let form = form_of_codes(&codes);
     let statuses = statuses(alloc, codes)?;
-    let system = is_among(statuses.as_slice(), Status::System);
     let bytes = standing.bytes.as_slice();
-    let heard = outcome(alloc, standing.rule, system, bytes, standing.ended)?;
+    let heard = outcome(alloc, standing.rule, form, bytes, standing.ended)?;
     heard_then(
         alloc,
         encoding,
+        form,
         statuses.as_slice(),
         ending,
         heard,
@@ -172,6 +189,7 @@ fn hear<E: Encoding>(
 fn heard_then<E: Encoding>(
     alloc: Global,
     encoding: &E,
+    form: ReplyForm,
     codes: &[Status],
     ending: Ending,
     heard: Outcome,
@@ -180,7 +198,7 @@ fn heard_then<E: Encoding>(
     ensures { IfOk result (λ progress. (room : Room) (later : State → Tree) →
         let coding = coding_of E.decoded E.encoded encoding.now in
         ComesTo room later
-        (heard_then heard codes.now standing (λ reply here.
+        (heard_then heard (record { form = form; statuses = codes.now }) standing (λ reply here.
         play room (concluded coding ending standing.state later reply) here)) progress) }
 {
     let left = left_by(alloc, &heard, standing.bytes.as_slice())?;
@@ -214,10 +232,7 @@ fn heard_then<E: Encoding>(
                 failed(taken(left, standing)),
             )
         }
-        Outcome::Waits => {
-            let system = is_among(codes, Status::System);
-            Ok(Progress::Stops(Played::Pending(Wait::Bytes(system), standing)))
-        }
+        Outcome::Waits => Ok(Progress::Stops(Played::Pending(Wait::Bytes(form), standing))),
     }
 }
 
@@ -278,6 +293,11 @@ fn accepted<E: Encoding>(
             let welcome = greeting_of(alloc, encoding, reply.body)?;
             Ok(done(Answer::Unit, greeted(welcome, standing)))
         }
+        Ending::GivesPath => Ok(done(path_answer(alloc, encoding, reply)?, standing)),
+        Ending::GivesSecondLine => Ok(done(line_answer(alloc, encoding, &reply)?, standing)),
+        Ending::GivesTime => Ok(done(time_answer(&reply), standing)),
+        Ending::GivesSize => Ok(done(size_answer(&reply), standing)),
+        Ending::GivesFeatures => Ok(done(features_answer(alloc, &reply)?, standing)),
         Ending::SetsText(text) => Ok(done(Answer::Unit, text_set(text, standing))),
         Ending::GoesOn(status) => {
             let goes_on = reply.status.code() == status.code();

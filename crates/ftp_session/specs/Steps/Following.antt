@@ -91,7 +91,7 @@ pub record Follows (coding : Coding) (old : SessionValue) (s : Script) (v : Sess
   pub unsent : MayCancel call s.polled → s.unsent ≡ v.channel.unsent
   pub untaken : s.untaken ≡ untaken v.channel ++ unread v.channel.told
   pub seen : s.seen ≡ length v.channel.kept
-  pub waits : outcome v.channel.rule s.system v.channel.kept false ≡ Waits
+  pub waits : outcome v.channel.rule s.form v.channel.kept false ≡ Waits
   pub state : s.state ≡ v.state
   pub failed : s.failed ≡ v.channel.failed
   pub call_is : s.call ≡ call

@@ -29,11 +29,11 @@ use Rattle.ftp_session.specs.State.{SessionValue}
 use Rattle.ftp_session.specs.Coding.{Coding}
 use Rattle.ftp_calls.specs.declared.exchange.Turn.{Turn}
 use Rattle.ftp_control.specs.Refusal.{IsRefusalOf}
-use Rattle.ftp_calls.specs.Exchanges.{exchange_of, gives_reply}
-use Rattle.ftp_session.specs.Dialogue.{Tree, Say, Hear, Ask, Leaf, accepted, later, dialogue}
+use Rattle.ftp_calls.specs.Exchanges.{exchange_of, Nothing, kind_of}
+use Rattle.ftp_session.specs.Dialogue.{Expected, Tree, Say, Hear, Ask, Leaf, accepted, later, dialogue}
 use Rattle.ftp_session.specs.Run.{Resumes, Silent}
 use Rattle.ftp_session.specs.Promises.{IsFault, Leads, Completes, Aborts, Fails, However, SaidOrTaken, Untouched, Rests, IsRefused, failed_from}
-use Rattle.ftp_session.specs.Steps.Stages.{Begun, remaining, begun_at, is_second, line_of}
+use Rattle.ftp_session.specs.Steps.Stages.{AnswersKind, Begun, remaining, begun_at, is_second, line_of}
 use Rattle.ftp_session.specs.Link.{Link}
 
 -- what is kept afterwards: nothing, as after a reply; or what was, where none was read
@@ -110,7 +110,7 @@ pub record WaitsToSay (link : Link) (tree : Tree) (v : SessionValue) : Type 0 wh
   pub full : link.tells → IsFull v.channel.told
 
 pub record WaitsToHear (link : Link) (tree : Tree) (v : SessionValue) : Type 0 where
-  pub codes : List Status
+  pub codes : Expected
   pub next : Result Response FtpError → Tree
   pub is : tree ≡ Hear codes next
   pub unended : v.channel.ended ≡ false
@@ -166,7 +166,7 @@ pub record TakesLine (link : Link) (line line' : Option (List ℕ)) (old new : S
   pub begins : line' ≡ None → (line ≡ None) ⊎ (link.tells → length (said old.channel) < length (said new.channel))
 
 -- a read is aborted: the connection failed, which was counted; or memory ran out, and nothing is lost
-pub record AbortsRead (link : Link) (codes : List Status) (next : Result Response FtpError → Tree) (fault : FtpError) (old new : SessionValue) : Type 0 where
+pub record AbortsRead (link : Link) (codes : Expected) (next : Result Response FtpError → Tree) (fault : FtpError) (old new : SessionValue) : Type 0 where
   pub at : SessionValue
   pub leads : Leads link (Hear codes next) (Hear codes next) old at
   pub state : at.state ≡ old.state
@@ -174,7 +174,7 @@ pub record AbortsRead (link : Link) (codes : List Status) (next : Result Respons
   pub cause : Fails link (Hear codes next) fault at new ⊎ ((fault ≡ OutOfMemory) × (new ≡ at) × Untouched link leads.came old at)
 
 -- a reply is heard, or a fault in its place; or it is waited for, or the read is aborted
-abbrev pub Hears : Link → List Status → (Result Response FtpError → Tree) → SessionValue → SessionValue → Poll (Result Response FtpError) → Type 0
+abbrev pub Hears : Link → Expected → (Result Response FtpError → Tree) → SessionValue → SessionValue → Poll (Result Response FtpError) → Type 0
 Hears link codes next old new (poll.Ready (Ok reply)) = Advances link (Hear codes next) (next (Ok reply)) old new × Takes link (Hear codes next) old new
 Hears link codes next old new (poll.Ready (Err fault)) =
     (Moves link (Hear codes next) (next (Err fault)) old new × (fault ≡ OutOfMemory → ⊥)) ⊎ AbortsRead link codes next fault old new
@@ -238,10 +238,8 @@ BeginsExchange coding call turn stage old new (Done answer) = IsRefusedLine codi
 
 -- the kind of an answer is its ending's
 abbrev pub AnswersAs : Ending → Accepted → Type 0
-AnswersAs ending accepts.GoesOn = gives_reply ending ≡ false
-AnswersAs ending (accepts.Done answers.Unit) = gives_reply ending ≡ false
-AnswersAs ending (accepts.Done (answers.Reply reply)) = gives_reply ending ≡ true
-AnswersAs ending (accepts.Done (answers.Fault fault)) = ⊥
+AnswersAs ending accepts.GoesOn = kind_of ending ≡ Nothing
+AnswersAs ending (accepts.Done answer) = AnswersKind (kind_of ending) answer
 
 -- a reply that was heard is accepted: the next exchange is reached, or the answer with the change of state; where
 -- memory ran out the session has failed

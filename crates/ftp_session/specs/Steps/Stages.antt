@@ -22,8 +22,8 @@ use Rattle.ftp_session.specs.declared.session.stage.Stage.TheVariants.{At, Sayin
 use Rattle.ftp_session.specs.declared.session.stage.Step.{Step}
 use Rattle.ftp_session.specs.declared.session.stage.Step.TheVariants as step
 use Rattle.ftp_session.specs.Coding.{Coding}
-use Rattle.ftp_calls.specs.Exchanges.{exchange_of, statuses, gives_reply, is_read}
-use Rattle.ftp_session.specs.Dialogue.{Tree, Say, awaiting, later, from_turn}
+use Rattle.ftp_calls.specs.Exchanges.{exchange_of, is_read, Kind, Nothing, Replies, Texts, Times, Sizes, Lists, kind_of}
+use Rattle.ftp_session.specs.Dialogue.{expected_of, Tree, Say, awaiting, later, from_turn}
 
 -- an exchange was made before
 abbrev pub is_second : Turn → Bool
@@ -32,7 +32,7 @@ is_second Second = true
 
 -- a reply is awaited
 abbrev pub awaited : Coding → Call → State → Awaits → Tree
-awaited coding call state a = awaiting coding (statuses a.hears) a.ending state (later coding call a.turn)
+awaited coding call state a = awaiting coding (expected_of a.hears) a.ending state (later coding call a.turn)
 
 -- what is left of a call's dialogue
 abbrev pub remaining : Coding → Call → State → Stage → Tree
@@ -92,11 +92,19 @@ abbrev pub Begins : Coding → Call → Turn → Result Stage FtpError → Type 
 Begins coding call turn (Ok stage) = Begun coding call turn stage
 Begins coding call turn (Err fault) = IsRefusalOf (line_of coding (exchange_of call turn).says) fault
 
--- the kind of an answer: some exchange of the call gives its reply, or gives none
+-- an answer of a kind, or a fault
+abbrev pub AnswersKind : Kind → Answer → Type 0
+AnswersKind kind answer.Unit = kind ≡ Nothing
+AnswersKind kind (answer.Reply reply) = kind ≡ Replies
+AnswersKind kind (answer.Text text) = kind ≡ Texts
+AnswersKind kind (answer.Time time) = kind ≡ Times
+AnswersKind kind (answer.Size size) = kind ≡ Sizes
+AnswersKind kind (answer.Features features) = kind ≡ Lists
+AnswersKind kind (answer.Fault fault) = Unit {0}
+
+-- the kind of an answer is that of some exchange of the call
 abbrev pub MayAnswer : Call → Answer → Type 0
-MayAnswer call answer.Unit = (turn : Turn) × (gives_reply (exchange_of call turn).ending ≡ false)
-MayAnswer call (answer.Reply reply) = (turn : Turn) × (gives_reply (exchange_of call turn).ending ≡ true)
-MayAnswer call (answer.Fault fault) = Unit {0}
+MayAnswer call answer = (turn : Turn) × AnswersKind (kind_of (exchange_of call turn).ending) answer
 
 abbrev pub StepAnswers : Call → Step → Type 0
 StepAnswers call step.Next = Unit {0}
@@ -107,9 +115,24 @@ abbrev pub PollAnswers : Call → Poll Answer → Type 0
 PollAnswers call (Ready answer) = MayAnswer call answer
 PollAnswers call Pending = Unit {0}
 
--- no exchange of a call gives its reply, or its only one does
+-- each exchange of a call gives this
+abbrev pub Gives : Kind → Call → Type 0
+Gives kind call = (kind_of (exchange_of call First).ending ≡ kind) × (kind_of (exchange_of call Second).ending ≡ kind)
+
 abbrev pub GivesNothing : Call → Type 0
-GivesNothing call = (gives_reply (exchange_of call First).ending ≡ false) × (gives_reply (exchange_of call Second).ending ≡ false)
+GivesNothing call = Gives Nothing call
 
 abbrev pub GivesReply : Call → Type 0
-GivesReply call = (gives_reply (exchange_of call First).ending ≡ true) × (gives_reply (exchange_of call Second).ending ≡ true)
+GivesReply call = Gives Replies call
+
+abbrev pub GivesText : Call → Type 0
+GivesText call = Gives Texts call
+
+abbrev pub GivesTime : Call → Type 0
+GivesTime call = Gives Times call
+
+abbrev pub GivesSize : Call → Type 0
+GivesSize call = Gives Sizes call
+
+abbrev pub GivesFeatures : Call → Type 0
+GivesFeatures call = Gives Lists call

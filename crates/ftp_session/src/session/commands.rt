@@ -11,7 +11,7 @@ ghost use Rattle.ftp_base.specs.declared.types.fault.FtpError.{FtpError as Fault
 ghost use Rattle.ftp_calls.specs.declared.call.Call.{Call as Called};
 ghost use Rattle.ftp_session.specs.Calls.{reply_answer, unit_answer};
 ghost use Rattle.ftp_session.specs.Coding.{chosen};
-ghost use Rattle.ftp_session.specs.Dialogue.{Tree};
+ghost use Rattle.ftp_session.specs.Dialogue.{Tree, expecting};
 ghost use Rattle.ftp_session.specs.Link.{link};
 ghost use Rattle.ftp_session.specs.Promises.{GivesFault, Plays, Reads};
 ghost use Rattle.ftp_session.specs.Steps.Moving.{withheld};
@@ -223,7 +223,7 @@ where
     }
 
     /// Makes a call.
-    fn call(&mut self, alloc: Global, call: &Call) -> Answer
+    pub(super) fn call(&mut self, alloc: Global, call: &Call) -> Answer
         ensures encoding { self.new.encoding ≡ self.old.encoding }
         ensures answers { MayAnswer call.now result }
         ensures plays { Plays (link Tr.Conn.tells Tr.Conn.blocking_read_faults Tr.Conn.blocking_write_faults) (chosen E.decoded E.encoded self.old.encoding.0)
@@ -265,7 +265,7 @@ where
     }
 
     /// Why a call isn't made whose arguments found no memory.
-    fn withheld(&self) -> FtpError
+    pub(super) fn withheld(&self) -> FtpError
         ensures { result ≡ withheld self.now.machine }
     {
         if self.machine.channel.failed() {
@@ -297,7 +297,7 @@ impl<Tr: Network, K: Drop, E: Encoding, B: Drop> Session<Tr, K, E, B> {
             (self.old.machine.channel.failed ≡ true) ⊎ GivesFault result }
         ensures reads { self.old.machine.channel.failed ≡ false →
             (next : Result Heard Faults → Tree) →
-            Reads (link Tr.Conn.tells Tr.Conn.read_faults Tr.Conn.write_faults) expected.now next self.old.machine self.new.machine result }
+            Reads (link Tr.Conn.tells Tr.Conn.read_faults Tr.Conn.write_faults) (expecting expected.now) next self.old.machine self.new.machine result }
     {
         if self.machine.channel.failed() {
             return Poll::Ready(Err(FtpError::SessionFailed));
@@ -324,14 +324,14 @@ impl<Tr: Network, K: Drop, E: Encoding, B: Drop> Session<Tr, K, E, B> {
             (self.old.machine.channel.failed ≡ true) ⊎ GivesFault result }
         ensures reads { self.old.machine.channel.failed ≡ false →
             (next : Result Heard Faults → Tree) →
-            Reads (link Tr.Conn.tells Tr.Conn.read_faults Tr.Conn.write_faults) (expected ∷ []) next self.old.machine self.new.machine result }
+            Reads (link Tr.Conn.tells Tr.Conn.read_faults Tr.Conn.write_faults) (expecting (expected ∷ [])) next self.old.machine self.new.machine result }
     {
         self.poll_read_response_in(alloc, &[expected], w)
     }
 }
 
 /// A text that may be left out.
-fn optional_text(alloc: Global, text: Option<&str>) -> Result<Option<Text>, AllocError>
+pub(super) fn optional_text(alloc: Global, text: Option<&str>) -> Result<Option<Text>, AllocError>
     ensures { IfOk result (λ copy. copy ≡ option_map (λ text. text.now) text.entry) }
 {
     match text {
@@ -438,7 +438,11 @@ fn unit(answer: Answer) -> FtpResult<()>
     match answer {
         Answer::Unit => Ok(()),
         Answer::Fault(fault) => Err(fault),
-        Answer::Reply(_reply) => unreachable!(),
+        Answer::Reply(_) => unreachable!(),
+        Answer::Text(_) => unreachable!(),
+        Answer::Time(_) => unreachable!(),
+        Answer::Size(_) => unreachable!(),
+        Answer::Features(_) => unreachable!(),
     }
 }
 
@@ -451,5 +455,9 @@ fn reply(answer: Answer) -> FtpResult<Response>
         Answer::Unit => unreachable!(),
         Answer::Fault(fault) => Err(fault),
         Answer::Reply(reply) => Ok(reply),
+        Answer::Text(_) => unreachable!(),
+        Answer::Time(_) => unreachable!(),
+        Answer::Size(_) => unreachable!(),
+        Answer::Features(_) => unreachable!(),
     }
 }

@@ -9,11 +9,11 @@ ghost use Rattle.ftp_base.specs.declared.types.reply.Response.{Response as Heard
 ghost use Rattle.ftp_base.specs.declared.types.fault.FtpError.{FtpError as Faults};
 ghost use Rattle.ftp_control.specs.Told.{EndsAsTold};
 ghost use Rattle.ftp_session.specs.Coding.{coding_of};
-ghost use Rattle.ftp_session.specs.Dialogue.{Tree};
-ghost use Rattle.ftp_calls.specs.Exchanges.{statuses};
+ghost use Rattle.ftp_session.specs.Dialogue.{Tree, expected_of, expecting};
 ghost use Rattle.ftp_session.specs.Link.{link};
 ghost use Rattle.ftp_session.specs.Steps.Moving.{Accepts, AnswersAs, Hears, SaysNode, TakesLine, step_of};
 
+use super::answers::{features_answer, line_answer, path_answer, size_answer, time_answer};
 use super::machine::Machine;
 use super::stage::Step;
 use super::{Answer, State};
@@ -21,7 +21,7 @@ use ftp_base::encoding::{Encoding, WelcomeMessage};
 use ftp_base::status::Status;
 use ftp_base::types::{FtpError, FtpResult, Response};
 use ftp_calls::exchange::{Codes, Ending};
-use ftp_control::control::WireLine;
+use ftp_control::control::{ReplyForm, WireLine, form_of};
 use ftp_control::transport::{Network, PollConn};
 use futures::task::Poll;
 use std::alloc::{AllocError, Global};
@@ -60,12 +60,34 @@ impl<Tr: Network> Machine<Tr> {
         ensures end { Tr.Conn.tells → Tr.Conn.may_wait →
             EndsAsTold self.old.channel.ended self.new.channel.ended self.old.channel.told }
         ensures hears { (next : Result Heard Faults → Tree) →
-            Hears (link Tr.Conn.tells Tr.Conn.read_faults Tr.Conn.write_faults) expected.now next self.old self.new result }
+            Hears (link Tr.Conn.tells Tr.Conn.read_faults Tr.Conn.write_faults) (expecting expected.now) next self.old self.new result }
     {
-        self.channel.poll_read_response_in(alloc, expected, w)
+        self.hear_reply_of(alloc, form_of(expected), expected, w)
     }
 
-    /// Reads a reply of one of these statuses.
+    /// Reads a reply of this form and one of these statuses.
+    fn hear_reply_of<W>(
+        &mut self,
+        alloc: Global,
+        form: ReplyForm,
+        expected: &[Status],
+        w: &mut W,
+    ) -> Poll<FtpResult<Response>>
+    where
+        Tr::Conn: PollConn<W>,
+        requires { self.old.channel.failed ≡ false }
+        ensures waits { result ≡ poll.Pending → Tr.Conn.may_wait }
+        ensures asked { self.new.asked ≡ self.old.asked }
+        ensures end { Tr.Conn.tells → Tr.Conn.may_wait →
+            EndsAsTold self.old.channel.ended self.new.channel.ended self.old.channel.told }
+        ensures hears { (next : Result Heard Faults → Tree) →
+            Hears (link Tr.Conn.tells Tr.Conn.read_faults Tr.Conn.write_faults) (record { form = form; statuses = expected.now })
+            next self.old self.new result }
+    {
+        self.channel.poll_read_reply(alloc, form, expected, w)
+    }
+
+    /// Reads the reply that an exchange awaits.
     pub(super) fn hear_codes<W>(
         &mut self,
         alloc: Global,
@@ -80,12 +102,13 @@ impl<Tr: Network> Machine<Tr> {
         ensures end { Tr.Conn.tells → Tr.Conn.may_wait →
             EndsAsTold self.old.channel.ended self.new.channel.ended self.old.channel.told }
         ensures hears { (next : Result Heard Faults → Tree) →
-            Hears (link Tr.Conn.tells Tr.Conn.read_faults Tr.Conn.write_faults) (statuses codes.now) next self.old self.new result }
+            Hears (link Tr.Conn.tells Tr.Conn.read_faults Tr.Conn.write_faults) (expected_of codes.now) next self.old self.new result }
     {
         match codes {
             Codes::One(status) => self.hear(alloc, &[*status], w),
             Codes::Either(one, other) => self.hear(alloc, &[*one, *other], w),
             Codes::Given(statuses) => self.hear(alloc, statuses.as_slice(), w),
+            Codes::Features => self.hear_reply_of(alloc, ReplyForm::Features, &[Status::System], w),
         }
     }
 }
@@ -121,6 +144,11 @@ pub(crate) fn accept<E: Encoding>(
             state.welcome = Some(welcome);
             Ok(Accepted::Done(Answer::Unit))
         }
+        Ending::GivesPath => Ok(Accepted::Done(path_answer(alloc, encoding, reply)?)),
+        Ending::GivesSecondLine => Ok(Accepted::Done(line_answer(alloc, encoding, &reply)?)),
+        Ending::GivesTime => Ok(Accepted::Done(time_answer(&reply))),
+        Ending::GivesSize => Ok(Accepted::Done(size_answer(&reply))),
+        Ending::GivesFeatures => Ok(Accepted::Done(features_answer(alloc, &reply)?)),
         Ending::SetsText(text) => {
             state.settings.text = text;
             Ok(Accepted::Done(Answer::Unit))

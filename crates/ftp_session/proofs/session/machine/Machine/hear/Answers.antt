@@ -1,8 +1,4 @@
-use Rattle.ftp_session.proofs.Hearing.{reply_heard}
 use Rattle.ftp_session.proofs.session.machine.Machine.hear.Goals as goal
 
 pub returns-clause-hears : goal.returns-clause-hears
-returns-clause-hears g c = λ next.
-    let going = rw (← c.self.view_is) at c.requires in
-    rw (← c.self.view_is)
-    (reply_heard _ c.self.inside.state _ c.self.inside.channel _ _ _ going (c.poll_read_response_in.ensures.reads going) next)
+returns-clause-hears g c = λ next. let heard = rw c.form_of.ensures at c.hear_reply_of.ensures.hears in heard next

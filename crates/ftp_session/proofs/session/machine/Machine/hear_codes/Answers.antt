@@ -8,3 +8,6 @@ returns-in-Either-clause-hears g c = λ next. rw c.in-Either.is (c.hear-in-Eithe
 
 pub returns-in-Given-clause-hears : goal.returns-in-Given-clause-hears
 returns-in-Given-clause-hears g c = λ next. let heard = rw (c.as_slice.ensures) at c.hear-in-Given.ensures.hears in rw c.in-Given.is (heard next)
+
+pub returns-in-Features-clause-hears : goal.returns-in-Features-clause-hears
+returns-in-Features-clause-hears g c = λ next. rw c.in-Features.is (c.hear_reply_of.ensures.hears next)

@@ -1,0 +1,23 @@
+//! What the texts of replies say: the replies to PWD (RFC 959, appendix II), MLST, MDTM and SIZE (RFC 3659, sections
+//! 7, 3 and 4) and FEAT (RFC 2389, section 3.2).
+//!
+//! A session reads a reply's bytes and knows nothing of their text; here that text is read. Each function gets the
+//! reply's whole body and returns what the definition of its name in `specs/` makes of it. PWD and MLST are read in
+//! the session's encoding, since they hold names of files; the others hold none, and are read as UTF-8. The time is
+//! linear in the body's length.
+#![tactic(auto)]
+
+mod dates;
+mod features;
+mod lines;
+mod path;
+mod second_line;
+mod size;
+mod text;
+mod time;
+
+pub use features::read_features;
+pub use path::read_path;
+pub use second_line::read_second_line;
+pub use size::read_size;
+pub use time::read_time;

@@ -1,0 +1,185 @@
+//! The calls of a session that ask the server something, a method each.
+//!
+//! What they answer is in the text of the reply: a path (RFC 959, section 4.1.3), the facts of a file, its time and its
+//! size (RFC 3659), the server's features (RFC 2389). A reply of the right status that doesn't say it is a fault, which
+//! leaves the session as it would be after the answer.
+
+ghost use Rattle.std.specs.Prelude.{◌≡◌, IfOk, option_map};
+ghost use Rattle.ftp_calls.specs.declared.call.Call.{Call as Called};
+ghost use Rattle.ftp_session.specs.Calls.{features_answer, size_answer, text_answer, time_answer};
+ghost use Rattle.ftp_session.specs.Coding.{chosen};
+ghost use Rattle.ftp_session.specs.Link.{link};
+ghost use Rattle.ftp_session.specs.Promises.{Plays};
+ghost use Rattle.ftp_session.specs.Steps.Stages.{GivesFeatures, GivesSize, GivesText, GivesTime, MayAnswer};
+
+use super::client::Session;
+use super::commands::optional_text;
+use super::{Answer, Call};
+use ftp_base::encoding::Encoding;
+use ftp_base::types::{Features, FtpResult, Text};
+use ftp_control::transport::{Conn, Network};
+use jiff::civil::DateTime;
+use std::alloc::{AllocError, Global};
+
+impl<Tr: Network, K: Drop, E: Encoding, B: Drop> Session<Tr, K, E, B>
+where
+    Tr::Conn: Conn,
+{
+    /// The current directory: `PWD` (257), the reply's text between its first quote and its last. Doubled quotes stay
+    /// doubled.
+    ///
+    /// # Errors
+    /// Those of a command and its reply; `UnexpectedResponse` where the reply has fewer than two quotes.
+    pub fn pwd(&mut self, alloc: Global) -> FtpResult<String>
+        ensures { Plays (link Tr.Conn.tells Tr.Conn.blocking_read_faults Tr.Conn.blocking_write_faults) (chosen E.decoded E.encoded self.old.encoding.0) Call.Pwd
+            self.old.machine self.new.machine (text_answer result) }
+    {
+        text(self.call(alloc, &Call::Pwd))
+    }
+
+    /// The facts of a file, or of the current directory: `MLST` (250), the second line of the reply, white space cut at
+    /// both ends (RFC 3659, section 7).
+    ///
+    /// # Errors
+    /// Those of a command and its reply; `BadResponse` where the second line is absent or empty.
+    pub fn mlst(&mut self, alloc: Global, path: Option<&str>) -> FtpResult<String>
+        ensures { Plays (link Tr.Conn.tells Tr.Conn.blocking_read_faults Tr.Conn.blocking_write_faults) (chosen E.decoded E.encoded self.old.encoding.0) (Call.Mlst (option_map (λ text. text.now) path.entry))
+            self.old.machine self.new.machine (text_answer result) }
+    {
+        match mlst_call(alloc, path) {
+            Ok(call) => text(self.call(alloc, &call)),
+            Err(AllocError) => Err(self.withheld()),
+        }
+    }
+
+    /// When a file was last changed, in UTC: `MDTM` (213), the first fourteen digits of the reply that are no part of a
+    /// longer word (RFC 3659, section 3).
+    ///
+    /// # Errors
+    /// Those of a command and its reply; `BadResponse` where the reply isn't UTF-8 or tells no date and time.
+    pub fn mdtm(&mut self, alloc: Global, path: &str) -> FtpResult<DateTime>
+        ensures { Plays (link Tr.Conn.tells Tr.Conn.blocking_read_faults Tr.Conn.blocking_write_faults) (chosen E.decoded E.encoded self.old.encoding.0) (Call.Mdtm path.now)
+            self.old.machine self.new.machine (time_answer result) }
+    {
+        match mdtm_call(alloc, path) {
+            Ok(call) => time(self.call(alloc, &call)),
+            Err(AllocError) => Err(self.withheld()),
+        }
+    }
+
+    /// How many bytes a file has: `SIZE` (213), the last word of the reply (RFC 3659, section 4).
+    ///
+    /// # Errors
+    /// Those of a command and its reply; `BadResponse` where the reply isn't UTF-8 or its last word is no number below
+    /// 2^64.
+    pub fn size(&mut self, alloc: Global, path: &str) -> FtpResult<usize>
+        ensures { Plays (link Tr.Conn.tells Tr.Conn.blocking_read_faults Tr.Conn.blocking_write_faults) (chosen E.decoded E.encoded self.old.encoding.0) (Call.Size path.now)
+            self.old.machine self.new.machine (size_answer result) }
+    {
+        match size_call(alloc, path) {
+            Ok(call) => size(self.call(alloc, &call)),
+            Err(AllocError) => Err(self.withheld()),
+        }
+    }
+
+    /// What the server can do beyond RFC 959: `FEAT` (211), and after `211-` the list up to a line `211 ` or the end of
+    /// the input (RFC 2389, section 3). A reply of one line, `211 `, is a server without features.
+    ///
+    /// # Errors
+    /// Those of a command and its reply, the list being part of the reply; `BadResponse` where a line of the list
+    /// doesn't begin with a space.
+    pub fn feat(&mut self, alloc: Global) -> FtpResult<Features>
+        ensures { Plays (link Tr.Conn.tells Tr.Conn.blocking_read_faults Tr.Conn.blocking_write_faults) (chosen E.decoded E.encoded self.old.encoding.0) Call.Feat
+            self.old.machine self.new.machine (features_answer result) }
+    {
+        features(self.call(alloc, &Call::Feat))
+    }
+}
+
+/// `MLST` as a call.
+fn mlst_call(alloc: Global, path: Option<&str>) -> Result<Call, AllocError>
+    ensures call { IfOk result (λ call. call ≡ Call.Mlst (option_map (λ text. text.now) path.entry)) }
+    ensures kind { IfOk result GivesText }
+{
+    Ok(Call::Mlst(optional_text(alloc, path)?))
+}
+
+/// `MDTM` as a call.
+fn mdtm_call(alloc: Global, path: &str) -> Result<Call, AllocError>
+    ensures call { IfOk result (λ call. call ≡ Call.Mdtm path.now) }
+    ensures kind { IfOk result GivesTime }
+{
+    Ok(Call::Mdtm(Text::from_str(alloc, path)?))
+}
+
+/// `SIZE` as a call.
+fn size_call(alloc: Global, path: &str) -> Result<Call, AllocError>
+    ensures call { IfOk result (λ call. call ≡ Call.Size path.now) }
+    ensures kind { IfOk result GivesSize }
+{
+    Ok(Call::Size(Text::from_str(alloc, path)?))
+}
+
+/// The result of a call that gives a text.
+fn text(answer: Answer) -> FtpResult<String>
+    requires { (call : Called) × MayAnswer call answer × GivesText call }
+    ensures { text_answer result ≡ answer }
+{
+    match answer {
+        Answer::Unit => unreachable!(),
+        Answer::Reply(_) => unreachable!(),
+        Answer::Text(text) => Ok(text.into_string()),
+        Answer::Time(_) => unreachable!(),
+        Answer::Size(_) => unreachable!(),
+        Answer::Features(_) => unreachable!(),
+        Answer::Fault(fault) => Err(fault),
+    }
+}
+
+/// The result of a call that gives a time.
+fn time(answer: Answer) -> FtpResult<DateTime>
+    requires { (call : Called) × MayAnswer call answer × GivesTime call }
+    ensures { time_answer result ≡ answer }
+{
+    match answer {
+        Answer::Unit => unreachable!(),
+        Answer::Reply(_) => unreachable!(),
+        Answer::Text(_) => unreachable!(),
+        Answer::Time(time) => Ok(time),
+        Answer::Size(_) => unreachable!(),
+        Answer::Features(_) => unreachable!(),
+        Answer::Fault(fault) => Err(fault),
+    }
+}
+
+/// The result of a call that gives a number of bytes.
+fn size(answer: Answer) -> FtpResult<usize>
+    requires { (call : Called) × MayAnswer call answer × GivesSize call }
+    ensures { size_answer result ≡ answer }
+{
+    match answer {
+        Answer::Unit => unreachable!(),
+        Answer::Reply(_) => unreachable!(),
+        Answer::Text(_) => unreachable!(),
+        Answer::Time(_) => unreachable!(),
+        Answer::Size(size) => Ok(size),
+        Answer::Features(_) => unreachable!(),
+        Answer::Fault(fault) => Err(fault),
+    }
+}
+
+/// The result of a call that gives features.
+fn features(answer: Answer) -> FtpResult<Features>
+    requires { (call : Called) × MayAnswer call answer × GivesFeatures call }
+    ensures { features_answer result ≡ answer }
+{
+    match answer {
+        Answer::Unit => unreachable!(),
+        Answer::Reply(_) => unreachable!(),
+        Answer::Text(_) => unreachable!(),
+        Answer::Time(_) => unreachable!(),
+        Answer::Size(_) => unreachable!(),
+        Answer::Features(features) => Ok(features),
+        Answer::Fault(fault) => Err(fault),
+    }
+}
