@@ -20,6 +20,38 @@ where
     Ok(reply)
 }
 
+/// Logs in, and says where a file lies, how long it is and when it was changed.
+pub fn describe<R>(rt: &R, address: &str, name: &str) -> FtpResult<String>
+where
+    R: Net<Stream = TcpStream> + Wait + AllocGlobal,
+{
+    let addresses: Vec<SocketAddr> = address.to_socket_addrs(rt)?.collect(rt.alloc())?;
+    let client = FtpStream::connect(rt, &addresses)?;
+    client.login(rt, "anonymous", "guest@example.org")?;
+    let directory = client.pwd(rt)?;
+    let size = client.size(rt, name)?;
+    let changed = client.mdtm(rt, name)?;
+    client.quit(rt)?;
+    Ok(format!(in rt.alloc(); "{directory} {name}: {size} bytes, changed {changed}")?)
+}
+
+/// Prints what the server says of a file, or why it says nothing.
+pub fn print_file<R>(rt: &R, address: &str, name: &str) -> ExitCode
+where
+    R: Net<Stream = TcpStream> + Wait + AllocGlobal + Print + Eprint,
+{
+    match describe(rt, address, name) {
+        Ok(text) => match println!(rt; "{text}") {
+            Ok(()) => ExitCode::SUCCESS,
+            Err(_fault) => ExitCode::from(1),
+        },
+        Err(fault) => {
+            let _ = eprintln!(rt; "{fault}");
+            ExitCode::from(1)
+        }
+    }
+}
+
 /// Prints the answer, or why there is none.
 pub fn print_system<R>(rt: &R, address: &str) -> ExitCode
 where

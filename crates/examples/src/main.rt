@@ -16,8 +16,15 @@ fn main(rt: HostRuntime) -> ExitCode {
             &rt,
             words[1].as_str(),
         ),
+        Ok(words) if words.len() == 3 && words[0].as_str() == "file" => ask::print_file(
+            &rt,
+            words[1].as_str(),
+            words[2].as_str(),
+        ),
         _ => {
-            let _ = rt.eprintln("usage: examples ADDRESS | examples entry LINE");
+            let _ = rt.eprintln(
+                "usage: examples ADDRESS | examples file ADDRESS NAME | examples entry LINE",
+            );
             ExitCode::from(2)
         }
     }

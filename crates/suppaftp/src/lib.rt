@@ -8,6 +8,7 @@
 pub mod program;
 pub mod sync_ftp;
 
+pub use ftp_answers as answers;
 pub use ftp_base::encoding::{Encoding, Utf8Encoding};
 pub use ftp_base::status::Status;
 pub use ftp_base::types::{ActivePeerCheck, FtpError, FtpResult, Mode, ReplyTooLarge};

@@ -12,6 +12,7 @@
 mod commands;
 mod connecting;
 mod control_socket;
+mod questions;
 
 pub use control_socket::ControlSocket;
 use ftp_base::encoding::{Encoding, Utf8Encoding};

@@ -1,0 +1,5 @@
+pub mod Escaping
+pub mod Making
+pub mod Reading
+pub mod Showing
+pub mod Splitting

@@ -1,0 +1,6 @@
+pub mod Escapes
+pub mod Lines
+pub mod Playing
+pub mod Script
+pub mod Shown
+pub mod Program

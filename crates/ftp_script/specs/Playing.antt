@@ -1,0 +1,47 @@
+-- The transcript of a script.
+use Rattle.std.specs.Prelude.{◌≡◌, ℕ, ◌-◌, ◌⊎◌, List, [], ◌∷◌, ◌++◌, length, drop, Ok}
+use Rattle.std.specs.Str.Lossy.{utf8_lossy}
+use Rattle.std.specs.declared.io.ErrorKind.TheVariants as kinds
+use Rattle.ftp_control.specs.Told.{IsFull}
+use Rattle.ftp_control.specs.Memory.{closed_memory, fed, fresh_memory}
+use Rattle.ftp_control.specs.Channel.{untaken}
+use Rattle.ftp_calls.specs.declared.call.Answer.{Answer}
+use Rattle.ftp_calls.specs.declared.call.Call.{Call}
+use Rattle.ftp_calls.specs.declared.call.Call.TheVariants.{Greet}
+use Rattle.ftp_session.specs.Calls.{Begins}
+use Rattle.ftp_session.specs.Coding.{Coding}
+use Rattle.ftp_session.specs.Link.{Link}
+use Rattle.ftp_session.specs.Promises.{Runs}
+use Rattle.ftp_session.specs.State.{SessionValue}
+use Rattle.ftp_script.specs.declared.script.Script.{Script}
+use Rattle.ftp_script.specs.Shown.{call_text, end_text}
+
+-- a connection over memory: its record is true, no read fails, and a write fails only for want of memory or of room
+abbrev pub memory : Link
+memory = record { tells = Unit {0}; reads = λ kind. ⊥; writes = λ told kind. (kind ≡ kinds.OutOfMemory) ⊎ ((kind ≡ kinds.WouldBlock) × IsFull told) }
+
+-- texts are UTF-8
+abbrev pub utf8 : Coding
+utf8 = record { decode = utf8_lossy; encode = λ text. Ok text }
+
+-- a session made a call; the text says what went out in it, and its answer
+pub record MakesOne (call : Call) (old new : SessionValue) (text : List ℕ) : Type 0 where
+  pub answer : Answer
+  pub runs : Runs memory utf8 (call ∷ []) old new (answer ∷ [])
+  pub is : text ≡ call_text (drop (length old.channel.told.sent) new.channel.told.sent) answer
+
+-- a session made these calls, one after another
+abbrev pub Makes : List Call → SessionValue → SessionValue → List ℕ → Type 0
+Makes [] old new text = (new ≡ old) × (text ≡ [])
+Makes (call ∷ calls) old new text =
+    (middle : SessionValue) × (first : List ℕ) × (later : List ℕ) × (text ≡ first ++ later) × MakesOne call old middle first × Makes calls middle new later
+
+-- the transcript of a script: a session begins on a connection that gives what the server sends and then ends, reads
+-- the greeting and makes the calls
+pub record IsTranscript (script : Script) (text : List ℕ) : Type 0 where
+  pub begun : SessionValue
+  pub begins : Begins (Unit {0}) (closed_memory (fed script.server fresh_memory)) [] begun
+  pub ended : SessionValue
+  pub calls : List ℕ
+  pub makes : Makes (Greet ∷ script.calls) begun ended calls
+  pub is : text ≡ calls ++ end_text (length ended.channel.told.received - length (untaken ended.channel))

@@ -1,0 +1,109 @@
+-- How a transcript is written.
+use Rattle.std.specs.Prelude.{ℕ, ◌+◌, ◌/◌, ◌%◌, ◌==◌, ◌&&◌, nat_le, nat_lt, List, [], ◌∷◌, ◌++◌, Option, Some, None, codes, if◌then◌else◌}
+use Rattle.std.specs.List.{flat_map, onto_first}
+use Rattle.std.specs.Fmt.{decimal}
+use Rattle.ftp_base.specs.Status.{code_of}
+use Rattle.ftp_base.specs.Features.{Entries, Feature}
+use Rattle.ftp_base.specs.declared.types.fault.FtpError.{FtpError}
+use Rattle.ftp_base.specs.declared.types.fault.FtpError.TheVariants.{ConnectionError as OfConnection, SecureError, UnexpectedResponse, BadResponse, DataConnectionAlreadyOpen, OutOfMemory, SessionFailed, InvalidAddress}
+use Rattle.ftp_base.specs.declared.types.fault.ConnectionError.{ConnectionError}
+use Rattle.ftp_base.specs.declared.types.fault.ConnectionError.TheVariants.{Io, UnexpectedEof, ReplyTooLarge, LineBreak, EncodedWithoutCrlf, EncodedLineBreak, Encoding, TimedOut, NoAddress, SourceTooLarge, NotOwed}
+use Rattle.ftp_calls.specs.declared.call.Answer.{Answer}
+use Rattle.ftp_calls.specs.declared.call.Answer.TheVariants.{Unit as Done, Reply, Text, Time, Size, Features, Fault}
+
+-- a hexadecimal digit, in lower case
+abbrev pub hex_digit : ℕ → ℕ
+hex_digit value = if nat_lt value 10 then 48 + value else 87 + value
+
+-- a byte as text: `\r`, `\n`, `\\`, itself from 20 to 7e hexadecimal, or `\xHH`
+abbrev pub shown_byte : ℕ → List ℕ
+shown_byte byte =
+    if byte == 13 then 92 ∷ 114 ∷ []
+    else (if byte == 10 then 92 ∷ 110 ∷ []
+    else (if byte == 92 then 92 ∷ 92 ∷ []
+    else (if nat_le 32 byte && nat_le byte 126 then byte ∷ []
+    else 92 ∷ 120 ∷ hex_digit (byte / 16) ∷ hex_digit (byte % 16) ∷ [])))
+
+-- bytes as text
+abbrev pub shown : List ℕ → List ℕ
+shown bytes = flat_map shown_byte bytes
+
+-- the lines of what was sent, each with its LF, which the last may lack
+abbrev pub sent_lines : List ℕ → List (List ℕ)
+sent_lines [] = []
+sent_lines (byte ∷ bytes) =
+    if byte == 10 then (byte ∷ []) ∷ sent_lines bytes else onto_first byte (sent_lines bytes)
+
+-- the number of a connection's fault
+abbrev pub connection_number : ConnectionError → ℕ
+connection_number (Io kind) = 1
+connection_number UnexpectedEof = 2
+connection_number ReplyTooLarge = 3
+connection_number LineBreak = 4
+connection_number EncodedWithoutCrlf = 5
+connection_number EncodedLineBreak = 6
+connection_number (Encoding kind) = 7
+connection_number TimedOut = 8
+connection_number NoAddress = 16
+connection_number SourceTooLarge = 17
+connection_number NotOwed = 18
+
+-- the number of a fault
+abbrev pub number_of : FtpError → ℕ
+number_of (OfConnection cause) = connection_number cause
+number_of (SecureError cause) = 9
+number_of (UnexpectedResponse reply) = 10
+number_of BadResponse = 11
+number_of DataConnectionAlreadyOpen = 12
+number_of OutOfMemory = 13
+number_of SessionFailed = 14
+number_of InvalidAddress = 15
+
+-- what stands after a fault's number: the code of the status of an unexpected reply
+abbrev pub after_number : FtpError → List ℕ
+after_number (OfConnection cause) = []
+after_number (SecureError cause) = []
+after_number (UnexpectedResponse reply) = codes " " ++ decimal (code_of reply.status)
+after_number BadResponse = []
+after_number DataConnectionAlreadyOpen = []
+after_number OutOfMemory = []
+after_number SessionFailed = []
+after_number InvalidAddress = []
+
+-- a feature as text: its name, and where it has a value `=` and that
+abbrev pub value_text : Option (List ℕ) → List ℕ
+value_text None = []
+value_text (Some value) = codes "=" ++ shown value
+
+abbrev pub feature_text : Feature → List ℕ
+feature_text feature = shown feature.0 ++ value_text feature.1
+
+-- features as text, each after the first behind `;`
+abbrev pub later_text : Feature → List ℕ
+later_text feature = codes ";" ++ feature_text feature
+
+abbrev pub features_text : Entries → List ℕ
+features_text [] = []
+features_text (first ∷ others) = feature_text first ++ flat_map later_text others
+
+-- an answer as text; no call of a script gives a time
+abbrev pub answer_text : Answer → List ℕ
+answer_text Done = codes "ok"
+answer_text (Reply reply) = codes "ok " ++ shown reply.body
+answer_text (Text text) = codes "ok " ++ shown text
+answer_text (Time time) = codes "ok"
+answer_text (Size size) = codes "ok " ++ decimal size
+answer_text (Features features) = codes "ok " ++ features_text features
+answer_text (Fault fault) = codes "E" ++ decimal (number_of fault) ++ after_number fault
+
+-- a line that was sent
+abbrev pub sent_text : List ℕ → List ℕ
+sent_text line = codes "C: " ++ shown line ++ 10 ∷ []
+
+-- a call: the lines that were sent, and its answer
+abbrev pub call_text : List ℕ → Answer → List ℕ
+call_text sent answer = flat_map sent_text (sent_lines sent) ++ codes "A: " ++ answer_text answer ++ 10 ∷ []
+
+-- the last line: how many bytes of the server were taken
+abbrev pub end_text : ℕ → List ℕ
+end_text taken = codes "T: " ++ decimal taken ++ 10 ∷ []
