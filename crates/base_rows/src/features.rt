@@ -20,7 +20,7 @@ pub fn features(alloc: Global, input: &str) -> Result<Vec<u8>, RowError> {
 }
 
 /// The features, each got by its name.
-fn listed(alloc: Global, features: &Features) -> Result<Vec<u8>, RowError> {
+pub fn listed(alloc: Global, features: &Features) -> Result<Vec<u8>, RowError> {
     let mut text = String::new(alloc);
     for name in features.as_map().keys() {
         if !text.is_empty() {

@@ -1,7 +1,8 @@
 //! The sets of rows, and what a row of each comes to.
 
 use crate::{
-    commands, comparisons, copies, faults, features, peers, replies, scans, uploads, welcomes,
+    answers, commands, comparisons, copies, faults, features, peers, replies, scans, uploads,
+    welcomes,
 };
 use row_text::RowError;
 use std::alloc::Global;
@@ -29,6 +30,16 @@ pub enum Set {
     Features,
     /// A line of the reply to FEAT, and whether it is the last.
     LastLines,
+    /// The bytes of a reply to PWD, and its path under two encodings.
+    Paths,
+    /// The bytes of a reply to MLST, and its second line.
+    SecondLines,
+    /// The bytes of a reply to MDTM, and its time.
+    Times,
+    /// The bytes of a reply to SIZE, and its size.
+    FileSizes,
+    /// The bytes of a reply to FEAT, and its features.
+    FeatureReplies,
     /// A check, a peer and the control connection's peer, and whether the check lets the peer in.
     Peers,
     /// The pieces of a text, and its bytes on the wire.
@@ -50,7 +61,7 @@ pub enum Set {
 }
 
 /// The names of all sets, as headings write them.
-const NAMES: [(&str, Set); 19] = [
+const NAMES: [(&str, Set); 24] = [
     ("commands", Set::Commands),
     ("statuses", Set::Statuses),
     ("comparisons", Set::Comparisons),
@@ -61,6 +72,11 @@ const NAMES: [(&str, Set); 19] = [
     ("numbers", Set::Numbers),
     ("features", Set::Features),
     ("last_lines", Set::LastLines),
+    ("paths", Set::Paths),
+    ("second_lines", Set::SecondLines),
+    ("times", Set::Times),
+    ("file_sizes", Set::FileSizes),
+    ("feature_replies", Set::FeatureReplies),
     ("peers", Set::Peers),
     ("uploads", Set::Uploads),
     ("upload_sizes", Set::UploadSizes),
@@ -91,6 +107,11 @@ impl Set {
             Set::Numbers => scans::number(alloc, input),
             Set::Features => features::features(alloc, input),
             Set::LastLines => features::last_line(alloc, input),
+            Set::Paths => answers::path(alloc, input),
+            Set::SecondLines => answers::second_line(alloc, input),
+            Set::Times => answers::time(alloc, input),
+            Set::FileSizes => answers::size(alloc, input),
+            Set::FeatureReplies => answers::features(alloc, input),
             Set::Peers => peers::admitted(alloc, input),
             Set::Uploads => uploads::uploaded(alloc, input),
             Set::UploadSizes => uploads::size(alloc, input),

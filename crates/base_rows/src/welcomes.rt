@@ -26,7 +26,7 @@ fn no_memory(_fault: FtpError) -> RowError {
 
 /// Latin-1, each byte a character. It writes nothing.
 #[derive(Clone, Copy)]
-struct Latin1;
+pub struct Latin1;
 
 impl Encoding for Latin1 {
     ghost decoded = { λ _ bytes. encode_utf8_all bytes };

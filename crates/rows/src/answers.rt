@@ -1,11 +1,12 @@
 //! Answers as text.
 
-use ftp_base::types::{FtpError, FtpResult, Response};
+use ftp_base::types::{Features, FtpError, FtpResult, Response, Text};
 use ftp_session::session::Answer;
+use jiff::civil::DateTime;
 use row_text::{refusal, shown};
 use std::alloc::{AllocError, Global};
 
-/// An answer: `ok`, `ok` and the reply's bytes, or the number of the refusal, with the code of an unexpected reply.
+/// An answer: `ok`, `ok` and what it gives, or the number of the refusal, with the code of an unexpected reply.
 pub fn text_of(alloc: Global, answer: &Answer) -> Result<String, AllocError> {
     match answer {
         Answer::Unit => String::from_str(alloc, "ok"),
@@ -13,8 +14,41 @@ pub fn text_of(alloc: Global, answer: &Answer) -> Result<String, AllocError> {
             let body = shown(alloc, reply.body.as_slice())?;
             format!(in alloc; "ok {body}")
         }
+        Answer::Text(text) => {
+            let text = shown(alloc, text.as_str().as_bytes())?;
+            format!(in alloc; "ok {text}")
+        }
+        Answer::Time(time) => time_text(alloc, *time),
+        Answer::Size(size) => format!(in alloc; "ok {size}"),
+        Answer::Features(features) => features_text(alloc, features),
         Answer::Fault(fault) => fault_text(alloc, fault),
     }
+}
+
+/// A date and a time of day.
+fn time_text(alloc: Global, time: DateTime) -> Result<String, AllocError> {
+    let (date, clock) = (time.date(), time.time());
+    let (year, month, day) = (date.year(), date.month(), date.day());
+    let (hour, minute, second) = (clock.hour(), clock.minute(), clock.second());
+    format!(in alloc; "ok {year:04}-{month:02}-{day:02} {hour:02}:{minute:02}:{second:02}")
+}
+
+/// Features in the order of their names, `NAME=VALUE` or `NAME`, joined by `;`.
+fn features_text(alloc: Global, features: &Features) -> Result<String, AllocError> {
+    let mut text = String::from_str(alloc, "ok ")?;
+    let mut first = true;
+    for (name, value) in features.iter() {
+        if !first {
+            text.push(';')?;
+        }
+        first = false;
+        text.push_str(shown(alloc, name.as_bytes())?.as_str())?;
+        if let Some(value) = value {
+            text.push('=')?;
+            text.push_str(shown(alloc, value.as_bytes())?.as_str())?;
+        }
+    }
+    Ok(text)
 }
 
 /// A refusal.
@@ -50,6 +84,38 @@ pub fn unit(outcome: FtpResult<()>) -> Answer {
 pub fn reply(outcome: FtpResult<Response>) -> Answer {
     match outcome {
         Ok(reply) => Answer::Reply(reply),
+        Err(fault) => Answer::Fault(fault),
+    }
+}
+
+/// The answer of a call that gives a text.
+pub fn text(outcome: FtpResult<String>) -> Answer {
+    match outcome {
+        Ok(text) => Answer::Text(Text::from_string(text)),
+        Err(fault) => Answer::Fault(fault),
+    }
+}
+
+/// The answer of a call that gives a time.
+pub fn time(outcome: FtpResult<DateTime>) -> Answer {
+    match outcome {
+        Ok(time) => Answer::Time(time),
+        Err(fault) => Answer::Fault(fault),
+    }
+}
+
+/// The answer of a call that gives a number of bytes.
+pub fn size(outcome: FtpResult<usize>) -> Answer {
+    match outcome {
+        Ok(size) => Answer::Size(size),
+        Err(fault) => Answer::Fault(fault),
+    }
+}
+
+/// The answer of a call that gives features.
+pub fn features(outcome: FtpResult<Features>) -> Answer {
+    match outcome {
+        Ok(features) => Answer::Features(features),
         Err(fault) => Answer::Fault(fault),
     }
 }

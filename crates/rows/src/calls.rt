@@ -19,7 +19,10 @@ fn bare(name: &str) -> Option<Call> {
     match name {
         "greet" => Some(Call::Greet),
         "cdup" => Some(Call::Cdup),
+        "pwd" => Some(Call::Pwd),
         "noop" => Some(Call::Noop),
+        "mlst" => Some(Call::Mlst(None)),
+        "feat" => Some(Call::Feat),
         "quit" => Some(Call::Quit),
         _ => None,
     }
@@ -35,6 +38,9 @@ fn with_argument(alloc: Global, name: &str, argument: &str) -> Result<Call, RowE
         "mkdir" => Ok(Call::Mkdir(text(alloc, argument)?)),
         "rmdir" => Ok(Call::Rmdir(text(alloc, argument)?)),
         "rm" => Ok(Call::Rm(text(alloc, argument)?)),
+        "mlst" => Ok(Call::Mlst(Some(text(alloc, argument)?))),
+        "mdtm" => Ok(Call::Mdtm(text(alloc, argument)?)),
+        "size" => Ok(Call::Size(text(alloc, argument)?)),
         "opts" => opts(alloc, argument),
         "read" => Ok(Call::ReadResponse(status(argument)?)),
         "reads" => Ok(Call::ReadResponseIn(statuses(alloc, argument)?)),

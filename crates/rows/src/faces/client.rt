@@ -1,7 +1,7 @@
 //! The calls of the blocking client, one after another.
 
 use super::methods::{Opening, greeted};
-use crate::answers::{reply, texts_of, unit};
+use crate::answers::{features, reply, size, text, texts_of, time, unit};
 use crate::dial::asked_addresses;
 use crate::encodings::Named;
 use crate::play::Play;
@@ -87,6 +87,11 @@ fn make<R: Wait + AllocGlobal>(rt: &R, client: &Client, call: &Call) -> Result<A
         Call::Rm(path) => unit(client.rm(rt, path.as_str())),
         Call::Rename(from, to) => unit(client.rename(rt, from.as_str(), to.as_str())),
         Call::Quit => unit(client.quit(rt)),
+        Call::Pwd => text(client.pwd(rt)),
+        Call::Mlst(path) => text(client.mlst(rt, path.as_ref().map(|path| path.as_str()))),
+        Call::Mdtm(path) => time(client.mdtm(rt, path.as_str())),
+        Call::Size(path) => size(client.size(rt, path.as_str())),
+        Call::Feat => features(client.feat(rt)),
         Call::CustomCommand(line, codes) => {
             reply(client.custom_command(rt, line.as_str(), codes.as_slice()))
         }

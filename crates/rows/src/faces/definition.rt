@@ -6,7 +6,7 @@ use crate::encodings::Named;
 use crate::play::Play;
 use crate::transcript::Standing;
 use ftp_base::types::{Bytes, Items};
-use ftp_control::control::ReplyRule;
+use ftp_control::control::{ReplyForm, ReplyRule};
 use ftp_control::transport::Room;
 use ftp_session::model::{self, Played, Ran, Script};
 use ftp_session::session::{Answer, Call, Event, State};
@@ -45,7 +45,7 @@ fn first_script(alloc: Global) -> Script {
         unsent: Bytes::new(alloc),
         untaken: Bytes::new(alloc),
         seen: 0,
-        system: false,
+        form: ReplyForm::Plain,
         state: State::new(),
         failed: false,
     }
@@ -135,6 +135,11 @@ pub fn scripted(alloc: Global, events: &[Event], play: &Play) -> Result<Standing
     let encoding = encoding_of(play);
     let first = first(alloc, b"")?;
     let script = run_polled(alloc, &encoding, &first, first_script(alloc), events)?;
+    stands_in(alloc, &script)
+}
+
+/// Where a session stands after this script.
+fn stands_in(alloc: Global, script: &Script) -> Result<Standing, RowError> {
     let answers = texts_of(alloc, script.answers.as_slice())?;
     let welcome = welcome(alloc, &script.state)?;
     Ok(Standing {

@@ -1,7 +1,7 @@
 //! The calls of a session, one after another.
 
 use super::session::{NamedSession, conn_of, encoded, stands, unread};
-use crate::answers::{reply, unit};
+use crate::answers::{features, reply, size, text, time, unit};
 use crate::play::Play;
 use crate::transcript::Standing;
 use ftp_base::status::Status;
@@ -112,6 +112,11 @@ fn make(alloc: Global, session: &mut NamedSession, call: &Call) -> Result<Answer
         Call::Rm(path) => unit(session.rm(alloc, path.as_str())),
         Call::Rename(from, to) => unit(session.rename(alloc, from.as_str(), to.as_str())),
         Call::Quit => unit(session.quit(alloc)),
+        Call::Pwd => text(session.pwd(alloc)),
+        Call::Mlst(path) => { text(session.mlst(alloc, path.as_ref().map(|path| path.as_str()))) }
+        Call::Mdtm(path) => time(session.mdtm(alloc, path.as_str())),
+        Call::Size(path) => size(session.size(alloc, path.as_str())),
+        Call::Feat => features(session.feat(alloc)),
         Call::CustomCommand(line, codes) => {
             reply(session.custom_command(alloc, line.as_str(), codes.as_slice()))
         }
