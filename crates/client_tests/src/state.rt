@@ -1,11 +1,12 @@
 //! What a session keeps beside its channel.
 
 use crate::scene::greeted;
-use ftp_base::types::FtpResult;
+use ftp_base::types::{ActivePeerCheck, FtpResult, Mode};
 use ftp_control::transport::{MemoryConn, MemoryTransport};
 use ftp_session::session::{Counts, Session, Settings};
 use std::alloc::{AllocError, Global};
 use std::test::Fail;
+use std::time::Duration;
 
 /// What a session was told to do, how many transfers it opened, and what the server greeted with.
 fn text_of(alloc: Global, session: &Session<MemoryTransport>) -> Result<String, AllocError> {
@@ -54,6 +55,34 @@ fn a_session_begins_passive_and_a_greeting_changes_the_welcome(
         let text = text_of(rt.alloc(), &session)?;
         assert_eq!(rt; text.as_str(), due);
     }
+    Ok(())
+}
+
+#[test]
+fn settings_stay_as_they_were_set(rt: HostRuntime) -> Result<(), Fail> {
+    let mut session = begun(rt.alloc(), None)?;
+    session.set_mode(Mode::ExtendedPassive);
+    session.set_passive_nat_workaround(true);
+    session.set_active_peer_check(ActivePeerCheck::Any);
+    session.resume_transfer(7)?;
+    let text = text_of(rt.alloc(), &session)?;
+    assert_eq!(rt;
+        text.as_str(),
+        "ExtendedPassive true Any 60 true false 7 0 none"
+    );
+    Ok(())
+}
+
+#[test]
+fn the_active_mode_has_a_deadline(rt: HostRuntime) -> Result<(), Fail> {
+    let mut session = begun(rt.alloc(), None)?.active_mode(Duration::from_secs(5));
+    session.resume_transfer(7)?;
+    session.resume_transfer(0)?;
+    let text = text_of(rt.alloc(), &session)?;
+    assert_eq!(rt;
+        text.as_str(),
+        "Active false ControlPeer 5 true false 0 0 none"
+    );
     Ok(())
 }
 

@@ -7,6 +7,7 @@ use Rattle.ftp_base.specs.declared.types.mode.ActivePeerCheck.TheVariants.{Contr
 use Rattle.ftp_control.specs.Channel.{Channel}
 use Rattle.ftp_session.specs.Sound.{no_transfers}
 use Rattle.ftp_session.specs.declared.session.state.State.{State}
+use Rattle.ftp_session.specs.declared.session.state.Settings.{Settings}
 use Rattle.ftp_control.specs.declared.transport.request.Asked.{Asked}
 
 -- its control channel, what it keeps beside it, and what its transport was asked, with the outcomes, in order
@@ -34,3 +35,7 @@ welcomed_again decode (Some welcome) = Some (record { greeting = welcome.greetin
 
 abbrev pub greeted_again : (List ℕ → List ℕ) → SessionValue → SessionValue
 greeted_again decode v = record v { state = record v.state { welcome = welcomed_again decode v.state.welcome } }
+
+-- what a session was told to do has changed so, and nothing else has
+abbrev pub with_settings : (Settings → Settings) → SessionValue → SessionValue
+with_settings change v = record v { state = record v.state { settings = change v.state.settings } }

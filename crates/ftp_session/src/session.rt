@@ -15,6 +15,7 @@ mod parameters;
 mod questions;
 mod run;
 mod run_polled;
+mod settings;
 mod stage;
 mod state;
 mod transitions;

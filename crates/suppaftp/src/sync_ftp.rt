@@ -13,6 +13,7 @@ mod commands;
 mod connecting;
 mod control_socket;
 mod questions;
+mod settings;
 
 pub use control_socket::ControlSocket;
 use ftp_base::encoding::{Encoding, Utf8Encoding};

@@ -1,0 +1,83 @@
+//! What a session is told to do, without a word to the server.
+//!
+//! Settings say how later data connections come about (RFC 959, section 3.2; RFC 2428) and where the next transfer
+//! begins. They stay as they were set whatever a call comes to, but for the offset, which is of one transfer.
+
+ghost use Rattle.std.specs.Prelude.{◌≡◌, IfErr, OnOk, OnErr, false, true};
+ghost use Rattle.ftp_base.specs.declared.types.mode.Mode.TheVariants as modes;
+ghost use Rattle.ftp_session.specs.State.{with_settings};
+
+use super::client::Session;
+use ftp_base::encoding::Encoding;
+use ftp_base::types::{ActivePeerCheck, FtpError, FtpResult, Mode};
+use ftp_control::transport::Network;
+use std::time::Duration;
+
+impl<Tr: Network, K: Drop, E: Encoding, B: Drop> Session<Tr, K, E, B> {
+    /// Who opens data connections from now on, and how they are asked for. A session begins in `Passive`.
+    pub fn set_mode(&mut self, mode: Mode)
+        ensures set { self.new.machine ≡
+            with_settings (λ s. record s { mode = mode }) self.old.machine }
+        ensures encoding { self.new.encoding ≡ self.old.encoding }
+    {
+        self.machine.state.settings.mode = mode;
+    }
+
+    /// Whether the host of a reply to `PASV` is passed over for the control connection's peer, as behind a router
+    /// that rewrites addresses. A session begins without.
+    pub fn set_passive_nat_workaround(&mut self, enabled: bool)
+        ensures set { self.new.machine ≡
+            with_settings (λ s. record s { passive_nat_workaround = enabled }) self.old.machine }
+        ensures encoding { self.new.encoding ≡ self.old.encoding }
+    {
+        self.machine.state.settings.passive_nat_workaround = enabled;
+    }
+
+    /// Which peers may open an active data connection. A session begins with `ControlPeer`.
+    pub fn set_active_peer_check(&mut self, check: ActivePeerCheck)
+        ensures set { self.new.machine ≡
+            with_settings (λ s. record s { active_peer_check = check }) self.old.machine }
+        ensures encoding { self.new.encoding ≡ self.old.encoding }
+    {
+        self.machine.state.settings.active_peer_check = check;
+    }
+
+    /// How long an active data connection is waited for. A session begins with 60 seconds.
+    pub fn set_active_deadline(&mut self, deadline: Duration)
+        ensures set { self.new.machine ≡
+            with_settings (λ s. record s { active_deadline = deadline }) self.old.machine }
+        ensures encoding { self.new.encoding ≡ self.old.encoding }
+    {
+        self.machine.state.settings.active_deadline = deadline;
+    }
+
+    /// The session in the mode `Active`, which waits so long for a data connection.
+    pub fn active_mode(mut self, deadline: Duration) -> Session<Tr, K, E, B>
+        ensures set { result.machine ≡
+            with_settings (λ s. record s { mode = modes.Active; active_deadline = deadline }) self.machine }
+        ensures encoding { result.encoding ≡ self.encoding }
+    {
+        self.machine.state.settings.mode = Mode::Active;
+        self.machine.state.settings.active_deadline = deadline;
+        self
+    }
+
+    /// The next transfer begins at this offset, in bytes (`REST`; RFC 3659, section 5). 0 takes an earlier offset away.
+    ///
+    /// # Errors
+    /// `SessionFailed`, and nothing changes.
+    pub fn resume_transfer(&mut self, offset: u64) -> FtpResult<()>
+        ensures armed { OnOk result ((self.old.machine.channel.failed ≡ false) × (self.new.machine ≡
+            with_settings (λ s. record s { restart_offset = offset }) self.old.machine)) }
+        ensures failed { IfErr result (λ fault.
+            (fault ≡ FtpError.SessionFailed) × (self.old.machine.channel.failed ≡ true)) }
+        ensures unchanged { OnErr result (self.new ≡ self.old) }
+        ensures encoding { self.new.encoding ≡ self.old.encoding }
+    {
+        if self.machine.channel.failed() {
+            return Err(FtpError::SessionFailed);
+        }
+        self.machine.state.settings.restart_offset = offset;
+        Ok(())
+    }
+}

@@ -1,0 +1,47 @@
+//! The settings of a client: the session's call of that name, in one hold of the lock. Nothing is sent.
+
+use super::ImplFtpStream;
+use ftp_base::encoding::Encoding;
+use ftp_base::types::{ActivePeerCheck, FtpResult, Mode};
+use ftp_control::transport::Network;
+use std::sync::Wait;
+use std::time::Duration;
+
+impl<Tr: Network, K: Drop, E: Encoding, B: Drop> ImplFtpStream<Tr, K, E, B> {
+    /// Who opens data connections from now on, and how they are asked for (RFC 959, section 3.2; RFC 2428). A client
+    /// begins in `Passive`.
+    pub fn set_mode<R: Wait>(&self, rt: &R, mode: Mode) {
+        self.session.lock(rt).set_mode(mode);
+    }
+
+    /// Whether the host of a reply to `PASV` is passed over for the control connection's peer, as behind a router
+    /// that rewrites addresses. A client begins without.
+    pub fn set_passive_nat_workaround<R: Wait>(&self, rt: &R, enabled: bool) {
+        self.session.lock(rt).set_passive_nat_workaround(enabled);
+    }
+
+    /// Which peers may open an active data connection. A client begins with `ControlPeer`.
+    pub fn set_active_peer_check<R: Wait>(&self, rt: &R, check: ActivePeerCheck) {
+        self.session.lock(rt).set_active_peer_check(check);
+    }
+
+    /// How long an active data connection is waited for. A client begins with 60 seconds.
+    pub fn set_active_deadline<R: Wait>(&self, rt: &R, deadline: Duration) {
+        self.session.lock(rt).set_active_deadline(deadline);
+    }
+
+    /// The client in the mode `Active`, which waits so long for a data connection.
+    pub fn active_mode<R: Wait>(self, rt: &R, deadline: Duration) -> Self {
+        self.set_mode(rt, Mode::Active);
+        self.set_active_deadline(rt, deadline);
+        self
+    }
+
+    /// The next transfer begins at this offset, in bytes (`REST`; RFC 3659, section 5). 0 takes an earlier offset away.
+    ///
+    /// # Errors
+    /// `SessionFailed`, and nothing changes.
+    pub fn resume_transfer<R: Wait>(&self, rt: &R, offset: u64) -> FtpResult<()> {
+        self.session.lock(rt).resume_transfer(offset)
+    }
+}
