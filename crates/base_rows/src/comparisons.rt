@@ -19,31 +19,39 @@ pub fn comparison(alloc: Global, input: &str) -> Result<Vec<u8>, RowError> {
 /// How they compare.
 fn answer(alloc: Global, kind: &str, one: &str, other: &str) -> Result<&'static str, RowError> {
     match kind {
-        "check" => same(&check(alloc, one)?, &check(alloc, other)?),
-        "command" => same(&command(alloc, one)?, &command(alloc, other)?),
-        "format" => order(&format_control(one)?, &format_control(other)?),
-        "level" => same(&level(one)?, &level(other)?),
-        "mode" => same(&mode(one)?, &mode(other)?),
-        "status" => order(&status(one)?, &status(other)?),
-        "type" => order(&file_type(one)?, &file_type(other)?),
+        "check" => same(check(alloc, one), check(alloc, other)),
+        "command" => same(command(alloc, one), command(alloc, other)),
+        "format" => order(format_control(one), format_control(other)),
+        "level" => same(level(one), level(other)),
+        "mode" => same(mode(one), mode(other)),
+        "status" => order(status(one), status(other)),
+        "type" => order(file_type(one), file_type(other)),
         _ => Err(RowError::NotUnderstood),
     }
 }
 
-/// Whether two values are equal.
-fn same<T: PartialEq + Clone + Drop>(one: &T, other: &T) -> Result<&'static str, RowError> {
+/// Whether two values are equal, where both were understood.
+fn same<T: PartialEq + Clone + Drop>(
+    one: Result<T, RowError>,
+    other: Result<T, RowError>,
+) -> Result<&'static str, RowError> {
+    let (one, other) = (one?, other?);
     let copy = one.clone()?;
-    match (one == other, copy == *other) {
+    match (one == other, copy == other) {
         (true, true) => Ok("equal"),
         (false, false) => Ok("other"),
         _ => Ok("a clone differs"),
     }
 }
 
-/// How two values are ordered.
-fn order<T: Ord + Clone + Drop>(one: &T, other: &T) -> Result<&'static str, RowError> {
+/// How two values are ordered, where both were understood.
+fn order<T: Ord + Clone + Drop>(
+    one: Result<T, RowError>,
+    other: Result<T, RowError>,
+) -> Result<&'static str, RowError> {
+    let (one, other) = (one?, other?);
     let copy = one.clone()?;
-    match (one.cmp(other), copy.cmp(other)) {
+    match (one.cmp(&other), copy.cmp(&other)) {
         (Ordering::Less, Ordering::Less) => Ok("less"),
         (Ordering::Equal, Ordering::Equal) => Ok("equal"),
         (Ordering::Greater, Ordering::Greater) => Ok("greater"),
