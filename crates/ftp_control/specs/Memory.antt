@@ -1,5 +1,7 @@
 -- What happens to a connection over memory from the outside.
-use Rattle.std.specs.Prelude.{◌≡◌, ℕ, ◌+◌, ◌||◌, true, false, None, List, [], ◌++◌, length, if◌then◌else◌, min}
+use Rattle.std.specs.Prelude.{◌≡◌, ℕ, ◌+◌, ◌||◌, true, false, None, List, [], ◌∷◌, ◌++◌, length, if◌then◌else◌, min}
+use Rattle.std.specs.declared.net.socket_addr.SocketAddr.{SocketAddr}
+use Rattle.std.specs.declared.net.socket_addr.SocketAddr.TheVariants.{V4}
 use Rattle.ftp_control.specs.declared.transport.room.Room.{Room}
 use Rattle.ftp_control.specs.declared.transport.room.Room.TheVariants.{Any, UpTo}
 use Rattle.std.specs.declared.io.ErrorKind.TheVariants.{ConnectionRefused}
@@ -9,9 +11,23 @@ use Rattle.ftp_control.specs.declared.transport.request.Asked.{Asked}
 use Rattle.ftp_control.specs.declared.transport.supply.Supply.{Supply}
 use Rattle.ftp_control.specs.Told.{Told}
 
--- no byte came, and there is room for any number
+-- the address 0.0.0.0:0, of no end
+abbrev pub unspecified : SocketAddr
+unspecified = V4 (record { ip = record { octets = 0 ∷ 0 ∷ 0 ∷ 0 ∷ [] }; port = 0 })
+
+-- no byte came between these ends, and there is room for any number
+abbrev pub fresh_between : SocketAddr → SocketAddr → Told
+fresh_between local peer = record {
+  received = [];
+  ended = false;
+  sent = [];
+  failures = 0;
+  last_fault = None;
+  given = record { bytes = []; closed = false; room = Any; local = local; peer = peer };
+}
+
 abbrev pub fresh_memory : Told
-fresh_memory = record { received = []; ended = false; sent = []; failures = 0; last_fault = None; given = record { bytes = []; closed = false; room = Any } }
+fresh_memory = fresh_between unspecified unspecified
 
 -- bytes came, where the end wasn't told and wasn't met
 abbrev pub fed : List ℕ → Told → Told

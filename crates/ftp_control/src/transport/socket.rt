@@ -10,7 +10,7 @@ use super::{Conn, Connected, Network, Tells, Transport};
 use ftp_base::retry::{read_retrying, write_retrying};
 use ftp_base::types::ConnectionError;
 use std::io::ErrorKind;
-use std::net::{Net, SocketAddr, TcpStream};
+use std::net::{Net, Shutdown, SocketAddr, TcpStream};
 use std::time::Duration;
 
 /// A connection over a TCP socket.
@@ -37,6 +37,31 @@ impl Tells for TcpConn {
     ghost told = { λ _. fresh_memory };
 
     fn begin(&mut self) {}
+
+    ghost end_faults = { λ _. Unit {0} };
+
+    fn local_addr(&mut self) -> Result<SocketAddr, ErrorKind> {
+        match self.stream.local_addr() {
+            Ok(address) => Ok(address),
+            Err(error) => Err(error.kind()),
+        }
+    }
+
+    fn peer_addr(&mut self) -> Result<SocketAddr, ErrorKind> {
+        match self.stream.peer_addr() {
+            Ok(address) => Ok(address),
+            Err(error) => Err(error.kind()),
+        }
+    }
+
+    /// Closes both directions. Where the peer has gone that is no fault.
+    fn close(&mut self) -> Result<(), ErrorKind> {
+        match self.stream.shutdown(Shutdown::Both) {
+            Ok(()) => Ok(()),
+            Err(error) if error.kind() == ErrorKind::NotConnected => Ok(()),
+            Err(error) => Err(error.kind()),
+        }
+    }
 }
 
 impl Conn for TcpConn {
