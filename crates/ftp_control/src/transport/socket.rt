@@ -6,12 +6,13 @@
 ghost use Rattle.std.specs.Prelude.{[]};
 ghost use Rattle.ftp_control.specs.Memory.{fresh_memory};
 
-use super::{Conn, Connected, Network, Tells, Transport};
+use super::{Accepted, Conn, Connected, Listening, Network, Tells, TcpConnListener, Transport};
 use ftp_base::retry::{read_retrying, write_retrying};
 use ftp_base::types::ConnectionError;
+use std::alloc::AllocError;
 use std::io::ErrorKind;
-use std::net::{Net, Shutdown, SocketAddr, TcpStream};
-use std::time::Duration;
+use std::net::{Net, Shutdown, SocketAddr, TcpListener, TcpStream};
+use std::time::{Clock, Duration};
 
 /// A connection over a TCP socket.
 #[derive(Drop)]
@@ -85,21 +86,42 @@ impl Conn for TcpConn {
     }
 }
 
-/// The transport over TCP sockets. Its runtime is one that has the network (`Net`).
+/// The transport over TCP sockets. Its runtime is one that has the network (`Net`) and the time (`Clock`).
 #[derive(Drop)]
 pub struct TcpTransport;
 
 impl Network for TcpTransport {
     type Conn = TcpConn;
 
+    type Listener = TcpConnListener;
+
     ghost asked = { λ _. [] };
 
     ghost ready = { λ _. [] };
 
     ghost refuses = { λ _ _. Unit {0} };
+
+    ghost accept_refuses = { λ _ _. Unit {0} };
+
+    ghost port = { λ _. 0 };
+
+    ghost binds = { λ _ _ _. Unit {0} };
+
+    ghost closed = { λ _. [] };
+
+    ghost has_room = { λ _. Unit {0} };
+
+    fn make_room(&mut self) -> Result<(), AllocError> {
+        Ok(())
+    }
+
+    fn closed(&mut self, _conn: TcpConn) {}
 }
 
-impl<R: Net<Stream = TcpStream>> Transport<R> for TcpTransport {
+impl<R> Transport<R> for TcpTransport
+where
+    R: Net<Listener = TcpListener, Stream = TcpStream> + Clock,
+{
     fn connect(&mut self, rt: &R, address: SocketAddr) -> Connected<TcpConn> {
         match rt.connect(address) {
             Ok(stream) => Ok(Ok(TcpConn::new(stream))),
@@ -116,6 +138,25 @@ impl<R: Net<Stream = TcpStream>> Transport<R> for TcpTransport {
         match rt.connect_timeout(address, limit) {
             Ok(stream) => Ok(Ok(TcpConn::new(stream))),
             Err(error) => Ok(Err(deadline_fault(error.kind()))),
+        }
+    }
+
+    fn listen(&mut self, rt: &R, address: SocketAddr) -> Listening<TcpConnListener> {
+        match TcpConnListener::bind(rt, address) {
+            Ok(made) => Ok(Ok(made)),
+            Err(error) => Ok(Err(ConnectionError::Io(error.kind()))),
+        }
+    }
+
+    fn accept(
+        &mut self,
+        rt: &R,
+        listener: &mut TcpConnListener,
+        deadline: Duration,
+    ) -> Accepted<TcpConn> {
+        match listener.accept_within(rt, deadline) {
+            Ok((stream, peer)) => Ok(Ok((TcpConn::new(stream), peer))),
+            Err(fault) => Ok(Err(fault)),
         }
     }
 }
