@@ -93,7 +93,7 @@ impl MemoryTransport {
     }
 
     /// The data connections that are over, in order; `sent` of each is what was uploaded on it.
-    pub fn uploads(&self) -> &[MemoryConn]
+    pub fn uploaded(&self) -> &[MemoryConn]
         ensures { result.now ≡ self.now.closed }
     {
         self.closed.as_slice()
@@ -134,9 +134,7 @@ fn next_connection(ready: &mut VecDeque<Supply>) -> Result<MemoryConn, Connectio
 }
 
 /// The next peer with its address, or its fault; where none is next the deadline passes, and nothing is taken.
-fn next_peer(
-    ready: &mut VecDeque<Supply>,
-) -> Result<(MemoryConn, SocketAddr), ConnectionError>
+fn next_peer(ready: &mut VecDeque<Supply>) -> Result<(MemoryConn, SocketAddr), ConnectionError>
     ensures { Supplies (comes_as (λ c. c)) accepts_over_memory (poll.Ready (Ok result))
         ready.old.items ready.new.items }
 {

@@ -6,7 +6,7 @@
 ghost use Rattle.std.specs.Prelude.{[]};
 ghost use Rattle.ftp_control.specs.Memory.{fresh_memory};
 
-use super::{Accepted, Conn, Connected, Listening, Network, Tells, TcpConnListener, Transport};
+use super::{Accepted, Conn, Connected, Listening, Network, TcpConnListener, Tells, Transport};
 use ftp_base::retry::{read_retrying, write_retrying};
 use ftp_base::types::ConnectionError;
 use std::alloc::AllocError;

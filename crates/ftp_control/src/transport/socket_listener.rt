@@ -5,11 +5,10 @@
 
 use ftp_base::retry::RETRIES;
 use ftp_base::types::ConnectionError;
-use std::io;
 use std::io::ErrorKind;
 use std::net::{Net, SocketAddr, TcpListener, TcpStream};
-use std::thread;
 use std::time::{Clock, Duration, Instant};
+use std::{io, thread};
 
 /// How many milliseconds the socket is left alone between two tries.
 const PAUSE: u64 = 1;
@@ -33,7 +32,13 @@ impl TcpConnListener {
         let socket = rt.bind(address)?;
         socket.set_nonblocking(true)?;
         let bound = socket.local_addr()?;
-        Ok((TcpConnListener { socket, since: None }, bound))
+        Ok((
+            TcpConnListener {
+                socket,
+                since: None,
+            },
+            bound,
+        ))
     }
 
     /// Accepts a connection within this time, counted from the listener's first accept.
