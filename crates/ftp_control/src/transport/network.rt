@@ -69,7 +69,7 @@ pub trait Network: Drop {
         ensures closed { Self.closed self.new ≡ Self.closed self.old }
         ensures port { Self.port self.new ≡ Self.port self.old };
 
-    /// Takes over a data connection that is over, and drops it or keeps it for its record.
+    /// Takes over a data connection that is over. Where room was made its record is kept, and nothing is allocated.
     fn closed(&mut self, conn: Self::Conn)
         ensures closed { Self.Conn.tells → Self.has_room self.old →
             Self.closed self.new ≡ Self.closed self.old ++ Self.Conn.told conn ∷ [] }
@@ -117,7 +117,11 @@ pub trait Transport<R>: Network {
         ensures room { Self.has_room self.old → Self.has_room self.new }
         ensures port { Self.port self.new ≡ Self.port self.old };
 
-    /// Listens on this address, at any free port where its port is 0.
+    /// Listens on this address, at any free port where its port is 0; the listener comes with the address that it is
+    /// bound to.
+    ///
+    /// # Errors
+    /// The system's fault; over memory none.
     fn listen(&mut self, rt: &R, address: SocketAddr) -> Listening<Self::Listener>
         ensures asks { Self.Conn.tells → Asks (Listen address) done_at (poll.Ready result)
             (Self.asked self.old) (Self.asked self.new) }
@@ -127,8 +131,11 @@ pub trait Transport<R>: Network {
         ensures room { Self.has_room self.old → Self.has_room self.new }
         ensures port { Self.port self.new ≡ Self.port self.old };
 
-    /// Accepts a peer's connection. The deadline is counted from the listener's first accept; when it has passed the
-    /// fault is `TimedOut`.
+    /// Accepts a peer's connection, which comes with the peer's address. The deadline is counted from the listener's
+    /// first accept.
+    ///
+    /// # Errors
+    /// `TimedOut` where the deadline has passed; the system's fault, or the one that was supplied.
     fn accept(
         &mut self,
         rt: &R,
@@ -167,7 +174,11 @@ pub trait PollTransport<R, W>: Network {
         ensures room { Self.has_room self.old → Self.has_room self.new }
         ensures port { Self.port self.new ≡ Self.port self.old };
 
-    /// Listens on this address, at any free port where its port is 0.
+    /// Listens on this address, at any free port where its port is 0; the listener comes with the address that it is
+    /// bound to.
+    ///
+    /// # Errors
+    /// The system's fault; over memory none.
     fn poll_listen(
         &mut self,
         rt: &R,
@@ -183,8 +194,11 @@ pub trait PollTransport<R, W>: Network {
         ensures room { Self.has_room self.old → Self.has_room self.new }
         ensures port { Self.port self.new ≡ Self.port self.old };
 
-    /// Accepts a peer's connection. The deadline is counted from the listener's first accept; when it has passed the
-    /// fault is `TimedOut`.
+    /// Accepts a peer's connection, which comes with the peer's address. The deadline is counted from the listener's
+    /// first accept.
+    ///
+    /// # Errors
+    /// `TimedOut` where the deadline has passed; the system's fault, or the one that was supplied.
     fn poll_accept(
         &mut self,
         rt: &R,
