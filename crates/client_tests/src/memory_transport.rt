@@ -117,7 +117,8 @@ fn requests_are_on_record_with_their_outcomes(rt: HostRuntime) -> Result<(), Fai
     let _late = transport.accept(&rt, &mut listener, limit())?;
     assert_eq!(rt;
         asked_text(rt.alloc(), transport.asked())?.as_str(),
-        "+listen 192.0.2.1:0 at 192.0.2.1:2100 -192.0.2.1:21 +accept at 192.0.2.7:20 -accept "
+        "+listen 192.0.2.1:0 at 192.0.2.1:2100 -192.0.2.1:21 +accept in 60 at 192.0.2.7:20 \
+         -accept in 60 "
     );
     Ok(())
 }

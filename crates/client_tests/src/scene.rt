@@ -94,7 +94,10 @@ fn write_request(text: &mut String, request: &Request) -> Result<(), AllocError>
             write!(text, "{address} in {seconds} ")
         }
         Request::Listen(address) => write!(text, "listen {address} "),
-        Request::Accept => text.push_str("accept "),
+        Request::Accept(deadline) => {
+            let seconds = deadline.as_secs();
+            write!(text, "accept in {seconds} ")
+        }
         Request::LocalAddress | Request::PeerAddress => text.push_str("ends "),
     }
 }

@@ -207,7 +207,7 @@ impl<R> Transport<R> for MemoryTransport {
         &mut self,
         _rt: &R,
         _listener: &mut MemoryListener,
-        _deadline: Duration,
+        deadline: Duration,
     ) -> Accepted<MemoryConn> {
         self.asked.reserve(1)?;
         let made = next_peer(&mut self.ready);
@@ -215,7 +215,7 @@ impl<R> Transport<R> for MemoryTransport {
             Ok((_, address)) => RequestOutcome::Address(*address),
             Err(fault) => RequestOutcome::Refused(*fault),
         };
-        let request = Request::Accept;
+        let request = Request::Accept(deadline);
         self.asked.push(Asked { request, outcome }).unwrap();
         Ok(made)
     }

@@ -142,7 +142,7 @@ pub trait Transport<R>: Network {
         listener: &mut Self::Listener,
         deadline: Duration,
     ) -> Accepted<Self::Conn>
-        ensures asks { Self.Conn.tells → Asks Accept done_at (poll.Ready result)
+        ensures asks { Self.Conn.tells → Asks (Accept deadline) done_at (poll.Ready result)
             (Self.asked self.old) (Self.asked self.new) }
         ensures supplies { Self.Conn.tells → Supplies (comes_as Self.Conn.told) Self.accept_refuses
             (poll.Ready result) (Self.ready self.old) (Self.ready self.new) }
@@ -207,7 +207,7 @@ pub trait PollTransport<R, W>: Network {
         deadline: Duration,
     ) -> Poll<Accepted<Self::Conn>>
         ensures waits { result ≡ poll.Pending → may_wait }
-        ensures asks { Self.Conn.tells → Asks Accept done_at result
+        ensures asks { Self.Conn.tells → Asks (Accept deadline) done_at result
             (Self.asked self.old) (Self.asked self.new) }
         ensures supplies { Self.Conn.tells → Supplies (comes_as Self.Conn.told) Self.accept_refuses
             result (Self.ready self.old) (Self.ready self.new) }
