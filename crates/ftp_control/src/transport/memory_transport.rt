@@ -1,7 +1,7 @@
 //! The transport over memory, which is handed what its requests come to, and records them.
 //!
-//! A test, or a program that replays a dialogue, supplies connections, peers and faults, and looks at what was asked and
-//! at the data connections that were closed.
+//! A test, or a program that replays a dialogue, supplies connections, peers and faults, and looks at what was asked
+//! and at the data connections that are over.
 
 ghost use Rattle.std.specs.Prelude.{◌≡◌, ◌<◌, OnErr, OnOk, [], ◌∷◌, ◌++◌, length};
 ghost use Rattle.futures.specs.declared.task.Poll.TheVariants as poll;
@@ -104,7 +104,8 @@ impl MemoryTransport {
         ensures asks { Asks request done (poll.Ready result) self.old.answered self.new.answered }
         ensures supplies { Supplies (connects_as (λ c. c)) over_memory (poll.Ready result)
             self.old.ready self.new.ready }
-        ensures others { self.new ≡ record self.old { answered = self.new.answered; ready = self.new.ready } }
+        ensures others { self.new ≡
+            record self.old { answered = self.new.answered; ready = self.new.ready } }
     {
         self.asked.reserve(1)?;
         let made = next_connection(&mut self.ready);

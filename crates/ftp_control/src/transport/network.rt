@@ -109,8 +109,8 @@ pub trait Transport<R>: Network {
         address: SocketAddr,
         limit: Duration,
     ) -> Connected<Self::Conn>
-        ensures asks { Self.Conn.tells → Asks (Connect address (Some limit)) done (poll.Ready result)
-            (Self.asked self.old) (Self.asked self.new) }
+        ensures asks { Self.Conn.tells → Asks (Connect address (Some limit)) done
+            (poll.Ready result) (Self.asked self.old) (Self.asked self.new) }
         ensures supplies { Self.Conn.tells → Supplies (connects_as Self.Conn.told) Self.refuses
             (poll.Ready result) (Self.ready self.old) (Self.ready self.new) }
         ensures closed { Self.closed self.new ≡ Self.closed self.old }
@@ -125,7 +125,8 @@ pub trait Transport<R>: Network {
     fn listen(&mut self, rt: &R, address: SocketAddr) -> Listening<Self::Listener>
         ensures asks { Self.Conn.tells → Asks (Listen address) done_at (poll.Ready result)
             (Self.asked self.old) (Self.asked self.new) }
-        ensures binds { Self.Conn.tells → Binds (Self.binds (Self.port self.old) address) (poll.Ready result) }
+        ensures binds { Self.Conn.tells → Binds (Self.binds (Self.port self.old) address)
+            (poll.Ready result) }
         ensures ready { Self.ready self.new ≡ Self.ready self.old }
         ensures closed { Self.closed self.new ≡ Self.closed self.old }
         ensures room { Self.has_room self.old → Self.has_room self.new }
