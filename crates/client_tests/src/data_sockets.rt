@@ -1,7 +1,9 @@
 //! Data connections over loopback sockets: listening, accepting by a deadline, and closing.
 
 use ftp_base::types::ConnectionError;
-use ftp_control::transport::{Conn, TcpConn, TcpConnListener, TcpTransport, Tells, Transport};
+use ftp_control::transport::{
+    Conn, Network, TcpConn, TcpConnListener, TcpTransport, Tells, Transport,
+};
 use std::io::{ErrorKind, Write};
 use std::net::{Net, SocketAddr, TcpListener, TcpStream};
 use std::test::Fail;
@@ -53,6 +55,8 @@ fn the_ends_of_a_socket_are_those_of_its_peer(rt: HostRuntime) -> Result<(), Fai
     assert_eq!(rt; address, stream.local_addr()?);
     assert_eq!(rt; conn.peer_addr(), Ok(address));
     assert_eq!(rt; conn.local_addr(), Ok(bound));
+    TcpTransport.make_room()?;
+    TcpTransport.closed(conn);
     Ok(())
 }
 

@@ -3,8 +3,9 @@
 use crate::scene::{asked_text, conn_with};
 use ftp_base::types::ConnectionError;
 use ftp_control::transport::{
-    Conn, MemoryConn, MemoryTransport, Network, Supply, Tells, Transport,
+    Conn, MemoryConn, MemoryTransport, Network, NeverWaits, PollTransport, Supply, Tells, Transport,
 };
+use futures::task::Poll;
 use std::alloc::{AllocError, Global};
 use std::io::ErrorKind;
 use std::net::SocketAddr;
@@ -33,6 +34,21 @@ fn sent(alloc: Global, bytes: &[u8]) -> Result<MemoryConn, Fail> {
     let mut conn = MemoryConn::new(alloc);
     conn.write(bytes)?;
     Ok(conn)
+}
+
+/// Where the peer of a polled listener comes from; `None` where none comes.
+fn polled_peer<Tr, R, W>(transport: &mut Tr, rt: &R, w: &mut W) -> Option<SocketAddr>
+where
+    Tr: PollTransport<R, W>,
+{
+    let Poll::Ready(Ok(Ok((mut listener, _bound)))) = transport.poll_listen(rt, w, address(1, 0))
+    else {
+        return None;
+    };
+    match transport.poll_accept(rt, w, &mut listener, limit()) {
+        Poll::Ready(Ok(Ok((_conn, from)))) => Some(from),
+        _ => None,
+    }
 }
 
 #[test]
@@ -92,6 +108,17 @@ fn after_the_last_item_nothing_connects_and_nobody_comes(rt: HostRuntime) -> Res
     );
     let made = transport.accept(&rt, &mut listener, limit())?;
     assert_eq!(rt; made.err(), Some(ConnectionError::TimedOut));
+    Ok(())
+}
+
+#[test]
+fn a_transport_that_blocks_can_be_polled(rt: HostRuntime) -> Result<(), Fail> {
+    let peer = Supply::Peer(address(7, 20), MemoryConn::new(rt.alloc()));
+    let mut transport = supplied(rt.alloc(), peer)?;
+    let from = polled_peer(&mut transport, &rt, &mut NeverWaits);
+    assert_eq!(rt; from, Some(address(7, 20)));
+    let from = polled_peer(&mut transport, &rt, &mut NeverWaits);
+    assert_eq!(rt; from, None);
     Ok(())
 }
 
