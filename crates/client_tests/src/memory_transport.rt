@@ -30,7 +30,7 @@ fn supplied(alloc: Global, supply: Supply) -> Result<MemoryTransport, AllocError
 }
 
 /// A connection on which these bytes went out.
-fn sent(alloc: Global, bytes: &[u8]) -> Result<MemoryConn, Fail> {
+fn sent(alloc: Global, bytes: &[u8; 3]) -> Result<MemoryConn, Fail> {
     let mut conn = MemoryConn::new(alloc);
     conn.write(bytes)?;
     Ok(conn)
@@ -153,7 +153,7 @@ fn requests_are_on_record_with_their_outcomes(rt: HostRuntime) -> Result<(), Fai
 #[test]
 fn connections_that_are_over_are_kept_in_order(rt: HostRuntime) -> Result<(), Fail> {
     let mut transport = MemoryTransport::new(rt.alloc());
-    for bytes in [b"one".as_slice(), b"two"] {
+    for bytes in [b"one", b"two"] {
         transport.make_room()?;
         transport.closed(sent(rt.alloc(), bytes)?);
     }
