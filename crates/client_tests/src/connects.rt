@@ -2,10 +2,11 @@
 
 ghost use Rattle.std.specs.Prelude.{[]};
 
-use crate::scene::{conn_with, number};
+use crate::scene::{asked_text, conn_with, number};
 use ftp_base::types::{ConnectionError, FtpError, FtpResult};
 use ftp_control::transport::{
-    Asked, Connected, MemoryTransport, Network, Request, RequestOutcome, Supply, TcpConn, Transport,
+    Accepted, Connected, Listening, MemoryTransport, Network, Supply, TcpConn, TcpConnListener,
+    Transport,
 };
 use ftp_session::session::Session;
 use std::alloc::{AllocError, Global};
@@ -13,7 +14,7 @@ use std::io::{ErrorKind, Write};
 use std::net::{Net, SocketAddr, TcpListener, TcpStream};
 use std::sync::{Arc, Mutex, Wait};
 use std::test::Fail;
-use std::time::Duration;
+use std::time::{Clock, Duration};
 use std::{io, thread};
 use suppaftp::FtpStream;
 
@@ -29,27 +30,6 @@ fn after_two_refusals(alloc: Global, input: &[u8]) -> Result<MemoryTransport, Al
     transport.supply(Supply::Refuses(ErrorKind::ConnectionReset))?;
     transport.supply(Supply::Connects(conn_with(alloc, input)?))?;
     Ok(transport)
-}
-
-/// The addresses that were asked for, each with a plus where it connected, and a minus where it refused.
-fn asked_text(alloc: Global, asked: &[Asked]) -> Result<String, AllocError> {
-    let mut text = String::new(alloc);
-    for one in asked {
-        let sign = match one.outcome {
-            RequestOutcome::Done | RequestOutcome::Address(_) => '+',
-            RequestOutcome::Refused(_) => '-',
-        };
-        match one.request {
-            Request::Connect(address, None) => write!(text, "{sign}{address} ")?,
-            Request::Connect(address, Some(limit)) => {
-                let seconds = limit.as_secs();
-                write!(text, "{sign}{address} in {seconds} ")?
-            }
-            Request::LocalAddress | Request::PeerAddress => text.push('?')?,
-            Request::Listen(_) | Request::Accept => text.push('?')?,
-        }
-    }
-    Ok(text)
 }
 
 /// The kind of a connection's fault.
@@ -69,11 +49,29 @@ struct Counting {
 impl Network for Counting {
     type Conn = TcpConn;
 
+    type Listener = TcpConnListener;
+
     ghost asked = { λ _. [] };
 
     ghost ready = { λ _. [] };
 
     ghost refuses = { λ _ _. Unit {0} };
+
+    ghost accept_refuses = { λ _ _. Unit {0} };
+
+    ghost port = { λ _. 0 };
+
+    ghost binds = { λ _ _ _. Unit {0} };
+
+    ghost closed = { λ _. [] };
+
+    ghost has_room = { λ _. Unit {0} };
+
+    fn make_room(&mut self) -> Result<(), AllocError> {
+        Ok(())
+    }
+
+    fn closed(&mut self, _conn: TcpConn) {}
 }
 
 impl<R: Wait> Transport<R> for Counting {
@@ -90,6 +88,19 @@ impl<R: Wait> Transport<R> for Counting {
         _limit: Duration,
     ) -> Connected<TcpConn> {
         self.connect(rt, address)
+    }
+
+    fn listen(&mut self, _rt: &R, _address: SocketAddr) -> Listening<TcpConnListener> {
+        Ok(Err(ConnectionError::Io(ErrorKind::Unsupported)))
+    }
+
+    fn accept(
+        &mut self,
+        _rt: &R,
+        _listener: &mut TcpConnListener,
+        _deadline: Duration,
+    ) -> Accepted<TcpConn> {
+        Ok(Err(ConnectionError::TimedOut))
     }
 }
 
@@ -122,7 +133,7 @@ fn serve(alloc: Global, listener: &TcpListener, replies: &[u8]) -> io::Result<St
 /// Logs in, asks for an answer, and says goodbye.
 fn visit<R>(rt: &R, addresses: &[SocketAddr]) -> FtpResult<()>
 where
-    R: Net<Stream = TcpStream> + Wait + AllocGlobal,
+    R: Net<Listener = TcpListener, Stream = TcpStream> + Clock + Wait + AllocGlobal,
 {
     let client = FtpStream::connect(rt, addresses)?;
     client.login(rt, "anonymous", "guest@example.org")?;

@@ -8,7 +8,11 @@ mod clients;
 #[cfg(test)]
 mod connects;
 #[cfg(test)]
+mod data_sockets;
+#[cfg(test)]
 mod grammar;
+#[cfg(test)]
+mod memory_transport;
 #[cfg(test)]
 mod reads;
 #[cfg(test)]

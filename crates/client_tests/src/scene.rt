@@ -1,11 +1,12 @@
 //! What the tests share: a connection over memory, a session that was greeted, and answers as text.
 
 use ftp_base::types::{FtpError, FtpResult, Response};
-use ftp_control::transport::{MemoryConn, MemoryTransport};
+use ftp_control::transport::{Asked, MemoryConn, MemoryTransport, Request, RequestOutcome};
 use ftp_session::session::Session;
 use futures::task::Poll;
 use row_text::{refusal, shown};
 use std::alloc::{AllocError, Global};
+use std::io::Write;
 
 /// A connection that the server's bytes came on.
 pub fn conn_with(alloc: Global, input: &[u8]) -> Result<MemoryConn, AllocError> {
@@ -60,4 +61,43 @@ fn code_and_bytes(alloc: Global, reply: &Response) -> Result<String, AllocError>
     let code = reply.status.code();
     let body = shown(alloc, reply.body.as_slice())?;
     format!(in alloc; "{code} {body}")
+}
+
+/// What a transport was asked: a plus and the address of a connection, with its limit in seconds, `listen` or `accept`
+/// with the address that it came to, and each with a minus in front where it was refused.
+pub fn asked_text(alloc: Global, asked: &[Asked]) -> Result<String, AllocError> {
+    let mut text = String::new(alloc);
+    for one in asked {
+        write_sign(&mut text, &one.outcome)?;
+        write_request(&mut text, &one.request)?;
+        if let RequestOutcome::Address(address) = one.outcome {
+            write!(text, "at {address} ")?;
+        }
+    }
+    Ok(text)
+}
+
+/// Adds whether it was done.
+fn write_sign(text: &mut String, outcome: &RequestOutcome) -> Result<(), AllocError> {
+    match outcome {
+        RequestOutcome::Done | RequestOutcome::Address(_) => text.push('+'),
+        RequestOutcome::Refused(_) => text.push('-'),
+    }
+}
+
+/// Adds what was asked.
+fn write_request(text: &mut String, request: &Request) -> Result<(), AllocError> {
+    match request {
+        Request::Connect(address, None) => write!(text, "{address} "),
+        Request::Connect(address, Some(limit)) => {
+            let seconds = limit.as_secs();
+            write!(text, "{address} in {seconds} ")
+        }
+        Request::Listen(address) => write!(text, "listen {address} "),
+        Request::Accept(deadline) => {
+            let seconds = deadline.as_secs();
+            write!(text, "accept in {seconds} ")
+        }
+        Request::LocalAddress | Request::PeerAddress => text.push_str("ends "),
+    }
 }

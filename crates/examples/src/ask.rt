@@ -1,15 +1,16 @@
 //! A session with a server.
 
-use std::net::{Net, SocketAddr, TcpStream, ToSocketAddrs};
+use std::net::{Net, SocketAddr, TcpListener, TcpStream, ToSocketAddrs};
 use std::process::ExitCode;
 use std::sync::Wait;
+use std::time::Clock;
 use suppaftp::types::Response;
 use suppaftp::{FtpError, FtpResult, FtpStream, Status};
 
 /// Logs in, changes to a directory, and asks the server what it is.
 pub fn ask<R>(rt: &R, address: &str) -> FtpResult<Response>
 where
-    R: Net<Stream = TcpStream> + Wait + AllocGlobal,
+    R: Net<Listener = TcpListener, Stream = TcpStream> + Clock + Wait + AllocGlobal,
 {
     let addresses: Vec<SocketAddr> = address.to_socket_addrs(rt)?.collect(rt.alloc())?;
     let client = FtpStream::connect(rt, &addresses)?;
@@ -23,7 +24,7 @@ where
 /// Logs in, and says where a file lies, how long it is and when it was changed.
 pub fn describe<R>(rt: &R, address: &str, name: &str) -> FtpResult<String>
 where
-    R: Net<Stream = TcpStream> + Wait + AllocGlobal,
+    R: Net<Listener = TcpListener, Stream = TcpStream> + Clock + Wait + AllocGlobal,
 {
     let addresses: Vec<SocketAddr> = address.to_socket_addrs(rt)?.collect(rt.alloc())?;
     let client = FtpStream::connect(rt, &addresses)?;
@@ -38,7 +39,12 @@ where
 /// Prints what the server says of a file, or why it says nothing.
 pub fn print_file<R>(rt: &R, address: &str, name: &str) -> ExitCode
 where
-    R: Net<Stream = TcpStream> + Wait + AllocGlobal + Print + Eprint,
+    R: Net<Listener = TcpListener, Stream = TcpStream>
+        + Clock
+        + Wait
+        + AllocGlobal
+        + Print
+        + Eprint,
 {
     match describe(rt, address, name) {
         Ok(text) => match println!(rt; "{text}") {
@@ -55,7 +61,12 @@ where
 /// Prints the answer, or why there is none.
 pub fn print_system<R>(rt: &R, address: &str) -> ExitCode
 where
-    R: Net<Stream = TcpStream> + Wait + AllocGlobal + Print + Eprint,
+    R: Net<Listener = TcpListener, Stream = TcpStream>
+        + Clock
+        + Wait
+        + AllocGlobal
+        + Print
+        + Eprint,
 {
     match ask(rt, address) {
         Ok(reply) => {

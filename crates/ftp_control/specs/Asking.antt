@@ -12,10 +12,10 @@ use Rattle.ftp_control.specs.Told.{Told}
 use Rattle.ftp_control.specs.declared.transport.request.Request.{Request}
 use Rattle.ftp_control.specs.declared.transport.request.Request.TheVariants.{Connect}
 use Rattle.ftp_control.specs.declared.transport.request.RequestOutcome.{RequestOutcome}
-use Rattle.ftp_control.specs.declared.transport.request.RequestOutcome.TheVariants.{Done, Refused}
+use Rattle.ftp_control.specs.declared.transport.request.RequestOutcome.TheVariants.{Done, Address, Refused}
 use Rattle.ftp_control.specs.declared.transport.request.Asked.{Asked}
 use Rattle.ftp_control.specs.declared.transport.supply.Supply.{Supply}
-use Rattle.ftp_control.specs.declared.transport.supply.Supply.TheVariants.{Connects, Refuses}
+use Rattle.ftp_control.specs.declared.transport.supply.Supply.TheVariants.{Connects, Peer, Refuses}
 
 abbrev pub requests_of : List Asked → List Request
 requests_of [] = []
@@ -25,33 +25,54 @@ abbrev pub outcomes_of : List Asked → List RequestOutcome
 outcomes_of [] = []
 outcomes_of (one ∷ more) = one.outcome ∷ outcomes_of more
 
--- the outcome of a request for a connection
-abbrev pub outcome_of : {C : Type 0} → Result C ConnectionError → RequestOutcome
-outcome_of (Ok conn) = Done
-outcome_of (Err fault) = Refused fault
+-- the outcome of a request that was done: of a connect nothing more, of a listen or an accept the address
+abbrev pub done : {C : Type 0} → C → RequestOutcome
+done conn = Done
+
+abbrev pub done_at : {C : Type 0} → C × SocketAddr → RequestOutcome
+done_at made = Address made.1
+
+-- the outcome of a request
+abbrev pub outcome_of : {T : Type 0} → (T → RequestOutcome) → Result T ConnectionError → RequestOutcome
+outcome_of outcome (Ok made) = outcome made
+outcome_of outcome (Err fault) = Refused fault
 
 -- one request more is on record, with its outcome
 abbrev pub recorded : Request → RequestOutcome → List Asked → List Asked
 recorded request outcome asked = asked ++ (record { request = request; outcome = outcome }) ∷ []
 
--- what a request for a connection leaves on record; where memory ran out nothing was asked, and one that waits isn't
--- on record yet
-abbrev pub Asks : {C : Type 0} → Request → Poll (Result (Result C ConnectionError) AllocError) → List Asked → List Asked → Type 0
-Asks request (Ready (Ok made)) before after = after ≡ recorded request (outcome_of made) before
-Asks request (Ready (Err full)) before after = after ≡ before
-Asks request Pending before after = after ≡ before
+-- what a request leaves on record; where memory ran out nothing was asked, and one that waits isn't on record yet
+abbrev pub Asks : {T : Type 0} → Request → (T → RequestOutcome) → Poll (Result (Result T ConnectionError) AllocError) → List Asked → List Asked → Type 0
+Asks request outcome (Ready (Ok made)) before after = after ≡ recorded request (outcome_of outcome made) before
+Asks request outcome (Ready (Err full)) before after = after ≡ before
+Asks request outcome Pending before after = after ≡ before
 
 -- a fault is the next outcome that was handed in, or one that may come where none is due
 abbrev pub IsDue : (List Supply → ConnectionError → Type 0) → ConnectionError → List Supply → List Supply → Type 0
 IsDue refuses fault before after =
     ((kind : ErrorKind) × (fault ≡ Io kind) × (before ≡ Refuses kind ∷ after)) ⊎ ((after ≡ before) × refuses before fault)
 
--- what was handed in is what comes: a connection is the next one, as its record says
-abbrev pub Supplies : {C : Type 0} → (C → Told) → (List Supply → ConnectionError → Type 0) → Poll (Result (Result C ConnectionError) AllocError) → List Supply → List Supply → Type 0
-Supplies told refuses (Ready (Ok (Ok conn))) before after = before ≡ Connects (told conn) ∷ after
-Supplies told refuses (Ready (Ok (Err fault))) before after = IsDue refuses fault before after
-Supplies told refuses (Ready (Err full)) before after = after ≡ before
-Supplies told refuses Pending before after = after ≡ before
+-- the item that a connect takes, and the one that an accept takes: a connection of this record, the latter with the
+-- address that it came from
+abbrev pub connects_as : {C : Type 0} → (C → Told) → C → Supply
+connects_as told conn = Connects (told conn)
+
+abbrev pub comes_as : {C : Type 0} → (C → Told) → C × SocketAddr → Supply
+comes_as told made = Peer made.1 (told made.0)
+
+-- what was handed in is what comes: what was made is the next item
+abbrev pub Supplies : {T : Type 0} → (T → Supply) → (List Supply → ConnectionError → Type 0) → Poll (Result (Result T ConnectionError) AllocError) → List Supply → List Supply → Type 0
+Supplies item refuses (Ready (Ok (Ok made))) before after = before ≡ item made ∷ after
+Supplies item refuses (Ready (Ok (Err fault))) before after = IsDue refuses fault before after
+Supplies item refuses (Ready (Err full)) before after = after ≡ before
+Supplies item refuses Pending before after = after ≡ before
+
+-- a listener is bound to an address that it may get, or refused with a fault that may come
+abbrev pub Binds : {L : Type 0} → (Result SocketAddr ConnectionError → Type 0) → Poll (Result (Result (L × SocketAddr) ConnectionError) AllocError) → Type 0
+Binds may (Ready (Ok (Ok made))) = may (Ok made.1)
+Binds may (Ready (Ok (Err fault))) = may (Err fault)
+Binds may (Ready (Err full)) = Unit {0}
+Binds may Pending = Unit {0}
 
 -- a connection to each of these addresses, within this time
 abbrev pub connects_to : Option Duration → List SocketAddr → List Request

@@ -1,16 +1,20 @@
 -- What a connection tells of itself.
 use Rattle.std.specs.Prelude.{◌≡◌, ℕ, ◌≤◌, ◌<◌, ◌-◌, ◌==◌, ◌⊎◌, Bool, true, false, List, [], ◌++◌, length, take, drop, Option, Some, Result, Ok, Err, if◌then◌else◌}
 use Rattle.std.specs.declared.io.ErrorKind.{ErrorKind}
+use Rattle.std.specs.declared.net.socket_addr.SocketAddr.{SocketAddr}
 use Rattle.ftp_control.specs.declared.transport.room.Room.{Room}
 use Rattle.ftp_control.specs.declared.transport.room.Room.TheVariants.{Any, UpTo}
 use Rattle.futures.specs.declared.task.Poll.{Poll}
 use Rattle.futures.specs.declared.task.Poll.TheVariants.{Ready, Pending}
 
--- what is at hand: the bytes that came for reading, whether no others come, and the room for writing
+-- what is at hand: the bytes that came for reading, whether no others come, the room for writing, and the addresses of
+-- both ends
 pub record Given : Type 0 where
   pub bytes : List ℕ
   pub closed : Bool
   pub room : Room
+  pub local : SocketAddr
+  pub peer : SocketAddr
 
 -- what went over a connection since its channel began: the bytes that reads gave, whether one met the end, the
 -- bytes that writes took; how many calls failed, and the last with which fault; and what is at hand
@@ -44,7 +48,7 @@ begun t = record {
   sent = [];
   failures = t.failures;
   last_fault = t.last_fault;
-  given = record { bytes = drop (length t.received) t.given.bytes; closed = t.given.closed; room = room_after (length t.sent) t.given.room };
+  given = record t.given { bytes = drop (length t.received) t.given.bytes; room = room_after (length t.sent) t.given.room };
 }
 
 abbrev pub after_read : List ℕ → Told → Told
@@ -119,3 +123,13 @@ WritesSome (Err kind) all = Unit {0}
 abbrev pub as_poll : Result ℕ ErrorKind → Result (Poll ℕ) ErrorKind
 as_poll (Ok count) = Ok (Ready count)
 as_poll (Err kind) = Err kind
+
+-- what a question for an address tells: this one, or a failure
+abbrev pub AddressTells : SocketAddr → Result SocketAddr ErrorKind → Told → Told → Type 0
+AddressTells address (Ok answer) t u = (answer ≡ address) × (u ≡ t)
+AddressTells address (Err kind) t u = HasFailed kind t u
+
+-- what a close tells: nothing, or a failure
+abbrev pub CloseTells : Result (Unit {0}) ErrorKind → Told → Told → Type 0
+CloseTells (Ok done) t u = u ≡ t
+CloseTells (Err kind) t u = HasFailed kind t u

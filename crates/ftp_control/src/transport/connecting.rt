@@ -42,6 +42,9 @@ where
         (connects_to limit (drop tried.new.count addresses.now))
         tried.old.fault tried.new.fault result (Tr.ready transport.old) (Tr.ready transport.new)
         (Tr.asked transport.old) (Tr.asked transport.new) }
+    ensures closed { Tr.closed transport.new ≡ Tr.closed transport.old }
+    ensures room { Tr.has_room transport.old → Tr.has_room transport.new }
+    ensures port { Tr.port transport.new ≡ Tr.port transport.old }
 {
     while tried.count < addresses.len() {
         match transport.poll_connect(rt, w, addresses[tried.count], limit) {

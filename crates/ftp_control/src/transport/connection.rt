@@ -8,12 +8,13 @@ ghost use Rattle.std.specs.Prelude.{◌≡◌, ◌<◌, ◌≤◌, IfErr, Ok, le
 ghost use Rattle.std.specs.declared.io.ErrorKind.{ErrorKind as Kind};
 ghost use Rattle.futures.specs.declared.task.Poll.TheVariants as poll;
 ghost use Rattle.ftp_control.specs.Memory.{IsGiven};
-ghost use Rattle.ftp_control.specs.Told.{Told, ReadTells, WriteTells, ReadsAtMost, WritesSome, as_poll, begun};
+ghost use Rattle.ftp_control.specs.Told.{Told, AddressTells, CloseTells, ReadTells, WriteTells, ReadsAtMost, WritesSome, as_poll, begun};
 
 use futures::task::Poll;
 use std::io::ErrorKind;
+use std::net::SocketAddr;
 
-/// What a connection records of its traffic, however it is called.
+/// What a connection records of its traffic, and what never waits, however it is called.
 pub trait Tells {
     /// Whether the record is true: so it is for a connection over memory; for a socket it isn't proved.
     ghost tells: { Type 0 };
@@ -25,6 +26,35 @@ pub trait Tells {
     /// read is still to come, and what room was left is left.
     fn begin(&mut self)
         ensures { tells → told self.new ≡ begun (told self.old) };
+
+    /// Which faults the three calls below may answer.
+    ghost end_faults: { Kind → Type 0 };
+
+    /// The address of this end.
+    ///
+    /// # Errors
+    /// Where the system can't tell it: over memory never.
+    fn local_addr(&mut self) -> Result<SocketAddr, ErrorKind>
+        ensures fault { IfErr result (λ kind. end_faults kind) }
+        ensures told { tells → AddressTells (told self.old).given.local result (told self.old)
+            (told self.new) };
+
+    /// The address of the other end.
+    ///
+    /// # Errors
+    /// Where the system can't tell it: over memory never.
+    fn peer_addr(&mut self) -> Result<SocketAddr, ErrorKind>
+        ensures fault { IfErr result (λ kind. end_faults kind) }
+        ensures told { tells → AddressTells (told self.old).given.peer result (told self.old)
+            (told self.new) };
+
+    /// Closes both directions.
+    ///
+    /// # Errors
+    /// Where the system can't close it: over memory never.
+    fn close(&mut self) -> Result<(), ErrorKind>
+        ensures fault { IfErr result (λ kind. end_faults kind) }
+        ensures told { tells → CloseTells result (told self.old) (told self.new) };
 }
 
 /// A connection that may have to wait, and says so through a `W`: an event loop's context, or nothing.

@@ -7,13 +7,14 @@
 ghost use Rattle.std.specs.Prelude.{◌≡◌, ◌≤◌, ◌<◌, ◌+◌, ◌⊎◌, IfErr, OnOk, OnErr, length, take, drop, min};
 ghost use Rattle.std.specs.declared.io.ErrorKind.TheVariants as kinds;
 ghost use Rattle.ftp_control.specs.Told.{after_read, as_poll, Fits, HasFailed, HasRoomFor, IsFull, WritesSome, WriteTells};
-ghost use Rattle.ftp_control.specs.Memory.{fresh_memory, fed, closed_memory, widened, IsGiven};
+ghost use Rattle.ftp_control.specs.Memory.{fresh_between, fresh_memory, fed, closed_memory, widened, IsGiven};
 
 use super::{Conn, PollConn, Room, Tells};
 use futures::task::Poll;
 use std::alloc::{AllocError, Global};
 use std::io::ErrorKind;
 use std::marker::Model;
+use std::net::{Ipv4Addr, SocketAddr, SocketAddrV4};
 
 /// A connection over memory: the server's bytes are fed to it, and what is written can be looked at.
 ///
@@ -27,6 +28,8 @@ pub struct MemoryConn {
     closed: bool,
     ended: bool,
     room: Room,
+    local: SocketAddr,
+    peer: SocketAddr,
     sent: Vec<u8>,
     failures: u64,
     last_fault: Option<ErrorKind>,
@@ -48,6 +51,8 @@ impl Model for MemoryConn {
         bytes = drop c.begun c.input.items;
         closed = c.closed;
         room = c.room;
+        local = c.local;
+        peer = c.peer;
       };
     } };
 
@@ -56,9 +61,17 @@ impl Model for MemoryConn {
 }
 
 impl MemoryConn {
-    /// A connection without bytes to read, and with room for any number.
+    /// A connection without bytes to read, and with room for any number. Both ends are `0.0.0.0:0`.
     pub fn new(alloc: Global) -> MemoryConn
         ensures { result ≡ fresh_memory }
+    {
+        let unspecified = SocketAddr::V4(SocketAddrV4::new(Ipv4Addr::new(0, 0, 0, 0), 0));
+        MemoryConn::between(alloc, unspecified, unspecified)
+    }
+
+    /// The same between these ends.
+    pub fn between(alloc: Global, local: SocketAddr, peer: SocketAddr) -> MemoryConn
+        ensures { result ≡ fresh_between local peer }
     {
         MemoryConn {
             input: Vec::new(alloc),
@@ -67,6 +80,8 @@ impl MemoryConn {
             closed: false,
             ended: false,
             room: Room::Any,
+            local,
+            peer,
             sent: Vec::new(alloc),
             failures: 0,
             last_fault: None,
@@ -216,6 +231,20 @@ impl Tells for MemoryConn {
         self.begun = self.read;
         self.ended = false;
         self.sent.clear();
+    }
+
+    ghost end_faults = { λ kind. ⊥ };
+
+    fn local_addr(&mut self) -> Result<SocketAddr, ErrorKind> {
+        Ok(self.local)
+    }
+
+    fn peer_addr(&mut self) -> Result<SocketAddr, ErrorKind> {
+        Ok(self.peer)
+    }
+
+    fn close(&mut self) -> Result<(), ErrorKind> {
+        Ok(())
     }
 }
 

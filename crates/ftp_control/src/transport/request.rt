@@ -18,8 +18,8 @@ pub enum Request {
     Connect(SocketAddr, Option<Duration>),
     /// A listener on this address.
     Listen(SocketAddr),
-    /// A peer's connection on the listener.
-    Accept,
+    /// A peer's connection on the listener, by this deadline, counted from the listener's first accept.
+    Accept(Duration),
 }
 
 /// What a request resulted in.

@@ -1,13 +1,16 @@
-//! What a request for a connection comes to, over memory.
+//! What a transport's requests come to, over memory.
 
 use super::MemoryConn;
 use std::io::ErrorKind;
+use std::net::SocketAddr;
 
-/// What the next request for a connection comes to.
+/// What the next request that takes one comes to.
 #[derive(Drop)]
 pub enum Supply {
-    /// This connection.
+    /// A connect: this connection.
     Connects(MemoryConn),
-    /// A fault of this kind.
+    /// An accept: this connection, from a peer at this address.
+    Peer(SocketAddr, MemoryConn),
+    /// Either: a fault of this kind.
     Refuses(ErrorKind),
 }

@@ -5,8 +5,8 @@ use ftp_base::encoding::Encoding;
 use ftp_base::types::FtpResult;
 use ftp_control::transport::{TcpConn, TcpTransport};
 use ftp_session::session::Session;
-use std::net::{Net, SocketAddr, TcpStream};
-use std::time::Duration;
+use std::net::{Net, SocketAddr, TcpListener, TcpStream};
+use std::time::{Clock, Duration};
 
 impl<K: Drop, E: Encoding, B: Drop> ImplFtpStream<TcpTransport, K, E, B> {
     /// A client on the first of these addresses that doesn't refuse, in their order, once the server's greeting (220)
@@ -17,7 +17,7 @@ impl<K: Drop, E: Encoding, B: Drop> ImplFtpStream<TcpTransport, K, E, B> {
     /// `OutOfMemory`. The connection is closed then.
     pub fn connect<R>(rt: &R, addresses: &[SocketAddr]) -> FtpResult<Self>
     where
-        R: Net<Stream = TcpStream> + AllocGlobal,
+        R: Net<Listener = TcpListener, Stream = TcpStream> + Clock + AllocGlobal,
     {
         let alloc = rt.alloc();
         let session = Session::connect(alloc, rt, TcpTransport, addresses)?;
@@ -32,7 +32,7 @@ impl<K: Drop, E: Encoding, B: Drop> ImplFtpStream<TcpTransport, K, E, B> {
     /// `OutOfMemory`. The connection is closed then.
     pub fn connect_timeout<R>(rt: &R, address: SocketAddr, limit: Duration) -> FtpResult<Self>
     where
-        R: Net<Stream = TcpStream> + AllocGlobal,
+        R: Net<Listener = TcpListener, Stream = TcpStream> + Clock + AllocGlobal,
     {
         let alloc = rt.alloc();
         let session = Session::connect_timeout(alloc, rt, TcpTransport, address, limit)?;
