@@ -3,7 +3,7 @@
 //! It is polled, so that a client that waits can drop it and go on where it was; over a transport that blocks it never
 //! waits. The last fault is kept, which is the answer where no address connects.
 
-ghost use Rattle.std.specs.Prelude.{◌≡◌, ◌≤◌, drop, length};
+ghost use Rattle.std.specs.Prelude.{◌≡◌, ◌≤◌, Ok, Err, drop, length};
 ghost use Rattle.futures.specs.declared.task.Poll.TheVariants as poll;
 ghost use Rattle.ftp_control.specs.Asking.{TriesInTurn, connects_to};
 
@@ -37,6 +37,8 @@ where
     requires within { tried.old.count ≤ length addresses.now }
     ensures within { tried.new.count ≤ length addresses.now }
     ensures waits { result ≡ poll.Pending → Tr.may_wait }
+    ensures nowhere { tried.old.count ≡ length addresses.now →
+        (result ≡ poll.Ready (Ok (Err tried.old.fault))) × (tried.new ≡ tried.old) }
     ensures tries { Tr.Conn.tells → TriesInTurn Tr.Conn.told Tr.refuses
         (connects_to limit (drop tried.old.count addresses.now))
         (connects_to limit (drop tried.new.count addresses.now))

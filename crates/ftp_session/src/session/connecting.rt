@@ -3,7 +3,8 @@
 //! The addresses are asked for in turn, and the greeting is read on the first that connects. What is asked and what it
 //! comes to are nodes of a dialogue (`connecting`), as all requests of a session are.
 
-ghost use Rattle.std.specs.Prelude.{◌≡◌, IfOk, MatchResult, Ok, Some, None};
+ghost use Rattle.std.specs.Prelude.{◌≡◌, IfOk, MatchResult, Ok, Err, Some, None, length};
+ghost use Rattle.std.specs.Duration.{as_nanos};
 ghost use Rattle.ftp_base.specs.declared.types.fault.ConnectionError.TheVariants as faults;
 ghost use Rattle.ftp_control.specs.Asking.{connects_to};
 ghost use Rattle.ftp_session.specs.Coding.{chosen};
@@ -37,6 +38,8 @@ where
     where
         Tr: Transport<R>,
         ensures encoding { IfOk result (λ session. session.encoding.0 ≡ None) }
+        ensures nowhere { length addresses.now ≡ 0 →
+            result ≡ Err (FtpError.ConnectionError faults.NoAddress) }
         ensures connects { MatchResult result
             (λ session. ConnectsBy (link Tr.Conn.tells Tr.Conn.blocking_read_faults Tr.Conn.blocking_write_faults) (chosen E.decoded E.encoded None) Tr.refuses (connects_to None addresses.now) faults.NoAddress (Tr.ready transport) (Tr.asked transport) session.machine (Ok tt))
             (λ fault. FailsToConnectBy (link Tr.Conn.tells Tr.Conn.blocking_read_faults Tr.Conn.blocking_write_faults) (chosen E.decoded E.encoded None) Tr.refuses (connects_to None addresses.now) faults.NoAddress (Tr.ready transport) (Tr.asked transport) fault) }
@@ -67,6 +70,8 @@ where
     where
         Tr: Transport<R>,
         ensures encoding { IfOk result (λ session. session.encoding.0 ≡ None) }
+        ensures no_time { as_nanos limit ≡ 0 →
+            result ≡ Err (FtpError.ConnectionError faults.TimedOut) }
         ensures connects { MatchResult result
             (λ session. ConnectsBy (link Tr.Conn.tells Tr.Conn.blocking_read_faults Tr.Conn.blocking_write_faults) (chosen E.decoded E.encoded None) Tr.refuses (connects_within limit address) faults.TimedOut (Tr.ready transport) (Tr.asked transport) session.machine (Ok tt))
             (λ fault. FailsToConnectBy (link Tr.Conn.tells Tr.Conn.blocking_read_faults Tr.Conn.blocking_write_faults) (chosen E.decoded E.encoded None) Tr.refuses (connects_within limit address) faults.TimedOut (Tr.ready transport) (Tr.asked transport) fault) }
@@ -96,6 +101,8 @@ where
     where
         Tr: Transport<R>,
         ensures encoding { IfOk result (λ session. session.encoding.0 ≡ None) }
+        ensures nowhere { length addresses.now ≡ 0 →
+            result ≡ Err (FtpError.ConnectionError fault) }
         ensures connects { MatchResult result
             (λ session. ConnectsBy (link Tr.Conn.tells Tr.Conn.blocking_read_faults Tr.Conn.blocking_write_faults) (chosen E.decoded E.encoded None) Tr.refuses (connects_to limit addresses.now) fault (Tr.ready transport) (Tr.asked transport) session.machine (Ok tt))
             (λ cause. FailsToConnectBy (link Tr.Conn.tells Tr.Conn.blocking_read_faults Tr.Conn.blocking_write_faults) (chosen E.decoded E.encoded None) Tr.refuses (connects_to limit addresses.now) fault (Tr.ready transport) (Tr.asked transport) cause) }

@@ -8,6 +8,7 @@ invariant-loop-tried g l =
     record {
       within : l.tried.count ≤ length l.addresses;
       so_far : g.Tr.Conn.Tells.tells → RefusedInTurn g.Tr.Network.refuses (connects_to l.limit (drop l.fn.tried.count l.addresses)) (connects_to l.limit (drop l.tried.count l.addresses)) l.fn.tried.fault l.tried.fault (g.Tr.Network.ready l.fn.transport) (g.Tr.Network.ready l.transport) (g.Tr.Network.asked l.fn.transport) (g.Tr.Network.asked l.transport);
+      nowhere : l.fn.tried.count ≡ length l.addresses → l.tried ≡ l.fn.tried;
       closed : g.Tr.Network.closed l.transport ≡ g.Tr.Network.closed l.fn.transport;
       room : g.Tr.Network.has_room l.fn.transport → g.Tr.Network.has_room l.transport;
       port : g.Tr.Network.port l.transport ≡ g.Tr.Network.port l.fn.transport;
