@@ -3,5 +3,6 @@
 //! This is all of a dialogue that is data: no connection and no state occurs here. The session plays it.
 #![tactic(auto)]
 
+pub mod active;
 pub mod call;
 pub mod exchange;
