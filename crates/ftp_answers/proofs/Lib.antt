@@ -1,3 +1,4 @@
+pub mod AddressFacts
 pub mod DateFacts
 pub mod LineFacts
 pub mod PlaceFacts

@@ -7,6 +7,7 @@
 //! linear in the body's length.
 #![tactic(auto)]
 
+mod addresses;
 mod dates;
 mod features;
 mod lines;
@@ -16,6 +17,7 @@ mod size;
 mod text;
 mod time;
 
+pub use addresses::{NoAddress, read_extended_port, read_passive_address};
 pub use features::read_features;
 pub use path::read_path;
 pub use second_line::read_second_line;
