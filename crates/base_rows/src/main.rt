@@ -6,6 +6,7 @@
 //! understood ends the program with status 1, so that no row is passed over.
 #![tactic(auto)]
 
+mod addresses;
 mod answers;
 mod commands;
 mod comparisons;
