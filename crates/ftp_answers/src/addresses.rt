@@ -7,7 +7,7 @@
 ghost use Rattle.std.specs.Prelude.{◌≡◌, ◌≤◌, ◌-◌, length, take, drop};
 ghost use Rattle.std.specs.Option.{option_and_then};
 ghost use Rattle.ftp_base.specs.Scan.{number_up_to};
-ghost use Rattle.ftp_answers.specs.Addresses.{passive_numbers, extended_numbers, address_of, port_of, passive_address_of, extended_port_of};
+ghost use Rattle.ftp_answers.specs.Addresses.{passive_numbers, extended_number, address_of, port_of, passive_address_of, extended_port_of};
 
 use ftp_base::command::number;
 use ftp_base::command::scan::{self, Span};
@@ -68,7 +68,7 @@ fn first_address(text: &str) -> Option<SocketAddr>
 
 /// The port that the first number between bars tells.
 fn first_port(text: &str) -> Result<u16, NoAddress>
-    ensures { result ≡ port_of (extended_numbers text.now) }
+    ensures { result ≡ port_of (extended_number text.now) }
 {
     let Some(span) = scan::epsv_port(text) else {
         return Err(NoAddress::Absent);

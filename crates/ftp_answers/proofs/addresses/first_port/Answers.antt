@@ -1,4 +1,4 @@
-use Rattle.ftp_answers.proofs.AddressFacts.{no_extended, port_is, too_large}
+use Rattle.ftp_answers.proofs.PortFacts.{no_extended, port_is, too_large}
 use Rattle.ftp_answers.proofs.addresses.first_port.Goals as goal
 
 pub returns-in_default : goal.returns-in_default
