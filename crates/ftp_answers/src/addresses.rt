@@ -16,7 +16,7 @@ use std::net::{Ipv4Addr, SocketAddr, SocketAddrV4};
 /// Why a reply tells no address.
 #[derive(Clone, Copy, Debug, PartialEq, Eq)]
 pub enum NoAddress {
-    /// Nowhere in its text does one stand in the form that is due.
+    /// None stands in its text in the form that is due, or a number of the first is above 255.
     Absent,
     /// It isn't UTF-8, or the port is above 65535.
     Unreadable,
