@@ -1,11 +1,12 @@
-//! Plays the worked rows of the base crate and of what replies say, which come by standard input, and prints a line for
-//! each row that differs and one for each set.
+//! Plays the worked rows of the base crate, of what replies say and of what tells an address, which come by standard
+//! input, and prints a line for each row that differs and one for each set.
 //!
 //! A line `== SET` begins a set, a line `# ..` says where rows come from, and each other line is a row
 //! `INPUT => DUE`, or `=> DUE` where the input is empty. Bytes are written as `row_text` says. A line that isn't
 //! understood ends the program with status 1, so that no row is passed over.
 #![tactic(auto)]
 
+mod addresses;
 mod answers;
 mod commands;
 mod comparisons;

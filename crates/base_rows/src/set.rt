@@ -1,8 +1,8 @@
 //! The sets of rows, and what a row of each comes to.
 
 use crate::{
-    answers, commands, comparisons, copies, faults, features, peers, replies, scans, uploads,
-    welcomes,
+    addresses, answers, commands, comparisons, copies, faults, features, peers, replies, scans,
+    uploads, welcomes,
 };
 use row_text::RowError;
 use std::alloc::Global;
@@ -40,6 +40,12 @@ pub enum Set {
     FileSizes,
     /// The bytes of a reply to FEAT, and its features.
     FeatureReplies,
+    /// The bytes of a reply to PASV, and its address.
+    PassiveAddresses,
+    /// The bytes of a reply to EPSV, and its port.
+    ExtendedPorts,
+    /// An address, and the command that tells it.
+    PortCommands,
     /// A check, a peer and the control connection's peer, and whether the check lets the peer in.
     Peers,
     /// The pieces of a text, and its bytes on the wire.
@@ -61,7 +67,7 @@ pub enum Set {
 }
 
 /// The names of all sets, as headings write them.
-const NAMES: [(&str, Set); 24] = [
+const NAMES: [(&str, Set); 27] = [
     ("commands", Set::Commands),
     ("statuses", Set::Statuses),
     ("comparisons", Set::Comparisons),
@@ -77,6 +83,9 @@ const NAMES: [(&str, Set); 24] = [
     ("times", Set::Times),
     ("file_sizes", Set::FileSizes),
     ("feature_replies", Set::FeatureReplies),
+    ("passive_addresses", Set::PassiveAddresses),
+    ("extended_ports", Set::ExtendedPorts),
+    ("port_commands", Set::PortCommands),
     ("peers", Set::Peers),
     ("uploads", Set::Uploads),
     ("upload_sizes", Set::UploadSizes),
@@ -112,6 +121,9 @@ impl Set {
             Set::Times => answers::time(alloc, input),
             Set::FileSizes => answers::size(alloc, input),
             Set::FeatureReplies => answers::features(alloc, input),
+            Set::PassiveAddresses => addresses::passive(alloc, input),
+            Set::ExtendedPorts => addresses::extended(alloc, input),
+            Set::PortCommands => addresses::command(alloc, input),
             Set::Peers => peers::admitted(alloc, input),
             Set::Uploads => uploads::uploaded(alloc, input),
             Set::UploadSizes => uploads::size(alloc, input),

@@ -1,6 +1,10 @@
+pub mod AddressFacts
 pub mod DateFacts
 pub mod LineFacts
+pub mod NumberFacts
+pub mod PieceFacts
 pub mod PlaceFacts
+pub mod PortFacts
 pub mod QuoteFacts
 pub mod SizeFacts
 pub mod TimeFacts

@@ -11,6 +11,7 @@ use Rattle.ftp_base.specs.declared.command.scan.Span.{Span}
 use Rattle.ftp_base.specs.Scan.{AreDigits, IsTimestamp, StandsFirst, StandsNowhere, between, is_word_byte, digits_value, number_up_to}
 use Rattle.ftp_answers.specs.Dates.{date_of, time_of_day, date_time}
 use Rattle.ftp_answers.specs.Times.{fourteen, follows_word, has_timestamp, places, timestamp, part, time_in}
+use Rattle.ftp_answers.proofs.NumberFacts.{all_digits}
 use Rattle.ftp_answers.proofs.PlaceFacts.{no_place, first_place}
 use Rattle.ftp_answers.proofs.QuoteFacts.{if_passed}
 use Rattle.ftp_answers.proofs.SizeFacts.{digit_at}
@@ -30,15 +31,6 @@ abbrev pub spans_at : ℕ → List Span
 spans_at place =
     between place (place + 4) ∷ between (place + 4) (place + 6) ∷ between (place + 6) (place + 8)
     ∷ between (place + 8) (place + 10) ∷ between (place + 10) (place + 12) ∷ between (place + 12) (place + 14) ∷ []
-
--- bytes that are digits each are digits
-all_digits : (xs : List ℕ) → ((i : ℕ) → i < length xs → IsAsciiDigit (get_or xs i 0)) → list_all is_ascii_digit xs ≡ true
-all_digits [] digits = refl
-all_digits (x ∷ xs) digits =
-    let first = digits 0 (omega arith) in
-    let head : is_ascii_digit x ≡ true = grind (arith, nat_tests, first) in
-    let tail : list_all is_ascii_digit xs ≡ true = all_digits xs (λ i lt. digits (suc i) (omega (arith, lt))) in
-    rw (head, tail) refl
 
 -- a timestamp ends within its text
 pub stamp_within : (text : List ℕ) (place : ℕ) → AreDigits text place (place + 14) → place + 14 ≤ length text

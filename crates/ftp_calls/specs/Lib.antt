@@ -1,1 +1,2 @@
+pub mod Active
 pub mod Exchanges
