@@ -4,8 +4,6 @@ use Rattle.std.proofs.Common.{◌≡◌, ℕ, ◌+◌, ◌≤◌, Bool, true, fa
 use Rattle.std.specs.declared.io.ErrorKind.{ErrorKind}
 use Rattle.futures.specs.declared.task.Poll.{Poll}
 use Rattle.futures.specs.declared.task.Poll.TheVariants.{Ready}
-use Rattle.ftp_base.specs.declared.status.Status.{Status}
-use Rattle.ftp_base.specs.declared.status.Status.TheVariants.{System}
 use Rattle.ftp_base.specs.Status.{status_of}
 use Rattle.ftp_base.specs.declared.types.reply.Response.{Response}
 use Rattle.ftp_base.specs.declared.types.fault.FtpError.{FtpError}

@@ -4,8 +4,6 @@ use Rattle.ftp_control.specs.declared.control.form.ReplyForm.{ReplyForm}
 use Rattle.std.proofs.Common.{◌≡◌, ◌&&◌, ℕ, ◌+◌, ◌<◌, ◌≤◌, Bool, true, false, cond, eqb, Option, Some, None, is_none, List, [], ◌∷◌, ◌++◌, length, leb, ltb, Result, Ok, Err, refl, ap, sym, ◌∙◌, subst, arith}
 use Rattle.std.proofs.lemmas.Bool.{eqb-true}
 use Rattle.std.proofs.lemmas.List.{length-drop}
-use Rattle.ftp_base.specs.declared.status.Status.{Status}
-use Rattle.ftp_base.specs.declared.status.Status.TheVariants.{System}
 use Rattle.ftp_base.specs.Status.{status_of}
 use Rattle.ftp_base.specs.declared.command.Command.{Command}
 use Rattle.ftp_base.specs.Command.{text_of}
@@ -24,7 +22,7 @@ use Rattle.ftp_control.specs.declared.plain.Found.TheVariants.{Reply, NoReply, U
 use Rattle.ftp_control.specs.declared.control.outcome.Outcome.{Outcome}
 use Rattle.ftp_control.specs.declared.control.outcome.Outcome.TheVariants.{Whole, Bad, TooLarge, Ended, Waits}
 use Rattle.ftp_control.specs.Grammar.{outcome, within, reply_in, to_end, to_list_end, ends, by_dash, lists, opens, opens_list, lines, code_at_start, left_by, after_line, reply_limit}
-use Rattle.ftp_control.specs.Answer.{is_among, expected_reply}
+use Rattle.ftp_control.specs.Answer.{expected_reply}
 use Rattle.ftp_control.specs.Saying.{due}
 use Rattle.ftp_calls.specs.declared.call.Answer.TheVariants.{Fault}
 use Rattle.ftp_calls.specs.declared.call.Call.{Call}

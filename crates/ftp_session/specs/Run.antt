@@ -1,6 +1,5 @@
 -- A list of calls, played one after another.
 use Rattle.std.specs.Prelude.{◌≡◌, false, ℕ, List, [], ◌∷◌, Ok, Err}
-use Rattle.ftp_base.specs.declared.status.Status.TheVariants.{System}
 use Rattle.ftp_control.specs.declared.control.rule.ReplyRule.{ReplyRule}
 use Rattle.ftp_control.specs.declared.control.outcome.Outcome.TheVariants.{Waits}
 use Rattle.ftp_control.specs.declared.transport.room.Room.{Room}

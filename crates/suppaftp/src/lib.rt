@@ -13,7 +13,7 @@ pub use ftp_base::encoding::{Encoding, Utf8Encoding};
 pub use ftp_base::status::Status;
 pub use ftp_base::types::{ActivePeerCheck, FtpError, FtpResult, Mode, ReplyTooLarge};
 pub use ftp_base::{ascii, command, encoding, laws, retry, status, types};
-pub use ftp_calls::{call, exchange};
+pub use ftp_calls::{active, call, exchange};
 pub use ftp_control::{control, plain, transport};
 pub use ftp_list as list;
 pub use ftp_session::{model, session};
