@@ -56,6 +56,8 @@ pub enum Call {
     ReadResponse(Status),
     /// A reply of one of these statuses is read; nothing is said.
     ReadResponseIn(Items<Status>),
+    /// The next transfer begins at this offset, in bytes; nothing is said or heard.
+    ResumeTransfer(u64),
 }
 
 /// The answer of a call in a run.

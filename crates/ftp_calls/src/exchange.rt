@@ -1,10 +1,11 @@
-//! What each call says and hears (RFC 959, sections 4.1, 5.4 and 6): one row an exchange.
+//! What each call says and hears (RFC 959, sections 4.1, 5.4 and 6): one row a turn, which is an exchange or a change
+//! of settings.
 //!
 //! All that the machine does with a call follows from its row. A new call of one command and one reply is a variant
-//! of `Call`, a row of `exchange_of`, and its row in the definition.
+//! of `Call`, a row of `row_of`, and its row in the definition.
 
 ghost use Rattle.std.specs.Prelude.{◌≡◌, IfOk};
-ghost use Rattle.ftp_calls.specs.Exchanges.{exchange_of, hears, says};
+ghost use Rattle.ftp_calls.specs.Exchanges.{hears, row_of, says};
 
 use crate::call::Call;
 use ftp_base::command::Command;
@@ -70,19 +71,28 @@ pub struct Exchange {
     pub ending: Ending,
 }
 
-/// The exchange of a call at this turn, with texts of its own.
+/// What a call does at a turn.
+#[derive(Drop)]
+pub enum Row {
+    /// A command and its reply, or a reply alone.
+    Exchanges(Exchange),
+    /// Nothing is said or heard: the next transfer begins at this offset, in bytes, and the call is done.
+    Arms(u64),
+}
+
+/// What a call does at this turn, with texts of its own.
 ///
 /// # Errors
 /// No memory for the texts.
-pub fn row_of(call: &Call, turn: Turn) -> Result<Exchange, AllocError>
-    ensures { IfOk result (λ exchange. exchange ≡ exchange_of call.now turn) }
+pub fn row_at(call: &Call, turn: Turn) -> Result<Row, AllocError>
+    ensures { IfOk result (λ row. row ≡ row_of call.now turn) }
 {
-    Ok(exchange_of(call.clone()?, turn))
+    Ok(row_of(call.clone()?, turn))
 }
 
-/// The exchange of a call at this turn.
-pub fn exchange_of(call: Call, turn: Turn) -> Exchange
-    ensures { result ≡ exchange_of call turn }
+/// What a call does at this turn.
+pub fn row_of(call: Call, turn: Turn) -> Row
+    ensures { result ≡ row_of call turn }
 {
     match call {
         Call::Greet => hears(Codes::One(Status::Ready), Ending::Greets),
@@ -131,12 +141,13 @@ pub fn exchange_of(call: Call, turn: Turn) -> Exchange
         }
         Call::ReadResponse(status) => hears(Codes::One(status), Ending::GivesReply),
         Call::ReadResponseIn(codes) => hears(Codes::Given(codes), Ending::GivesReply),
+        Call::ResumeTransfer(offset) => Row::Arms(offset),
     }
 }
 
 /// `USER`, and after 331 `PASS`.
-fn login(user: Text, password: Text, turn: Turn) -> Exchange
-    ensures { result ≡ exchange_of (Call.Login user password) turn }
+fn login(user: Text, password: Text, turn: Turn) -> Row
+    ensures { result ≡ row_of (Call.Login user password) turn }
 {
     match turn {
         Turn::First => says(
@@ -153,8 +164,8 @@ fn login(user: Text, password: Text, turn: Turn) -> Exchange
 }
 
 /// `RNFR`, and after 350 `RNTO`.
-fn rename(from: Text, to: Text, turn: Turn) -> Exchange
-    ensures { result ≡ exchange_of (Call.Rename from to) turn }
+fn rename(from: Text, to: Text, turn: Turn) -> Row
+    ensures { result ≡ row_of (Call.Rename from to) turn }
 {
     match turn {
         Turn::First => says(
@@ -167,8 +178,8 @@ fn rename(from: Text, to: Text, turn: Turn) -> Exchange
 }
 
 /// `TYPE`: transfers are of text where the type is ASCII.
-fn transfer_type(kind: FileType) -> Exchange
-    ensures { (turn : Turn) → result ≡ exchange_of (Call.TransferType kind) turn }
+fn transfer_type(kind: FileType) -> Row
+    ensures { (turn : Turn) → result ≡ row_of (Call.TransferType kind) turn }
 {
     let text = matches!(kind, FileType::Ascii(_));
     says(Command::TransferType(kind), ok(), Ending::SetsText(text))
@@ -196,23 +207,23 @@ fn done_or_ok() -> Codes
 }
 
 /// A command and its reply.
-fn says(command: Command, codes: Codes, ending: Ending) -> Exchange
+fn says(command: Command, codes: Codes, ending: Ending) -> Row
     ensures { result ≡ says command codes ending }
 {
-    Exchange {
+    Row::Exchanges(Exchange {
         says: Some(command),
         hears: codes,
         ending,
-    }
+    })
 }
 
 /// A reply alone.
-fn hears(codes: Codes, ending: Ending) -> Exchange
+fn hears(codes: Codes, ending: Ending) -> Row
     ensures { result ≡ hears codes ending }
 {
-    Exchange {
+    Row::Exchanges(Exchange {
         says: None,
         hears: codes,
         ending,
-    }
+    })
 }

@@ -38,13 +38,16 @@ use Rattle.ftp_session.specs.declared.model.Ran.TheVariants.{Finished, Waiting}
 use Rattle.ftp_session.specs.declared.model.Script.{Script}
 use Rattle.ftp_session.specs.State.{SessionValue}
 use Rattle.ftp_session.specs.Coding.{Coding}
-use Rattle.ftp_calls.specs.Exchanges.{exchange_of, is_read}
-use Rattle.ftp_session.specs.Dialogue.{Expected, expected_of, Tree, Say, Hear, saying, awaiting, later, dialogue}
+use Rattle.ftp_calls.specs.declared.exchange.Exchange.{Exchange}
+use Rattle.ftp_calls.specs.declared.exchange.Row.{Row}
+use Rattle.ftp_calls.specs.declared.exchange.Row.TheVariants.{Exchanges, Arms}
+use Rattle.ftp_calls.specs.Exchanges.{is_read, row_of}
+use Rattle.ftp_session.specs.Dialogue.{Expected, expected_of, Tree, Say, Hear, saying, awaiting, doing, later, dialogue}
 use Rattle.ftp_session.specs.Play.{play, fits, heard_then}
 use Rattle.ftp_session.specs.declared.model.Played.{Played}
 use Rattle.ftp_session.specs.Run.{run, before, and_then, Resumes, Silent}
 use Rattle.ftp_session.specs.Promises.{standing, before_all, However, Goes, Leads, Rests, Aborts}
-use Rattle.ftp_session.specs.Script.{unread, is_over, start_of, front, seen_at, form_at, first_form, polled_as, run_with, poll_script, HearsNothing, MayCancel, MayPoll}
+use Rattle.ftp_session.specs.Script.{unread, is_over, start_of, front, seen_at, form_at, first_form, heard_form, polled_as, run_with, poll_script, HearsNothing, MayCancel, MayPoll}
 use Rattle.ftp_session.specs.Scripted.{SaysFrontOf, SaysNothing, Stands, SaysOrTakes, CallHasBegun, Reaches, LeftOf}
 use Rattle.ftp_session.specs.Steps.Stages.{remaining, begun_at}
 use Rattle.ftp_session.specs.Steps.Moving.{BeginsHere, HasBegun, HasGoneOut, NothingTouched, Speaks, StillSays, Keeps, Shrinks, Calm, Advances, Ends, PollSteps, WaitsFor, WaitsToSay}
@@ -111,18 +114,19 @@ module _ (coding : Coding) where
 
   -- a reply that says nothing yet under a call's list is resumed by the call
   resumes_dialogue : (rule : ReplyRule) (kept : List ℕ) (call : Call) (state : State) → outcome rule (first_form call) kept false ≡ Waits → Resumes rule kept (dialogue coding call state)
-  resumes_dialogue rule kept call state waits = go (exchange_of call First).says
+  resumes_dialogue rule kept call state waits = row (row_of call First) waits
     where
-      next : Tree
-      next = awaiting coding (expected_of (exchange_of call First).hears) (exchange_of call First).ending state (later coding call First)
+      line : (e : Exchange) → outcome rule (expected_of e.hears).form kept false ≡ Waits → (l : Result (List ℕ) Cause) → Resumes rule kept (Say l (awaiting coding (expected_of e.hears) e.ending state (later coding call First)))
+      line e waits (Ok bytes) = waits
+      line e waits (Err cause) = tt
 
-      line : (l : Result (List ℕ) Cause) → Resumes rule kept (Say l (awaiting coding (expected_of (exchange_of call First).hears) (exchange_of call First).ending state (later coding call First)))
-      line (Ok bytes) = waits
-      line (Err cause) = tt
+      go : (e : Exchange) → outcome rule (expected_of e.hears).form kept false ≡ Waits → (command : Option Command) → Resumes rule kept (saying coding command (awaiting coding (expected_of e.hears) e.ending state (later coding call First)))
+      go e waits None = waits
+      go e waits (Some command) = line e waits (wire coding.encode (text_of command))
 
-      go : (command : Option Command) → Resumes rule kept (saying coding command (awaiting coding (expected_of (exchange_of call First).hears) (exchange_of call First).ending state (later coding call First)))
-      go None = waits
-      go (Some command) = line (wire coding.encode (text_of command))
+      row : (r : Row) → outcome rule (heard_form r) kept false ≡ Waits → Resumes rule kept (doing coding r state (later coding call First))
+      row (Exchanges e) waits = go e waits e.says
+      row (Arms offset) waits = tt
 
   -- what was fed, seen from after a poll
   module _ (old : SessionValue) (s : Script) (v w : SessionValue) (call : Call) (stage : Stage) (answers : List Answer) (f : Follows coding old s v (Some call) stage answers) (came : List ℕ) (c : Carried v w came) where

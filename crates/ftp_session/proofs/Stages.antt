@@ -8,10 +8,12 @@ use Rattle.ftp_calls.specs.declared.exchange.Turn.{Turn}
 use Rattle.ftp_calls.specs.declared.exchange.Turn.TheVariants.{First, Second}
 use Rattle.ftp_session.specs.declared.session.stage.Awaits.{Awaits}
 use Rattle.ftp_session.specs.declared.session.stage.Stage.{Stage}
-use Rattle.ftp_session.specs.declared.session.stage.Stage.TheVariants.{At, Saying, Hearing}
+use Rattle.ftp_session.specs.declared.session.stage.Stage.TheVariants.{At, Saying, Hearing, Arming}
 use Rattle.ftp_session.specs.Coding.{Coding}
-use Rattle.ftp_calls.specs.Exchanges.{exchange_of, gives_reply, is_read}
-use Rattle.ftp_session.specs.Dialogue.{expected_of, Tree, Say, saying, awaiting, later}
+use Rattle.ftp_calls.specs.declared.exchange.Exchange.{Exchange}
+use Rattle.ftp_calls.specs.declared.exchange.Row.TheVariants.{Exchanges, Arms}
+use Rattle.ftp_calls.specs.Exchanges.{ending_of, gives_reply, is_read, reads, row_of}
+use Rattle.ftp_session.specs.Dialogue.{expected_of, Tree, Say, saying, awaiting, doing, later}
 use Rattle.ftp_session.specs.Steps.Stages.{is_second, begun_at, nodes_from, line_of, awaits_of, NodeOf, Begun}
 use Rattle.ftp_session.specs.declared.session.stage.Step.{Step}
 use Rattle.ftp_session.specs.declared.session.stage.Step.TheVariants.{Next}
@@ -39,9 +41,9 @@ said_first coding (Some command) line next some is =
     ap S (sym is)
 
 -- a call that says something is no plain read
-pub no_read : (call : Call) (turn : Turn) → (is_second turn ≡ true → is_read call ≡ false) → is_none (exchange_of call turn).says ≡ false → is_read call ≡ false
-no_read call First read some = ap (λ b. gives_reply (exchange_of call First).ending && b) some ∙ and_false (gives_reply (exchange_of call First).ending)
-no_read call Second read some = read refl
+pub no_read : (call : Call) (turn : Turn) (exchange : Exchange) → row_of call turn ≡ Exchanges exchange → (is_second turn ≡ true → is_read call ≡ false) → is_none exchange.says ≡ false → is_read call ≡ false
+no_read call First exchange row read some = ap reads row ∙ ap (λ b. gives_reply exchange.ending && b) some ∙ and_false (gives_reply exchange.ending)
+no_read call Second exchange row read some = read refl
 
 -- a line that hasn't begun to go out
 unbegun : (line : Option (List ℕ)) (a : Awaits) → is_none line ≡ false → begun_at (Saying line a) ≡ a.begun
@@ -49,26 +51,36 @@ unbegun None a some = let clash : true ≡ false = some in cc
 unbegun (Some line) a some = refl
 
 -- the first node is all that is left of an exchange, and of what comes after it
-pub node_begins : (coding : Coding) (call : Call) (turn : Turn) (stage : Stage) → (is_second turn ≡ true → is_read call ≡ false) → NodeOf coding turn (exchange_of call turn) stage → Begun coding call turn stage
-node_begins coding call turn (At other) read node = absurd node
-node_begins coding call turn (Saying line a) read node =
-    let e = exchange_of call turn in
+pub node_begins : (coding : Coding) (call : Call) (turn : Turn) (e : Exchange) (stage : Stage) → row_of call turn ≡ Exchanges e → (is_second turn ≡ true → is_read call ≡ false) → NodeOf coding turn e stage → Begun coding call turn stage
+node_begins coding call turn e (At other) row read node = absurd node
+node_begins coding call turn e (Arming other offset) row read node = absurd node
+node_begins coding call turn e (Saying line a) row read node =
     let P : Awaits → Type 0 = λ x. Begun coding call turn (Saying line x) in
     subst P (sym node.3) (record {
-      same = λ state. said_first coding e.says (due line) (awaiting coding (expected_of e.hears) e.ending state (later coding call turn)) node.2 node.0;
+      same = λ state. said_first coding e.says (due line) (awaiting coding (expected_of e.hears) e.ending state (later coding call turn)) node.2 node.0
+          ∙ ap (λ r. doing coding r state (later coding call turn)) (sym row);
       fewer = one_fewer turn;
-      stage_of = (refl, no_read call turn read node.2);
+      stage_of = (ap ending_of row, no_read call turn e row read node.2);
       begun = unbegun line (awaits_of turn e) node.1;
     })
-node_begins coding call turn (Hearing a) read node =
-    let e = exchange_of call turn in
+node_begins coding call turn e (Hearing a) row read node =
     let P : Awaits → Type 0 = λ x. Begun coding call turn (Hearing x) in
     subst P (sym node.1) (record {
-      same = λ state. ap (λ s. saying coding s (awaiting coding (expected_of e.hears) e.ending state (later coding call turn))) (sym node.0);
+      same = λ state. ap (λ s. saying coding s (awaiting coding (expected_of e.hears) e.ending state (later coding call turn))) (sym node.0)
+          ∙ ap (λ r. doing coding r state (later coding call turn)) (sym row);
       fewer = two_fewer turn;
-      stage_of = (refl, read);
+      stage_of = (ap ending_of row, read);
       begun = refl;
     })
+
+-- a change of settings is all that is left
+pub arming_begins : (coding : Coding) (call : Call) (turn : Turn) (offset : ℕ) → row_of call turn ≡ Arms offset → (is_second turn ≡ true → is_read call ≡ false) → Begun coding call turn (Arming turn offset)
+arming_begins coding call turn offset row read = record {
+  same = λ state. ap (λ r. doing coding r state (later coding call turn)) (sym row);
+  fewer = one_fewer turn;
+  stage_of = (row, read);
+  begun = refl;
+}
 
 -- Whether a dialogue has begun
 

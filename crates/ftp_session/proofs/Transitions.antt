@@ -13,19 +13,21 @@ use Rattle.ftp_control.specs.Refusal.{IsRefusalOf}
 use Rattle.ftp_control.specs.Told.{Told, EndsAsTold}
 use Rattle.ftp_session.specs.declared.session.state.State.{State}
 use Rattle.ftp_calls.specs.declared.call.Answer.{Answer}
-use Rattle.ftp_calls.specs.declared.call.Answer.TheVariants.{Fault}
+use Rattle.ftp_calls.specs.declared.call.Answer.TheVariants.{Unit, Fault}
 use Rattle.ftp_calls.specs.declared.call.Call.{Call}
 use Rattle.ftp_calls.specs.declared.exchange.Turn.{Turn}
 use Rattle.ftp_calls.specs.declared.exchange.Turn.TheVariants.{First, Second}
 use Rattle.ftp_session.specs.declared.session.stage.Awaits.{Awaits}
 use Rattle.ftp_session.specs.declared.session.stage.Stage.{Stage}
-use Rattle.ftp_session.specs.declared.session.stage.Stage.TheVariants.{At, Saying, Hearing}
+use Rattle.ftp_session.specs.declared.session.stage.Stage.TheVariants.{At, Saying, Hearing, Arming}
 use Rattle.ftp_session.specs.declared.session.stage.Step.{Step}
 use Rattle.ftp_session.specs.declared.session.stage.Step.TheVariants.{Next, Pending, Done}
 use Rattle.ftp_session.specs.State.{SessionValue}
 use Rattle.ftp_session.specs.Coding.{Coding}
-use Rattle.ftp_calls.specs.Exchanges.{exchange_of, is_read}
-use Rattle.ftp_session.specs.Dialogue.{Expected, expected_of, Tree, Say, Hear, Leaf, saying, awaiting, accepted, later, from_turn, dialogue}
+use Rattle.ftp_calls.specs.declared.exchange.Row.{Row}
+use Rattle.ftp_calls.specs.declared.exchange.Row.TheVariants.{Exchanges, Arms}
+use Rattle.ftp_calls.specs.Exchanges.{is_read, row_of, says_of}
+use Rattle.ftp_session.specs.Dialogue.{Expected, expected_of, Tree, Say, Hear, Leaf, saying, armed, awaiting, doing, accepted, later, from_turn, dialogue}
 use Rattle.ftp_session.specs.Promises.{IsFault, HasFault, Aborts, Fails, SaidOrTaken, Touched, Untouched, LacksMemory, Plays, GivesFault, Reads, Rests, failed_from}
 use Rattle.ftp_control.specs.Channel.{untaken}
 use Rattle.ftp_session.specs.Run.{Resumes}
@@ -43,11 +45,15 @@ line_refused link coding (Some command) cause next v is =
     let P : Result (List ℕ) Cause → Type 0 = λ line. Ends link (Say line next) (Fault (ConnectionError cause)) v v in
     subst P (sym is) (refused_line link cause next v)
 
+-- a row whose line is refused
+row_refused : (link : Link) (coding : Coding) (row : Row) (cause : Cause) (later : State → Tree) (v : SessionValue) → line_of coding (says_of row) ≡ Err cause → Ends link (doing coding row v.state later) (Fault (ConnectionError cause)) v v
+row_refused link coding (Exchanges e) cause later v is = line_refused link coding e.says cause (awaiting coding (expected_of e.hears) e.ending v.state later) v is
+row_refused link coding (Arms offset) cause later v is = let clash : Ok [] ≡ Err cause = is in cc
+
 -- an exchange that doesn't begin
-pub refused_ends : (link : Link) (coding : Coding) (call : Call) (turn : Turn) (fault : FtpError) (v : SessionValue) → v.channel.failed ≡ false → IsRefusalOf (line_of coding (exchange_of call turn).says) fault → Ends link (from_turn coding call turn v.state) (Fault fault) v (after_fault (is_second turn) fault v) ⊎ Aborts link (is_second turn) (from_turn coding call turn v.state) (Fault fault) v (after_fault (is_second turn) fault v)
+pub refused_ends : (link : Link) (coding : Coding) (call : Call) (turn : Turn) (fault : FtpError) (v : SessionValue) → v.channel.failed ≡ false → IsRefusalOf (line_of coding (says_of (row_of call turn))) fault → Ends link (from_turn coding call turn v.state) (Fault fault) v (after_fault (is_second turn) fault v) ⊎ Aborts link (is_second turn) (from_turn coding call turn v.state) (Fault fault) v (after_fault (is_second turn) fault v)
 refused_ends link coding call turn (ConnectionError cause) v going is =
-    let e = exchange_of call turn in
-    inl (line_refused link coding e.says cause (awaiting coding (expected_of e.hears) e.ending v.state (later coding call turn)) v is)
+    inl (row_refused link coding (row_of call turn) cause (later coding call turn) v is)
 refused_ends link coding call turn (SecureError text) v going is = absurd is
 refused_ends link coding call turn (UnexpectedResponse reply) v going is = absurd is
 refused_ends link coding call turn BadResponse v going is = absurd is
@@ -177,11 +183,20 @@ nothing_so_far link coding call stage v stage_of = record {
   asked = refl;
 }
 
+-- a change of settings is the answer
+pub arms : (link : Link) (offset : ℕ) (old new : SessionValue) → old.channel.failed ≡ false → new ≡ record old { state = armed offset old.state } → Ends link (Leaf Unit (armed offset old.state)) Unit old new
+arms link offset old new going is =
+    let tree = Leaf Unit (armed offset old.state) in
+    let P : SessionValue → Type 0 = λ v. Ends link tree Unit old v in
+    subst P (sym is) (leaf_ends link tree Unit old old (record old { state = armed offset old.state }) (stays_put link tree tree old refl).moves (λ f. inl f) refl refl)
+
 -- a plain read that goes on has said and taken nothing
 pub read_is_quiet : (call : Call) (stage : Stage) → StageOf call stage → is_read call ≡ true → begun_at stage ≡ false
 read_is_quiet call (At First) stage_of read = refl
 read_is_quiet call (At Second) stage_of read = let clash : true ≡ false = sym read ∙ stage_of refl in cc
 read_is_quiet call (Saying line a) stage_of read = let clash : true ≡ false = sym read ∙ stage_of.1 in cc
+read_is_quiet call (Arming First offset) stage_of read = refl
+read_is_quiet call (Arming Second offset) stage_of read = let clash : true ≡ false = sym read ∙ stage_of.1 refl in cc
 read_is_quiet call (Hearing a) stage_of read = go a.begun refl
   where
     go : (b : Bool) → a.begun ≡ b → a.begun ≡ false

@@ -25,13 +25,17 @@ use Rattle.ftp_control.specs.Grammar.{outcome, within, reply_in, to_end, to_list
 use Rattle.ftp_control.specs.Answer.{expected_reply}
 use Rattle.ftp_control.specs.Saying.{due}
 use Rattle.ftp_calls.specs.declared.call.Answer.TheVariants.{Fault}
+use Rattle.ftp_calls.specs.declared.call.Answer.TheVariants as answers
 use Rattle.ftp_calls.specs.declared.call.Call.{Call}
 use Rattle.ftp_calls.specs.declared.exchange.Ending.{Ending}
 use Rattle.ftp_calls.specs.declared.exchange.Turn.TheVariants.{First}
-use Rattle.ftp_calls.specs.Exchanges.{exchange_of, is_read}
+use Rattle.ftp_calls.specs.declared.exchange.Exchange.{Exchange}
+use Rattle.ftp_calls.specs.declared.exchange.Row.{Row}
+use Rattle.ftp_calls.specs.declared.exchange.Row.TheVariants.{Exchanges, Arms}
+use Rattle.ftp_calls.specs.Exchanges.{is_read, reads, row_of}
 use Rattle.ftp_session.specs.declared.session.state.State.{State}
 use Rattle.ftp_session.specs.declared.session.stage.Stage.{Stage}
-use Rattle.ftp_session.specs.declared.session.stage.Stage.TheVariants.{At, Saying, Hearing}
+use Rattle.ftp_session.specs.declared.session.stage.Stage.TheVariants.{At, Saying, Hearing, Arming}
 use Rattle.ftp_session.specs.declared.model.Standing.{Standing}
 use Rattle.ftp_session.specs.declared.model.Wait.{Wait}
 use Rattle.ftp_session.specs.declared.model.Wait.TheVariants as wait
@@ -39,7 +43,7 @@ use Rattle.ftp_session.specs.declared.model.Played.{Played}
 use Rattle.ftp_session.specs.declared.model.Played.TheVariants.{Done, Pending}
 use Rattle.ftp_session.specs.declared.model.Script.{Script}
 use Rattle.ftp_session.specs.Coding.{Coding}
-use Rattle.ftp_session.specs.Dialogue.{Expected, expected_of, Tree, Say, Hear, Ask, Leaf, saying, awaiting, concluded, later, dialogue}
+use Rattle.ftp_session.specs.Dialogue.{Expected, expected_of, Tree, Say, Hear, Ask, Leaf, saying, awaiting, armed, doing, exchanging, concluded, later, dialogue}
 use Rattle.ftp_session.specs.Play.{play, fits, heard_then, taken, asked_then}
 use Rattle.ftp_session.specs.Script.{heard_in, heard_at}
 use Rattle.ftp_session.specs.Steps.Stages.{remaining}
@@ -230,33 +234,41 @@ module _ (coding : Coding) (room : Room) (script : Script) (s : Standing) (untak
       go true is e = absurd (hears_none codes ending state after (s.said ++ s.unsent ++ line) [] e)
       go false is e = record { line = line; next = next; is = refl; full = is }
 
+  -- a change of settings never waits
+  never_waits : {A : Type 0} (offset : ℕ) (state : State) → play room (Leaf answers.Unit (armed offset state)) s ≡ Pending how t → A
+  never_waits offset state is = let clash : Done answers.Unit (record s { state = armed offset state }) ≡ Pending how t = sym (play-Leaf room answers.Unit (armed offset state) s) ∙ is in cc
+
   -- at each stage of a call
   pub lacks_room : (call : Call) (state : State) (stage : Stage) → play room (remaining coding call state stage) s ≡ Pending how t → LacksRoomFor room s (remaining coding call state stage)
-  lacks_room call state (At turn) is = go (exchange_of call turn).says is
+  lacks_room call state (At turn) is = row (row_of call turn) is
     where
-      next : Tree
-      next = awaiting coding (expected_of (exchange_of call turn).hears) (exchange_of call turn).ending state (later coding call turn)
+      line : (e : Exchange) (l : Result (List ℕ) Cause) → play room (Say l (awaiting coding (expected_of e.hears) e.ending state (later coding call turn))) s ≡ Pending how t → LacksRoomFor room s (Say l (awaiting coding (expected_of e.hears) e.ending state (later coding call turn)))
+      line e (Ok bytes) is = says_more bytes (expected_of e.hears) e.ending state (later coding call turn) is
+      line e (Err cause) is = let clash : Done (Fault (fault.ConnectionError cause)) s ≡ Pending how t = sym (play-Refused room cause (awaiting coding (expected_of e.hears) e.ending state (later coding call turn)) s) ∙ is in cc
 
-      line : (l : Result (List ℕ) Cause) → play room (Say l (awaiting coding (expected_of (exchange_of call turn).hears) (exchange_of call turn).ending state (later coding call turn))) s ≡ Pending how t → LacksRoomFor room s (Say l (awaiting coding (expected_of (exchange_of call turn).hears) (exchange_of call turn).ending state (later coding call turn)))
-      line (Ok bytes) is = says_more bytes (expected_of (exchange_of call turn).hears) (exchange_of call turn).ending state (later coding call turn) is
-      line (Err cause) is = let clash : Done (Fault (fault.ConnectionError cause)) s ≡ Pending how t = sym (play-Refused room cause next s) ∙ is in cc
+      go : (e : Exchange) (says : Option Command) → play room (saying coding says (awaiting coding (expected_of e.hears) e.ending state (later coding call turn))) s ≡ Pending how t → LacksRoomFor room s (saying coding says (awaiting coding (expected_of e.hears) e.ending state (later coding call turn)))
+      go e None is = absurd (hears_none (expected_of e.hears) e.ending state (later coding call turn) s.said s.unsent is)
+      go e (Some command) is = line e (wire coding.encode (text_of command)) is
 
-      go : (says : Option Command) → play room (saying coding says (awaiting coding (expected_of (exchange_of call turn).hears) (exchange_of call turn).ending state (later coding call turn))) s ≡ Pending how t → LacksRoomFor room s (saying coding says (awaiting coding (expected_of (exchange_of call turn).hears) (exchange_of call turn).ending state (later coding call turn)))
-      go None is = absurd (hears_none (expected_of (exchange_of call turn).hears) (exchange_of call turn).ending state (later coding call turn) s.said s.unsent is)
-      go (Some command) is = line (wire coding.encode (text_of command)) is
+      row : (r : Row) → play room (doing coding r state (later coding call turn)) s ≡ Pending how t → LacksRoomFor room s (doing coding r state (later coding call turn))
+      row (Exchanges e) is = go e e.says is
+      row (Arms offset) is = never_waits offset state is
   lacks_room call state (Saying line a) is = says_more (due line) (expected_of a.hears) a.ending state (later coding call a.turn) is
   lacks_room call state (Hearing a) is = absurd (hears_none (expected_of a.hears) a.ending state (later coding call a.turn) s.said s.unsent is)
+  lacks_room call state (Arming turn offset) is = never_waits offset state is
 
 -- a call that says a line first is no plain read
 pub says_no_read : (coding : Coding) (call : Call) (state : State) (line : List ℕ) (next : Tree) → dialogue coding call state ≡ Say (Ok line) next → is_read call ≡ false
-says_no_read coding call state line next is = go (exchange_of call First).says refl
+says_no_read coding call state line next is = row (row_of call First) refl is
   where
-    after : Tree
-    after = awaiting coding (expected_of (exchange_of call First).hears) (exchange_of call First).ending state (later coding call First)
-
-    go : (says : Option Command) → (exchange_of call First).says ≡ says → is_read call ≡ false
-    go None none =
-        let T : Option Command → Tree = λ o. saying coding o (awaiting coding (expected_of (exchange_of call First).hears) (exchange_of call First).ending state (later coding call First)) in
+    go : (e : Exchange) → row_of call First ≡ Exchanges e → exchanging coding e state (later coding call First) ≡ Say (Ok line) next → (says : Option Command) → e.says ≡ says → is_read call ≡ false
+    go e at is None none =
+        let after = awaiting coding (expected_of e.hears) e.ending state (later coding call First) in
+        let T : Option Command → Tree = λ o. saying coding o after in
         let clash : after ≡ Say (Ok line) next = sym (ap T none) ∙ is in
         cc
-    go (Some command) some = no_read call First (λ second. (let clash : false ≡ true = second in cc)) (ap is_none some)
+    go e at is (Some command) some = no_read call First e at (λ second. (let clash : false ≡ true = second in cc)) (ap is_none some)
+
+    row : (r : Row) → row_of call First ≡ r → doing coding r state (later coding call First) ≡ Say (Ok line) next → is_read call ≡ false
+    row (Exchanges e) at is = go e at is e.says refl
+    row (Arms offset) at is = ap reads at

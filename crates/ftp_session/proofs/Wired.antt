@@ -29,10 +29,12 @@ use Rattle.ftp_session.specs.declared.model.Played.{Played}
 use Rattle.ftp_session.specs.declared.model.Played.TheVariants.{Done}
 use Rattle.ftp_session.specs.State.{SessionValue}
 use Rattle.ftp_session.specs.Coding.{Coding}
-use Rattle.ftp_calls.specs.Exchanges.{exchange_of}
-use Rattle.ftp_session.specs.Dialogue.{Expected, expected_of, Tree, Say, Leaf, saying, awaiting, concluded, accepted, exchanging, later, dialogue}
+use Rattle.ftp_calls.specs.declared.exchange.Row.{Row}
+use Rattle.ftp_calls.specs.declared.exchange.Row.TheVariants.{Exchanges, Arms}
+use Rattle.ftp_calls.specs.Exchanges.{row_of}
+use Rattle.ftp_session.specs.Dialogue.{Expected, expected_of, Tree, Say, Leaf, saying, awaiting, concluded, accepted, exchanging, armed, doing, later, dialogue}
 use Rattle.ftp_session.specs.Play.{play, heard_then}
-use Rattle.ftp_session.specs.Promises.{standing, Completes, IsSuccess, Says, Exchanged, ExchangedIf, Succeeds, Wired, goes_on_with}
+use Rattle.ftp_session.specs.Promises.{standing, Completes, IsSuccess, Says, Exchanged, ExchangedIf, IsSilent, Succeeds, SucceedsBy, Wired, goes_on_with}
 use Rattle.ftp_session.proofs.Moving.{play-Say, play-Leaf, play-Refused}
 use Rattle.ftp_session.proofs.Hearing.{play-Hear}
 use Rattle.ftp_session.specs.Link.{Link}
@@ -141,56 +143,59 @@ says_state coding None s t state says = says
 says_state coding (Some command) s t state says = says
 
 -- a call that succeeded
+module _ (coding : Coding) (call : Call) (answer : Answer) (s t : Standing) (state : State) (success : IsSuccess answer) where
+  -- nothing was said or heard
+  stays : (m : Standing) (a : Answer) (new : State) → play Any (Leaf a new) m ≡ Done answer t → IsSilent m t
+  stays m a new done =
+      let same = leaf_at a answer new m t done in
+      (ap (λ x. x.said) same, ap (λ x. x.unsent) same, ap (λ x. x.bytes) same)
+
+  -- the second row
+  last : (r : Row) (m : Standing) → play Any (doing coding r state (λ x. Leaf Unit x)) m ≡ Done answer t → ExchangedIf true coding r m t
+  last (Arms offset) m done = stays m Unit (armed offset state) done
+  last (Exchanges e) m done =
+      let two = one_exchange coding e state (λ x. Leaf Unit x) answer m t success done in
+      let leaf = accepted_leaf coding e.ending state two.reply in
+      let L : Tree → Type 0 = λ x. play Any x two.between ≡ Done answer t in
+      let same = leaf_at leaf.0 answer leaf.1 two.between t (subst L leaf.2 two.goes) in
+      let P : Standing → Type 0 = λ x. Exchanged coding e two.reply m x in (
+        two.reply,
+        subst P (sym same) (record {
+          says = says_state coding e.says m two.between leaf.1 two.exchanged.says;
+          code = two.exchanged.code;
+          whole = two.exchanged.whole;
+          status = two.exchanged.status;
+          accepted = two.exchanged.accepted;
+          consumed = two.exchanged.consumed;
+        }),
+      )
+
+  -- what comes after the first exchange
+  next : (how : Ending) (reply : Response) (m : Standing) → play Any (accepted coding how state reply (later coding call First)) m ≡ Done answer t → ExchangedIf (goes_on_with how reply) coding (row_of call Second) m t
+  next ending.Done reply m done = stays m _ _ done
+  next ending.GivesReply reply m done = stays m _ _ done
+  next ending.Greets reply m done = stays m _ _ done
+  next ending.GivesPath reply m done = stays m _ _ done
+  next ending.GivesSecondLine reply m done = stays m _ _ done
+  next ending.GivesTime reply m done = stays m _ _ done
+  next ending.GivesSize reply m done = stays m _ _ done
+  next ending.GivesFeatures reply m done = stays m _ _ done
+  next (ending.SetsText text) reply m done = stays m _ _ done
+  next (ending.GoesOn status) reply m done =
+      elim (eqb (code_of reply.status) (code_of status)) as (λ b. play Any (cond b (later coding call First state) (Leaf Unit state)) m ≡ Done answer t → ExchangedIf b coding (row_of call Second) m t) [
+        | true ↦ λ done. last (row_of call Second) m done
+        | false ↦ λ done. stays m Unit state done
+      ] done
+
+  -- the first row
+  by_row : (r : Row) → play Any (doing coding r state (later coding call First)) s ≡ Done answer t → SucceedsBy coding r (row_of call Second) s t
+  by_row (Arms offset) done = stays s Unit (armed offset state) done
+  by_row (Exchanges e) done =
+      let one = one_exchange coding e state (later coding call First) answer s t success done in
+      record { reply = one.reply; between = one.between; first = one.exchanged; second = next e.ending one.reply one.between one.goes }
+
 pub call_succeeds : (coding : Coding) (call : Call) (answer : Answer) (s t : Standing) (state : State) → IsSuccess answer → play Any (dialogue coding call state) s ≡ Done answer t → Succeeds coding call s t
-call_succeeds coding call answer s t state success is = record {
-  reply = one.reply;
-  between = one.between;
-  first = one.exchanged;
-  second = go (exchange_of call First).ending one.goes;
-}
-  where
-    one : ExchangedOne coding (exchange_of call First) state (later coding call First) answer s t
-    one = one_exchange coding (exchange_of call First) state (later coding call First) answer s t success is
-
-    stays : (a : Answer) (new : State) → play Any (Leaf a new) one.between ≡ Done answer t → (t.said ≡ one.between.said) × (t.unsent ≡ one.between.unsent) × (t.bytes ≡ one.between.bytes)
-    stays a new done =
-        let same = leaf_at a answer new one.between t done in
-        (ap (λ x. x.said) same, ap (λ x. x.unsent) same, ap (λ x. x.bytes) same)
-
-    last : (m : Standing) → play Any (later coding call First state) m ≡ Done answer t → (reply : Response) × Exchanged coding (exchange_of call Second) reply m t
-    last m done =
-        let e = exchange_of call Second in
-        let two = one_exchange coding e state (λ x. Leaf Unit x) answer m t success done in
-        let leaf = accepted_leaf coding e.ending state two.reply in
-        let L : Tree → Type 0 = λ x. play Any x two.between ≡ Done answer t in
-        let same = leaf_at leaf.0 answer leaf.1 two.between t (subst L leaf.2 two.goes) in
-        let P : Standing → Type 0 = λ x. Exchanged coding e two.reply m x in (
-          two.reply,
-          subst P (sym same) (record {
-            says = says_state coding e.says m two.between leaf.1 two.exchanged.says;
-            code = two.exchanged.code;
-            whole = two.exchanged.whole;
-            status = two.exchanged.status;
-            accepted = two.exchanged.accepted;
-            consumed = two.exchanged.consumed;
-          }),
-        )
-
-    go : (how : Ending) → play Any (accepted coding how state one.reply (later coding call First)) one.between ≡ Done answer t → ExchangedIf (goes_on_with how one.reply) coding (exchange_of call Second) one.between t
-    go ending.Done done = stays _ _ done
-    go ending.GivesReply done = stays _ _ done
-    go ending.Greets done = stays _ _ done
-    go ending.GivesPath done = stays _ _ done
-    go ending.GivesSecondLine done = stays _ _ done
-    go ending.GivesTime done = stays _ _ done
-    go ending.GivesSize done = stays _ _ done
-    go ending.GivesFeatures done = stays _ _ done
-    go (ending.SetsText text) done = stays _ _ done
-    go (ending.GoesOn status) done =
-        elim (eqb (code_of one.reply.status) (code_of status)) as (λ b. play Any (cond b (later coding call First state) (Leaf Unit state)) one.between ≡ Done answer t → ExchangedIf b coding (exchange_of call Second) one.between t) [
-          | true ↦ λ done. last one.between done
-          | false ↦ λ done. stays Unit state done
-        ] done
+call_succeeds coding call answer s t state success is = by_row coding call answer s t state success (row_of call First) is
 
 -- the calls of a session
 pub wired : (link : Link) (coding : Coding) (call : Call) (old new : SessionValue) (answer : Answer) → Completes link (dialogue coding call old.state) answer old new → IsSuccess answer → Wired link coding call old new

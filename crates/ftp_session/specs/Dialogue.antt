@@ -29,10 +29,12 @@ use Rattle.ftp_calls.specs.declared.exchange.Turn.TheVariants.{First, Second}
 use Rattle.ftp_calls.specs.declared.exchange.Ending.{Ending}
 use Rattle.ftp_calls.specs.declared.exchange.Ending.TheVariants.{Done, GivesReply, Greets, GivesPath, GivesSecondLine, GivesTime, GivesSize, GivesFeatures, SetsText, GoesOn}
 use Rattle.ftp_calls.specs.declared.exchange.Exchange.{Exchange}
+use Rattle.ftp_calls.specs.declared.exchange.Row.{Row}
+use Rattle.ftp_calls.specs.declared.exchange.Row.TheVariants.{Exchanges, Arms}
 use Rattle.ftp_session.specs.Coding.{Coding}
 use Rattle.ftp_calls.specs.declared.exchange.Codes.{Codes}
 use Rattle.ftp_calls.specs.declared.exchange.Codes.TheVariants.{One, Either, Given, Features}
-use Rattle.ftp_calls.specs.Exchanges.{exchange_of}
+use Rattle.ftp_calls.specs.Exchanges.{row_of}
 use Rattle.ftp_answers.specs.Answers.{path_of, second_line_of, size_of, features_in}
 use Rattle.ftp_answers.specs.Times.{time_of}
 
@@ -117,14 +119,23 @@ abbrev pub exchanging : Coding → Exchange → State → (State → Tree) → T
 exchanging coding exchange state later =
     saying coding exchange.says (awaiting coding (expected_of exchange.hears) exchange.ending state later)
 
--- what comes after the exchange of this turn: the next one, or nothing
+-- the next transfer begins at this offset
+abbrev pub armed : ℕ → State → State
+armed offset state = record state { settings = record state.settings { restart_offset = offset } }
+
+-- a row, and what comes after it: one exchange, or a change of settings
+abbrev pub doing : Coding → Row → State → (State → Tree) → Tree
+doing coding (Exchanges exchange) state later = exchanging coding exchange state later
+doing coding (Arms offset) state later = Leaf Unit (armed offset state)
+
+-- what comes after the row of this turn: the next one, or nothing
 abbrev pub later : Coding → Call → Turn → State → Tree
-later coding call First state = exchanging coding (exchange_of call Second) state (λ s. Leaf Unit s)
+later coding call First state = doing coding (row_of call Second) state (λ s. Leaf Unit s)
 later coding call Second state = Leaf Unit state
 
 -- the dialogue of a call from this turn on
 abbrev pub from_turn : Coding → Call → Turn → State → Tree
-from_turn coding call turn state = exchanging coding (exchange_of call turn) state (later coding call turn)
+from_turn coding call turn state = doing coding (row_of call turn) state (later coding call turn)
 
 -- the dialogue of a call
 abbrev pub dialogue : Coding → Call → State → Tree

@@ -31,6 +31,8 @@ use Rattle.ftp_calls.specs.declared.exchange.Turn.TheVariants.{First, Second}
 use Rattle.ftp_calls.specs.declared.exchange.Ending.{Ending}
 use Rattle.ftp_calls.specs.declared.exchange.Ending.TheVariants.{Done, GivesReply, Greets, GivesPath, GivesSecondLine, GivesTime, GivesSize, GivesFeatures, SetsText, GoesOn}
 use Rattle.ftp_calls.specs.declared.exchange.Exchange.{Exchange}
+use Rattle.ftp_calls.specs.declared.exchange.Row.{Row}
+use Rattle.ftp_calls.specs.declared.exchange.Row.TheVariants.{Exchanges, Arms}
 use Rattle.ftp_calls.specs.declared.call.Call.{Call}
 use Rattle.ftp_session.specs.declared.model.Standing.{Standing}
 use Rattle.ftp_session.specs.declared.model.Played.TheVariants as played
@@ -38,7 +40,7 @@ use Rattle.ftp_session.specs.declared.model.Ran.{Ran}
 use Rattle.ftp_session.specs.declared.model.Ran.TheVariants.{Finished}
 use Rattle.ftp_session.specs.State.{SessionValue}
 use Rattle.ftp_session.specs.Coding.{Coding}
-use Rattle.ftp_calls.specs.Exchanges.{exchange_of}
+use Rattle.ftp_calls.specs.Exchanges.{row_of}
 use Rattle.ftp_session.specs.Dialogue.{Expected, expected_of, Tree, Say, Hear, Ask, Leaf, dialogue}
 use Rattle.ftp_session.specs.Play.{play}
 use Rattle.ftp_session.specs.Run.{run, before, OneView, Resumes}
@@ -82,17 +84,30 @@ goes_on_with GivesFeatures reply = false
 goes_on_with (SetsText text) reply = false
 goes_on_with (GoesOn status) reply = code_of reply.status == code_of status
 
--- an exchange where there is one, else nothing
-abbrev pub ExchangedIf : Bool → Coding → Exchange → Standing → Standing → Type 0
-ExchangedIf true coding exchange s t = (reply : Response) × Exchanged coding exchange reply s t
-ExchangedIf false coding exchange s t = (t.said ≡ s.said) × (t.unsent ≡ s.unsent) × (t.bytes ≡ s.bytes)
+-- nothing was said or consumed
+abbrev pub IsSilent : Standing → Standing → Type 0
+IsSilent s t = (t.said ≡ s.said) × (t.unsent ≡ s.unsent) × (t.bytes ≡ s.bytes)
 
--- a call that succeeded: its first exchange, and its second where the first reply goes on
-pub record Succeeds (coding : Coding) (call : Call) (s t : Standing) : Type 0 where
+-- an exchange where a row is one and it was made, else nothing
+abbrev pub ExchangedIf : Bool → Coding → Row → Standing → Standing → Type 0
+ExchangedIf true coding (Exchanges exchange) s t = (reply : Response) × Exchanged coding exchange reply s t
+ExchangedIf true coding (Arms offset) s t = IsSilent s t
+ExchangedIf false coding row s t = IsSilent s t
+
+-- an exchange, and the next row where its reply goes on
+pub record ExchangesTwo (coding : Coding) (exchange : Exchange) (next : Row) (s t : Standing) : Type 0 where
   pub reply : Response
   pub between : Standing
-  pub first : Exchanged coding (exchange_of call First) reply s between
-  pub second : ExchangedIf (goes_on_with (exchange_of call First).ending reply) coding (exchange_of call Second) between t
+  pub first : Exchanged coding exchange reply s between
+  pub second : ExchangedIf (goes_on_with exchange.ending reply) coding next between t
+
+-- a call that succeeded: its first row, and its second where the first is an exchange whose reply goes on
+abbrev pub SucceedsBy : Coding → Row → Row → Standing → Standing → Type 0
+SucceedsBy coding (Exchanges exchange) next s t = ExchangesTwo coding exchange next s t
+SucceedsBy coding (Arms offset) next s t = IsSilent s t
+
+abbrev pub Succeeds : Coding → Call → Standing → Standing → Type 0
+Succeeds coding call s t = SucceedsBy coding (row_of call First) (row_of call Second) s t
 
 -- a call failed
 abbrev pub IsFault : Answer → Type 0

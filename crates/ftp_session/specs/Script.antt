@@ -17,7 +17,10 @@ use Rattle.ftp_session.specs.declared.model.Ran.TheVariants.{Finished, Waiting}
 use Rattle.ftp_control.specs.declared.control.form.ReplyForm.{ReplyForm}
 use Rattle.ftp_calls.specs.declared.exchange.Turn.TheVariants.{First}
 use Rattle.ftp_session.specs.Coding.{Coding}
-use Rattle.ftp_calls.specs.Exchanges.{exchange_of, is_read}
+use Rattle.ftp_calls.specs.Exchanges.{row_of, is_read}
+use Rattle.ftp_calls.specs.declared.exchange.Row.{Row}
+use Rattle.ftp_calls.specs.declared.exchange.Row.TheVariants.{Exchanges, Arms}
+use Rattle.ftp_control.specs.declared.control.form.ReplyForm.TheVariants.{Plain}
 use Rattle.ftp_session.specs.Dialogue.{expected_of, dialogue}
 use Rattle.ftp_session.specs.Run.{run, Resumes}
 use Rattle.ftp_session.specs.Promises.{standing}
@@ -59,8 +62,12 @@ script_of v form = record {
 }
 
 -- the form of the reply that a call first hears
+abbrev pub heard_form : Row → ReplyForm
+heard_form (Exchanges exchange) = (expected_of exchange.hears).form
+heard_form (Arms offset) = Plain
+
 abbrev pub first_form : Call → ReplyForm
-first_form call = (expected_of (exchange_of call First).hears).form
+first_form call = heard_form (row_of call First)
 
 -- what goes out of what was said
 abbrev pub front : Room → List ℕ → List ℕ

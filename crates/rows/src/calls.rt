@@ -41,6 +41,7 @@ fn with_argument(alloc: Global, name: &str, argument: &str) -> Result<Call, RowE
         "mlst" => Ok(Call::Mlst(Some(text(alloc, argument)?))),
         "mdtm" => Ok(Call::Mdtm(text(alloc, argument)?)),
         "size" => Ok(Call::Size(text(alloc, argument)?)),
+        "resume" => Ok(Call::ResumeTransfer(value(argument)?)),
         "opts" => opts(alloc, argument),
         "read" => Ok(Call::ReadResponse(status(argument)?)),
         "reads" => Ok(Call::ReadResponseIn(statuses(alloc, argument)?)),

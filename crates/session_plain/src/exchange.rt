@@ -1,5 +1,5 @@
-//! One exchange on all bytes at once: a line is said, a reply is heard and accepted. No call of today asks: requests
-//! are made in `connecting`.
+//! One row of a call on all bytes at once: a line is said, a reply is heard and accepted; or a setting changes. No call
+//! of today asks: requests are made in `connecting`.
 
 ghost use Rattle.std.specs.Prelude.{◌≡◌, ◌++◌, [], true, IfOk, IfErr, Ok, Some, Result, drop};
 ghost use Rattle.ftp_base.specs.Command.{text_of};
@@ -7,8 +7,8 @@ ghost use Rattle.ftp_base.specs.Wire.{wire};
 ghost use Rattle.ftp_control.specs.Grammar.{left_by};
 ghost use Rattle.ftp_control.specs.Refusal.{IsRefusalOf};
 ghost use Rattle.ftp_session.specs.Coding.{coding_of};
-ghost use Rattle.ftp_session.specs.Dialogue.{Tree, accepted, awaiting, concluded, exchanging, expected_of, greeting_of, saying};
-ghost use Rattle.ftp_calls.specs.Exchanges.{exchange_of};
+ghost use Rattle.ftp_session.specs.Dialogue.{Tree, accepted, armed, awaiting, concluded, doing, exchanging, expected_of, greeting_of, saying};
+ghost use Rattle.ftp_calls.specs.Exchanges.{row_of};
 ghost use Rattle.ftp_session.specs.Play.{fits, heard_then, play, said_then, taken};
 ghost use Rattle.session_plain.specs.Progress.{ComesTo};
 
@@ -16,7 +16,7 @@ use ftp_base::command::Command;
 use ftp_base::encoding::{Encoding, WelcomeMessage};
 use ftp_base::status::Status;
 use ftp_base::types::{Bytes, ConnectionError, FtpError, FtpResult, Items, Response};
-use ftp_calls::exchange::{Codes, Ending, Turn, exchange_of};
+use ftp_calls::exchange::{Codes, Ending, Exchange, Row, Turn, row_of};
 use ftp_control::control::{Outcome, REPLY_LIMIT, ReplyForm, WireLine, expected_reply, form_of};
 use ftp_control::plain::outcome;
 use ftp_control::transport::Room;
@@ -36,8 +36,9 @@ pub(crate) enum Progress {
     Continues(Standing),
 }
 
-/// The exchange of a call at this turn.
-pub(crate) fn exchange<E: Encoding>(
+/// What a call does at this turn.
+#[tactic(auto, unfolding(ftp_session::specs::Play::play))]
+pub(crate) fn row<E: Encoding>(
     alloc: Global,
     room: Room,
     encoding: &E,
@@ -48,10 +49,37 @@ pub(crate) fn exchange<E: Encoding>(
     ensures { IfOk result (λ progress. (later : State → Tree) →
         let coding = coding_of E.decoded E.encoded encoding.now in
         ComesTo room later
-        (play room (exchanging coding (exchange_of call.now turn) standing.state later) standing)
+        (play room (doing coding (row_of call.now turn) standing.state later) standing)
         progress) }
 {
-    let exchange = exchange_of(copy_of(call)?, turn);
+    match row_of(copy_of(call)?, turn) {
+        Row::Exchanges(made) => exchange(alloc, room, encoding, made, standing),
+        Row::Arms(offset) => Ok(done(Answer::Unit, armed(offset, standing))),
+    }
+}
+
+/// The next transfer begins at this offset.
+fn armed(offset: u64, mut standing: Standing) -> Standing
+    ensures { result ≡ record standing { state = armed offset standing.state } }
+{
+    standing.state.settings.restart_offset = offset;
+    standing
+}
+
+/// One exchange.
+fn exchange<E: Encoding>(
+    alloc: Global,
+    room: Room,
+    encoding: &E,
+    exchange: Exchange,
+    standing: Standing,
+) -> Result<Progress, AllocError>
+    ensures { IfOk result (λ progress. (later : State → Tree) →
+        let coding = coding_of E.decoded E.encoded encoding.now in
+        ComesTo room later
+        (play room (exchanging coding exchange standing.state later) standing)
+        progress) }
+{
     match say(alloc, room, encoding, exchange.says, standing)? {
         Progress::Stops(played) => Ok(Progress::Stops(played)),
         Progress::Continues(here) => hear(alloc, encoding, exchange.hears, exchange.ending, here),

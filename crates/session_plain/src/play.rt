@@ -1,11 +1,11 @@
-//! What a call comes to: its exchanges in turn.
+//! What a call comes to: its rows in turn.
 
 ghost use Rattle.std.specs.Prelude.{◌≡◌, IfOk};
 ghost use Rattle.ftp_session.specs.Coding.{coding_of};
 ghost use Rattle.ftp_session.specs.Dialogue.{dialogue};
 ghost use Rattle.ftp_session.specs.Play.{play, play_call};
 
-use crate::exchange::{Progress, exchange};
+use crate::exchange::{Progress, row};
 use ftp_base::encoding::Encoding;
 use ftp_base::types::FtpError;
 use ftp_calls::exchange::Turn;
@@ -43,10 +43,10 @@ pub(crate) fn play_dialogue<E: Encoding>(
     ensures { IfOk result (λ played. played ≡ play room
         (dialogue (coding_of E.decoded E.encoded encoding.now) call.now standing.state) standing) }
 {
-    match exchange(alloc, room, encoding, call, Turn::First, standing)? {
+    match row(alloc, room, encoding, call, Turn::First, standing)? {
         Progress::Stops(played) => Ok(played),
         Progress::Continues(here) => {
-            match exchange(alloc, room, encoding, call, Turn::Second, here)? {
+            match row(alloc, room, encoding, call, Turn::Second, here)? {
                 Progress::Stops(played) => Ok(played),
                 Progress::Continues(there) => Ok(Played::Done(Answer::Unit, there)),
             }

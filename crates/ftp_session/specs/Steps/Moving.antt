@@ -27,7 +27,7 @@ use Rattle.ftp_session.specs.State.{SessionValue}
 use Rattle.ftp_session.specs.Coding.{Coding}
 use Rattle.ftp_calls.specs.declared.exchange.Turn.{Turn}
 use Rattle.ftp_control.specs.Refusal.{IsRefusalOf}
-use Rattle.ftp_calls.specs.Exchanges.{exchange_of, Nothing, kind_of}
+use Rattle.ftp_calls.specs.Exchanges.{row_of, says_of, Nothing, kind_of}
 use Rattle.ftp_session.specs.Dialogue.{Expected, Tree, Say, Hear, Ask, Leaf, accepted, later, dialogue}
 use Rattle.ftp_session.specs.Run.{Resumes, Silent}
 use Rattle.ftp_session.specs.Promises.{IsFault, Leads, Completes, Aborts, Fails, However, SaidOrTaken, Untouched, Rests, IsRefused, failed_from}
@@ -226,7 +226,7 @@ Quiet coding call stage stage' old new (Done answer) = Unit {0}
 pub record IsRefusedLine (coding : Coding) (call : Call) (turn : Turn) (old new : SessionValue) (answer : Answer) : Type 0 where
   pub fault : FtpError
   pub is : answer ≡ Fault fault
-  pub cause : IsRefusalOf (line_of coding (exchange_of call turn).says) fault
+  pub cause : IsRefusalOf (line_of coding (says_of (row_of call turn))) fault
   pub leaves : new ≡ after_fault (is_second turn) fault old
 
 abbrev pub BeginsExchange : Coding → Call → Turn → Stage → SessionValue → SessionValue → Step → Type 0

@@ -18,12 +18,13 @@ use Rattle.ftp_calls.specs.declared.exchange.Turn.TheVariants.{First, Second}
 use Rattle.ftp_calls.specs.declared.exchange.Exchange.{Exchange}
 use Rattle.ftp_session.specs.declared.session.stage.Awaits.{Awaits}
 use Rattle.ftp_session.specs.declared.session.stage.Stage.{Stage}
-use Rattle.ftp_session.specs.declared.session.stage.Stage.TheVariants.{At, Saying, Hearing}
+use Rattle.ftp_session.specs.declared.session.stage.Stage.TheVariants.{At, Saying, Hearing, Arming}
 use Rattle.ftp_session.specs.declared.session.stage.Step.{Step}
 use Rattle.ftp_session.specs.declared.session.stage.Step.TheVariants as step
 use Rattle.ftp_session.specs.Coding.{Coding}
-use Rattle.ftp_calls.specs.Exchanges.{exchange_of, is_read, Kind, Nothing, Replies, Texts, Times, Sizes, Lists, kind_of}
-use Rattle.ftp_session.specs.Dialogue.{expected_of, Tree, Say, awaiting, later, from_turn}
+use Rattle.ftp_calls.specs.declared.exchange.Row.TheVariants.{Arms}
+use Rattle.ftp_calls.specs.Exchanges.{row_of, is_read, Kind, Nothing, Replies, Texts, Times, Sizes, Lists, ending_of, given_by, says_of}
+use Rattle.ftp_session.specs.Dialogue.{expected_of, Tree, Say, Leaf, armed, awaiting, later, from_turn}
 
 -- an exchange was made before
 abbrev pub is_second : Turn → Bool
@@ -39,6 +40,7 @@ abbrev pub remaining : Coding → Call → State → Stage → Tree
 remaining coding call state (At turn) = from_turn coding call turn state
 remaining coding call state (Saying line a) = Say (Ok (due line)) (awaited coding call state a)
 remaining coding call state (Hearing a) = awaited coding call state a
+remaining coding call state (Arming turn offset) = Leaf answer.Unit (armed offset state)
 
 -- something of the dialogue was said or taken
 abbrev pub begun_at : Stage → Bool
@@ -46,6 +48,7 @@ begun_at (At turn) = is_second turn
 begun_at (Saying None a) = true
 begun_at (Saying (Some line) a) = a.begun
 begun_at (Hearing a) = a.begun
+begun_at (Arming turn offset) = is_second turn
 
 -- the nodes that are left
 abbrev pub nodes_from : Turn → ℕ
@@ -56,12 +59,14 @@ abbrev pub nodes_left : Stage → ℕ
 nodes_left (At turn) = nodes_from turn
 nodes_left (Saying line a) = nodes_from a.turn - 1
 nodes_left (Hearing a) = nodes_from a.turn - 2
+nodes_left (Arming turn offset) = nodes_from turn - 1
 
 -- the stages of a call; a plain read says nothing and has one exchange
 abbrev pub StageOf : Call → Stage → Type 0
 StageOf call (At turn) = is_second turn ≡ true → is_read call ≡ false
-StageOf call (Saying line a) = (a.ending ≡ (exchange_of call a.turn).ending) × (is_read call ≡ false)
-StageOf call (Hearing a) = (a.ending ≡ (exchange_of call a.turn).ending) × (a.begun ≡ true → is_read call ≡ false)
+StageOf call (Saying line a) = (ending_of (row_of call a.turn) ≡ Some a.ending) × (is_read call ≡ false)
+StageOf call (Hearing a) = (ending_of (row_of call a.turn) ≡ Some a.ending) × (a.begun ≡ true → is_read call ≡ false)
+StageOf call (Arming turn offset) = (row_of call turn ≡ Arms offset) × (is_second turn ≡ true → is_read call ≡ false)
 
 -- the line of a command, where there is one
 abbrev pub line_of : Coding → Option Command → Result (List ℕ) Cause
@@ -76,6 +81,7 @@ abbrev pub NodeOf : Coding → Turn → Exchange → Stage → Type 0
 NodeOf coding turn exchange (At other) = ⊥
 NodeOf coding turn exchange (Saying line a) = (line_of coding exchange.says ≡ Ok (due line)) × (is_none line ≡ false) × (is_none exchange.says ≡ false) × (a ≡ awaits_of turn exchange)
 NodeOf coding turn exchange (Hearing a) = (exchange.says ≡ None) × (a ≡ awaits_of turn exchange)
+NodeOf coding turn exchange (Arming other offset) = ⊥
 
 abbrev pub FirstNode : Coding → Turn → Exchange → Result Stage FtpError → Type 0
 FirstNode coding turn exchange (Ok stage) = NodeOf coding turn exchange stage
@@ -90,7 +96,7 @@ pub record Begun (coding : Coding) (call : Call) (turn : Turn) (stage : Stage) :
 
 abbrev pub Begins : Coding → Call → Turn → Result Stage FtpError → Type 0
 Begins coding call turn (Ok stage) = Begun coding call turn stage
-Begins coding call turn (Err fault) = IsRefusalOf (line_of coding (exchange_of call turn).says) fault
+Begins coding call turn (Err fault) = IsRefusalOf (line_of coding (says_of (row_of call turn))) fault
 
 -- an answer of a kind, or a fault
 abbrev pub AnswersKind : Kind → Answer → Type 0
@@ -104,7 +110,7 @@ AnswersKind kind (answer.Fault fault) = Unit {0}
 
 -- the kind of an answer is that of some exchange of the call
 abbrev pub MayAnswer : Call → Answer → Type 0
-MayAnswer call answer = (turn : Turn) × AnswersKind (kind_of (exchange_of call turn).ending) answer
+MayAnswer call answer = (turn : Turn) × AnswersKind (given_by (row_of call turn)) answer
 
 abbrev pub StepAnswers : Call → Step → Type 0
 StepAnswers call step.Next = Unit {0}
@@ -117,7 +123,7 @@ PollAnswers call Pending = Unit {0}
 
 -- each exchange of a call gives this
 abbrev pub Gives : Kind → Call → Type 0
-Gives kind call = (kind_of (exchange_of call First).ending ≡ kind) × (kind_of (exchange_of call Second).ending ≡ kind)
+Gives kind call = (given_by (row_of call First) ≡ kind) × (given_by (row_of call Second) ≡ kind)
 
 abbrev pub GivesNothing : Call → Type 0
 GivesNothing call = Gives Nothing call

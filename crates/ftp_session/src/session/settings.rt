@@ -77,7 +77,7 @@ impl<Tr: Network, K: Drop, E: Encoding, B: Drop> Session<Tr, K, E, B> {
         if self.machine.channel.failed() {
             return Err(FtpError::SessionFailed);
         }
-        self.machine.state.settings.restart_offset = offset;
+        let _armed = self.machine.arm(offset);
         Ok(())
     }
 }

@@ -1,7 +1,7 @@
 //! How far a call has come.
 //!
 //! A stage is the node of the call's dialogue that comes next, with what it needs: a line that wasn't begun, the
-//! statuses that a reply may have. It also keeps whether something of the dialogue was said or heard, on which depends
+//! statuses that a reply may have, a setting that changes. It also keeps whether something of the dialogue was said or heard, on which depends
 //! what a failed allocation leaves.
 
 ghost use Rattle.std.specs.Prelude.{◌≡◌, Ok, IfOk, IfErr, true, false};
@@ -9,14 +9,14 @@ ghost use Rattle.ftp_base.specs.Command.{text_of};
 ghost use Rattle.ftp_base.specs.Wire.{wire};
 ghost use Rattle.ftp_control.specs.Refusal.{IsRefusalOf};
 ghost use Rattle.ftp_session.specs.Coding.{coding_of};
-ghost use Rattle.ftp_calls.specs.Exchanges.{exchange_of, is_read};
+ghost use Rattle.ftp_calls.specs.Exchanges.{is_read, row_of};
 ghost use Rattle.ftp_session.specs.Steps.Stages.{Begins, FirstNode, is_second};
 
 use super::{Answer, Call};
 use ftp_base::command::Command;
 use ftp_base::encoding::Encoding;
 use ftp_base::types::FtpResult;
-use ftp_calls::exchange::{Codes, Ending, Exchange, Turn, row_of};
+use ftp_calls::exchange::{Codes, Ending, Exchange, Row, Turn, row_at};
 use ftp_control::control::WireLine;
 use std::alloc::Global;
 
@@ -29,6 +29,8 @@ pub(crate) enum Stage {
     Saying(Option<WireLine>, Awaits),
     /// Its reply is read.
     Hearing(Awaits),
+    /// Nothing is said or heard: the next transfer begins at this offset, in bytes.
+    Arming(Turn, u64),
 }
 
 /// The reply that is awaited.
@@ -55,7 +57,7 @@ pub(crate) enum Step {
     Done(Answer),
 }
 
-/// The first node of an exchange: its line, or its reply.
+/// The first node of a row: its line, its reply, or a change of settings.
 ///
 /// # Errors
 /// The command has no wire line, or `OutOfMemory`.
@@ -68,8 +70,10 @@ pub(super) fn begin<E: Encoding>(
     requires { is_second turn ≡ true → is_read call.now ≡ false }
     ensures { Begins (coding_of E.decoded E.encoded encoding.now) call.now turn result }
 {
-    let exchange = row_of(call, turn)?;
-    first_node(alloc, encoding, turn, exchange)
+    match row_at(call, turn)? {
+        Row::Exchanges(exchange) => first_node(alloc, encoding, turn, exchange),
+        Row::Arms(offset) => Ok(Stage::Arming(turn, offset)),
+    }
 }
 
 /// The first node of an exchange.

@@ -7,7 +7,7 @@ ghost use Rattle.std.specs.Prelude.{◌≡◌, ◌<◌, true, false};
 ghost use Rattle.futures.specs.declared.task.Poll.TheVariants as poll;
 ghost use Rattle.ftp_control.specs.Told.{EndsAsTold};
 ghost use Rattle.ftp_session.specs.Coding.{Coding, coding_of};
-ghost use Rattle.ftp_session.specs.Dialogue.{Tree};
+ghost use Rattle.ftp_session.specs.Dialogue.{Tree, armed};
 ghost use Rattle.ftp_calls.specs.Exchanges.{is_read};
 ghost use Rattle.ftp_session.specs.Link.{Link, link};
 ghost use Rattle.ftp_session.specs.Promises.{Rests};
@@ -64,7 +64,17 @@ impl<Tr: Network> Machine<Tr> {
             Stage::At(turn) => self.begin_exchange(alloc, encoding, call, turn, stage),
             Stage::Saying(line, awaits) => self.say_line(line, awaits, stage, w),
             Stage::Hearing(awaits) => self.hear_reply(alloc, encoding, awaits, stage, w),
+            Stage::Arming(_turn, offset) => self.arm(offset),
         }
+    }
+
+    /// The next transfer begins at this offset.
+    pub(super) fn arm(&mut self, offset: u64) -> Step
+        ensures done { result ≡ Step.Done Answer.Unit }
+        ensures armed { self.new ≡ record self.old { state = armed offset self.old.state } }
+    {
+        self.state.settings.restart_offset = offset;
+        Step::Done(Answer::Unit)
     }
 
     /// An exchange begins.

@@ -92,6 +92,7 @@ fn make<R: Wait + AllocGlobal>(rt: &R, client: &Client, call: &Call) -> Result<A
         Call::Mdtm(path) => time(client.mdtm(rt, path.as_str())),
         Call::Size(path) => size(client.size(rt, path.as_str())),
         Call::Feat => features(client.feat(rt)),
+        Call::ResumeTransfer(offset) => unit(client.resume_transfer(rt, *offset)),
         Call::CustomCommand(line, codes) => {
             reply(client.custom_command(rt, line.as_str(), codes.as_slice()))
         }

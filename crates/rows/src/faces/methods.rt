@@ -117,6 +117,7 @@ fn make(alloc: Global, session: &mut NamedSession, call: &Call) -> Result<Answer
         Call::Mdtm(path) => time(session.mdtm(alloc, path.as_str())),
         Call::Size(path) => size(session.size(alloc, path.as_str())),
         Call::Feat => features(session.feat(alloc)),
+        Call::ResumeTransfer(offset) => unit(session.resume_transfer(*offset)),
         Call::CustomCommand(line, codes) => {
             reply(session.custom_command(alloc, line.as_str(), codes.as_slice()))
         }

@@ -1,9 +1,13 @@
-use Rattle.std.proofs.Common.{ap, ◌∙◌}
-use Rattle.ftp_calls.specs.Exchanges.{exchange_of}
-use Rattle.ftp_calls.proofs.Copies.{same_call}
 use Rattle.ftp_calls.proofs.exchange.row_of.Goals as goal
 
-pub returns : goal.returns
-returns c =
-    let h = c.in_ok-clone.ensures in
-    c.exchange_of.ensures ∙ ap (λ call. exchange_of call c.args.turn) (same_call c.args.call.now c.in_ok-clone.field-0 h.cases)
+pub returns-in-TransferType : goal.returns-in-TransferType
+returns-in-TransferType c = rw c.in-TransferType.is (c.transfer_type.ensures c.args.turn)
+
+pub returns-in-Quit : goal.returns-in-Quit
+returns-in-Quit c = rw c.in-Quit.is c.says-in-Quit.ensures
+
+pub returns-in-Greet : goal.returns-in-Greet
+returns-in-Greet c = rw c.in-Greet.is c.hears.ensures
+
+pub returns-in-Mkdir : goal.returns-in-Mkdir
+returns-in-Mkdir c = rw c.in-Mkdir.is c.says-in-Mkdir.ensures

@@ -1,11 +1,10 @@
-use Rattle.std.proofs.Common.{◌≡◌, Result, Ok, Err, IfOk, sym, refl}
+use Rattle.std.proofs.Common.{◌≡◌, Result, Ok, Err, IfOk}
 use Rattle.std.specs.declared.alloc.AllocError.{AllocError}
 use Rattle.ftp_control.specs.declared.transport.room.Room.{Room}
 use Rattle.ftp_session.specs.declared.session.state.State.{State}
 use Rattle.ftp_session.specs.declared.model.Played.{Played}
 use Rattle.ftp_session.specs.Coding.{coding_of}
 use Rattle.ftp_session.specs.Dialogue.{Tree, awaiting, expected_of, exchanging}
-use Rattle.ftp_calls.specs.Exchanges.{exchange_of}
 use Rattle.ftp_session.specs.Play.{play}
 use Rattle.session_plain.specs.declared.exchange.Progress.{Progress}
 use Rattle.session_plain.specs.Progress.{ComesTo}
@@ -19,20 +18,18 @@ follows room whole part same (Err fault) comes = tt
 -- the dialogue stops before its reply is heard
 pub returns-in-Stops : goal.returns-in-Stops
 returns-in-Stops g c =
-    let exchange = c.exchange_of-exchange.result in
-    let row : exchange ≡ exchange_of c.args.call.now c.args.turn = simp (c.exchange_of-exchange.ensures, c.in_ok-copy_of.ensures) refl in
+    let exchange = c.args.exchange in
     let coding = coding_of g.E.Encoding.decoded g.E.Encoding.encoded c.args.encoding.now in
-    λ later. rw (sym row) (rw c.in-Stops.is at (c.in_ok-played.ensures (λ s. awaiting coding (expected_of exchange.hears) exchange.ending s later)))
+    λ later. rw c.in-Stops.is at (c.in_ok-played.ensures (λ s. awaiting coding (expected_of exchange.hears) exchange.ending s later))
 
 -- its reply is heard
 pub returns-in-Continues : goal.returns-in-Continues
 returns-in-Continues g c =
-    let exchange = c.exchange_of-exchange.result in
-    let row : exchange ≡ exchange_of c.args.call.now c.args.turn = simp (c.exchange_of-exchange.ensures, c.in_ok-copy_of.ensures) refl in
+    let exchange = c.args.exchange in
     let coding = coding_of g.E.Encoding.decoded g.E.Encoding.encoded c.args.encoding.now in
     let s = c.args.standing in
     let here = c.in-Continues.here in
     let whole = λ (later : State → Tree). play c.args.room (exchanging coding exchange s.state later) s in
     let part = λ (r : Room) (later : State → Tree). play r (awaiting coding (expected_of exchange.hears) exchange.ending here.state later) here in
     let same = λ (later : State → Tree). rw c.in-Continues.is at (c.in_ok-played.ensures (λ state. awaiting coding (expected_of exchange.hears) exchange.ending state later)) in
-    rw (sym row) (follows c.args.room whole part same c.hear.result c.hear.ensures)
+    follows c.args.room whole part same c.hear.result c.hear.ensures

@@ -3,7 +3,9 @@ use Rattle.ftp_session.specs.Link.{link}
 use Rattle.ftp_session.specs.Dialogue.{from_turn}
 use Rattle.ftp_session.specs.Steps.Stages.{remaining}
 use Rattle.ftp_session.specs.declared.session.stage.Stage.TheVariants.{Saying}
-use Rattle.ftp_session.proofs.Transitions.{exchange_begins, exchange_is_quiet, exchange_tracks}
+use Rattle.std.proofs.Common.{ap, inl}
+use Rattle.ftp_calls.specs.Exchanges.{given_by}
+use Rattle.ftp_session.proofs.Transitions.{arms, exchange_begins, exchange_is_quiet, exchange_tracks}
 use Rattle.ftp_session.proofs.session.machine.Machine.step.Goals as goal
 
 pub returns-in-At-clause-steps : goal.returns-in-At-clause-steps
@@ -43,3 +45,13 @@ pub returns-in-Hearing-clause-begun : goal.returns-in-Hearing-clause-begun
 returns-in-Hearing-clause-begun g c =
     let is = c.in-Hearing.ensures.value in
     rw (← is) (c.hear_reply.ensures.begun c.args.call.now)
+
+pub returns-in-Arming-clause-answers : goal.returns-in-Arming-clause-answers
+returns-in-Arming-clause-answers g c =
+    let stage_of = rw (← c.in-Arming.ensures.value) at c.requires.stage in
+    rw c.arm.ensures.done (c.in-Arming._turn, ap given_by stage_of.0)
+
+pub returns-in-Arming-clause-steps : goal.returns-in-Arming-clause-steps
+returns-in-Arming-clause-steps g c =
+    let is = c.in-Arming.ensures.value in
+    rw (← is, c.arm.ensures.done) (inl (arms _ c.in-Arming.offset c.args.self.now c.arm.new.self c.requires.going c.arm.ensures.armed))
