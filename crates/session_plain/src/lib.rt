@@ -1,5 +1,5 @@
 //! Calls, runs and polled runs computed as they are defined, slowly, over all bytes at once. The tests compare a
-//! session with them. What each call says and hears is read from the session's own table, `exchange_of`.
+//! session with them. What each call says and hears is read from the session's own table, `row_of`.
 #![tactic(auto)]
 
 mod connecting;
