@@ -5,7 +5,7 @@
 
 ghost use Rattle.std.specs.Prelude.{◌≡◌, ◌↔◌, IsTrue};
 ghost use Rattle.ftp_base.specs.declared.types.mode.ActivePeerCheck.TheVariants as peers;
-ghost use Rattle.ftp_base.specs.Peer.{as_written, canonical, IsAllowed};
+ghost use Rattle.ftp_base.specs.Peer.{as_written, canonical, IsAllowed, allows, is_same_address};
 
 use super::Items;
 use std::net::IpAddr;
@@ -45,7 +45,8 @@ impl ActivePeerCheck {
     /// Addresses are compared as canonical ones: an IPv4-mapped IPv6 address is its IPv4 address.
     /// Allocates nothing.
     pub fn allows(&self, peer: IpAddr, control_peer: IpAddr) -> bool
-        ensures { IsTrue result ↔ IsAllowed self.now peer control_peer }
+        ensures allowed { IsTrue result ↔ IsAllowed self.now peer control_peer }
+        ensures value { result ≡ allows self.now peer control_peer }
     {
         match self {
             ActivePeerCheck::ControlPeer => is_same_address(peer, control_peer),
@@ -60,7 +61,7 @@ impl ActivePeerCheck {
 
 /// Whether two addresses are canonically the same.
 fn is_same_address(one: IpAddr, other: IpAddr) -> bool
-    ensures { IsTrue result ↔ (canonical one ≡ canonical other) }
+    ensures { result ≡ is_same_address one other }
 {
     match (canonical_of(one), canonical_of(other)) {
         (IpAddr::V4(one), IpAddr::V4(other)) => one.octets() == other.octets(),
