@@ -9,6 +9,7 @@
 
 mod broken;
 mod channel;
+mod ends;
 mod expected_replies;
 mod expected_statuses;
 mod feeding;

@@ -10,6 +10,7 @@ mod connection;
 mod memory;
 mod memory_transport;
 mod network;
+mod polled_memory;
 mod request;
 mod room;
 mod socket;
