@@ -8,6 +8,7 @@ use ftp_control::transport::MemoryConn;
 use futures::task::Poll;
 use row_text::shown;
 use std::alloc::{AllocError, Global};
+use std::net::SocketAddr;
 use std::test::Fail;
 
 /// Whether a read is polled or blocks, the bytes that come before it, and what is due: the answer, how many bytes were
@@ -103,6 +104,17 @@ fn lines_are_read_one_by_one(rt: HostRuntime) -> Result<(), Fail> {
         let text = read_line(alloc, &mut channel, polled)?;
         assert_eq!(rt; text.as_str(), due);
     }
+    Ok(())
+}
+
+#[test]
+fn a_channel_has_the_ends_of_its_connection(rt: HostRuntime) -> Result<(), Fail> {
+    let local = SocketAddr::from(([192, 0, 2, 1], 50_000));
+    let peer = SocketAddr::from(([192, 0, 2, 7], 21));
+    let conn = MemoryConn::between(rt.alloc(), local, peer);
+    let mut channel = ControlChannel::new(rt.alloc(), conn);
+    assert_eq!(rt; channel.local_addr(), Ok(local));
+    assert_eq!(rt; channel.peer_addr(), Ok(peer));
     Ok(())
 }
 

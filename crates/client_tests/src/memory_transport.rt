@@ -123,6 +123,24 @@ fn a_transport_that_blocks_can_be_polled(rt: HostRuntime) -> Result<(), Fail> {
 }
 
 #[test]
+fn a_poll_over_memory_is_the_call_that_blocks(rt: HostRuntime) -> Result<(), Fail> {
+    let peer = Supply::Peer(address(7, 20), MemoryConn::new(rt.alloc()));
+    let mut transport = supplied(rt.alloc(), peer)?;
+    transport.supply(Supply::Connects(conn_with(rt.alloc(), b"abc")?))?;
+    transport.supply(Supply::Connects(conn_with(rt.alloc(), b"de")?))?;
+    let from = polled_peer(&mut transport, &rt, &mut ());
+    assert_eq!(rt; from, Some(address(7, 20)));
+    for (limit, due) in [(None, 3), (Some(limit()), 2)] {
+        let made = transport.poll_connect(&rt, &mut (), address(1, 21), limit);
+        let Poll::Ready(Ok(Ok(conn))) = made else {
+            return Err(Fail::new(format_args!("nothing connected")));
+        };
+        assert_eq!(rt; conn.unread(), due);
+    }
+    Ok(())
+}
+
+#[test]
 fn a_listener_gets_the_port_that_was_set(rt: HostRuntime) -> Result<(), Fail> {
     let mut transport = MemoryTransport::new(rt.alloc());
     let (_listener, bound) = transport.listen(&rt, address(1, 0))??;
