@@ -5,7 +5,6 @@ use Rattle.std.specs.List.{list_all}
 use Rattle.std.specs.Option.{option_map, option_and_then}
 use Rattle.std.specs.Char.{IsAsciiDigit, is_ascii_digit}
 use Rattle.std.proofs.lemmas.Bool.{cases_Bool, cases_lt, and_right, and_cases, not-true, eq-eqb, eqb-true, le-leb, ltb-false}
-use Rattle.std.proofs.lemmas.Bool.Decides.{nat_tests}
 use Rattle.std.proofs.lemmas.List.{length-take-le, length-drop, get_or-take, get_or-drop, get_or_past, drop-drop, drop-take, take-take}
 use Rattle.ftp_base.specs.declared.command.scan.Span.{Span}
 use Rattle.ftp_base.specs.Scan.{AreDigits, IsTimestamp, StandsFirst, StandsNowhere, between, is_word_byte, digits_value, number_up_to}

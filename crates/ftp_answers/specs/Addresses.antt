@@ -11,12 +11,25 @@ use Rattle.ftp_answers.specs.Times.{places}
 use Rattle.ftp_answers.specs.declared.addresses.NoAddress.{NoAddress}
 use Rattle.ftp_answers.specs.declared.addresses.NoAddress.TheVariants.{Absent, Unreadable}
 
+-- the bytes "(" and ")", "," and "|"
+abbrev pub opening_bracket : ℕ
+opening_bracket = 40
+
+abbrev pub closing_bracket : ℕ
+closing_bracket = 41
+
+abbrev pub comma : ℕ
+comma = 44
+
+abbrev pub bar : ℕ
+bar = 124
+
 abbrev pub is_closing : ℕ → Bool
-is_closing byte = byte == 41
+is_closing byte = byte == closing_bracket
 
 -- whether "(" stands at a place, and ")" after it
 abbrev pub has_brackets : List ℕ → ℕ → Bool
-has_brackets text place = (slice_index text place == 40) && list_any is_closing (drop (place + 1) text)
+has_brackets text place = (slice_index text place == opening_bracket) && list_any is_closing (drop (place + 1) text)
 
 -- what stands in the brackets at a place, up to the first ")", cut at each delimiter
 abbrev pub pieces : ℕ → List ℕ → ℕ → List (List ℕ)
@@ -30,7 +43,7 @@ is_number piece = nat_lt 0 (length piece) && list_all is_ascii_digit piece
 -- whether "(d,d,d,d,d,d)" stands at a place: six numbers between commas
 abbrev pub has_passive : List ℕ → ℕ → Bool
 has_passive text place =
-    has_brackets text place && (length (pieces 44 text place) == 6) && list_all is_number (pieces 44 text place)
+    has_brackets text place && (length (pieces comma text place) == 6) && list_all is_number (pieces comma text place)
 
 -- three empty pieces, a number and an empty piece
 abbrev pub are_extended : List (List ℕ) → Bool
@@ -39,17 +52,17 @@ are_extended others = false
 
 -- whether "(|||d|)" stands at a place: the pieces between its bars are these
 abbrev pub has_extended : List ℕ → ℕ → Bool
-has_extended text place = has_brackets text place && are_extended (pieces 124 text place)
+has_extended text place = has_brackets text place && are_extended (pieces bar text place)
 
 -- the six numbers at the first place where they stand so
 abbrev pub passive_numbers : List ℕ → Option (List ℕ)
 passive_numbers text =
-    option_map (λ place. map (digits_value 0) (pieces 44 text place)) (find (has_passive text) (places (length text)))
+    option_map (λ place. map (digits_value 0) (pieces comma text place)) (find (has_passive text) (places (length text)))
 
 -- the number at the first place where it stands so
 abbrev pub extended_number : List ℕ → Option ℕ
 extended_number text =
-    option_map (λ place. digits_value 0 (slice_index_or (pieces 124 text place) 3 []))
+    option_map (λ place. digits_value 0 (slice_index_or (pieces bar text place) 3 []))
     (find (has_extended text) (places (length text)))
 
 -- the IPv4 address of four octets, with a port

@@ -8,9 +8,13 @@ use Rattle.std.specs.declared.net.socket_addr.SocketAddr.TheVariants.{V4, V6}
 use Rattle.ftp_base.specs.declared.command.Command.{Command}
 use Rattle.ftp_base.specs.declared.command.Command.TheVariants.{Eprt, Port}
 
+-- the byte ","
+abbrev pub comma : ℕ
+comma = 44
+
 -- the octets of an address and the two of a port, the high one first: decimal numbers with commas between them
 abbrev pub host_port : List ℕ → ℕ → List ℕ
-host_port octets port = join_with_byte 44 (map decimal (octets ++ port / 256 ∷ port % 256 ∷ []))
+host_port octets port = join_with_byte comma (map decimal (octets ++ port / 256 ∷ port % 256 ∷ []))
 
 -- the command for a listener at an address
 abbrev pub port_command : SocketAddr → Command
