@@ -2,7 +2,7 @@
 
 use crate::words::answered;
 use ftp_base::ascii::copy_crlf;
-use row_text::{RowError, bytes_of, refusal, value};
+use row_text::{RowError, bytes_of, value};
 use std::alloc::Global;
 use std::io;
 use std::io::{ErrorKind, Read, Write};
@@ -44,7 +44,7 @@ fn end_of(word: &str) -> Result<Option<ErrorKind>, RowError> {
 fn copy(alloc: Global, mut source: Source<'_>, mut writer: Writer) -> Result<Vec<u8>, RowError> {
     let answer = match copy_crlf(alloc, &mut source, &mut writer) {
         Ok(count) => format!(in alloc; "{count}")?,
-        Err(fault) => format!(in alloc; "E{} {fault}", refusal(&fault))?,
+        Err(fault) => format!(in alloc; "E{} {fault}", fault.number())?,
     };
     answered(answer, &writer.written)
 }

@@ -4,7 +4,7 @@ use crate::words::said;
 use ftp_base::encoding::EncodeError;
 use ftp_base::status::Status;
 use ftp_base::types::{BodyError, ConnectionError, FtpError, ReplyTooLarge, Response, Text};
-use row_text::{RowError, refusal};
+use row_text::RowError;
 use std::alloc::Global;
 use std::fmt;
 use std::io::ErrorKind;
@@ -32,7 +32,7 @@ fn displayed<T: fmt::Display>(alloc: Global, value: &T) -> Result<Vec<u8>, RowEr
 
 /// The number of a fault and its text.
 fn numbered(alloc: Global, fault: FtpError) -> Result<Vec<u8>, RowError> {
-    let number = refusal(&fault);
+    let number = fault.number();
     let text = format!(in alloc; "E{number} {fault}")?;
     said(alloc, &text)
 }

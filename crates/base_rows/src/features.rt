@@ -3,7 +3,7 @@
 use crate::words::said;
 use ftp_base::command::feat::{is_last_line, parse_features};
 use ftp_base::types::Features;
-use row_text::{RowError, refusal, text_of};
+use row_text::{RowError, text_of};
 use std::alloc::Global;
 
 /// The features that a reply lists, sorted by name and joined by `;`, or the number of the refusal.
@@ -15,7 +15,7 @@ pub fn features(alloc: Global, input: &str) -> Result<Vec<u8>, RowError> {
     }
     match parse_features(alloc, &lines) {
         Ok(features) => listed(alloc, &features),
-        Err(fault) => Ok(format!(in alloc; "E{}", refusal(&fault))?.into_bytes()),
+        Err(fault) => Ok(format!(in alloc; "E{}", fault.number())?.into_bytes()),
     }
 }
 

@@ -3,7 +3,7 @@
 use crate::plain;
 use crate::words::{answered, said};
 use ftp_base::ascii::{CrlfEncoder, copy_crlf, upload_size};
-use row_text::{RowError, bytes_of, pair, refusal, value};
+use row_text::{RowError, bytes_of, pair, value};
 use std::alloc::{AllocError, Global};
 
 /// Up to which length a text is cut at each of its places.
@@ -65,7 +65,7 @@ pub fn size(alloc: Global, input: &str) -> Result<Vec<u8>, RowError> {
     let (written, added) = pair(input, " ")?;
     let shown = match upload_size(value(written)?, value(added)?) {
         Ok(size) => format!(in alloc; "{size}")?,
-        Err(fault) => format!(in alloc; "E{}", refusal(&fault))?,
+        Err(fault) => format!(in alloc; "E{}", fault.number())?,
     };
     Ok(shown.into_bytes())
 }

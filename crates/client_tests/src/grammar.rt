@@ -7,7 +7,6 @@ use ftp_control::control::{ControlChannel, Outcome, ReplyForm, ReplyRule};
 use ftp_control::plain;
 use ftp_control::transport::NeverWaits;
 use futures::task::Poll;
-use row_text::refusal;
 use std::alloc::Global;
 use std::test::Fail;
 
@@ -54,7 +53,7 @@ fn said(alloc: Global, answer: Poll<FtpResult<Response>>) -> Heard {
         Poll::Ready(Err(FtpError::UnexpectedResponse(reply))) => {
             ("whole", reply.status.code(), reply.body)
         }
-        Poll::Ready(Err(fault)) => (word(refusal(&fault)), 0, Bytes::new(alloc)),
+        Poll::Ready(Err(fault)) => (word(fault.number()), 0, Bytes::new(alloc)),
         Poll::Pending => ("waits", 0, Bytes::new(alloc)),
     }
 }

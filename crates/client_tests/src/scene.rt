@@ -4,7 +4,7 @@ use ftp_base::types::{FtpError, FtpResult, Response};
 use ftp_control::transport::{Asked, MemoryConn, MemoryTransport, Request, RequestOutcome};
 use ftp_session::session::Session;
 use futures::task::Poll;
-use row_text::{refusal, shown};
+use row_text::shown;
 use std::alloc::{AllocError, Global};
 use std::io::Write;
 
@@ -24,7 +24,7 @@ pub fn greeted(alloc: Global, input: &[u8]) -> FtpResult<Session<MemoryTransport
 pub fn number<T: Drop>(answer: &FtpResult<T>) -> u8 {
     match answer {
         Ok(_) => 0,
-        Err(fault) => refusal(fault),
+        Err(fault) => fault.number(),
     }
 }
 
@@ -46,7 +46,7 @@ fn reply_text(alloc: Global, answer: &FtpResult<Response>) -> Result<String, All
 
 /// The number of a fault, with the code and the bytes of an unexpected reply.
 pub fn fault_text(alloc: Global, fault: &FtpError) -> Result<String, AllocError> {
-    let number = refusal(fault);
+    let number = fault.number();
     match fault {
         FtpError::UnexpectedResponse(reply) => {
             let reply = code_and_bytes(alloc, reply)?;

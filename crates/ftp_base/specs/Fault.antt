@@ -1,7 +1,9 @@
--- Faults, their kinds and their texts.
+-- Faults, their kinds, their texts and their numbers.
 use Rattle.std.specs.Prelude.{ℕ, List, Option, Some, None, codes}
 use Rattle.std.specs.declared.io.ErrorKind.{ErrorKind}
 use Rattle.std.specs.declared.io.ErrorKind.TheVariants as kind
+use Rattle.ftp_base.specs.declared.types.fault.FtpError.{FtpError}
+use Rattle.ftp_base.specs.declared.types.fault.FtpError.TheVariants.{ConnectionError as OfConnection, SecureError, UnexpectedResponse, BadResponse, DataConnectionAlreadyOpen, OutOfMemory, SessionFailed, InvalidAddress}
 use Rattle.ftp_base.specs.declared.types.fault.ConnectionError.{ConnectionError}
 use Rattle.ftp_base.specs.declared.types.fault.ConnectionError.TheVariants.{Io, UnexpectedEof, ReplyTooLarge, LineBreak, EncodedWithoutCrlf, EncodedLineBreak, Encoding, TimedOut, NoAddress, SourceTooLarge, NotOwed}
 
@@ -32,3 +34,28 @@ connection_text TimedOut = Some (codes "timed out")
 connection_text NoAddress = Some (codes "no address to connect to")
 connection_text SourceTooLarge = Some (codes "the source is too large")
 connection_text NotOwed = Some (codes "the transfer is not of this session")
+
+-- the number of a connection's fault
+abbrev pub connection_number : ConnectionError → ℕ
+connection_number (Io kind) = 1
+connection_number UnexpectedEof = 2
+connection_number ReplyTooLarge = 3
+connection_number LineBreak = 4
+connection_number EncodedWithoutCrlf = 5
+connection_number EncodedLineBreak = 6
+connection_number (Encoding kind) = 7
+connection_number TimedOut = 8
+connection_number NoAddress = 16
+connection_number SourceTooLarge = 17
+connection_number NotOwed = 18
+
+-- the number of a fault
+abbrev pub number_of : FtpError → ℕ
+number_of (OfConnection cause) = connection_number cause
+number_of (SecureError cause) = 9
+number_of (UnexpectedResponse reply) = 10
+number_of BadResponse = 11
+number_of DataConnectionAlreadyOpen = 12
+number_of OutOfMemory = 13
+number_of SessionFailed = 14
+number_of InvalidAddress = 15

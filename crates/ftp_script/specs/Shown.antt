@@ -2,12 +2,11 @@
 use Rattle.std.specs.Prelude.{ℕ, ◌+◌, ◌/◌, ◌%◌, ◌==◌, ◌&&◌, nat_le, nat_lt, List, [], ◌∷◌, ◌++◌, Option, Some, None, codes, if◌then◌else◌}
 use Rattle.std.specs.List.{flat_map, onto_first}
 use Rattle.std.specs.Fmt.{decimal}
+use Rattle.ftp_base.specs.Fault.{number_of}
 use Rattle.ftp_base.specs.Status.{code_of}
 use Rattle.ftp_base.specs.Features.{Entries, Feature}
 use Rattle.ftp_base.specs.declared.types.fault.FtpError.{FtpError}
 use Rattle.ftp_base.specs.declared.types.fault.FtpError.TheVariants.{ConnectionError as OfConnection, SecureError, UnexpectedResponse, BadResponse, DataConnectionAlreadyOpen, OutOfMemory, SessionFailed, InvalidAddress}
-use Rattle.ftp_base.specs.declared.types.fault.ConnectionError.{ConnectionError}
-use Rattle.ftp_base.specs.declared.types.fault.ConnectionError.TheVariants.{Io, UnexpectedEof, ReplyTooLarge, LineBreak, EncodedWithoutCrlf, EncodedLineBreak, Encoding, TimedOut, NoAddress, SourceTooLarge, NotOwed}
 use Rattle.ftp_calls.specs.declared.call.Answer.{Answer}
 use Rattle.ftp_calls.specs.declared.call.Answer.TheVariants.{Unit as Done, Reply, Text, Time, Size, Features, Fault}
 
@@ -33,31 +32,6 @@ abbrev pub sent_lines : List ℕ → List (List ℕ)
 sent_lines [] = []
 sent_lines (byte ∷ bytes) =
     if byte == 10 then (byte ∷ []) ∷ sent_lines bytes else onto_first byte (sent_lines bytes)
-
--- the number of a connection's fault
-abbrev pub connection_number : ConnectionError → ℕ
-connection_number (Io kind) = 1
-connection_number UnexpectedEof = 2
-connection_number ReplyTooLarge = 3
-connection_number LineBreak = 4
-connection_number EncodedWithoutCrlf = 5
-connection_number EncodedLineBreak = 6
-connection_number (Encoding kind) = 7
-connection_number TimedOut = 8
-connection_number NoAddress = 16
-connection_number SourceTooLarge = 17
-connection_number NotOwed = 18
-
--- the number of a fault
-abbrev pub number_of : FtpError → ℕ
-number_of (OfConnection cause) = connection_number cause
-number_of (SecureError cause) = 9
-number_of (UnexpectedResponse reply) = 10
-number_of BadResponse = 11
-number_of DataConnectionAlreadyOpen = 12
-number_of OutOfMemory = 13
-number_of SessionFailed = 14
-number_of InvalidAddress = 15
 
 -- what stands after a fault's number: the code of the status of an unexpected reply
 abbrev pub after_number : FtpError → List ℕ

@@ -5,9 +5,9 @@ ghost use Rattle.std.specs.List.{flat_map};
 ghost use Rattle.std.specs.Fmt.{decimal};
 ghost use Rattle.std.specs.Option.{option_map};
 ghost use Rattle.ftp_base.specs.Features.{shown as entries};
-ghost use Rattle.ftp_script.specs.Shown.{after_number, answer_text, call_text, connection_number, end_text, feature_text, features_text, later_text, hex_digit, number_of, sent_lines, sent_text, shown, shown_byte};
+ghost use Rattle.ftp_script.specs.Shown.{after_number, answer_text, call_text, end_text, feature_text, features_text, later_text, hex_digit, sent_lines, sent_text, shown, shown_byte};
 
-use ftp_base::types::{ConnectionError, Features, FtpError};
+use ftp_base::types::{Features, FtpError};
 use ftp_calls::call::Answer;
 use memchr::memchr;
 use std::alloc::{AllocError, Global};
@@ -94,7 +94,7 @@ fn push_answer(alloc: Global, text: &mut Vec<u8>, answer: &Answer) -> Result<(),
         }
         Answer::Fault(fault) => {
             text.extend_from_slice(b"E")?;
-            push_number(alloc, text, number_of(fault))?;
+            push_number(alloc, text, u64::from(fault.number()))?;
             push_status(alloc, text, fault)
         }
     }
@@ -205,40 +205,5 @@ fn hex_digit(value: u8) -> u8
         b'0' + value
     } else {
         b'a' - 10 + value
-    }
-}
-
-/// The number of a fault.
-fn number_of(fault: &FtpError) -> u64
-    ensures { result ≡ number_of fault.now }
-{
-    match fault {
-        FtpError::ConnectionError(cause) => connection_number(cause),
-        FtpError::SecureError(_) => 9,
-        FtpError::UnexpectedResponse(_) => 10,
-        FtpError::BadResponse => 11,
-        FtpError::DataConnectionAlreadyOpen => 12,
-        FtpError::OutOfMemory => 13,
-        FtpError::SessionFailed => 14,
-        FtpError::InvalidAddress => 15,
-    }
-}
-
-/// The number of a connection's fault.
-fn connection_number(cause: &ConnectionError) -> u64
-    ensures { result ≡ connection_number cause.now }
-{
-    match cause {
-        ConnectionError::Io(_) => 1,
-        ConnectionError::UnexpectedEof => 2,
-        ConnectionError::ReplyTooLarge => 3,
-        ConnectionError::LineBreak => 4,
-        ConnectionError::EncodedWithoutCrlf => 5,
-        ConnectionError::EncodedLineBreak => 6,
-        ConnectionError::Encoding(_) => 7,
-        ConnectionError::TimedOut => 8,
-        ConnectionError::NoAddress => 16,
-        ConnectionError::SourceTooLarge => 17,
-        ConnectionError::NotOwed => 18,
     }
 }

@@ -3,7 +3,7 @@
 use ftp_base::types::{Features, FtpError, FtpResult, Response, Text};
 use ftp_session::session::Answer;
 use jiff::civil::DateTime;
-use row_text::{refusal, shown};
+use row_text::shown;
 use std::alloc::{AllocError, Global};
 
 /// An answer: `ok`, `ok` and what it gives, or the number of the refusal, with the code of an unexpected reply.
@@ -53,7 +53,7 @@ fn features_text(alloc: Global, features: &Features) -> Result<String, AllocErro
 
 /// A refusal.
 fn fault_text(alloc: Global, fault: &FtpError) -> Result<String, AllocError> {
-    let number = refusal(fault);
+    let number = fault.number();
     match fault {
         FtpError::UnexpectedResponse(reply) => {
             let code = reply.status.code();

@@ -7,7 +7,7 @@
 
 ghost use Rattle.std.specs.Prelude.{◌≡◌, Some, codes};
 ghost use Rattle.std.specs.IoError.{error_kind};
-ghost use Rattle.ftp_base.specs.Fault.{connection_text, kind_of};
+ghost use Rattle.ftp_base.specs.Fault.{connection_number, connection_text, kind_of, number_of};
 ghost use Rattle.ftp_base.specs.declared.types.fault.FtpError.TheVariants as fault;
 ghost use Rattle.ftp_base.specs.declared.types.fault.ConnectionError.TheVariants as connection;
 
@@ -48,6 +48,24 @@ pub enum FtpError {
     /// The session failed in an earlier call, or has opened as many transfers as can be counted.
     #[error("The session failed earlier")]
     SessionFailed,
+}
+
+impl FtpError {
+    /// The number of this error in the table of errors (docs/REFUSALS.md), by which transcripts name it.
+    pub fn number(&self) -> u8
+        ensures { result ≡ number_of self.now }
+    {
+        match self {
+            FtpError::ConnectionError(cause) => cause.number(),
+            FtpError::SecureError(_) => 9,
+            FtpError::UnexpectedResponse(_) => 10,
+            FtpError::BadResponse => 11,
+            FtpError::DataConnectionAlreadyOpen => 12,
+            FtpError::OutOfMemory => 13,
+            FtpError::SessionFailed => 14,
+            FtpError::InvalidAddress => 15,
+        }
+    }
 }
 
 /// What went wrong with a connection, or with what goes over it.
@@ -94,6 +112,25 @@ impl ConnectionError {
             ConnectionError::NoAddress => ErrorKind::InvalidInput,
             ConnectionError::SourceTooLarge => ErrorKind::InvalidInput,
             ConnectionError::NotOwed => ErrorKind::InvalidInput,
+        }
+    }
+
+    /// The number of the error that this is the cause of.
+    fn number(&self) -> u8
+        ensures { result ≡ connection_number self.now }
+    {
+        match self {
+            ConnectionError::Io(_) => 1,
+            ConnectionError::UnexpectedEof => 2,
+            ConnectionError::ReplyTooLarge => 3,
+            ConnectionError::LineBreak => 4,
+            ConnectionError::EncodedWithoutCrlf => 5,
+            ConnectionError::EncodedLineBreak => 6,
+            ConnectionError::Encoding(_) => 7,
+            ConnectionError::TimedOut => 8,
+            ConnectionError::NoAddress => 16,
+            ConnectionError::SourceTooLarge => 17,
+            ConnectionError::NotOwed => 18,
         }
     }
 }
