@@ -1,3 +1,1 @@
-pub mod Openings
-pub mod Parts
 pub mod Requests
