@@ -1,6 +1,7 @@
 -- A greeting and a NOOP, from contracts alone.
 use Rattle.std.proofs.Common.{length, ◌≡◌, ◌⊎◌, ℕ, Bool, false, List, [], ◌∷◌, ◌++◌, Ok, inl, inr, refl, ap, sym, ◌∙◌, subst}
 use Rattle.std.specs.declared.io.ErrorKind.{ErrorKind}
+use Rattle.std.specs.declared.net.socket_addr.SocketAddr.{SocketAddr}
 use Rattle.std.specs.declared.io.ErrorKind.TheVariants as kinds
 use Rattle.ftp_base.specs.declared.types.fault.FtpError.{FtpError}
 use Rattle.ftp_base.specs.declared.types.fault.FtpError.TheVariants.{ConnectionError}
@@ -30,10 +31,10 @@ use Rattle.ftp_session.specs.Link.{Link}
 use Rattle.ftp_session.specs.Coding.{Coding}
 use Rattle.ftp_session.specs.Calls.{Begins}
 use Rattle.ftp_session.specs.State.{SessionValue}
-use Rattle.ftp_session.specs.Dialogue.{Tree, Say, Hear, Ask, Leaf, dialogue}
+use Rattle.ftp_session.specs.Dialogue.{Tree, Say, Hear, Look, Ask, Leaf, dialogue}
 use Rattle.ftp_session.specs.Play.{play}
 use Rattle.ftp_session.specs.Run.{run, OneView}
-use Rattle.ftp_session.specs.Promises.{standing, Runs, RunsTo, RunAborts, Fails, LacksMemory, MayFailAt}
+use Rattle.ftp_session.specs.Promises.{begun_by, standing, Runs, RunsTo, RunAborts, Fails, LacksMemory, MayFailAt}
 use Rattle.ftp_session.proofs.Running.{nothing_views}
 use Rattle.from_contracts.specs.Aborted.{MayAbort, WasAborted}
 
@@ -47,16 +48,16 @@ as_it_is decode = record { decode = decode; encode = λ text. Ok text }
 
 -- a blocking connection over memory
 abbrev pub over_memory : Link
-over_memory = record { tells = Unit {0}; reads = λ kind. ⊥; writes = λ told kind. (kind ≡ kinds.OutOfMemory) ⊎ ((kind ≡ kinds.WouldBlock) × IsFull told) }
+over_memory = record { tells = Unit {0}; reads = λ kind. ⊥; writes = λ told kind. (kind ≡ kinds.OutOfMemory) ⊎ ((kind ≡ kinds.WouldBlock) × IsFull told); ends = λ kind. ⊥; asks_wait = ⊥ }
 
 abbrev answers_of : Ran → List Answer
 answers_of (Finished answers s) = answers
 answers_of (Waiting answers wait s) = answers
 
 -- what the definition says of these bytes
-played : (decode : List ℕ → List ℕ) (state : State) (said unsent : List ℕ) (asked : List Request) (outcomes : List RequestOutcome) (ended : Bool) → answers_of (run Any (as_it_is decode) (Greet ∷ Noop ∷ []) (record { state = state; failed = false; rule = Lenient; said = said; unsent = unsent; asked = asked; bytes = server; ended = ended; outcomes = outcomes })) ≡ Done ∷ Done ∷ []
+played : (decode : List ℕ → List ℕ) (state : State) (said unsent : List ℕ) (local peer : SocketAddr) (asked : List Request) (outcomes : List RequestOutcome) (ended : Bool) → answers_of (run Any (as_it_is decode) (Greet ∷ Noop ∷ []) (record { state = state; failed = false; rule = Lenient; said = said; unsent = unsent; local = local; peer = peer; asked = asked; bytes = server; ended = ended; outcomes = outcomes })) ≡ Done ∷ Done ∷ []
 unfolding run play outcome text_of words_of
-played decode state said unsent asked outcomes ended = refl
+played decode state said unsent local peer asked outcomes ended = refl
 
 lenient : (rule : ReplyRule) → rule ≡ Lenient
 lenient Lenient = refl
@@ -92,7 +93,7 @@ module _ (decode : List ℕ → List ℕ) (old new : SessionValue) (answers : Li
       ∙ ap (λ f. B f old.channel.rule bytes) begins.idle.failed
       ∙ ap (λ r. B false r bytes) (lenient old.channel.rule)
       ∙ ap (λ b. B false Lenient b) (all_came runs)
-      ∙ played decode old.state old.channel.told.sent old.channel.unsent _ outcomes new.channel.ended
+      ∙ played decode old.state old.channel.told.sent old.channel.unsent _ _ _ outcomes new.channel.ended
 
   aborted : RunAborts over_memory (as_it_is decode) calls [] old new answers → WasAborted answers
   aborted broke = record {
@@ -118,10 +119,11 @@ module _ (decode : List ℕ → List ℕ) (old new : SessionValue) (answers : Li
       failed_at : {kind : ErrorKind} (place : Tree) → broke.aborts.fault ≡ ConnectionError (Io kind) → MayFailAt over_memory place broke.aborts.at.channel.told kind → MayAbort broke.aborts.fault
       failed_at (Say line next) is may = written is (may tt)
       failed_at (Hear codes next) is may = absurd may
+      failed_at (Look end next) is may = absurd may
       failed_at (Ask request next) is may = absurd may
       failed_at (Leaf answer state) is may = absurd may
 
-      may : Fails over_memory broke.aborts.place broke.aborts.fault broke.aborts.at broke.after ⊎ LacksMemory over_memory false (dialogue (as_it_is decode) broke.call broke.middle.state) broke.aborts.leads.came broke.aborts.fault broke.middle broke.aborts.at broke.after → MayAbort broke.aborts.fault
+      may : Fails over_memory broke.aborts.place broke.aborts.fault broke.aborts.at broke.after ⊎ LacksMemory over_memory false (dialogue (as_it_is decode) broke.call broke.middle.state) broke.aborts.leads.came broke.aborts.fault (begun_by broke.call broke.middle) broke.aborts.at broke.after → MayAbort broke.aborts.fault
       may (inl fails) = failed_at broke.aborts.place fails.is fails.may
       may (inr lacks) = inl lacks.is
 

@@ -22,7 +22,7 @@ pub fn greeting_and_noop(alloc: Global) -> FtpResult<Vec<Answer>>
         MemoryTransport::new(alloc),
         conn,
     )?;
-    let answers = session.run(alloc, &[Call::Greet, Call::Noop])?;
+    let answers = session.run(alloc, &(), &[Call::Greet, Call::Noop])?;
     session.get_ref().unread();
     Ok(answers)
 }

@@ -1,7 +1,7 @@
 -- A clone of a call is the call.
 use Rattle.std.proofs.Common.{◌≡◌, rules}
 use Rattle.ftp_calls.specs.declared.call.Call.{Call}
-use Rattle.ftp_calls.specs.declared.call.Call.TheVariants.{Greet, Login, Cwd, Cdup, Pwd, Noop, Eprt, Opts, Site, TransferType, Mkdir, Rmdir, Rm, Rename, Quit, Mlst, Mdtm, Size, Feat, CustomCommand, ReadResponse, ReadResponseIn, ResumeTransfer}
+use Rattle.ftp_calls.specs.declared.call.Call.TheVariants.{Greet, Login, Cwd, Cdup, Pwd, Noop, Eprt, Opts, Site, TransferType, Mkdir, Rmdir, Rm, Rename, Quit, Mlst, Mdtm, Size, Feat, CustomCommand, ReadResponse, ReadResponseIn, ResumeTransfer, RetrAsStream, PutWithStream, AppendWithStream, CustomDataCommand}
 use Rattle.ftp_calls.specs.contracts.call.CallClone.TheImpl.{by_variants}
 
 pub same_call : (call copy : Call) → by_variants call copy → copy ≡ call
@@ -28,3 +28,7 @@ same_call (CustomCommand line codes) copy is = search rules
 same_call (ReadResponse status) copy is = search rules
 same_call (ReadResponseIn codes) copy is = search rules
 same_call (ResumeTransfer offset) copy is = search rules
+same_call (RetrAsStream path) copy is = search rules
+same_call (PutWithStream path) copy is = search rules
+same_call (AppendWithStream path) copy is = search rules
+same_call (CustomDataCommand line codes) copy is = search rules

@@ -1,23 +1,24 @@
 -- What each call says and hears, one row an exchange: RFC 959, sections 4.1, 5.4 and 6; RFC 2389, sections
--- 3 (FEAT) and 4 (OPTS); RFC 2428, section 2 (EPRT); RFC 3659, sections 3 (MDTM), 4 (SIZE) and 7 (MLST). All that a call
--- does follows from its row.
-use Rattle.std.specs.Prelude.{Bool, true, false, ◌&&◌, List, [], ◌∷◌, Option, Some, None, is_none}
+-- 3 (FEAT) and 4 (OPTS); RFC 2428, sections 2 (EPRT) and 3 (EPSV); RFC 3659, sections 3 (MDTM), 4 (SIZE), 5 (REST) and 7
+-- (MLST). All that a call does follows from its rows.
+use Rattle.std.specs.Prelude.{Bool, true, false, ◌&&◌, nat_lt, ℕ, if◌then◌else◌, List, [], ◌∷◌, Option, Some, None, is_none}
 use Rattle.ftp_base.specs.declared.status.Status.{Status}
-use Rattle.ftp_base.specs.declared.status.Status.TheVariants.{CommandOk, System, File, Ready, Closing, LoggedIn, RequestedFileActionOk, PathCreated, NeedPassword, RequestFilePending}
+use Rattle.ftp_base.specs.declared.status.Status.TheVariants.{AlreadyOpen, AboutToSend, CommandOk, System, File, Ready, Closing, PassiveMode, ExtendedPassiveMode, LoggedIn, RequestedFileActionOk, PathCreated, NeedPassword, RequestFilePending}
 use Rattle.ftp_base.specs.declared.types.file_type.FileType.{FileType}
 use Rattle.ftp_base.specs.declared.types.file_type.FileType.TheVariants.{Ascii, Ebcdic, Image, Binary, Local}
 use Rattle.ftp_base.specs.declared.command.Command.{Command}
 use Rattle.ftp_base.specs.declared.command.Command.TheVariants as command
 use Rattle.ftp_calls.specs.declared.call.Call.{Call}
-use Rattle.ftp_calls.specs.declared.call.Call.TheVariants.{Greet, Login, Cwd, Cdup, Pwd, Noop, Eprt, Opts, Site, TransferType, Mkdir, Rmdir, Rm, Rename, Quit, Mlst, Mdtm, Size, Feat, CustomCommand, ReadResponse, ReadResponseIn, ResumeTransfer}
+use Rattle.ftp_calls.specs.declared.call.Call.TheVariants.{Greet, Login, Cwd, Cdup, Pwd, Noop, Eprt, Opts, Site, TransferType, Mkdir, Rmdir, Rm, Rename, Quit, Mlst, Mdtm, Size, Feat, CustomCommand, ReadResponse, ReadResponseIn, ResumeTransfer, RetrAsStream, PutWithStream, AppendWithStream, CustomDataCommand}
 use Rattle.ftp_calls.specs.declared.exchange.Turn.{Turn}
-use Rattle.ftp_calls.specs.declared.exchange.Turn.TheVariants.{First, Second}
+use Rattle.ftp_calls.specs.declared.exchange.Turn.TheVariants.{First, Second, Passive, ExtendedPassive, Active, Restart}
 use Rattle.ftp_calls.specs.declared.exchange.Codes.{Codes}
 use Rattle.ftp_calls.specs.declared.exchange.Codes.TheVariants.{One, Either, Given, Features}
 use Rattle.ftp_calls.specs.declared.exchange.Ending.{Ending}
-use Rattle.ftp_calls.specs.declared.exchange.Ending.TheVariants.{Done, GivesReply, Greets, GivesPath, GivesSecondLine, GivesTime, GivesSize, GivesFeatures, SetsText, GoesOn}
+use Rattle.ftp_calls.specs.declared.exchange.Ending.TheVariants.{Done, GivesReply, Greets, GivesPath, GivesSecondLine, GivesTime, GivesSize, GivesFeatures, SetsText, GoesOn, Continues, GivesAddress, GivesPort, Opens}
 use Rattle.ftp_calls.specs.declared.exchange.Row.{Row}
 use Rattle.ftp_calls.specs.declared.exchange.Row.TheVariants.{Exchanges, Arms}
+use Rattle.ftp_calls.specs.Active.{port_command}
 
 -- the statuses that a reply may have
 abbrev pub statuses : Codes → List Status
@@ -42,35 +43,49 @@ is_ascii Image = false
 is_ascii Binary = false
 is_ascii (Local bits) = false
 
--- what a call does at this turn: an exchange, or a change of settings
-abbrev pub row_of : Call → Turn → Row
-row_of Greet turn = hears (One Ready) Greets
-row_of (Login user password) First = says (command.User user) (Either LoggedIn NeedPassword) (GoesOn NeedPassword)
-row_of (Login user password) Second = says (command.Pass password) (One LoggedIn) Done
-row_of (Cwd directory) turn = says (command.Cwd directory) (Either CommandOk RequestedFileActionOk) Done
-row_of Cdup turn = says command.Cdup (Either CommandOk RequestedFileActionOk) Done
-row_of Pwd turn = says command.Pwd (One PathCreated) GivesPath
-row_of Noop turn = says command.Noop (One CommandOk) Done
-row_of (Eprt address) turn = says (command.Eprt address) (One CommandOk) Done
-row_of (Opts name value) turn = says (command.Opts name value) (One CommandOk) Done
-row_of (Site words) turn = says (command.Site words) (One CommandOk) GivesReply
-row_of (TransferType kind) turn = says (command.TransferType kind) (One CommandOk) (SetsText (is_ascii kind))
-row_of (Mkdir path) turn = says (command.Mkd path) (Either PathCreated CommandOk) Done
-row_of (Rmdir path) turn = says (command.Rmd path) (Either RequestedFileActionOk CommandOk) Done
-row_of (Rm path) turn = says (command.Dele path) (Either RequestedFileActionOk CommandOk) Done
-row_of (Rename one other) First = says (command.RenameFrom one) (One RequestFilePending) (GoesOn RequestFilePending)
-row_of (Rename one other) Second = says (command.RenameTo other) (Either RequestedFileActionOk CommandOk) Done
-row_of Quit turn = says command.Quit (One Closing) Done
-row_of (Mlst path) turn = says (command.Mlst path) (One RequestedFileActionOk) GivesSecondLine
-row_of (Mdtm path) turn = says (command.Mdtm path) (One File) GivesTime
-row_of (Size path) turn = says (command.Size path) (One File) GivesSize
-row_of Feat turn = says command.Feat Features GivesFeatures
-row_of (CustomCommand line codes) turn = says (command.Custom line) (Given codes) GivesReply
-row_of (ReadResponse status) turn = hears (One status) GivesReply
-row_of (ReadResponseIn codes) turn = hears (Given codes) GivesReply
-row_of (ResumeTransfer offset) turn = Arms offset
+-- what a call does by itself, at its first turn and at its last: an exchange, or a change of settings
+abbrev pub own_row : Call → Bool → Row
+own_row Greet first = hears (One Ready) Greets
+own_row (Login user password) true = says (command.User user) (Either LoggedIn NeedPassword) (GoesOn NeedPassword)
+own_row (Login user password) false = says (command.Pass password) (One LoggedIn) Done
+own_row (Cwd directory) first = says (command.Cwd directory) (Either CommandOk RequestedFileActionOk) Done
+own_row Cdup first = says command.Cdup (Either CommandOk RequestedFileActionOk) Done
+own_row Pwd first = says command.Pwd (One PathCreated) GivesPath
+own_row Noop first = says command.Noop (One CommandOk) Done
+own_row (Eprt address) first = says (command.Eprt address) (One CommandOk) Done
+own_row (Opts name value) first = says (command.Opts name value) (One CommandOk) Done
+own_row (Site words) first = says (command.Site words) (One CommandOk) GivesReply
+own_row (TransferType kind) first = says (command.TransferType kind) (One CommandOk) (SetsText (is_ascii kind))
+own_row (Mkdir path) first = says (command.Mkd path) (Either PathCreated CommandOk) Done
+own_row (Rmdir path) first = says (command.Rmd path) (Either RequestedFileActionOk CommandOk) Done
+own_row (Rm path) first = says (command.Dele path) (Either RequestedFileActionOk CommandOk) Done
+own_row (Rename one other) true = says (command.RenameFrom one) (One RequestFilePending) (GoesOn RequestFilePending)
+own_row (Rename one other) false = says (command.RenameTo other) (Either RequestedFileActionOk CommandOk) Done
+own_row Quit first = says command.Quit (One Closing) Done
+own_row (Mlst path) first = says (command.Mlst path) (One RequestedFileActionOk) GivesSecondLine
+own_row (Mdtm path) first = says (command.Mdtm path) (One File) GivesTime
+own_row (Size path) first = says (command.Size path) (One File) GivesSize
+own_row Feat first = says command.Feat Features GivesFeatures
+own_row (CustomCommand line codes) first = says (command.Custom line) (Given codes) GivesReply
+own_row (ReadResponse status) first = hears (One status) GivesReply
+own_row (ReadResponseIn codes) first = hears (Given codes) GivesReply
+own_row (ResumeTransfer offset) first = Arms offset
+own_row (RetrAsStream path) first = says (command.Retr path) (Either AboutToSend AlreadyOpen) (Opens false)
+own_row (PutWithStream path) first = says (command.Store path) (Either AlreadyOpen AboutToSend) (Opens false)
+own_row (AppendWithStream path) first = says (command.Appe path) (Either AlreadyOpen AboutToSend) (Opens false)
+own_row (CustomDataCommand line codes) first = says (command.Custom line) (Given codes) (Opens true)
 
--- what a call that succeeds gives: nothing, a reply, a text, a time, a number of bytes or features
+-- what a call does at this turn. Before the command that opens a data connection the server is asked where to connect,
+-- or told where the client listens, and told the offset
+abbrev pub row_of : Call → Turn → Row
+row_of call First = own_row call true
+row_of call Second = own_row call false
+row_of call (Passive offset) = says command.Pasv (One PassiveMode) GivesAddress
+row_of call (ExtendedPassive offset) = says command.Epsv (One ExtendedPassiveMode) GivesPort
+row_of call (Active address offset) = says (port_command address) (One CommandOk) Continues
+row_of call (Restart offset) = says (command.Rest offset) (One RequestFilePending) Continues
+
+-- what a call that succeeds gives: nothing, a reply, a text, a time, a number of bytes, features or a data connection
 pub data Kind : Type 0 where
   Nothing : Kind
   Replies : Kind
@@ -78,6 +93,7 @@ pub data Kind : Type 0 where
   Times : Kind
   Sizes : Kind
   Lists : Kind
+  Connections : Kind
 
 abbrev pub kind_of : Ending → Kind
 kind_of Done = Nothing
@@ -90,6 +106,10 @@ kind_of GivesSize = Sizes
 kind_of GivesFeatures = Lists
 kind_of (SetsText text) = Nothing
 kind_of (GoesOn status) = Nothing
+kind_of Continues = Nothing
+kind_of GivesAddress = Nothing
+kind_of GivesPort = Nothing
+kind_of (Opens gives_reply) = Connections
 
 -- a reply is the answer
 abbrev pub gives_reply : Ending → Bool
@@ -103,6 +123,10 @@ gives_reply GivesSize = false
 gives_reply GivesFeatures = false
 gives_reply (SetsText text) = false
 gives_reply (GoesOn status) = false
+gives_reply Continues = false
+gives_reply GivesAddress = false
+gives_reply GivesPort = false
+gives_reply (Opens replies) = false
 
 -- the ending of a row that is an exchange
 abbrev pub ending_of : Row → Option Ending
@@ -126,3 +150,37 @@ reads (Arms offset) = false
 
 abbrev pub is_read : Call → Bool
 is_read call = reads (row_of call First)
+
+-- an accepted reply opens a data connection
+abbrev pub is_opening : Ending → Bool
+is_opening (Opens replies) = true
+is_opening other = false
+
+abbrev pub opens : Row → Bool
+opens (Exchanges exchange) = is_opening exchange.ending
+opens (Arms offset) = false
+
+-- a call opens a data connection, and so negotiates first
+abbrev pub negotiates : Call → Bool
+negotiates call = opens (row_of call First)
+
+-- a transfer may begin at an offset: the commands that RFC 3659, section 5, names, and those of a caller
+abbrev pub restarts : Call → Bool
+restarts (RetrAsStream path) = true
+restarts (PutWithStream path) = true
+restarts (AppendWithStream path) = true
+restarts (CustomDataCommand line codes) = true
+restarts other = false
+
+-- the turn after the connection is agreed on: the offset, where there is one, and then the command
+abbrev pub restarted : Call → ℕ → Turn
+restarted call offset = if restarts call && nat_lt 0 offset then Restart offset else Second
+
+-- the turn that comes next, where the reply goes on
+abbrev pub next_turn : Call → Turn → Option Turn
+next_turn call First = Some Second
+next_turn call Second = None
+next_turn call (Passive offset) = Some (restarted call offset)
+next_turn call (ExtendedPassive offset) = Some (restarted call offset)
+next_turn call (Active address offset) = Some (restarted call offset)
+next_turn call (Restart offset) = Some Second

@@ -58,6 +58,14 @@ pub enum Call {
     ReadResponseIn(Items<Status>),
     /// The next transfer begins at this offset, in bytes; nothing is said or heard.
     ResumeTransfer(u64),
+    /// A data connection is opened, and `RETR` (150, 125).
+    RetrAsStream(Text),
+    /// A data connection is opened, and `STOR` (125, 150).
+    PutWithStream(Text),
+    /// A data connection is opened, and `APPE` (125, 150).
+    AppendWithStream(Text),
+    /// A data connection is opened, and a caller-supplied line; the statuses that its reply may have.
+    CustomDataCommand(Text, Items<Status>),
 }
 
 /// The answer of a call in a run.
@@ -75,6 +83,10 @@ pub enum Answer {
     Size(usize),
     /// It succeeded with these features.
     Features(Features),
+    /// A data connection is open.
+    Opened,
+    /// A data connection is open, and this is the reply.
+    OpenedWith(Response),
     /// The call failed.
     Fault(FtpError),
 }

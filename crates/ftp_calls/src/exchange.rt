@@ -1,25 +1,35 @@
 //! What each call says and hears (RFC 959, sections 4.1, 5.4 and 6): one row a turn, which is an exchange or a change
-//! of settings.
+//! of settings. A call that opens a data connection negotiates before its own row.
 //!
 //! All that the machine does with a call follows from its row. A new call of one command and one reply is a variant
-//! of `Call`, a row of `row_of`, and its row in the definition.
+//! of `Call`, a row of `own_row`, and its row in the definition.
 
-ghost use Rattle.std.specs.Prelude.{◌≡◌, IfOk};
-ghost use Rattle.ftp_calls.specs.Exchanges.{hears, row_of, says};
+ghost use Rattle.std.specs.Prelude.{◌≡◌, Bool, IfOk};
+ghost use Rattle.ftp_calls.specs.Exchanges.{hears, negotiates, next_turn, own_row, restarted, restarts, row_of, says};
 
+use crate::active::port_command;
 use crate::call::Call;
 use ftp_base::command::Command;
 use ftp_base::status::Status;
 use ftp_base::types::{FileType, Items, Text};
-use std::alloc::AllocError;
+use std::alloc::{AllocError, Global};
+use std::net::SocketAddr;
 
-/// Which of a call's exchanges.
+/// Which of a call's exchanges. Those that negotiate keep the offset at which the transfer begins, in bytes.
 #[derive(Clone, Copy, Debug, PartialEq, Eq)]
 pub enum Turn {
     /// The first.
     First,
-    /// The one after an intermediate reply.
+    /// The one after an intermediate reply, or after negotiation.
     Second,
+    /// `PASV`: the server is asked where it listens.
+    Passive(u64),
+    /// `EPSV`: the server is asked at which port it listens.
+    ExtendedPassive(u64),
+    /// `PORT` or `EPRT`: the server is told where the client listens.
+    Active(SocketAddr, u64),
+    /// `REST`: the server is told the offset.
+    Restart(u64),
 }
 
 /// The statuses that a reply may have.
@@ -58,6 +68,14 @@ pub enum Ending {
     SetsText(bool),
     /// A reply of this status goes on to the next exchange; with another the call is done.
     GoesOn(Status),
+    /// The next exchange follows.
+    Continues,
+    /// The reply tells the address to connect to.
+    GivesAddress,
+    /// The reply tells the port to connect to.
+    GivesPort,
+    /// The data connection carries a transfer from now on; the reply is part of the answer, or isn't.
+    Opens(bool),
 }
 
 /// One command and its reply, or one reply.
@@ -84,19 +102,91 @@ pub enum Row {
 ///
 /// # Errors
 /// No memory for the texts.
-pub fn row_at(call: &Call, turn: Turn) -> Result<Row, AllocError>
+pub fn row_at(alloc: Global, call: &Call, turn: Turn) -> Result<Row, AllocError>
     ensures { IfOk result (λ row. row ≡ row_of call.now turn) }
 {
-    Ok(row_of(call.clone()?, turn))
+    match turn {
+        Turn::First => own_row_at(call, true),
+        Turn::Second => own_row_at(call, false),
+        Turn::Passive(_offset) => {
+            let codes = Codes::One(Status::PassiveMode);
+            Ok(says(Command::Pasv, codes, Ending::GivesAddress))
+        }
+        Turn::ExtendedPassive(_offset) => {
+            let codes = Codes::One(Status::ExtendedPassiveMode);
+            Ok(says(Command::Epsv, codes, Ending::GivesPort))
+        }
+        Turn::Active(address, _offset) => {
+            let command = port_command(alloc, address)?;
+            Ok(says(command, ok(), Ending::Continues))
+        }
+        Turn::Restart(offset) => {
+            let codes = Codes::One(Status::RequestFilePending);
+            Ok(says(Command::Rest(offset as usize), codes, Ending::Continues))
+        }
+    }
 }
 
-/// What a call does at this turn.
-pub fn row_of(call: Call, turn: Turn) -> Row
-    ensures { result ≡ row_of call turn }
+/// What a call does by itself, with texts of its own.
+fn own_row_at(call: &Call, first: bool) -> Result<Row, AllocError>
+    ensures { IfOk result (λ row. row ≡ own_row call.now first) }
+{
+    Ok(own_row(call.clone()?, first))
+}
+
+/// Whether a call opens a data connection, and so negotiates first.
+pub fn negotiates(call: &Call) -> bool
+    ensures { result ≡ negotiates call.now }
+{
+    opens_data(call)
+}
+
+/// The turn that comes next, where the reply goes on.
+pub fn next_turn(call: &Call, turn: Turn) -> Option<Turn>
+    ensures { result ≡ next_turn call.now turn }
+{
+    match turn {
+        Turn::First => Some(Turn::Second),
+        Turn::Second => None,
+        Turn::Passive(offset) => Some(restarted(call, offset)),
+        Turn::ExtendedPassive(offset) => Some(restarted(call, offset)),
+        Turn::Active(_address, offset) => Some(restarted(call, offset)),
+        Turn::Restart(_offset) => Some(Turn::Second),
+    }
+}
+
+/// The turn after the connection is agreed on: the offset, where there is one, and then the command.
+fn restarted(call: &Call, offset: u64) -> Turn
+    ensures { result ≡ restarted call.now offset }
+{
+    if opens_data(call) && 0 < offset {
+        Turn::Restart(offset)
+    } else {
+        Turn::Second
+    }
+}
+
+/// Whether a call opens a data connection, with a command that may begin at an offset (RFC 3659, section 5).
+fn opens_data(call: &Call) -> bool
+    ensures negotiates { result ≡ negotiates call.now }
+    ensures restarts { result ≡ restarts call.now }
+{
+    matches!(
+        call,
+        Call::RetrAsStream(_)
+            | Call::PutWithStream(_)
+            | Call::AppendWithStream(_)
+            | Call::CustomDataCommand(..)
+    )
+}
+
+/// What a call does by itself, at its first turn or at its last.
+fn own_row(call: Call, first: bool) -> Row
+    ensures { result ≡ own_row call first }
 {
     match call {
         Call::Greet => hears(Codes::One(Status::Ready), Ending::Greets),
-        Call::Login(user, password) => login(user, password, turn),
+        Call::Login(user, password) => login(user, password, first),
         Call::Cwd(directory) => says(Command::Cwd(directory), ok_or_done(), Ending::Done),
         Call::Cdup => says(Command::Cdup, ok_or_done(), Ending::Done),
         Call::Pwd => says(
@@ -115,7 +205,7 @@ pub fn row_of(call: Call, turn: Turn) -> Row
         }
         Call::Rmdir(path) => says(Command::Rmd(path), done_or_ok(), Ending::Done),
         Call::Rm(path) => says(Command::Dele(path), done_or_ok(), Ending::Done),
-        Call::Rename(from, to) => rename(from, to, turn),
+        Call::Rename(from, to) => rename(from, to, first),
         Call::Quit => says(Command::Quit, Codes::One(Status::Closing), Ending::Done),
         Call::Mlst(path) => {
             let codes = Codes::One(Status::RequestedFileActionOk);
@@ -142,47 +232,73 @@ pub fn row_of(call: Call, turn: Turn) -> Row
         Call::ReadResponse(status) => hears(Codes::One(status), Ending::GivesReply),
         Call::ReadResponseIn(codes) => hears(Codes::Given(codes), Ending::GivesReply),
         Call::ResumeTransfer(offset) => Row::Arms(offset),
+        Call::RetrAsStream(path) => says(Command::Retr(path), sent(), Ending::Opens(false)),
+        Call::PutWithStream(path) => says(Command::Store(path), stored(), Ending::Opens(false)),
+        Call::AppendWithStream(path) => says(Command::Appe(path), stored(), Ending::Opens(false)),
+        Call::CustomDataCommand(line, codes) => {
+            says(
+                Command::Custom(line),
+                Codes::Given(codes),
+                Ending::Opens(true),
+            )
+        }
     }
 }
 
 /// `USER`, and after 331 `PASS`.
-fn login(user: Text, password: Text, turn: Turn) -> Row
-    ensures { result ≡ row_of (Call.Login user password) turn }
+fn login(user: Text, password: Text, first: bool) -> Row
+    ensures { result ≡ own_row (Call.Login user password) first }
 {
-    match turn {
-        Turn::First => says(
+    if first {
+        says(
             Command::User(user),
             Codes::Either(Status::LoggedIn, Status::NeedPassword),
             Ending::GoesOn(Status::NeedPassword),
-        ),
-        Turn::Second => says(
+        )
+    } else {
+        says(
             Command::Pass(password),
             Codes::One(Status::LoggedIn),
             Ending::Done,
-        ),
+        )
     }
 }
 
 /// `RNFR`, and after 350 `RNTO`.
-fn rename(from: Text, to: Text, turn: Turn) -> Row
-    ensures { result ≡ row_of (Call.Rename from to) turn }
+fn rename(from: Text, to: Text, first: bool) -> Row
+    ensures { result ≡ own_row (Call.Rename from to) first }
 {
-    match turn {
-        Turn::First => says(
+    if first {
+        says(
             Command::RenameFrom(from),
             Codes::One(Status::RequestFilePending),
             Ending::GoesOn(Status::RequestFilePending),
-        ),
-        Turn::Second => says(Command::RenameTo(to), done_or_ok(), Ending::Done),
+        )
+    } else {
+        says(Command::RenameTo(to), done_or_ok(), Ending::Done)
     }
 }
 
 /// `TYPE`: transfers are of text where the type is ASCII.
 fn transfer_type(kind: FileType) -> Row
-    ensures { (turn : Turn) → result ≡ row_of (Call.TransferType kind) turn }
+    ensures { (first : Bool) → result ≡ own_row (Call.TransferType kind) first }
 {
     let text = matches!(kind, FileType::Ascii(_));
     says(Command::TransferType(kind), ok(), Ending::SetsText(text))
+}
+
+/// 150 or 125.
+fn sent() -> Codes
+    ensures { result ≡ Codes.Either Status.AboutToSend Status.AlreadyOpen }
+{
+    Codes::Either(Status::AboutToSend, Status::AlreadyOpen)
+}
+
+/// 125 or 150.
+fn stored() -> Codes
+    ensures { result ≡ Codes.Either Status.AlreadyOpen Status.AboutToSend }
+{
+    Codes::Either(Status::AlreadyOpen, Status::AboutToSend)
 }
 
 /// 200.

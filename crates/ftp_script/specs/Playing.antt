@@ -16,9 +16,10 @@ use Rattle.ftp_session.specs.State.{SessionValue}
 use Rattle.ftp_script.specs.declared.script.Script.{Script}
 use Rattle.ftp_script.specs.Shown.{call_text, end_text}
 
--- a connection over memory: its record is true, no read fails, and a write fails only for want of memory or of room
+-- a connection over memory: its record is true, no read fails and no question for an address, a write fails only for
+-- want of memory or of room, and no request waits
 abbrev pub memory : Link
-memory = record { tells = Unit {0}; reads = λ kind. ⊥; writes = λ told kind. (kind ≡ kinds.OutOfMemory) ⊎ ((kind ≡ kinds.WouldBlock) × IsFull told) }
+memory = record { tells = Unit {0}; reads = λ kind. ⊥; writes = λ told kind. (kind ≡ kinds.OutOfMemory) ⊎ ((kind ≡ kinds.WouldBlock) × IsFull told); ends = λ kind. ⊥; asks_wait = ⊥ }
 
 -- texts are UTF-8
 abbrev pub utf8 : Coding

@@ -8,7 +8,7 @@ use Rattle.ftp_base.specs.Features.{Entries, Feature}
 use Rattle.ftp_base.specs.declared.types.fault.FtpError.{FtpError}
 use Rattle.ftp_base.specs.declared.types.fault.FtpError.TheVariants.{ConnectionError as OfConnection, SecureError, UnexpectedResponse, BadResponse, DataConnectionAlreadyOpen, OutOfMemory, SessionFailed, InvalidAddress}
 use Rattle.ftp_calls.specs.declared.call.Answer.{Answer}
-use Rattle.ftp_calls.specs.declared.call.Answer.TheVariants.{Unit as Done, Reply, Text, Time, Size, Features, Fault}
+use Rattle.ftp_calls.specs.declared.call.Answer.TheVariants.{Unit as Done, Reply, Text, Time, Size, Features, Opened, OpenedWith, Fault}
 
 -- a hexadecimal digit, in lower case
 abbrev pub hex_digit : ℕ → ℕ
@@ -60,7 +60,7 @@ abbrev pub features_text : Entries → List ℕ
 features_text [] = []
 features_text (first ∷ others) = feature_text first ++ flat_map later_text others
 
--- an answer as text; no call of a script gives a time
+-- an answer as text; no call of a script gives a time or opens a data connection
 abbrev pub answer_text : Answer → List ℕ
 answer_text Done = codes "ok"
 answer_text (Reply reply) = codes "ok " ++ shown reply.body
@@ -68,6 +68,8 @@ answer_text (Text text) = codes "ok " ++ shown text
 answer_text (Time time) = codes "ok"
 answer_text (Size size) = codes "ok " ++ decimal size
 answer_text (Features features) = codes "ok " ++ features_text features
+answer_text Opened = codes "opened"
+answer_text (OpenedWith reply) = codes "opened with " ++ shown reply.body
 answer_text (Fault fault) = codes "E" ++ decimal (number_of fault) ++ after_number fault
 
 -- a line that was sent

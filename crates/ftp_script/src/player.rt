@@ -62,7 +62,7 @@ fn push_made(
         MakesOne call.now session.old.machine session.new.machine made) }
 {
     let before = session.get_ref().sent().len();
-    let answers = match session.run(alloc, slice::from_ref(call)) {
+    let answers = match session.run(alloc, &(), slice::from_ref(call)) {
         Ok(answers) => answers,
         Err(_) => return Err(AllocError),
     };

@@ -92,6 +92,11 @@ fn push_answer(alloc: Global, text: &mut Vec<u8>, answer: &Answer) -> Result<(),
             text.extend_from_slice(b"ok ")?;
             push_features(text, features)
         }
+        Answer::Opened => text.extend_from_slice(b"opened"),
+        Answer::OpenedWith(reply) => {
+            text.extend_from_slice(b"opened with ")?;
+            push_shown(text, reply.body.as_slice())
+        }
         Answer::Fault(fault) => {
             text.extend_from_slice(b"E")?;
             push_number(alloc, text, u64::from(fault.number()))?;

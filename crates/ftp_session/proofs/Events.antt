@@ -14,19 +14,23 @@ use Rattle.ftp_calls.specs.declared.call.Event.{Event}
 use Rattle.ftp_calls.specs.declared.call.Event.TheVariants as event
 use Rattle.ftp_session.specs.declared.session.stage.Stage.{Stage}
 use Rattle.futures.specs.declared.task.Poll.TheVariants.{Ready, Pending}
+use Rattle.ftp_calls.specs.Exchanges.{negotiates}
 use Rattle.ftp_session.specs.declared.session.state.State.{State}
 use Rattle.ftp_session.specs.declared.model.Script.{Script}
 use Rattle.ftp_session.specs.State.{SessionValue}
 use Rattle.ftp_session.specs.Coding.{Coding}
 use Rattle.ftp_session.specs.Script.{unread, is_over, start_of, script_of, after_event, start_script, MayCancel, MayPoll, poll_script}
-use Rattle.ftp_session.specs.Steps.Following.{Place, Follows, Starts, PollsHere, AbortsCall}
-use Rattle.ftp_session.specs.Promises.{FailsWith}
+use Rattle.ftp_session.specs.Steps.Following.{polled_answer, Place, Follows, Starts, PollsHere, AbortsCall}
+use Rattle.ftp_session.specs.Promises.{HasFault, FailsWith, before_all, standing}
 use Rattle.ftp_control.specs.Saying.{said}
-use Rattle.ftp_session.specs.Scripted.{Stands}
+use Rattle.ftp_session.specs.Scripted.{Stands, Reaches}
+use Rattle.ftp_session.specs.Run.{run, and_then}
+use Rattle.ftp_session.specs.Play.{play}
+use Rattle.ftp_session.specs.Dialogue.{Tree}
+use Rattle.ftp_session.specs.declared.model.Standing.{Standing}
 use Rattle.futures.specs.declared.task.Poll.{Poll}
-use Rattle.ftp_session.specs.Link.{over_memory}
-use Rattle.ftp_session.specs.Steps.Stages.{begun_at, remaining}
-use Rattle.ftp_session.proofs.Transitions.{given_by, polls_fail}
+use Rattle.ftp_session.specs.Steps.Stages.{remaining}
+use Rattle.ftp_session.proofs.Transitions.{given_by}
 use Rattle.ftp_session.proofs.Carried.{unread_is}
 use Rattle.ftp_session.proofs.Following.{poll_follows}
 
@@ -36,8 +40,8 @@ module _ (coding : Coding) where
   with_given v given = record v { channel = record v.channel { told = record v.channel.told { given = given } } }
 
   -- a place doesn't change with what is given, nor with what is fed of a script
-  place_given : (old : SessionValue) (s t : Script) (came : List ℕ) (v : SessionValue) (given : Given) (call : Option Call) (stage : Stage) → t.items ≡ s.items → t.answers ≡ s.answers → t.polled ≡ s.polled → t.heard ≡ s.heard → Place coding old s came v call stage → Place coding old t came (with_given v given) call stage
-  place_given old s t came v given call stage items answers polled heard place =
+  place_given : (old : SessionValue) (s t : Script) (came : List ℕ) (v : SessionValue) (given : Given) (call : Option Call) (stage : Stage) → given.local ≡ v.channel.told.given.local → given.peer ≡ v.channel.told.given.peer → t.items ≡ s.items → t.answers ≡ s.answers → t.polled ≡ s.polled → t.heard ≡ s.heard → Place coding old s came v call stage → Place coding old t came (with_given v given) call stage
+  place_given old s t came v given call stage local peer items answers polled heard place =
       let same : Place coding old s came (with_given v given) call stage = go call stage place in
       let P : List Call → List Answer → Bool → Bool → Type 0 = λ i a p h. Place coding old (record s { items = i; answers = a; polled = p; heard = h }) came (with_given v given) call stage in
       let Q : List Call → Type 0 = λ i. P i t.answers t.polled t.heard in
@@ -46,17 +50,29 @@ module _ (coding : Coding) where
       let H : Bool → Type 0 = λ h. P s.items s.answers s.polled h in
       back call stage (subst Q (sym items) (subst R (sym answers) (subst S (sym polled) (subst H (sym heard) same))))
     where
+      -- the ends of the connection stay, and so does all that a run sees
+      same_standing : (more : List ℕ) (ended : Bool) → standing v more ended [] ≡ standing (with_given v given) more ended []
+      same_standing more ended =
+          let s : Standing = standing v more ended [] in
+          ap (λ a. record s { local = a }) (sym local) ∙ ap (λ a. record s { local = given.local; peer = a }) (sym peer)
+
+      stands_given : Stands coding old s.items came v s.answers → Stands coding old s.items came (with_given v given) s.answers
+      stands_given stands = λ later room more ended fit on. stands later room more ended fit on ∙ ap (λ x. before_all s.answers (run room coding later x)) (same_standing more ended)
+
+      reaches_given : (call : Call) (tree : Tree) → Reaches coding old s.items came v s.answers call tree → Reaches coding old s.items came (with_given v given) s.answers call tree
+      reaches_given call tree reaches = λ later room more ended fit on. reaches later room more ended fit on ∙ ap (λ x. before_all s.answers (and_then (play room tree x) (λ t. run room coding later t))) (same_standing more ended)
+
       go : (call : Option Call) (stage : Stage) → Place coding old s came v call stage → Place coding old s came (with_given v given) call stage
-      go None stage place = place
-      go (Some call) stage (inl place) = inl (record { at = place.at; unpolled = place.unpolled; unheard = place.unheard; stands = place.stands })
-      go (Some call) stage (inr (inl place)) = inr (inl (record { polled = place.polled; going = place.going; reaches = place.reaches; resumes = place.resumes; read = place.read; since = record { start = place.since.start; before = place.since.before; later = place.since.later; split = place.since.split; stands = place.since.stands; said = place.since.said; taken = place.since.taken; has_begun = place.since.has_begun; not_begun = place.since.not_begun } }))
-      go (Some call) stage (inr (inr place)) = inr (inr (record { polled = place.polled; unheard = place.unheard; going = place.going; no_read = place.no_read; reaches = place.reaches; resumes = place.resumes; since = record { start = place.since.start; before = place.since.before; later = place.since.later; split = place.since.split; stands = place.since.stands; said = place.since.said; taken = place.since.taken; has_begun = place.since.has_begun; not_begun = place.since.not_begun } }))
+      go None stage place = stands_given place
+      go (Some call) stage (inl place) = inl (record { plain = place.plain; at = place.at; unpolled = place.unpolled; unheard = place.unheard; stands = stands_given place.stands })
+      go (Some call) stage (inr (inl place)) = inr (inl (record { plain = place.plain; polled = place.polled; going = place.going; reaches = reaches_given call (remaining coding call v.state stage) place.reaches; resumes = place.resumes; read = λ r. stands_given (place.read r); since = record { start = place.since.start; before = place.since.before; later = place.since.later; split = place.since.split; stands = place.since.stands; said = place.since.said; taken = place.since.taken; has_begun = place.since.has_begun; not_begun = place.since.not_begun } }))
+      go (Some call) stage (inr (inr place)) = inr (inr (record { plain = place.plain; stage_of = place.stage_of; polled = place.polled; unheard = place.unheard; going = place.going; no_read = place.no_read; reaches = reaches_given call (remaining coding call v.state stage) place.reaches; resumes = place.resumes; since = record { start = place.since.start; before = place.since.before; later = place.since.later; split = place.since.split; stands = place.since.stands; said = place.since.said; taken = place.since.taken; has_begun = place.since.has_begun; not_begun = place.since.not_begun } }))
 
       back : (call : Option Call) (stage : Stage) → Place coding old (record s { items = t.items; answers = t.answers; polled = t.polled; heard = t.heard }) came (with_given v given) call stage → Place coding old t came (with_given v given) call stage
       back None stage place = place
-      back (Some call) stage (inl place) = inl (record { at = place.at; unpolled = place.unpolled; unheard = place.unheard; stands = place.stands })
-      back (Some call) stage (inr (inl place)) = inr (inl (record { polled = place.polled; going = place.going; reaches = place.reaches; resumes = place.resumes; read = place.read; since = record { start = place.since.start; before = place.since.before; later = place.since.later; split = place.since.split; stands = place.since.stands; said = place.since.said; taken = place.since.taken; has_begun = place.since.has_begun; not_begun = place.since.not_begun } }))
-      back (Some call) stage (inr (inr place)) = inr (inr (record { polled = place.polled; unheard = place.unheard; going = place.going; no_read = place.no_read; reaches = place.reaches; resumes = place.resumes; since = record { start = place.since.start; before = place.since.before; later = place.since.later; split = place.since.split; stands = place.since.stands; said = place.since.said; taken = place.since.taken; has_begun = place.since.has_begun; not_begun = place.since.not_begun } }))
+      back (Some call) stage (inl place) = inl (record { plain = place.plain; at = place.at; unpolled = place.unpolled; unheard = place.unheard; stands = place.stands })
+      back (Some call) stage (inr (inl place)) = inr (inl (record { plain = place.plain; polled = place.polled; going = place.going; reaches = place.reaches; resumes = place.resumes; read = place.read; since = record { start = place.since.start; before = place.since.before; later = place.since.later; split = place.since.split; stands = place.since.stands; said = place.since.said; taken = place.since.taken; has_begun = place.since.has_begun; not_begun = place.since.not_begun } }))
+      back (Some call) stage (inr (inr place)) = inr (inr (record { plain = place.plain; stage_of = place.stage_of; polled = place.polled; unheard = place.unheard; going = place.going; no_read = place.no_read; reaches = place.reaches; resumes = place.resumes; since = record { start = place.since.start; before = place.since.before; later = place.since.later; split = place.since.split; stands = place.since.stands; said = place.since.said; taken = place.since.taken; has_begun = place.since.has_begun; not_begun = place.since.not_begun } }))
 
   -- what is fed is unread
   fed_unread : (t : Told) (more : List ℕ) → IsGiven t → drop (length t.received) (t.given.bytes ++ more) ≡ unread t ++ more
@@ -74,7 +90,7 @@ module _ (coding : Coding) where
         let unread' : drop (length t.received) given.bytes ≡ unread t ++ more = ap (λ g. drop (length t.received) g.bytes) is ∙ fed_unread t more f.given in
         record {
           came = f.came;
-          place = place_given old s (record s { bytes = s.bytes ++ more; untaken = s.untaken ++ more }) f.came v given call stage refl refl refl refl f.place;
+          place = place_given old s (record s { bytes = s.bytes ++ more; untaken = s.untaken ++ more }) f.came v given call stage (ap (λ g. g.local) is) (ap (λ g. g.peer) is) refl refl refl refl f.place;
           rule = f.rule;
           failures = f.failures;
           given = has;
@@ -116,7 +132,7 @@ module _ (coding : Coding) where
         let after : Script = record s { ended = true } in
         let ended : IsGiven (with_given v given).channel.told → IsSound (Unit {0}) (with_given v given).channel → Follows coding old after (with_given v given) call stage answers = λ has sound. record {
           came = f.came;
-          place = place_given old s after f.came v given call stage refl refl refl refl f.place;
+          place = place_given old s after f.came v given call stage refl refl refl refl refl refl f.place;
           rule = f.rule;
           failures = f.failures;
           given = has;
@@ -146,7 +162,7 @@ module _ (coding : Coding) where
         let after : Script = record s { room = more_room more (length s.sent) s.room } in
         let wide : IsGiven (with_given v given).channel.told → IsSound (Unit {0}) (with_given v given).channel → Follows coding old after (with_given v given) call stage answers = λ has sound. record {
           came = f.came;
-          place = place_given old s after f.came v given call stage refl refl refl refl f.place;
+          place = place_given old s after f.came v given call stage refl refl refl refl refl refl f.place;
           rule = f.rule;
           failures = f.failures;
           given = has;
@@ -169,8 +185,8 @@ module _ (coding : Coding) where
         subst P (sym is) wide has sound
 
   -- a call begins, where none is under way
-  pub starts : (old : SessionValue) (s : Script) (v : SessionValue) (next : Call) (call call' : Option Call) (stage stage' : Stage) (answers : List Answer) → Follows coding old s v call stage answers → Starts next call call' stage stage' → Follows coding old (after_event coding (start_of old) s (event.Start next)) v call' stage' answers
-  starts old s v next None call' stage stage' answers f is =
+  pub starts : (old : SessionValue) (s : Script) (v : SessionValue) (next : Call) (call call' : Option Call) (stage stage' : Stage) (answers : List Answer) → negotiates next ≡ false → Follows coding old s v call stage answers → Starts next call call' stage stage' → Follows coding old (after_event coding (start_of old) s (event.Start next)) v call' stage' answers
+  starts old s v next None call' stage stage' answers plain f is =
       let P : Option Call → Type 0 = λ c. Follows coding old (start_script next c s) v call' stage' answers in
       let Q : Option Call → Type 0 = λ c. Follows coding old (record s { call = Some next; polled = false; heard = false }) v c stage' answers in
       let R : Stage → Type 0 = λ x. Follows coding old (record s { call = Some next; polled = false; heard = false }) v (Some next) x answers in
@@ -179,7 +195,7 @@ module _ (coding : Coding) where
       (subst R (sym is.1)
       (record {
         came = f.came;
-        place = inl (record { at = refl; unpolled = refl; unheard = refl; stands = f.place });
+        place = inl (record { plain = plain; at = refl; unpolled = refl; unheard = refl; stands = f.place });
         rule = f.rule;
         failures = f.failures;
         given = f.given;
@@ -199,7 +215,7 @@ module _ (coding : Coding) where
         call_is = refl;
         answers_are = f.answers_are;
       })))
-  starts old s v next (Some other) call' stage stage' answers f is =
+  starts old s v next (Some other) call' stage stage' answers plain f is =
       let P : Option Call → Type 0 = λ c. Follows coding old (start_script next c s) v call' stage' answers in
       let Q : Option Call → Type 0 = λ c. Follows coding old s v c stage' answers in
       let R : Stage → Type 0 = λ x. Follows coding old s v (Some other) x answers in
@@ -316,11 +332,11 @@ module _ (coding : Coding) where
 
   -- a poll over memory fails the session only where its call fails
   pub polls_here_fail : (call : Call) (stage stage' : Stage) (v w : SessionValue) (result : Poll Answer) → PollsHere coding call stage stage' v w result → FailsWith v w (given_by result)
-  polls_here_fail call stage stage' v w result here =
-      elim v.channel.failed as (λ t. v.channel.failed ≡ t → FailsWith v w (given_by result)) [
-        | true ↦ λ was failed. inl was
-        | false ↦ λ going. polls_fail over_memory (begun_at stage) (remaining coding call v.state stage) (remaining coding call v.state stage') v w result (here.polls going)
-      ] refl
+  polls_here_fail call stage stage' v w result here = go result here.fails
+    where
+      go : (r : Poll Answer) → (w.channel.failed ≡ true → (v.channel.failed ≡ true) ⊎ HasFault (polled_answer r)) → FailsWith v w (given_by r)
+      go (Ready answer) fails = fails
+      go Pending fails = fails
 
   -- what doesn't fail a session
   pub still_fails : (v w : SessionValue) → w.channel.failed ≡ v.channel.failed → FailsWith v w []

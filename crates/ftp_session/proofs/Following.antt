@@ -41,20 +41,20 @@ use Rattle.ftp_session.specs.Coding.{Coding}
 use Rattle.ftp_calls.specs.declared.exchange.Exchange.{Exchange}
 use Rattle.ftp_calls.specs.declared.exchange.Row.{Row}
 use Rattle.ftp_calls.specs.declared.exchange.Row.TheVariants.{Exchanges, Arms}
-use Rattle.ftp_calls.specs.Exchanges.{is_read, row_of}
-use Rattle.ftp_session.specs.Dialogue.{Expected, expected_of, Tree, Say, Hear, saying, awaiting, doing, later, dialogue}
+use Rattle.ftp_calls.specs.Exchanges.{negotiates, is_read, row_of}
+use Rattle.ftp_session.specs.Dialogue.{entered, Expected, expected_of, Tree, Say, Hear, saying, awaiting, doing, later, dialogue}
 use Rattle.ftp_session.specs.Play.{play, fits, heard_then}
 use Rattle.ftp_session.specs.declared.model.Played.{Played}
 use Rattle.ftp_session.specs.Run.{run, before, and_then, Resumes, Silent}
 use Rattle.ftp_session.specs.Promises.{standing, before_all, However, Goes, Leads, Rests, Aborts}
 use Rattle.ftp_session.specs.Script.{unread, is_over, start_of, front, seen_at, form_at, first_form, heard_form, polled_as, run_with, poll_script, HearsNothing, MayCancel, MayPoll}
 use Rattle.ftp_session.specs.Scripted.{SaysFrontOf, SaysNothing, Stands, SaysOrTakes, CallHasBegun, Reaches, LeftOf}
-use Rattle.ftp_session.specs.Steps.Stages.{remaining, begun_at}
+use Rattle.ftp_session.specs.Steps.Stages.{StageOf, remaining, begun_at}
 use Rattle.ftp_session.specs.Steps.Moving.{BeginsHere, HasBegun, HasGoneOut, NothingTouched, Speaks, StillSays, Keeps, Shrinks, Calm, Advances, Ends, PollSteps, WaitsFor, WaitsToSay}
 use Rattle.ftp_session.specs.Steps.Following.{Since, Started, UnderWay, Unheard, Place, Follows, PollsHere, AbortsCall}
 use Rattle.ftp_session.proofs.Moving.{goes_after, fitted, play-Say}
 use Rattle.ftp_session.proofs.Hearing.{play-Hear}
-use Rattle.ftp_session.proofs.Unheard.{LacksRoomFor, lacks_room, says_no_read}
+use Rattle.ftp_session.proofs.Unheard.{LacksRoomFor, lacks_room, plain_dialogue, plain_entered, says_no_read}
 use Rattle.ftp_session.proofs.Running.{run-nil, run-cons, before_all-snoc, before_all-Finished, before_all-Waiting, refuses_on}
 use Rattle.ftp_session.specs.Link.{over_memory}
 use Rattle.ftp_session.proofs.Carried.{front_fits, over_at_end, plain_ends, plain_leads, seen_kept, waits_kept, full_room, Carried, carried, carried_none, line_front, all_said}
@@ -69,13 +69,13 @@ module _ (coding : Coding) where
   -- Runs
 
   -- the next call under way
-  stands_reaches : (old v : SessionValue) (items : List Call) (came : List ℕ) (answers : List Answer) (call : Call) → v.channel.failed ≡ false → Stands coding old items came v answers → Reaches coding old items came v answers call (dialogue coding call v.state)
-  stands_reaches old v items came answers call going stands = λ later room more ended fit on.
+  stands_reaches : (old v : SessionValue) (items : List Call) (came : List ℕ) (answers : List Answer) (call : Call) → negotiates call ≡ false → v.channel.failed ≡ false → Stands coding old items came v answers → Reaches coding old items came v answers call (dialogue coding call v.state)
+  stands_reaches old v items came answers call plain going stands = λ later room more ended fit on.
       let s : Standing = standing v more ended [] in
       let next : Standing → Ran = λ t. run room coding later t in
-      let P : Bool → Type 0 = λ failed. cond failed (played.Done (Fault SessionFailed) s) (play room (dialogue coding call s.state) s) ≡ play room (dialogue coding call s.state) s in
+      let P : Bool → Type 0 = λ failed. cond failed (played.Done (Fault SessionFailed) s) (play room (dialogue coding call s.state) (record s { state = entered call s.state })) ≡ play room (dialogue coding call s.state) s in
       stands (call ∷ later) room more ended fit on
-      ∙ ap (before_all answers) (run-cons coding room call later s ∙ ap (λ p. and_then p next) (subst P (sym going) refl))
+      ∙ ap (before_all answers) (run-cons coding room call later s ∙ ap (λ p. and_then p next) (subst P (sym going) (ap (λ x. play room (dialogue coding call s.state) (record s { state = x })) (plain_entered call s.state plain))))
 
   module _ (old v w : SessionValue) (same : w.asked ≡ v.asked) (items : List Call) (came : List ℕ) (answers : List Answer) (call : Call) where
     -- the call has its answer
@@ -113,8 +113,8 @@ module _ (coding : Coding) where
       (first ∙ ap (λ s. before_all answers (run room coding later s)) (rests.stays tt more ended []))
 
   -- a reply that says nothing yet under a call's list is resumed by the call
-  resumes_dialogue : (rule : ReplyRule) (kept : List ℕ) (call : Call) (state : State) → outcome rule (first_form call) kept false ≡ Waits → Resumes rule kept (dialogue coding call state)
-  resumes_dialogue rule kept call state waits = row (row_of call First) waits
+  resumes_dialogue : (rule : ReplyRule) (kept : List ℕ) (call : Call) (state : State) → negotiates call ≡ false → outcome rule (first_form call) kept false ≡ Waits → Resumes rule kept (dialogue coding call state)
+  resumes_dialogue rule kept call state plain waits = (let P : Tree → Type 0 = λ t. Resumes rule kept t in subst P (sym (plain_dialogue coding call state plain)) (row (row_of call First) waits))
     where
       line : (e : Exchange) → outcome rule (expected_of e.hears).form kept false ≡ Waits → (l : Result (List ℕ) Cause) → Resumes rule kept (Say l (awaiting coding (expected_of e.hears) e.ending state (later coding call First)))
       line e waits (Ok bytes) = waits
@@ -205,8 +205,8 @@ module _ (coding : Coding) where
         ∙ ap (λ a. Waiting a wait t) (append-nil s.answers)
 
     -- a call that waits without having heard says a line that isn't within the room
-    unheard_lacks : (state : State) (stage' : Stage) → Reaches coding old s.items (f.came ++ came) w s.answers call (remaining coding call state stage') → HearsNothing (run_with coding (start_of old) call s) s → untaken w.channel ++ unread w.channel.told ≡ s.untaken → LacksRoomFor s.room here (remaining coding call state stage')
-    unheard_lacks state stage' reaches nothing bytes = go (play s.room (remaining coding call state stage') here) refl (subst Nothing ran nothing)
+    unheard_lacks : (state : State) (stage' : Stage) → negotiates call ≡ false → StageOf call stage' → Reaches coding old s.items (f.came ++ came) w s.answers call (remaining coding call state stage') → HearsNothing (run_with coding (start_of old) call s) s → untaken w.channel ++ unread w.channel.told ≡ s.untaken → LacksRoomFor s.room here (remaining coding call state stage')
+    unheard_lacks state stage' plain stage_of reaches nothing bytes = go (play s.room (remaining coding call state stage') here) refl (subst Nothing ran nothing)
       where
         Nothing : Ran → Type 0
         Nothing = λ r. HearsNothing r s
@@ -223,7 +223,7 @@ module _ (coding : Coding) where
             ap (λ r. before_all s.answers (before answer r)) (run-nil coding s.room u) ∙ before_all-Finished s.answers (answer ∷ []) u in
             absurd (subst Nothing all none)
         go (played.Pending wait u) is none =
-            lacks_room coding s.room s here bytes wait u (subst Nothing (before_all-Waiting s.answers [] wait u) none) call state stage' is
+            lacks_room coding s.room s here bytes wait u (subst Nothing (before_all-Waiting s.answers [] wait u) none) call state stage' plain stage_of is
 
     -- a line that isn't within the room hasn't gone out
     never_gone : (line : List ℕ) → fits s.room (v.channel.told.sent ++ v.channel.unsent ++ line) ≡ false → HasGoneOut line v w → ⊥
@@ -342,6 +342,7 @@ module _ (coding : Coding) where
 
   -- where a poll begins
   pub record Resumed (old : SessionValue) (s : Script) (came : List ℕ) (v : SessionValue) (call : Call) (stage : Stage) : Type 0 where
+    pub plain : negotiates call ≡ false
     pub reaches : Reaches coding old s.items came v s.answers call (remaining coding call v.state stage)
     pub resumes : Resumes v.channel.rule v.channel.kept (remaining coding call v.state stage)
     pub read : is_read call ≡ true → Stands coding old s.items came v s.answers
@@ -349,6 +350,8 @@ module _ (coding : Coding) where
 
   -- where a poll begins that waits for room and hears nothing
   pub record KeptWaiting (old : SessionValue) (s : Script) (came : List ℕ) (v : SessionValue) (call : Call) (stage : Stage) : Type 0 where
+    pub plain : negotiates call ≡ false
+    pub stage_of : StageOf call stage
     pub no_read : is_read call ≡ false
     pub reaches : Reaches coding old s.items came v s.answers call (remaining coding call v.state stage)
     pub resumes : (rule : ReplyRule) (kept : List ℕ) → Resumes rule kept (dialogue coding call v.state) → Resumes rule kept (remaining coding call v.state stage)
@@ -375,8 +378,8 @@ module _ (coding : Coding) where
   -- a poll of a call that is kept waiting
   module _ (old : SessionValue) (s : Script) (v w : SessionValue) (same : w.asked ≡ v.asked) (call : Call) (stage : Stage) (answers : List Answer) (f : Follows coding old s v (Some call) stage answers) (going : v.channel.failed ≡ false) (from : KeptWaiting old s f.came v call stage) where
     -- it still waits for room
-    still_waits : (stage' : Stage) (advances : Advances over_memory (remaining coding call v.state stage) (remaining coding call v.state stage') v w) → WaitsFor over_memory (remaining coding call v.state stage') w → HasBegun over_memory (begun_at stage) (begun_at stage') (remaining coding call v.state stage) v w → Carried v w advances.moves.leads.came → Follows coding old (poll_script coding (start_of old) (Some call) s) w (Some call) stage' answers
-    still_waits stage' advances waits begun c = go (advances.moves.says from.lacks.line from.lacks.next from.lacks.is tt) waits
+    still_waits : (stage' : Stage) → StageOf call stage' → (advances : Advances over_memory (remaining coding call v.state stage) (remaining coding call v.state stage') v w) → WaitsFor over_memory (remaining coding call v.state stage') w → HasBegun over_memory (begun_at stage) (begun_at stage') (remaining coding call v.state stage) v w → Carried v w advances.moves.leads.came → Follows coding old (poll_script coding (start_of old) (Some call) s) w (Some call) stage' answers
+    still_waits stage' stage_of advances waits begun c = go (advances.moves.says from.lacks.line from.lacks.next from.lacks.is tt) waits
       where
         unsent' : MayCancel (Some call) true → s.unsent ≡ w.channel.unsent
         unsent' (inl new) = let clash : true ≡ false = new in cc
@@ -387,6 +390,8 @@ module _ (coding : Coding) where
 
         place : (still : StillSays over_memory (remaining coding call v.state stage) (remaining coding call v.state stage') advances.moves.leads.came advances.moves.leads.answered from.lacks.line v w) → Reaches coding old s.items (f.came ++ advances.moves.leads.came) w s.answers call (remaining coding call v.state stage') → (t : Standing) → run_with coding (start_of old) call s ≡ Waiting s.answers wait.Room t → Place coding old (polled_as (Waiting s.answers wait.Room t) call s) (f.came ++ advances.moves.leads.came) w (Some call) stage'
         place still reaches' t ran = inr (inr (record {
+          plain = from.plain;
+          stage_of = stage_of;
           polled = refl;
           unheard = let P : Ran → Type 0 = λ r. HearsNothing r s in subst P ran from.nothing;
           going = advances.failed ∙ going;
@@ -398,7 +403,8 @@ module _ (coding : Coding) where
 
         go : StillSays over_memory (remaining coding call v.state stage) (remaining coding call v.state stage') advances.moves.leads.came advances.moves.leads.answered from.lacks.line v w ⊎ HasGoneOut from.lacks.line v w → WaitsFor over_memory (remaining coding call v.state stage') w → Follows coding old (poll_script coding (start_of old) (Some call) s) w (Some call) stage' answers
         go (inr gone) waits = absurd (never_gone old s v w call stage answers f advances.moves.leads.came c from.lacks.line from.lacks.full gone)
-        go (inl still) (inr hears) = let clash : Hear hears.codes hears.next ≡ Say (Ok still.rest) still.next = sym hears.is ∙ still.is in cc
+        go (inl still) (inr (inl hears)) = let clash : Hear hears.codes hears.next ≡ Say (Ok still.rest) still.next = sym hears.is ∙ still.is in cc
+        go (inl still) (inr (inr asks)) = absurd asks.may
         go (inl still) (inl says) =
             let reaches' = reaches_on old v w same s.items f.came s.answers call (remaining coding call v.state stage) (remaining coding call v.state stage') from.reaches advances.moves.leads still.plays in
             room_waits old s v w call stage answers f stage' advances c says reaches' unsent' (place still reaches')
@@ -434,6 +440,7 @@ module _ (coding : Coding) where
 
         under_way : (t : Standing) (wait : Wait) → UnderWay coding old (polled_as (Waiting s.answers wait t) call s) (f.came ++ advances.moves.leads.came) w call stage'
         under_way t wait = record {
+          plain = from.plain;
           polled = refl;
           going = advances.failed ∙ going;
           reaches = let P : State → Type 0 = λ state. Reaches coding old s.items (f.came ++ advances.moves.leads.came) w s.answers call (remaining coding call state stage') in subst P (sym advances.moves.state) reaches';
@@ -444,7 +451,8 @@ module _ (coding : Coding) where
 
         go : WaitsFor over_memory (remaining coding call v.state stage') w → Follows coding old (poll_script coding (start_of old) (Some call) s) w (Some call) stage' answers
         go (inl says) = room_waits old s v w call stage answers f stage' advances c says reaches' unsent' (λ t ran. inr (inl (under_way t wait.Room)))
-        go (inr hears) =
+        go (inr (inr asks)) = absurd asks.may
+        go (inr (inl hears)) =
             let moves = advances.moves in
             let P : Tree → Type 0 = λ x. Reaches coding old s.items (f.came ++ moves.leads.came) w s.answers call x in
             let R : Tree → Type 0 = λ x. Resumes w.channel.rule w.channel.kept x in
@@ -474,14 +482,14 @@ module _ (coding : Coding) where
   -- where a poll of the call under way begins
   module _ (old : SessionValue) (s : Script) (v : SessionValue) (call : Call) (stage : Stage) (answers : List Answer) (f : Follows coding old s v (Some call) stage answers) (may : MayPoll coding (start_of old) (Some call) s) where
     -- the list of before goes on, or the call is kept waiting
-    agreed : s.heard ≡ false → v.channel.failed ≡ false → Resumes v.channel.rule v.channel.kept (dialogue coding call v.state) ⊎ HearsNothing (run_with coding (start_of old) call s) s
-    agreed unheard going = pick (may unheard (f.failed ∙ going))
+    agreed : negotiates call ≡ false → s.heard ≡ false → v.channel.failed ≡ false → Resumes v.channel.rule v.channel.kept (dialogue coding call v.state) ⊎ HearsNothing (run_with coding (start_of old) call s) s
+    agreed plain unheard going = pick (may unheard (f.failed ∙ going))
       where
         kept : take s.seen s.untaken ≡ v.channel.kept
         kept = ap (λ n. take n s.untaken) f.seen ∙ ap (λ u. take (length v.channel.kept) u) (f.untaken ∙ append_assoc v.channel.kept v.channel.ahead (unread v.channel.told)) ∙ take-append_seam v.channel.kept (v.channel.ahead ++ unread v.channel.told)
 
         pick : (first_form call ≡ s.form) ⊎ Resumes old.channel.rule (take s.seen s.untaken) (dialogue coding call s.state) ⊎ HearsNothing (run_with coding (start_of old) call s) s → Resumes v.channel.rule v.channel.kept (dialogue coding call v.state) ⊎ HearsNothing (run_with coding (start_of old) call s) s
-        pick (inl same) = inl (resumes_dialogue v.channel.rule v.channel.kept call v.state (ap (λ b. outcome v.channel.rule b v.channel.kept false) same ∙ f.waits))
+        pick (inl same) = inl (resumes_dialogue v.channel.rule v.channel.kept call v.state plain (ap (λ b. outcome v.channel.rule b v.channel.kept false) same ∙ f.waits))
         pick (inr (inl waits)) =
             let P : State → Type 0 = λ state. Resumes old.channel.rule (take s.seen s.untaken) (dialogue coding call state) in
             let Q : List ℕ → Type 0 = λ k. Resumes old.channel.rule k (dialogue coding call v.state) in
@@ -490,25 +498,34 @@ module _ (coding : Coding) where
         pick (inr (inr nothing)) = inr nothing
 
     -- the line that doesn't go out
-    lacking : (stage' : Stage) → Reaches coding old s.items f.came v s.answers call (remaining coding call v.state stage') → HearsNothing (run_with coding (start_of old) call s) s → LacksRoomFor s.room (standing v (unread v.channel.told) (is_over v.channel.told) []) (remaining coding call v.state stage')
-    lacking stage' reaches nothing =
+    lacking : (stage' : Stage) → negotiates call ≡ false → StageOf call stage' → Reaches coding old s.items f.came v s.answers call (remaining coding call v.state stage') → HearsNothing (run_with coding (start_of old) call s) s → LacksRoomFor s.room (standing v (unread v.channel.told) (is_over v.channel.told) []) (remaining coding call v.state stage')
+    lacking stage' plain stage_of reaches nothing =
         let P : List ℕ → Type 0 = λ x. Reaches coding old s.items x v s.answers call (remaining coding call v.state stage') in
-        unheard_lacks old s v v call stage answers f [] (carried_none v f.given f.sound) v.state stage' (subst P (sym (append-nil f.came)) reaches) nothing (sym f.untaken)
+        unheard_lacks old s v v call stage answers f [] (carried_none v f.given f.sound) v.state stage' plain stage_of (subst P (sym (append-nil f.came)) reaches) nothing (sym f.untaken)
 
-    begun_anew : Started coding old s f.came v stage → v.channel.failed ≡ false → Resumes v.channel.rule v.channel.kept (dialogue coding call v.state) ⊎ HearsNothing (run_with coding (start_of old) call s) s → Resumed old s f.came v call (At First) ⊎ KeptWaiting old s f.came v call (At First)
-    begun_anew started going (inl resumes) = inl (record {
-      reaches = stands_reaches old v s.items f.came s.answers call going started.stands;
-      resumes = resumes;
-      read = λ is. started.stands;
-      since = since_start old s.items s.answers f.came v started.stands;
-    })
+    begun_anew : Started coding old s f.came v call stage → v.channel.failed ≡ false → Resumes v.channel.rule v.channel.kept (dialogue coding call v.state) ⊎ HearsNothing (run_with coding (start_of old) call s) s → Resumed old s f.came v call (At First) ⊎ KeptWaiting old s f.came v call (At First)
+    begun_anew started going (inl resumes) =
+        let is = plain_dialogue coding call v.state started.plain in
+        let R : Tree → Type 0 = λ t. Reaches coding old s.items f.came v s.answers call t in
+        let S : Tree → Type 0 = λ t. Resumes v.channel.rule v.channel.kept t in
+        inl (record {
+          plain = started.plain;
+          reaches = subst R is (stands_reaches old v s.items f.came s.answers call started.plain going started.stands);
+          resumes = subst S is resumes;
+          read = λ r. started.stands;
+          since = since_start old s.items s.answers f.came v started.stands;
+        })
     begun_anew started going (inr nothing) =
-        let reaches = stands_reaches old v s.items f.came s.answers call going started.stands in
-        let lacks = lacking (At First) reaches nothing in
+        let is = plain_dialogue coding call v.state started.plain in
+        let R : Tree → Type 0 = λ t. Reaches coding old s.items f.came v s.answers call t in
+        let reaches = subst R is (stands_reaches old v s.items f.came s.answers call started.plain going started.stands) in
+        let lacks = lacking (At First) started.plain started.plain reaches nothing in
         inr (record {
-          no_read = says_no_read coding call v.state lacks.line lacks.next lacks.is;
+          plain = started.plain;
+          stage_of = started.plain;
+          no_read = says_no_read coding call v.state lacks.line lacks.next started.plain (is ∙ lacks.is);
           reaches = reaches;
-          resumes = λ rule kept r. r;
+          resumes = λ rule kept r. (let S : Tree → Type 0 = λ t. Resumes rule kept t in subst S is r);
           since = since_start old s.items s.answers f.came v started.stands;
           nothing = nothing;
           lacks = lacks;
@@ -516,18 +533,21 @@ module _ (coding : Coding) where
 
     going_on_unheard : Unheard coding old s f.came v call stage → Resumes v.channel.rule v.channel.kept (dialogue coding call v.state) ⊎ HearsNothing (run_with coding (start_of old) call s) s → Resumed old s f.came v call stage ⊎ KeptWaiting old s f.came v call stage
     going_on_unheard u (inl resumes) = inl (record {
+      plain = u.plain;
       reaches = u.reaches;
       resumes = u.resumes v.channel.rule v.channel.kept resumes;
       read = λ is. let clash : true ≡ false = sym is ∙ u.no_read in cc;
       since = u.since;
     })
     going_on_unheard u (inr nothing) = inr (record {
+      plain = u.plain;
+      stage_of = u.stage_of;
       no_read = u.no_read;
       reaches = u.reaches;
       resumes = u.resumes;
       since = u.since;
       nothing = nothing;
-      lacks = lacking stage u.reaches nothing;
+      lacks = lacking stage u.plain u.stage_of u.reaches nothing;
     })
 
     placed : v.channel.failed ≡ false → Resumed old s f.came v call stage ⊎ KeptWaiting old s f.came v call stage
@@ -536,9 +556,9 @@ module _ (coding : Coding) where
         go : Place coding old s f.came v (Some call) stage → Resumed old s f.came v call stage ⊎ KeptWaiting old s f.came v call stage
         go (inl started) =
             let P : Stage → Type 0 = λ x. Resumed old s f.came v call x ⊎ KeptWaiting old s f.came v call x in
-            subst P (sym started.at) (begun_anew started going (agreed started.unheard going))
-        go (inr (inl u)) = inl (record { reaches = u.reaches; resumes = u.resumes; read = u.read; since = u.since })
-        go (inr (inr u)) = going_on_unheard u (agreed u.unheard going)
+            subst P (sym started.at) (begun_anew started going (agreed started.plain started.unheard going))
+        go (inr (inl u)) = inl (record { plain = u.plain; reaches = u.reaches; resumes = u.resumes; read = u.read; since = u.since })
+        go (inr (inr u)) = going_on_unheard u (agreed u.plain u.unheard going)
 
     -- a call that is under way in a session that has failed wasn't polled
     stands_failed : v.channel.failed ≡ true → Stands coding old s.items f.came v s.answers
@@ -553,9 +573,17 @@ module _ (coding : Coding) where
   poll_follows old s v w call stage stage' answers result f may here =
       elim v.channel.failed as (λ t. v.channel.failed ≡ t → PollFollows coding old s v w call stage stage' answers result) [
         | true ↦ λ failed. refused failed
-        | false ↦ λ going. go result going (here.polls going) here.rests here.begun
+        | false ↦ λ going. go result going (here.polls going plain) here.rests (λ waits. here.begun waits plain) here.left_at
       ] refl
     where
+      plain : negotiates call ≡ false
+      plain = plain_of f.place
+        where
+          plain_of : Place coding old s f.came v (Some call) stage → negotiates call ≡ false
+          plain_of (inl started) = started.plain
+          plain_of (inr (inl u)) = u.plain
+          plain_of (inr (inr u)) = u.plain
+
       refused : v.channel.failed ≡ true → PollFollows coding old s v w call stage stage' answers result
       refused failed =
           let is = here.refused failed in
@@ -567,22 +595,22 @@ module _ (coding : Coding) where
       carry came answered goes = carried v w came answered goes f.sound here.end here.given here.sound
 
       ready : (answer : Answer) (going : v.channel.failed ≡ false) → (ends : Ends over_memory (remaining coding call v.state stage) answer v w) → Resumed old s f.came v call stage ⊎ KeptWaiting old s f.came v call stage → Follows coding old (poll_script coding (start_of old) (Some call) s) w None stage' (answers ++ answer ∷ [])
-      ready answer going ends (inl from) = completed old s v w here.asked call stage answers f going from stage' answer ends (carry ends.completes.came ends.completes.answered ends.completes.goes)
-      ready answer going ends (inr from) = absurd (no_answer old s v w here.asked call stage answers f going from answer ends (carry ends.completes.came ends.completes.answered ends.completes.goes))
+      ready answer going ends (inl from) = completed old s v w (here.asked plain) call stage answers f going from stage' answer ends (carry ends.completes.came ends.completes.answered ends.completes.goes)
+      ready answer going ends (inr from) = absurd (no_answer old s v w (here.asked plain) call stage answers f going from answer ends (carry ends.completes.came ends.completes.answered ends.completes.goes))
 
-      go : (r : Poll Answer) → v.channel.failed ≡ false → PollSteps over_memory (begun_at stage) (remaining coding call v.state stage) (remaining coding call v.state stage') v w r → (r ≡ Pending → is_read call ≡ true → Rests over_memory v w) → (r ≡ Pending → HasBegun over_memory (begun_at stage) (begun_at stage') (remaining coding call v.state stage) v w) → PollFollows coding old s v w call stage stage' answers r
-      go (Ready answer) going (inl ends) rests begun = inl (ready answer going ends (placed old s v call stage answers f may going))
-      go (Ready answer) going (inr aborts) rests begun =
+      go : (r : Poll Answer) → v.channel.failed ≡ false → PollSteps over_memory (begun_at stage) (remaining coding call v.state stage) (remaining coding call v.state stage') v w r → (r ≡ Pending → is_read call ≡ true → Rests over_memory v w) → (r ≡ Pending → HasBegun over_memory (begun_at stage) (begun_at stage') (remaining coding call v.state stage) v w) → (r ≡ Pending → StageOf call stage') → PollFollows coding old s v w call stage stage' answers r
+      go (Ready answer) going (inl ends) rests begun stage_of = inl (ready answer going ends (placed old s v call stage answers f may going))
+      go (Ready answer) going (inr aborts) rests begun stage_of =
           let P : Answer → Type 0 = λ a. Aborts over_memory (begun_at stage) (remaining coding call v.state stage) a v w in
           inr (record { fault = aborts.fault; is = ap Some aborts.is; going = going; aborts = subst P aborts.is aborts; given = here.given; sound = here.sound })
-      go Pending going polls rests begun = waiting (placed old s v call stage answers f may going)
+      go Pending going polls rests begun stage_of = waiting (placed old s v call stage answers f may going)
         where
           c : Carried v w polls.0.moves.leads.came
           c = carry polls.0.moves.leads.came polls.0.moves.leads.answered polls.0.moves.leads.goes
 
           waiting : Resumed old s f.came v call stage ⊎ KeptWaiting old s f.came v call stage → Follows coding old (poll_script coding (start_of old) (Some call) s) w (Some call) stage' answers
-          waiting (inl from) = pending old s v w here.asked call stage answers f going from stage' polls.0 polls.1 (rests refl) (begun refl) c
-          waiting (inr from) = still_waits old s v w here.asked call stage answers f going from stage' polls.0 polls.1 (begun refl) c
+          waiting (inl from) = pending old s v w (here.asked plain) call stage answers f going from stage' polls.0 polls.1 (rests refl) (begun refl) c
+          waiting (inr from) = still_waits old s v w (here.asked plain) call stage answers f going from stage' (stage_of refl) polls.0 polls.1 (begun refl) c
 
   -- what is left of the call under way
   pub left_of : (old : SessionValue) (s : Script) (v : SessionValue) (call : Call) (stage : Stage) (answers : List Answer) → (f : Follows coding old s v (Some call) stage answers) → v.channel.failed ≡ false → LeftOf coding old s v call (begun_at stage) (remaining coding call v.state stage)
@@ -598,7 +626,8 @@ module _ (coding : Coding) where
       reaches : Place coding old s f.came v (Some call) stage → Reaches coding old s.items f.came v s.answers call (remaining coding call v.state stage)
       reaches (inl started) =
           let P : Stage → Type 0 = λ x. Reaches coding old s.items f.came v s.answers call (remaining coding call v.state x) in
-          subst P (sym started.at) (stands_reaches old v s.items f.came s.answers call going started.stands)
+          let R : Tree → Type 0 = λ t. Reaches coding old s.items f.came v s.answers call t in
+          subst P (sym started.at) (subst R (plain_dialogue coding call v.state started.plain) (stands_reaches old v s.items f.came s.answers call started.plain going started.stands))
       reaches (inr (inl u)) = u.reaches
       reaches (inr (inr u)) = u.reaches
 

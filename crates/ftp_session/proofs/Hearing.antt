@@ -27,7 +27,7 @@ use Rattle.ftp_session.specs.declared.session.state.State.{State}
 use Rattle.ftp_session.specs.declared.model.Standing.{Standing}
 use Rattle.ftp_session.specs.declared.model.Played.{Played}
 use Rattle.ftp_session.specs.State.{SessionValue}
-use Rattle.ftp_session.specs.Dialogue.{Expected, Tree, Say, Hear, Ask, Leaf}
+use Rattle.ftp_session.specs.Dialogue.{Expected, Tree, Say, Hear, Look, Ask, Leaf}
 use Rattle.ftp_session.specs.Play.{play, heard_then}
 use Rattle.ftp_session.specs.Run.{Resumes}
 use Rattle.ftp_session.specs.Promises.{standing, Goes, Leads, Rests}
@@ -47,6 +47,7 @@ pub nothing_resumes : (rule : ReplyRule) (tree : Tree) → Resumes rule [] tree
 nothing_resumes rule (Say (Ok line) next) = nothing_resumes rule next
 nothing_resumes rule (Say (Err cause) next) = tt
 nothing_resumes rule (Hear codes next) = nothing_says rule codes.form
+nothing_resumes rule (Look end next) = λ address. nothing_resumes rule (next address)
 nothing_resumes rule (Ask request next) = λ answer. nothing_resumes rule (next answer)
 nothing_resumes rule (Leaf answer state) = tt
 
@@ -114,7 +115,8 @@ module _ (link : Link) (state : State) (asked : List Asked) (t : Told) (kept ahe
             ∙ ap (λ o. heard_then o codes there k) is.0
             ∙ then_is there k
             ∙ ap (λ b. k answer (record there { bytes = b; failed = failed })) is.1
-            ∙ ap (λ x. k answer (record there { bytes = (kept' ++ ahead') ++ more; failed = failed; said = x })) (sym said);
+            ∙ ap (λ x. k answer (record there { bytes = (kept' ++ ahead') ++ more; failed = failed; said = x })) (sym said)
+            ∙ ap (λ g. k answer (record there { bytes = (kept' ++ ahead') ++ more; failed = failed; said = u.sent; local = g.local; peer = g.peer })) (sym (ap (λ x. x.given) (told h)));
       };
       state = refl;
       resumes = λ r. rw none (nothing_resumes rule (next answer));
@@ -130,6 +132,7 @@ module _ (link : Link) (state : State) (asked : List Asked) (t : Told) (kept ahe
         let s : Standing = standing old (came ++ more) e outcomes in
         ap (λ b. record s { bytes = b }) (bytes_after came more ∙ ap (λ b. b ++ more) (sym all))
         ∙ ap (λ x. record s { bytes = (kept' ++ ahead') ++ more; said = x }) (sym (told h).3)
+        ∙ ap (λ g. record s { bytes = (kept' ++ ahead') ++ more; said = u.sent; local = g.local; peer = g.peer }) (sym (told h).1)
 
     leads_on : (link.tells → (u.received ≡ t.received ++ came) × (u.given ≡ t.given) × NoneFailed t u × (u.sent ≡ t.sent)) → kept' ++ ahead' ≡ (kept ++ ahead) ++ came → Leads link (Hear codes next) (Hear codes next) old (new u false)
     leads_on told all = record {
@@ -156,7 +159,7 @@ module _ (link : Link) (state : State) (asked : List Asked) (t : Told) (kept ahe
             };
             failed = refl;
           },
-          inr (record { codes = codes; next = next; is = refl; unended = unended; none_ahead = none; dry = dry }),
+          inr (inl (record { codes = codes; next = next; is = refl; unended = unended; none_ahead = none; dry = dry })),
           record { came = came; goes = goes u false came was over (none_left came all') told'; failed = refl; stays = stays_on told' all' },
         )
 
@@ -188,7 +191,8 @@ module _ (link : Link) (state : State) (asked : List Asked) (t : Told) (kept ahe
               let s : Standing = standing old (came ++ more) e outcomes in
               ap (λ x. play room (Hear codes next) x)
               (ap (λ b. record s { bytes = b }) (bytes_after came more ∙ ap (λ b. b ++ more) (sym all))
-              ∙ ap (λ x. record s { bytes = (kept' ++ ahead') ++ more; said = x }) (sym (ap (λ x. x.sent) (same h))));
+              ∙ ap (λ x. record s { bytes = (kept' ++ ahead') ++ more; said = x }) (sym (ap (λ x. x.sent) (same h)))
+              ∙ ap (λ g. record s { bytes = (kept' ++ ahead') ++ more; said = v.sent; local = g.local; peer = g.peer }) (sym (ap (λ x. x.given) (same h))));
         }
 
     lacks_memory : kept' ++ ahead' ≡ (kept ++ ahead) ++ came → (link.tells → u ≡ after_input came ended t) → AbortsRead link codes next fault.OutOfMemory old (new u false)

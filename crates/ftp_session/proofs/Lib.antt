@@ -1,9 +1,11 @@
+pub mod Agreeing
 pub mod Carried
 pub mod Connecting
 pub mod Events
 pub mod Following
 pub mod Hearing
 pub mod Moving
+pub mod Negotiation
 pub mod Running
 pub mod Scripts
 pub mod Stages

@@ -25,7 +25,7 @@ use Rattle.ftp_session.specs.declared.session.stage.Step.TheVariants.{Next, Pend
 use Rattle.ftp_session.specs.declared.model.Standing.{Standing}
 use Rattle.ftp_session.specs.declared.model.Played.TheVariants as played
 use Rattle.ftp_session.specs.State.{SessionValue}
-use Rattle.ftp_session.specs.Dialogue.{Tree, Say, Hear, Ask, Leaf}
+use Rattle.ftp_session.specs.Dialogue.{Tree, Say, Hear, Look, Ask, Leaf}
 use Rattle.ftp_session.specs.Play.{play, fits, said_then}
 use Rattle.ftp_session.specs.Run.{Silent}
 use Rattle.ftp_session.specs.Promises.{IsFault, However, SaidOrTaken, standing, Rests, Goes, Leads, Fails, Touched, Untouched, LacksMemory, Aborts, failed_from}
@@ -71,7 +71,7 @@ nothing_goes link v = record {
 pub nothing_shrinks : (n : ℕ) → n ≤ n + 0
 nothing_shrinks n = omega arith
 
-pub nothing_leads : (link : Link) (tree : Tree) (v : SessionValue) → Leads link tree tree v v
+unfoldable pub nothing_leads : (link : Link) (tree : Tree) (v : SessionValue) → Leads link tree tree v v
 nothing_leads link tree v = record {
   came = [];
   answered = [];
@@ -80,7 +80,7 @@ nothing_leads link tree v = record {
 }
 
 -- nothing happens, and the same is left
-pub stays_put : (link : Link) (tree tree' : Tree) (v : SessionValue) → tree' ≡ tree → Advances link tree tree' v v
+unfoldable pub stays_put : (link : Link) (tree tree' : Tree) (v : SessionValue) → tree' ≡ tree → Advances link tree tree' v v
 unfolding nothing_leads
 stays_put link tree tree' v same =
     let P : Tree → Type 0 = λ t. Advances link tree t v v in
@@ -102,6 +102,7 @@ abbrev line_in : Tree → List ℕ
 line_in (Say (Ok line) next) = line
 line_in (Say (Err cause) next) = []
 line_in (Hear codes next) = []
+line_in (Look end next) = []
 line_in (Ask request next) = []
 line_in (Leaf answer state) = []
 
@@ -150,7 +151,8 @@ module _ (link : Link) (state : State) (asked : List Asked) (a : Channel) (told 
           plays = λ h resumes room more ended outcomes fit on.
               let all : told.sent ≡ a.told.sent ++ a.unsent ++ due line = joined_whole a.told.sent told.sent a.unsent unsent (due line) (due line') says.leaves.0 (ap due says.leaves.1) (says.said h) in
               let room_for = room_fits room told.sent fit in
-              play-Say room (due line) next _ ∙ rw (← all, room_for, says.leaves.0, says.leaves.2);
+              let given : told.given ≡ a.told.given = ap (λ t. t.given) (says.hears_nothing h) in
+              play-Say room (due line) next _ ∙ rw (← all, room_for, says.leaves.0, says.leaves.2, given) refl;
         };
         state = refl;
         resumes = λ r. r;
@@ -167,15 +169,15 @@ module _ (link : Link) (state : State) (asked : List Asked) (a : Channel) (told 
     }
 
     -- a front of it went out
-    said_part_plays : failed ≡ a.failed → told.sent ++ unsent ++ due line' ≡ a.told.sent ++ a.unsent ++ due line → However before [] [] after (λ room s t. play room (Say (Ok (due line)) next) s ≡ play room (Say (Ok (due line')) next) t)
-    said_part_plays going all = λ room more ended outcomes fit on. play-Say room (due line) next _ ∙ rw (← all, going) (sym (play-Say room (due line') next _))
+    said_part_plays : failed ≡ a.failed → told.given ≡ a.told.given → told.sent ++ unsent ++ due line' ≡ a.told.sent ++ a.unsent ++ due line → However before [] [] after (λ room s t. play room (Say (Ok (due line)) next) s ≡ play room (Say (Ok (due line')) next) t)
+    said_part_plays going given all = λ room more ended outcomes fit on. play-Say room (due line) next _ ∙ rw (← all, going, given) (sym (play-Say room (due line') next _))
 
     said_part : failed ≡ a.failed → (link.tells → told.sent ++ unsent ++ due line' ≡ a.told.sent ++ a.unsent ++ due line) → Goes link [] [] before after → Leads link (Say (Ok (due line)) next) (Say (Ok (due line')) next) before after
     said_part going said goes = record {
       came = [];
       answered = [];
       goes = goes;
-      plays = λ h resumes. said_part_plays going (said h);
+      plays = λ h resumes. said_part_plays going (goes.given h) (said h);
     }
 
     -- the connection waits for room
@@ -196,7 +198,7 @@ module _ (link : Link) (state : State) (asked : List Asked) (a : Channel) (told 
             is = refl;
             count = sym (length-append (told.sent ++ unsent) (due line')) ∙ ap length (says.said h) ∙ length-append (a.told.sent ++ a.unsent) (due line) ∙ ap (λ n. length (a.told.sent ++ a.unsent) + n) (ap length (ap line_in is));
             resumes = λ rule kept r. r;
-            plays = said_part_plays says.leaves.2 (says.said h);
+            plays = said_part_plays says.leaves.2 (ap (λ t. t.given) (says.hears_nothing h)) (says.said h);
           });
         };
         failed = says.leaves.2;
@@ -358,7 +360,7 @@ goes_after first two more last ended a b = record {
   over = λ e. b.over (a.over e);
 }
 
-keeps_after : (P Q : Type 0) (one two : List ℕ) (a b c : SessionValue) → (Q → Keeps P one a b) → Keeps Q two b c → Keeps P (one ++ two) a c
+pub keeps_after : (P Q : Type 0) (one two : List ℕ) (a b c : SessionValue) → (Q → Keeps P one a b) → Keeps Q two b c → Keeps P (one ++ two) a c
 keeps_after P Q one two a b c first (inl none) = inl none
 keeps_after P Q one two a b c first (inr same) = go (first same.3)
   where
@@ -366,7 +368,7 @@ keeps_after P Q one two a b c first (inr same) = go (first same.3)
     go (inl none) = inl (same.0 ∙ none)
     go (inr before) = inr (same.0 ∙ before.0, same.1 ∙ before.1, rw (before.2, same.2), before.3)
 
-shrinks_after : (one two : List ℕ) (a b c : SessionValue) → Shrinks one a b → Shrinks two b c → Shrinks (one ++ two) a c
+pub shrinks_after : (one two : List ℕ) (a b c : SessionValue) → Shrinks one a b → Shrinks two b c → Shrinks (one ++ two) a c
 shrinks_after one two a b c first second = omega (arith, first, second, length-append one two)
 
 -- what fits at last has fitted all along
@@ -402,13 +404,13 @@ touched_on link tree a b c came answered goes here = λ h resumes. said_or_taken
 
 module _ (link : Link) (tree tree' : Tree) (a b c : SessionValue) (first : Moves link tree tree' a b) where
   -- the first part of two
-  first_plays : (two : List ℕ) (asked : List Asked) → Goes link two asked b c → link.tells → However a first.leads.came first.leads.answered b (λ room s t. play room tree s ≡ play room tree' t) → (room : Room) (more : List ℕ) (ended : Bool) (outcomes : List RequestOutcome) → HasRoomFor room (length c.channel.told.sent) → GoesOn c.channel.ended more ended → play room tree (standing a ((first.leads.came ++ two) ++ more) ended (outcomes_of (first.leads.answered ++ asked) ++ outcomes)) ≡ play room tree' (standing b (two ++ more) ended (outcomes_of asked ++ outcomes))
+  pub first_plays : (two : List ℕ) (asked : List Asked) → Goes link two asked b c → link.tells → However a first.leads.came first.leads.answered b (λ room s t. play room tree s ≡ play room tree' t) → (room : Room) (more : List ℕ) (ended : Bool) (outcomes : List RequestOutcome) → HasRoomFor room (length c.channel.told.sent) → GoesOn c.channel.ended more ended → play room tree (standing a ((first.leads.came ++ two) ++ more) ended (outcomes_of (first.leads.answered ++ asked) ++ outcomes)) ≡ play room tree' (standing b (two ++ more) ended (outcomes_of asked ++ outcomes))
   first_plays two asked goes h plays room more ended outcomes fit on =
       rw (append_assoc first.leads.came two more, outcomes-append first.leads.answered asked, append_assoc (outcomes_of first.leads.answered) (outcomes_of asked) outcomes)
       (plays room (two ++ more) ended (outcomes_of asked ++ outcomes) (fitted room _ _ (goes.sent h) fit) (goes_after b.channel.ended two more c.channel.ended ended goes.over on))
 
   -- a lead after a step
-  pub leads_on : (last : Tree) → Leads link tree' last b c → Leads link tree last a c
+  unfoldable pub leads_on : (last : Tree) → Leads link tree' last b c → Leads link tree last a c
   leads_on last second = record {
     came = first.leads.came ++ second.came;
     answered = first.leads.answered ++ second.answered;
@@ -419,7 +421,7 @@ module _ (link : Link) (tree tree' : Tree) (a b c : SessionValue) (first : Moves
   }
 
   -- a step after others
-  pub moves_on : (last : Tree) → Moves link tree' last b c → Moves link tree last a c
+  unfoldable pub moves_on : (last : Tree) → Moves link tree' last b c → Moves link tree last a c
   unfolding leads_on
   moves_on last second = record {
     leads = leads_on last second.leads;

@@ -18,10 +18,11 @@ use Rattle.ftp_session.specs.declared.model.Ran.{Ran}
 use Rattle.ftp_session.specs.declared.model.Ran.TheVariants.{Finished, Waiting}
 use Rattle.ftp_session.specs.State.{SessionValue}
 use Rattle.ftp_session.specs.Coding.{Coding}
-use Rattle.ftp_session.specs.Dialogue.{dialogue}
+use Rattle.ftp_session.specs.Dialogue.{dialogue, entered}
+use Rattle.ftp_control.specs.declared.transport.request.Asked.{Asked}
 use Rattle.ftp_session.specs.Play.{play, play_call}
 use Rattle.ftp_session.specs.Run.{run, before, and_then, OneView, Silent}
-use Rattle.ftp_session.specs.Promises.{FailsWith, HasFault, IsFault, standing, before_all, Completes, Agrees, AllRefused, Makes, RanTo, RunsTo, RunAborts, Runs, Aborts, Plays, Wired, IsSuccess, IsRefused, IsPlayed}
+use Rattle.ftp_session.specs.Promises.{begun_by, Goes, FailsWith, HasFault, IsFault, standing, before_all, Completes, Agrees, AllRefused, Makes, RanTo, RunsTo, RunAborts, Runs, Aborts, Plays, Wired, IsSuccess, IsRefused, IsPlayed}
 use Rattle.ftp_session.specs.Steps.Moving.{Keeps, Ends, Made}
 use Rattle.ftp_session.proofs.Hearing.{nothing_resumes}
 use Rattle.ftp_session.proofs.Wired.{wired}
@@ -75,6 +76,13 @@ fails_more old v w first second all is before here =
     go (inl was) = earlier (before was)
     go (inr fault) = inr (fault_after first second fault)
 
+-- what goes on from where a call begins goes on from before it
+pub goes_from : (link : Link) (came : List ℕ) (answered : List Asked) (call : Call) (old new : SessionValue) → Goes link came answered (begun_by call old) new → Goes link came answered old new
+goes_from link came answered call old new goes = record { over = goes.over; received = goes.received; given = goes.given; failures = goes.failures; sent = goes.sent; said = goes.said; untaken = goes.untaken; at_hand = goes.at_hand; asked = goes.asked; rule = goes.rule }
+
+keeps_from : (P : Type 0) (came : List ℕ) (call : Call) (old new : SessionValue) → Keeps P came (begun_by call old) new → Keeps P came old new
+keeps_from P came call old new keeps = keeps
+
 -- what is made of a call is its dialogue
 pub made_plays : (link : Link) (coding : Coding) (call : Call) (old new : SessionValue) (answer : Answer) → Made link coding call old new answer → Plays link coding call old new answer
 made_plays link coding call old new answer (inl refused) = record {
@@ -88,15 +96,15 @@ made_plays link coding call old new answer (inr made) = record {
   fails = λ failed. fails made.plays failed;
 }
   where
-    go : Ends link (dialogue coding call old.state) answer old new ⊎ Aborts link false (dialogue coding call old.state) answer old new → Completes link (dialogue coding call old.state) answer old new ⊎ Aborts link false (dialogue coding call old.state) answer old new
+    go : Ends link (dialogue coding call old.state) answer (begun_by call old) new ⊎ Aborts link false (dialogue coding call old.state) answer (begun_by call old) new → Completes link (dialogue coding call old.state) answer (begun_by call old) new ⊎ Aborts link false (dialogue coding call old.state) answer (begun_by call old) new
     go (inl ends) = inl ends.completes
     go (inr aborts) = inr aborts
 
-    fails : Ends link (dialogue coding call old.state) answer old new ⊎ Aborts link false (dialogue coding call old.state) answer old new → new.channel.failed ≡ true → (old.channel.failed ≡ true) ⊎ IsFault answer
+    fails : Ends link (dialogue coding call old.state) answer (begun_by call old) new ⊎ Aborts link false (dialogue coding call old.state) answer (begun_by call old) new → new.channel.failed ≡ true → (old.channel.failed ≡ true) ⊎ IsFault answer
     fails (inl ends) failed = ends.fails failed
     fails (inr aborts) failed = let P : Answer → Type 0 = IsFault in inr (subst P (sym aborts.is) tt)
 
-    words : IsSuccess answer → Ends link (dialogue coding call old.state) answer old new ⊎ Aborts link false (dialogue coding call old.state) answer old new → Wired link coding call old new
+    words : IsSuccess answer → Ends link (dialogue coding call old.state) answer (begun_by call old) new ⊎ Aborts link false (dialogue coding call old.state) answer (begun_by call old) new → Wired link coding call old new
     words success (inl ends) = wired link coding call old new answer ends.completes success
     words success (inr aborts) = let P : Answer → Type 0 = IsSuccess in absurd (subst P aborts.is success)
 
@@ -107,16 +115,16 @@ module _ (coding : Coding) where
   nothing_views rule (call ∷ calls) = λ state. (nothing_resumes rule (dialogue coding call state), λ silent. nothing_views rule calls)
 
   -- a call that is played goes on with the later ones
-  pub plays_on : (room : Room) (call : Call) (later : List Call) (s t : Standing) (answer : Answer) → s.failed ≡ false → play room (dialogue coding call s.state) s ≡ Done answer t → run room coding (call ∷ later) s ≡ before answer (run room coding later t)
+  pub plays_on : (room : Room) (call : Call) (later : List Call) (s t : Standing) (answer : Answer) → s.failed ≡ false → play room (dialogue coding call s.state) (record s { state = entered call s.state }) ≡ Done answer t → run room coding (call ∷ later) s ≡ before answer (run room coding later t)
   plays_on room call later s t answer going is =
       let next : Standing → Ran = λ u. run room coding later u in
-      let P : Bool → Type 0 = λ failed. cond failed (Done (Fault SessionFailed) s) (play room (dialogue coding call s.state) s) ≡ Done answer t in
+      let P : Bool → Type 0 = λ failed. cond failed (Done (Fault SessionFailed) s) (play room (dialogue coding call s.state) (record s { state = entered call s.state })) ≡ Done answer t in
       run-cons coding room call later s ∙ ap (λ p. and_then p next) (subst P (sym going) is)
 
   pub refuses_on : (room : Room) (call : Call) (later : List Call) (s : Standing) → s.failed ≡ true → run room coding (call ∷ later) s ≡ before (Fault SessionFailed) (run room coding later s)
   refuses_on room call later s failed =
       let next : Standing → Ran = λ u. run room coding later u in
-      let P : Bool → Type 0 = λ f. cond f (Done (Fault SessionFailed) s) (play room (dialogue coding call s.state) s) ≡ Done (Fault SessionFailed) s in
+      let P : Bool → Type 0 = λ f. cond f (Done (Fault SessionFailed) s) (play room (dialogue coding call s.state) (record s { state = entered call s.state })) ≡ Done (Fault SessionFailed) s in
       run-cons coding room call later s ∙ ap (λ p. and_then p next) (subst P (sym failed) refl)
 
   -- the view of the calls after one that is done
@@ -156,7 +164,7 @@ module _ (link : Link) (coding : Coding) (calls later : List Call) (call : Call)
   counts_more done one is = length-append answers (one ∷ []) ∙ ap (λ n. n + 1) is ∙ sym (length-append done (call ∷ []))
 
   -- the next call is done
-  completes_next : mid.channel.failed ≡ false → Ends link (dialogue coding call mid.state) answer mid new → Reached link coding calls later old new (answers ++ answer ∷ [])
+  completes_next : mid.channel.failed ≡ false → Ends link (dialogue coding call mid.state) answer (begun_by call mid) new → Reached link coding calls later old new (answers ++ answer ∷ [])
   completes_next going ends =
       let ran = reached.ran in
       let done = ends.completes in
@@ -167,7 +175,7 @@ module _ (link : Link) (coding : Coding) (calls later : List Call) (call : Call)
           count = counts_more ran.done answer ran.count;
           came = ran.came ++ done.came;
           answered = ran.answered ++ done.answered;
-          goes = joined_goes link ran.came done.came ran.answered done.answered old mid new ran.goes done.goes;
+          goes = joined_goes link ran.came done.came ran.answered done.answered old mid new ran.goes (goes_from link done.came done.answered call mid new done.goes);
           runs = λ h agrees room more ended outcomes fit on.
               let first = ran.runs h agrees room (done.came ++ more) ended (outcomes_of done.answered ++ outcomes) (fitted room _ _ (done.goes.sent h) fit) (goes_after mid.channel.ended done.came more new.channel.ended ended done.goes.over on) in
               let played = done.plays h (reached.agrees agrees going mid.state).0 room more ended outcomes fit on in
@@ -176,7 +184,7 @@ module _ (link : Link) (coding : Coding) (calls later : List Call) (call : Call)
               ∙ ap (before_all answers) (plays_on coding room call later (standing mid (done.came ++ more) ended (outcomes_of done.answered ++ outcomes)) (standing new more ended outcomes) answer going played)
               ∙ sym (before_all-snoc answers answer (run room coding later (standing new more ended outcomes))));
         };
-        agrees = λ agrees going'. views_on coding call later done.came mid new mid.state done.goes.rule ends.keeps (reached.agrees agrees going);
+        agrees = λ agrees going'. views_on coding call later done.came mid new mid.state done.goes.rule (keeps_from (Silent (dialogue coding call mid.state)) done.came call mid new ends.keeps) (reached.agrees agrees going);
       }
 
   -- the session has failed
@@ -203,7 +211,7 @@ module _ (link : Link) (coding : Coding) (calls later : List Call) (call : Call)
         agrees = λ agrees going. let clash : true ≡ false = sym refused.failed ∙ going in cc;
       }))
 
-  aborts_next : mid.channel.failed ≡ false → Aborts link false (dialogue coding call mid.state) answer mid new → RunAborts link coding calls later old new (answers ++ answer ∷ [])
+  aborts_next : mid.channel.failed ≡ false → Aborts link false (dialogue coding call mid.state) answer (begun_by call mid) new → RunAborts link coding calls later old new (answers ++ answer ∷ [])
   aborts_next going aborts = record {
     first = answers;
     call = call;
@@ -213,7 +221,7 @@ module _ (link : Link) (coding : Coding) (calls later : List Call) (call : Call)
     going = going;
     fault = aborts.fault;
     after = new;
-    aborts = let P : Answer → Type 0 = λ a. Aborts link false (dialogue coding call mid.state) a mid new in subst P aborts.is aborts;
+    aborts = let P : Answer → Type 0 = λ a. Aborts link false (dialogue coding call mid.state) a (begun_by call mid) new in subst P aborts.is aborts;
     later = [];
     answers_are = ap (λ a. answers ++ a ∷ []) aborts.is;
     makes = (refl, refl);
@@ -224,7 +232,7 @@ module _ (link : Link) (coding : Coding) (calls later : List Call) (call : Call)
   next_answer (inl refused) = inl (refuses_next refused)
   next_answer (inr made) = go made.plays
     where
-      go : Ends link (dialogue coding call mid.state) answer mid new ⊎ Aborts link false (dialogue coding call mid.state) answer mid new → RunsSoFar link coding calls later old new (answers ++ answer ∷ [])
+      go : Ends link (dialogue coding call mid.state) answer (begun_by call mid) new ⊎ Aborts link false (dialogue coding call mid.state) answer (begun_by call mid) new → RunsSoFar link coding calls later old new (answers ++ answer ∷ [])
       go (inl ends) = inl (completes_next made.going ends)
       go (inr aborts) = inr (aborts_next made.going aborts)
 

@@ -5,16 +5,17 @@ use Rattle.ftp_base.specs.declared.types.fault.ConnectionError.{ConnectionError 
 use Rattle.ftp_control.specs.Saying.{due, said}
 use Rattle.ftp_calls.specs.declared.call.Call.{Call}
 use Rattle.ftp_calls.specs.declared.exchange.Turn.{Turn}
-use Rattle.ftp_calls.specs.declared.exchange.Turn.TheVariants.{First, Second}
+use Rattle.ftp_calls.specs.declared.exchange.Turn.TheVariants.{First, Second, Passive, ExtendedPassive, Active, Restart}
 use Rattle.ftp_session.specs.declared.session.stage.Awaits.{Awaits}
 use Rattle.ftp_session.specs.declared.session.stage.Stage.{Stage}
-use Rattle.ftp_session.specs.declared.session.stage.Stage.TheVariants.{At, Saying, Hearing, Arming}
+use Rattle.ftp_session.specs.declared.session.stage.Stage.TheVariants.{At, Saying, Hearing, Arming, Agreeing}
 use Rattle.ftp_session.specs.Coding.{Coding}
 use Rattle.ftp_calls.specs.declared.exchange.Exchange.{Exchange}
 use Rattle.ftp_calls.specs.declared.exchange.Row.TheVariants.{Exchanges, Arms}
 use Rattle.ftp_calls.specs.Exchanges.{ending_of, gives_reply, is_read, reads, row_of}
+use Rattle.ftp_calls.proofs.Openings.{read_opens_none}
 use Rattle.ftp_session.specs.Dialogue.{expected_of, Tree, Say, saying, awaiting, doing, later}
-use Rattle.ftp_session.specs.Steps.Stages.{is_second, begun_at, nodes_from, line_of, awaits_of, NodeOf, Begun}
+use Rattle.ftp_session.specs.Steps.Stages.{TurnOf, is_later, begun_at, nodes_from, line_of, awaits_of, NodeOf, Begun}
 use Rattle.ftp_session.specs.declared.session.stage.Step.{Step}
 use Rattle.ftp_session.specs.declared.session.stage.Step.TheVariants.{Next}
 use Rattle.ftp_session.specs.Link.{Link}
@@ -28,10 +29,27 @@ and_false false = refl
 one_fewer : (turn : Turn) → nodes_from turn - 1 < nodes_from turn
 one_fewer First = omega arith
 one_fewer Second = omega arith
+one_fewer (Passive offset) = omega arith
+one_fewer (ExtendedPassive offset) = omega arith
+one_fewer (Active address offset) = omega arith
+one_fewer (Restart offset) = omega arith
 
 two_fewer : (turn : Turn) → nodes_from turn - 2 < nodes_from turn
 two_fewer First = omega arith
 two_fewer Second = omega arith
+two_fewer (Passive offset) = omega arith
+two_fewer (ExtendedPassive offset) = omega arith
+two_fewer (Active address offset) = omega arith
+two_fewer (Restart offset) = omega arith
+
+-- a turn that comes later is none of a plain read
+pub later_is_no_read : (call : Call) (turn : Turn) → TurnOf call turn → is_later turn ≡ true → is_read call ≡ false
+later_is_no_read call First of later = let clash : false ≡ true = later in cc
+later_is_no_read call Second of later = of
+later_is_no_read call (Passive offset) of later = let clash : false ≡ true = later in cc
+later_is_no_read call (ExtendedPassive offset) of later = let clash : false ≡ true = later in cc
+later_is_no_read call (Active address offset) of later = let clash : false ≡ true = later in cc
+later_is_no_read call (Restart offset) of later = read_opens_none call of
 
 -- a line that is said first
 said_first : (coding : Coding) (command : Option Command) (line : List ℕ) (next : Tree) → is_none command ≡ false → line_of coding command ≡ Ok line → Say (Ok line) next ≡ saying coding command next
@@ -41,9 +59,13 @@ said_first coding (Some command) line next some is =
     ap S (sym is)
 
 -- a call that says something is no plain read
-pub no_read : (call : Call) (turn : Turn) (exchange : Exchange) → row_of call turn ≡ Exchanges exchange → (is_second turn ≡ true → is_read call ≡ false) → is_none exchange.says ≡ false → is_read call ≡ false
-no_read call First exchange row read some = ap reads row ∙ ap (λ b. gives_reply exchange.ending && b) some ∙ and_false (gives_reply exchange.ending)
-no_read call Second exchange row read some = read refl
+pub no_read : (call : Call) (turn : Turn) (exchange : Exchange) → row_of call turn ≡ Exchanges exchange → TurnOf call turn → is_none exchange.says ≡ false → is_read call ≡ false
+no_read call First exchange row of some = ap reads row ∙ ap (λ b. gives_reply exchange.ending && b) some ∙ and_false (gives_reply exchange.ending)
+no_read call Second exchange row of some = of
+no_read call (Passive offset) exchange row of some = read_opens_none call of
+no_read call (ExtendedPassive offset) exchange row of some = read_opens_none call of
+no_read call (Active address offset) exchange row of some = read_opens_none call of
+no_read call (Restart offset) exchange row of some = read_opens_none call of
 
 -- a line that hasn't begun to go out
 unbegun : (line : Option (List ℕ)) (a : Awaits) → is_none line ≡ false → begun_at (Saying line a) ≡ a.begun
@@ -51,16 +73,17 @@ unbegun None a some = let clash : true ≡ false = some in cc
 unbegun (Some line) a some = refl
 
 -- the first node is all that is left of an exchange, and of what comes after it
-pub node_begins : (coding : Coding) (call : Call) (turn : Turn) (e : Exchange) (stage : Stage) → row_of call turn ≡ Exchanges e → (is_second turn ≡ true → is_read call ≡ false) → NodeOf coding turn e stage → Begun coding call turn stage
+pub node_begins : (coding : Coding) (call : Call) (turn : Turn) (e : Exchange) (stage : Stage) → row_of call turn ≡ Exchanges e → TurnOf call turn → NodeOf coding turn e stage → Begun coding call turn stage
 node_begins coding call turn e (At other) row read node = absurd node
 node_begins coding call turn e (Arming other offset) row read node = absurd node
+node_begins coding call turn e (Agreeing agreeing) row read node = absurd node
 node_begins coding call turn e (Saying line a) row read node =
     let P : Awaits → Type 0 = λ x. Begun coding call turn (Saying line x) in
     subst P (sym node.3) (record {
       same = λ state. said_first coding e.says (due line) (awaiting coding (expected_of e.hears) e.ending state (later coding call turn)) node.2 node.0
           ∙ ap (λ r. doing coding r state (later coding call turn)) (sym row);
       fewer = one_fewer turn;
-      stage_of = (ap ending_of row, no_read call turn e row read node.2);
+      stage_of = (ap ending_of row, no_read call turn e row read node.2, read);
       begun = unbegun line (awaits_of turn e) node.1;
     })
 node_begins coding call turn e (Hearing a) row read node =
@@ -69,12 +92,12 @@ node_begins coding call turn e (Hearing a) row read node =
       same = λ state. ap (λ s. saying coding s (awaiting coding (expected_of e.hears) e.ending state (later coding call turn))) (sym node.0)
           ∙ ap (λ r. doing coding r state (later coding call turn)) (sym row);
       fewer = two_fewer turn;
-      stage_of = (ap ending_of row, read);
+      stage_of = (ap ending_of row, later_is_no_read call turn read, read);
       begun = refl;
     })
 
 -- a change of settings is all that is left
-pub arming_begins : (coding : Coding) (call : Call) (turn : Turn) (offset : ℕ) → row_of call turn ≡ Arms offset → (is_second turn ≡ true → is_read call ≡ false) → Begun coding call turn (Arming turn offset)
+pub arming_begins : (coding : Coding) (call : Call) (turn : Turn) (offset : ℕ) → row_of call turn ≡ Arms offset → TurnOf call turn → Begun coding call turn (Arming turn offset)
 arming_begins coding call turn offset row read = record {
   same = λ state. ap (λ r. doing coding r state (later coding call turn)) (sym row);
   fewer = one_fewer turn;

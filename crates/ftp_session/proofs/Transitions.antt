@@ -1,5 +1,5 @@
 -- Lemmas on the machine's steps and polls.
-use Rattle.std.proofs.Common.{◌∷◌, ◌≡◌, ◌<◌, ◌+◌, ℕ, length, Bool, true, false, cond, Option, Some, None, List, [], Result, Ok, Err, inl, inr, ◌⊎◌, refl, ap, sym, ◌∙◌, subst}
+use Rattle.std.proofs.Common.{◌∷◌, ◌++◌, append-nil, ◌≡◌, ◌<◌, ◌+◌, ℕ, length, Bool, true, false, cond, Option, Some, None, List, [], Result, Ok, Err, inl, inr, ◌⊎◌, refl, ap, sym, ◌∙◌, subst, arith}
 use Rattle.std.specs.Prelude.{IfOk}
 use Rattle.std.specs.declared.alloc.AllocError.{AllocError}
 use Rattle.futures.specs.declared.task.Poll.{Poll}
@@ -16,24 +16,27 @@ use Rattle.ftp_calls.specs.declared.call.Answer.{Answer}
 use Rattle.ftp_calls.specs.declared.call.Answer.TheVariants.{Unit, Fault}
 use Rattle.ftp_calls.specs.declared.call.Call.{Call}
 use Rattle.ftp_calls.specs.declared.exchange.Turn.{Turn}
-use Rattle.ftp_calls.specs.declared.exchange.Turn.TheVariants.{First, Second}
+use Rattle.ftp_calls.specs.declared.exchange.Turn.TheVariants.{First, Second, Passive, ExtendedPassive, Active, Restart}
 use Rattle.ftp_session.specs.declared.session.stage.Awaits.{Awaits}
 use Rattle.ftp_session.specs.declared.session.stage.Stage.{Stage}
-use Rattle.ftp_session.specs.declared.session.stage.Stage.TheVariants.{At, Saying, Hearing, Arming}
+use Rattle.ftp_session.specs.declared.session.stage.Stage.TheVariants.{At, Saying, Hearing, Arming, Agreeing}
 use Rattle.ftp_session.specs.declared.session.stage.Step.{Step}
 use Rattle.ftp_session.specs.declared.session.stage.Step.TheVariants.{Next, Pending, Done}
 use Rattle.ftp_session.specs.State.{SessionValue}
 use Rattle.ftp_session.specs.Coding.{Coding}
 use Rattle.ftp_calls.specs.declared.exchange.Row.{Row}
 use Rattle.ftp_calls.specs.declared.exchange.Row.TheVariants.{Exchanges, Arms}
-use Rattle.ftp_calls.specs.Exchanges.{is_read, row_of, says_of}
+use Rattle.ftp_calls.specs.Exchanges.{is_read, negotiates, row_of, says_of}
+use Rattle.ftp_calls.proofs.Openings.{read_opens_none}
+use Rattle.ftp_session.proofs.Stages.{later_is_no_read}
 use Rattle.ftp_session.specs.Dialogue.{Expected, expected_of, Tree, Say, Hear, Leaf, saying, armed, awaiting, doing, accepted, later, from_turn, dialogue}
-use Rattle.ftp_session.specs.Promises.{IsFault, HasFault, Aborts, Fails, SaidOrTaken, Touched, Untouched, LacksMemory, Plays, GivesFault, Reads, Rests, failed_from}
+use Rattle.ftp_session.specs.Promises.{IsFault, HasFault, Aborts, Fails, SaidOrTaken, Touched, Untouched, LacksMemory, Plays, GivesFault, Reads, Rests, begun_by, failed_from}
 use Rattle.ftp_control.specs.Channel.{untaken}
 use Rattle.ftp_session.specs.Run.{Resumes}
-use Rattle.ftp_session.specs.Steps.Stages.{is_second, remaining, awaited, begun_at, StageOf, line_of}
-use Rattle.ftp_session.specs.Steps.Moving.{Moves, Advances, Ends, Steps, PollSteps, Hears, BeginsExchange, Concludes, NothingTouched, NothingYet, Quiet, HasBegun, BeginsHere, Speaks, Takes, Tracks, wants_memory, withheld, after_fault}
-use Rattle.ftp_session.proofs.Moving.{leaf_ends, refused_line, lacks_memory_first, lacks_memory_at, stays_put, moves_on, ends_on, aborts_on, said_or_taken_on, untouched, untouched_after}
+use Rattle.ftp_session.specs.Steps.Stages.{is_later, remaining, awaited, begun_at, StageOf, line_of}
+use Rattle.ftp_session.specs.Steps.Moving.{Moves, Advances, Ends, Steps, PollSteps, Hears, BeginsExchange, Concludes, Made, NothingTouched, NothingYet, Quiet, Still, HasBegun, BeginsHere, Speaks, Takes, Tracks, wants_memory, withheld, after_fault}
+use Rattle.ftp_session.proofs.Moving.{leads_on, moves_on, leaf_ends, refused_line, lacks_memory_first, lacks_memory_at, stays_put, ends_on, aborts_on, said_or_taken_on, untouched, untouched_after}
+use Rattle.ftp_session.proofs.Negotiation.{unchanged_still}
 use Rattle.ftp_session.specs.Link.{Link}
 
 -- An exchange begins
@@ -51,7 +54,7 @@ row_refused link coding (Exchanges e) cause later v is = line_refused link codin
 row_refused link coding (Arms offset) cause later v is = let clash : Ok [] ≡ Err cause = is in cc
 
 -- an exchange that doesn't begin
-pub refused_ends : (link : Link) (coding : Coding) (call : Call) (turn : Turn) (fault : FtpError) (v : SessionValue) → v.channel.failed ≡ false → IsRefusalOf (line_of coding (says_of (row_of call turn))) fault → Ends link (from_turn coding call turn v.state) (Fault fault) v (after_fault (is_second turn) fault v) ⊎ Aborts link (is_second turn) (from_turn coding call turn v.state) (Fault fault) v (after_fault (is_second turn) fault v)
+pub refused_ends : (link : Link) (coding : Coding) (call : Call) (turn : Turn) (fault : FtpError) (v : SessionValue) → v.channel.failed ≡ false → IsRefusalOf (line_of coding (says_of (row_of call turn))) fault → Ends link (from_turn coding call turn v.state) (Fault fault) v (after_fault (is_later turn) fault v) ⊎ Aborts link (is_later turn) (from_turn coding call turn v.state) (Fault fault) v (after_fault (is_later turn) fault v)
 refused_ends link coding call turn (ConnectionError cause) v going is =
     inl (row_refused link coding (row_of call turn) cause (later coding call turn) v is)
 refused_ends link coding call turn (SecureError text) v going is = absurd is
@@ -59,30 +62,45 @@ refused_ends link coding call turn (UnexpectedResponse reply) v going is = absur
 refused_ends link coding call turn BadResponse v going is = absurd is
 refused_ends link coding call turn InvalidAddress v going is = absurd is
 refused_ends link coding call turn DataConnectionAlreadyOpen v going is = absurd is
-refused_ends link coding call First OutOfMemory v going is = inr (lacks_memory_first link (from_turn coding call First v.state) v going)
-refused_ends link coding call Second OutOfMemory v going is =
-    let tree = from_turn coding call Second v.state in
-    inr (lacks_memory_at link true tree tree v v (inl refl) (stays_put link tree tree v refl).moves going)
+refused_ends link coding call turn OutOfMemory v going is =
+    let tree = from_turn coding call turn v.state in
+    inr (elim (is_later turn) as (λ b. Aborts link b tree (Fault OutOfMemory) v (after_fault b OutOfMemory v)) [
+      | true ↦ lacks_memory_at link true tree tree v v (inl refl) (stays_put link tree tree v refl).moves going
+      | false ↦ lacks_memory_first link tree v going
+    ])
 refused_ends link coding call turn SessionFailed v going is = absurd is
 
 -- an exchange begins
-pub exchange_begins : (link : Link) (coding : Coding) (call : Call) (turn : Turn) (stage' : Stage) (old new : SessionValue) (step : Step) → old.channel.failed ≡ false → BeginsExchange coding call turn stage' old new step → Steps link (is_second turn) (from_turn coding call turn old.state) (remaining coding call old.state stage') old new step
+pub exchange_begins : (link : Link) (coding : Coding) (call : Call) (turn : Turn) (stage' : Stage) (old new : SessionValue) (step : Step) → old.channel.failed ≡ false → BeginsExchange coding call turn stage' old new step → Steps link (is_later turn) (from_turn coding call turn old.state) (remaining coding call old.state stage') old new step
 exchange_begins link coding call turn stage' old new Next going begins =
     let P : SessionValue → Type 0 = λ v. Advances link (from_turn coding call turn old.state) (remaining coding call old.state stage') old v in
     subst P (sym begins.0) (stays_put link (from_turn coding call turn old.state) (remaining coding call old.state stage') old (begins.1.same old.state))
 exchange_begins link coding call turn stage' old new Pending going begins = absurd begins
 exchange_begins link coding call turn stage' old new (Done answer) going refused =
-    let P : SessionValue → Answer → Type 0 = λ v a. Ends link (from_turn coding call turn old.state) a old v ⊎ Aborts link (is_second turn) (from_turn coding call turn old.state) a old v in
+    let P : SessionValue → Answer → Type 0 = λ v a. Ends link (from_turn coding call turn old.state) a old v ⊎ Aborts link (is_later turn) (from_turn coding call turn old.state) a old v in
     let Q : SessionValue → Type 0 = λ v. P v answer in
-    let R : Answer → Type 0 = P (after_fault (is_second turn) refused.fault old) in
+    let R : Answer → Type 0 = P (after_fault (is_later turn) refused.fault old) in
     subst Q (sym refused.leaves) (subst R (sym refused.is) (refused_ends link coding call turn refused.fault old going refused.cause))
 
-pub exchange_is_quiet : (coding : Coding) (call : Call) (turn : Turn) (stage' : Stage) (old new : SessionValue) (step : Step) → BeginsExchange coding call turn stage' old new step → Quiet coding call (At turn) stage' old new step
-exchange_is_quiet coding call turn stage' old new Next begins = λ begun. record { same = begins.0; begun = sym begins.1.begun ∙ begun; tree = begins.1.same }
-exchange_is_quiet coding call turn stage' old new Pending begins = tt
-exchange_is_quiet coding call turn stage' old new (Done answer) begins = tt
+pub advances_on : (link : Link) (tree tree' last : Tree) (a b c : SessionValue) → Advances link tree tree' a b → Advances link tree' last b c → Advances link tree last a c
+advances_on link tree tree' last a b c first second = record {
+  moves = moves_on link tree tree' a b c first.moves last second.moves;
+  failed = second.failed ∙ first.failed;
+}
 
-pub exchange_tracks : (link : Link) (coding : Coding) (call : Call) (turn : Turn) (stage' : Stage) (tree : Tree) (old new : SessionValue) (step : Step) → BeginsExchange coding call turn stage' old new step → Tracks link (is_second turn) (begun_at stage') tree old new step
+pub exchange_is_quiet : (link : Link) (coding : Coding) (call : Call) (turn : Turn) (stage' : Stage) (old new : SessionValue) (step : Step) → BeginsExchange coding call turn stage' old new step → Quiet link coding call (At turn) stage' old new step
+exchange_is_quiet link coding call turn stage' old new Next begins = λ begun.
+    let is : remaining coding call old.state stage' ≡ from_turn coding call turn old.state = begins.1.same old.state in
+    record {
+      still = unchanged_still link (from_turn coding call turn old.state) (remaining coding call old.state stage') old new begins.0 is;
+      begun = sym begins.1.begun ∙ begun;
+      speaks = λ speaks. (let P : Tree → Type 0 = Speaks in subst P (sym is) speaks);
+      read = λ read. begins.0;
+    }
+exchange_is_quiet link coding call turn stage' old new Pending begins = tt
+exchange_is_quiet link coding call turn stage' old new (Done answer) begins = tt
+
+pub exchange_tracks : (link : Link) (coding : Coding) (call : Call) (turn : Turn) (stage' : Stage) (tree : Tree) (old new : SessionValue) (step : Step) → BeginsExchange coding call turn stage' old new step → Tracks link (is_later turn) (begun_at stage') tree old new step
 exchange_tracks link coding call turn stage' tree old new Next begins =
     let P : SessionValue → Type 0 = λ v. NothingTouched link old v in
     (λ has. inl (sym begins.1.begun ∙ has), λ none. (sym begins.1.begun ∙ none, subst P (sym begins.0) (untouched link old)))
@@ -160,28 +178,44 @@ steps_from link coding begun call state state' stage stage' b c step same steps 
     let P : State → Type 0 = λ s. Steps link begun (remaining coding call s stage) (remaining coding call s stage') b c step in
     subst P same steps
 
-pub advances_on : (link : Link) (tree tree' last : Tree) (a b c : SessionValue) → Advances link tree tree' a b → Advances link tree' last b c → Advances link tree last a c
-advances_on link tree tree' last a b c first second = record {
-  moves = moves_on link tree tree' a b c first.moves last second.moves;
-  failed = second.failed ∙ first.failed;
-}
-
--- what was made of a call in a poll: as long as nothing was said or taken, nothing has changed
+-- what was made of a call in a poll: as long as nothing was said or taken, the transport was asked at most
 pub record SoFar (link : Link) (coding : Coding) (call : Call) (stage stage' : Stage) (old new : SessionValue) : Type 0 where
   pub moved : Advances link (remaining coding call old.state stage) (remaining coding call old.state stage') old new
-  pub quiet : begun_at stage' ≡ false → NothingYet coding call stage stage' old new
+  pub quiet : begun_at stage' ≡ false → NothingYet link coding call stage stage' old new
   pub stage_of : StageOf call stage'
   pub begun : HasBegun link (begun_at stage) (begun_at stage') (remaining coding call old.state stage) old new
-  pub asked : new.asked ≡ old.asked
+  pub asked : negotiates call ≡ false → new.asked ≡ old.asked
 
 pub nothing_so_far : (link : Link) (coding : Coding) (call : Call) (stage : Stage) (v : SessionValue) → StageOf call stage → SoFar link coding call stage stage v v
-nothing_so_far link coding call stage v stage_of = record {
-  moved = stays_put link (remaining coding call v.state stage) (remaining coding call v.state stage) v refl;
-  quiet = λ begun. record { same = refl; begun = begun; tree = λ state. refl };
-  stage_of = stage_of;
-  begun = (λ has. inl has, λ none. (none, untouched link v));
-  asked = refl;
+nothing_so_far link coding call stage v stage_of =
+    let tree = remaining coding call v.state stage in
+    record {
+      moved = stays_put link tree tree v refl;
+      quiet = λ begun. record { still = unchanged_still link tree tree v v refl refl; begun = begun; speaks = λ speaks. speaks; read = λ read. refl };
+      stage_of = stage_of;
+      begun = (λ has. inl has, λ none. (none, untouched link v));
+      asked = λ none. refl;
+    }
+
+-- nothing was said or read in two steps
+still_on : (link : Link) (tree tree' last : Tree) (a b c : SessionValue) → Still link tree tree' a b → Still link tree' last b c → Still link tree last a c
+unfolding advances_on moves_on leads_on
+still_on link tree tree' last a b c first second = record {
+  advances = advances_on link tree tree' last a b c first.advances second.advances;
+  none = ap (λ l. l ++ second.advances.moves.leads.came) first.none ∙ second.none;
+  untouched = record {
+    said = λ h. second.untouched.said h ∙ first.untouched.said h;
+    untaken = second.untouched.untaken ∙ append-nil (untaken b.channel) ∙ first.untouched.untaken;
+  };
 }
+
+-- what was said or taken after nothing was
+back_to : (link : Link) {tree tree' : Tree} (a b c : SessionValue) → Still link tree tree' a b → link.tells → SaidOrTaken b c → SaidOrTaken a c
+back_to link a b c still h (inl more) = inl (omega (arith, more, ap length (still.untouched.said h)))
+back_to link a b c still h (inr fewer) =
+    let received = still.advances.moves.leads.goes.received h ∙ ap (λ l. a.channel.told.received ++ l) still.none ∙ append-nil a.channel.told.received in
+    let left = still.untouched.untaken ∙ append-nil (untaken a.channel) in
+    inr (omega (arith, fewer, ap length received, ap length left))
 
 -- a change of settings is the answer
 pub arms : (link : Link) (offset : ℕ) (old new : SessionValue) → old.channel.failed ≡ false → new ≡ record old { state = armed offset old.state } → Ends link (Leaf Unit (armed offset old.state)) Unit old new
@@ -190,13 +224,59 @@ arms link offset old new going is =
     let P : SessionValue → Type 0 = λ v. Ends link tree Unit old v in
     subst P (sym is) (leaf_ends link tree Unit old old (record old { state = armed offset old.state }) (stays_put link tree tree old refl).moves (λ f. inl f) refl refl)
 
+later_none : (call : Call) (turn : Turn) → (is_later turn ≡ true → is_read call ≡ false) → is_read call ≡ true → is_later turn ≡ false
+later_none call turn none read = go (is_later turn) refl
+  where
+    go : (b : Bool) → is_later turn ≡ b → is_later turn ≡ false
+    go true is = let clash : true ≡ false = sym read ∙ none is in cc
+    go false is = is
+
+-- a dialogue that is aborted where nothing was said or read before
+aborts_after : (link : Link) (tree tree' : Tree) (a b c : SessionValue) (begun : Bool) (answer : Answer) → Still link tree tree' a b → Aborts link begun tree' answer b c → Aborts link begun tree answer a c
+unfolding leads_on
+aborts_after link tree tree' a b c begun answer still second = record {
+  place = second.place;
+  at = second.at;
+  leads = leads_on link tree tree' a b second.at still.advances.moves second.place second.leads;
+  state = second.state ∙ still.advances.moves.state;
+  going = second.going;
+  fault = second.fault;
+  is = second.is;
+  cause = go second.cause;
+}
+  where
+    came : List ℕ
+    came = still.advances.moves.leads.came ++ second.leads.came
+
+    touched : Touched link tree' b second.at → Touched link tree a second.at
+    touched here = λ h resumes. back_to link a b second.at still h (here h (still.advances.moves.resumes resumes))
+
+    quiet : Untouched link second.leads.came b second.at → Untouched link came a second.at
+    quiet here = record {
+      said = λ h. here.said h ∙ still.untouched.said h;
+      untaken = here.untaken ∙ ap (λ l. l ++ second.leads.came) (still.untouched.untaken ∙ append-nil (untaken a.channel)) ∙ ap (λ l. untaken a.channel ++ (l ++ second.leads.came)) (sym still.none);
+    }
+
+    go : Fails link second.place second.fault second.at c ⊎ LacksMemory link begun tree' second.leads.came second.fault b second.at c → Fails link second.place second.fault second.at c ⊎ LacksMemory link begun tree came second.fault a second.at c
+    go (inl fails) = inl fails
+    go (inr lacks) = inr (record { is = lacks.is; leaves = leaves lacks.leaves })
+      where
+        leaves : ((c ≡ second.at) × (begun ≡ false) × Untouched link second.leads.came b second.at) ⊎ ((c ≡ failed_from second.at) × ((begun ≡ true) ⊎ Touched link tree' b second.at)) → ((c ≡ second.at) × (begun ≡ false) × Untouched link came a second.at) ⊎ ((c ≡ failed_from second.at) × ((begun ≡ true) ⊎ Touched link tree a second.at))
+        leaves (inl quietly) = inl (quietly.0, quietly.1, quiet quietly.2)
+        leaves (inr (failed, inl before)) = inr (failed, inl before)
+        leaves (inr (failed, inr here)) = inr (failed, inr (touched here))
+
 -- a plain read that goes on has said and taken nothing
 pub read_is_quiet : (call : Call) (stage : Stage) → StageOf call stage → is_read call ≡ true → begun_at stage ≡ false
 read_is_quiet call (At First) stage_of read = refl
-read_is_quiet call (At Second) stage_of read = let clash : true ≡ false = sym read ∙ stage_of refl in cc
+read_is_quiet call (At Second) stage_of read = let clash : true ≡ false = sym read ∙ stage_of in cc
+read_is_quiet call (At (Passive offset)) stage_of read = refl
+read_is_quiet call (At (ExtendedPassive offset)) stage_of read = refl
+read_is_quiet call (At (Active address offset)) stage_of read = refl
+read_is_quiet call (At (Restart offset)) stage_of read = let clash : true ≡ false = sym read ∙ read_opens_none call stage_of in cc
 read_is_quiet call (Saying line a) stage_of read = let clash : true ≡ false = sym read ∙ stage_of.1 in cc
-read_is_quiet call (Arming First offset) stage_of read = refl
-read_is_quiet call (Arming Second offset) stage_of read = let clash : true ≡ false = sym read ∙ stage_of.1 refl in cc
+read_is_quiet call (Arming turn offset) stage_of read = later_none call turn (λ later. later_is_no_read call turn stage_of.1 later) read
+read_is_quiet call (Agreeing way) stage_of read = let clash : true ≡ false = sym read ∙ read_opens_none call stage_of.0 in cc
 read_is_quiet call (Hearing a) stage_of read = go a.begun refl
   where
     go : (b : Bool) → a.begun ≡ b → a.begun ≡ false
@@ -217,12 +297,16 @@ module _ (link : Link) (coding : Coding) (call : Call) (stage stage' : Stage) (a
       before (inl was) = inl was
       before (inr here) = inr (λ h first. said_or_taken_on link a b c moves.leads.came moves.leads.answered moves.leads.goes h (here h first))
 
-      -- as long as nothing has begun, nothing has changed
-      from_here : NothingYet coding call stage stage' a b → BeginsHere link (remaining coding call b.state stage') b c → BeginsHere link (remaining coding call a.state stage) a c
-      from_here quiet here =
-          let P : SessionValue → Type 0 = λ v. BeginsHere link (remaining coding call v.state stage') v c in
-          let Q : Tree → Type 0 = λ t. BeginsHere link t a c in
-          subst Q (quiet.tree a.state) (subst P quiet.same here)
+      -- as long as nothing has begun, nothing was said or read
+      from_here : NothingYet link coding call stage stage' a b → BeginsHere link (remaining coding call b.state stage') b c → BeginsHere link (remaining coding call a.state stage) a c
+      from_here quiet here = λ h first. back_to link a b c quiet.still h (here' h (first_of first))
+        where
+          here' : BeginsHere link (remaining coding call a.state stage') b c
+          here' = let P : State → Type 0 = λ s. BeginsHere link (remaining coding call s stage') b c in subst P so_far.moved.moves.state here
+
+          first_of : Speaks (remaining coding call a.state stage) ⊎ Resumes a.channel.rule a.channel.kept (remaining coding call a.state stage) → Speaks (remaining coding call a.state stage') ⊎ Resumes b.channel.rule b.channel.kept (remaining coding call a.state stage')
+          first_of (inl speaks) = inl (quiet.speaks speaks)
+          first_of (inr resumes) = inr (so_far.moved.moves.resumes resumes)
 
       go : (x : Bool) → begun_at stage' ≡ x → (begun_at stage' ≡ true) ⊎ BeginsHere link (remaining coding call b.state stage') b c → (begun_at stage ≡ true) ⊎ BeginsHere link (remaining coding call a.state stage) a c
       go true has here = before (so_far.begun.0 has)
@@ -230,16 +314,24 @@ module _ (link : Link) (coding : Coding) (call : Call) (stage stage' : Stage) (a
       go false none (inr here) = inr (from_here (so_far.quiet none) here)
 
   -- one step more
-  pub next_step : (stage'' : Stage) (c : SessionValue) → Steps link (begun_at stage') (remaining coding call b.state stage') (remaining coding call b.state stage'') b c Next → Quiet coding call stage' stage'' b c Next → HasBegun link (begun_at stage') (begun_at stage'') (remaining coding call b.state stage') b c → StageOf call stage'' → c.asked ≡ b.asked → SoFar link coding call stage stage'' a c
+  pub next_step : (stage'' : Stage) (c : SessionValue) → Steps link (begun_at stage') (remaining coding call b.state stage') (remaining coding call b.state stage'') b c Next → Quiet link coding call stage' stage'' b c Next → HasBegun link (begun_at stage') (begun_at stage'') (remaining coding call b.state stage') b c → StageOf call stage'' → (negotiates call ≡ false → c.asked ≡ b.asked) → SoFar link coding call stage stage'' a c
   next_step stage'' c steps quiet begun stage_of asked = record {
     moved = advances_on link (remaining coding call a.state stage) (remaining coding call a.state stage') (remaining coding call a.state stage'') a b c so_far.moved (steps_from link coding (begun_at stage') call a.state b.state stage' stage'' b c Next so_far.moved.moves.state steps);
     quiet = λ begun.
         let second = quiet begun in
         let first = so_far.quiet second.begun in
-        record { same = second.same ∙ first.same; begun = first.begun; tree = λ state. second.tree state ∙ first.tree state };
+        let S : State → Type 0 = λ s. Still link (remaining coding call s stage') (remaining coding call s stage'') b c in
+        let P : State → Type 0 = λ s. Speaks (remaining coding call s stage') → Speaks (remaining coding call s stage'') in
+        let state = so_far.moved.moves.state in
+        record {
+          still = still_on link (remaining coding call a.state stage) (remaining coding call a.state stage') (remaining coding call a.state stage'') a b c first.still (subst S state second.still);
+          begun = first.begun;
+          speaks = λ speaks. subst P state second.speaks (first.speaks speaks);
+          read = λ read. second.read read ∙ first.read read;
+        };
     stage_of = stage_of;
     begun = begun_on stage'' c steps.moves begun;
-    asked = asked ∙ so_far.asked;
+    asked = λ none. asked none ∙ so_far.asked none;
   }
 
   -- the last step
@@ -257,10 +349,8 @@ module _ (link : Link) (coding : Coding) (call : Call) (stage stage' : Stage) (a
       aborted true has aborts = aborts_on link (remaining coding call a.state stage) (remaining coding call a.state stage') a b c so_far.moved.moves (begun_at stage) (begun_at stage') answer (λ begun. touched (so_far.begun.0 begun)) has aborts
       aborted false has aborts =
           let quiet = so_far.quiet has in
-          let P : SessionValue → Type 0 = λ v. Aborts link (begun_at stage) (remaining coding call a.state stage) answer v c in
-          let Q : Tree → Type 0 = λ t. Aborts link (begun_at stage) t answer b c in
           let R : Bool → Type 0 = λ x. Aborts link x (remaining coding call a.state stage') answer b c in
-          subst P quiet.same (subst Q (quiet.tree a.state) (subst R (has ∙ sym quiet.begun) aborts))
+          aborts_after link (remaining coding call a.state stage) (remaining coding call a.state stage') a b c (begun_at stage) answer quiet.still (subst R (has ∙ sym quiet.begun) aborts)
 
       go : (x : Bool) → begun_at stage' ≡ x → Ends link (remaining coding call a.state stage') answer b c ⊎ Aborts link (begun_at stage') (remaining coding call a.state stage') answer b c → Ends link (remaining coding call a.state stage) answer a c ⊎ Aborts link (begun_at stage) (remaining coding call a.state stage) answer a c
       go x has (inl ends) = inl (ends_on link (remaining coding call a.state stage) (remaining coding call a.state stage') a b c so_far.moved.moves answer so_far.moved.failed ends)
@@ -276,14 +366,29 @@ module _ (link : Link) (coding : Coding) (call : Call) (stage stage' : Stage) (a
   pub rests_from : (c : SessionValue) → is_read call ≡ true → Rests link b c → Rests link a c
   rests_from c read rests =
       let P : SessionValue → Type 0 = λ v. Rests link v c in
-      subst P (so_far.quiet (read_is_quiet call stage' so_far.stage_of read)).same rests
+      subst P ((so_far.quiet (read_is_quiet call stage' so_far.stage_of read)).read read) rests
+
+-- a call that was entered is made
+pub made_by : (link : Link) (coding : Coding) (call : Call) (stage stage' : Stage) (old entered new : SessionValue) (answer : Answer) → old.channel.failed ≡ false → entered ≡ begun_by call old → remaining coding call entered.state stage ≡ dialogue coding call old.state → begun_at stage ≡ false → PollSteps link (begun_at stage) (remaining coding call entered.state stage) (remaining coding call entered.state stage') entered new (poll.Ready answer) → Made link coding call old new answer
+made_by link coding call stage stage' old entered new answer going same tree begun polls =
+    let T : Tree → Bool → SessionValue → Type 0 = λ t b v. Ends link t answer v new ⊎ Aborts link b t answer v new in
+    let P : SessionValue → Type 0 = λ v. T (dialogue coding call old.state) false v in
+    let Q : Bool → Type 0 = λ b. T (dialogue coding call old.state) b entered in
+    let R : Tree → Type 0 = λ t. T t (begun_at stage) entered in
+    inr (record { going = going; plays = subst P same (subst Q begun (subst R tree polls)) })
+
+-- a call that opens no data connection begins where it is
+pub begun_plain : (call : Call) (v : SessionValue) → negotiates call ≡ false → begun_by call v ≡ v
+begun_plain call v plain =
+    let F : Bool → SessionValue = λ b. record v { state = cond b (armed 0 v.state) v.state } in
+    ap F plain
 
 -- a call whose arguments found no memory
-pub withheld_plays : (link : Link) (coding : Coding) (call : Call) (v : SessionValue) → Plays link coding call v v (Fault (withheld v))
-withheld_plays link coding call v =
+pub withheld_plays : (link : Link) (coding : Coding) (call : Call) (v : SessionValue) → begun_by call v ≡ v → Plays link coding call v v (Fault (withheld v))
+withheld_plays link coding call v same =
     elim v.channel.failed as (λ b. v.channel.failed ≡ b → Plays link coding call v v (Fault (cond b SessionFailed OutOfMemory))) [
       | true ↦ λ failed. record { wired = λ success. absurd success; made = inl (record { failed = failed; is = refl; unchanged = refl }); fails = λ f. inl f }
-      | false ↦ λ going. record { wired = λ success. absurd success; made = inr (record { going = going; plays = inr (lacks_memory_first link (dialogue coding call v.state) v going) }); fails = λ f. inl f }
+      | false ↦ λ going. record { wired = λ success. absurd success; made = inr (record { going = going; plays = inr (let P : SessionValue → Type 0 = λ x. Aborts link false (dialogue coding call v.state) (Fault OutOfMemory) x v in subst P (sym same) (lacks_memory_first link (dialogue coding call v.state) v going)) }); fails = λ f. inl f }
     ] refl
 
 -- what is made of a call whose arguments were copied

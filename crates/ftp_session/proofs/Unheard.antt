@@ -32,10 +32,10 @@ use Rattle.ftp_calls.specs.declared.exchange.Turn.TheVariants.{First}
 use Rattle.ftp_calls.specs.declared.exchange.Exchange.{Exchange}
 use Rattle.ftp_calls.specs.declared.exchange.Row.{Row}
 use Rattle.ftp_calls.specs.declared.exchange.Row.TheVariants.{Exchanges, Arms}
-use Rattle.ftp_calls.specs.Exchanges.{is_read, reads, row_of}
+use Rattle.ftp_calls.specs.Exchanges.{is_read, negotiates, reads, row_of}
 use Rattle.ftp_session.specs.declared.session.state.State.{State}
 use Rattle.ftp_session.specs.declared.session.stage.Stage.{Stage}
-use Rattle.ftp_session.specs.declared.session.stage.Stage.TheVariants.{At, Saying, Hearing, Arming}
+use Rattle.ftp_session.specs.declared.session.stage.Stage.TheVariants.{At, Saying, Hearing, Arming, Agreeing}
 use Rattle.ftp_session.specs.declared.model.Standing.{Standing}
 use Rattle.ftp_session.specs.declared.model.Wait.{Wait}
 use Rattle.ftp_session.specs.declared.model.Wait.TheVariants as wait
@@ -43,10 +43,10 @@ use Rattle.ftp_session.specs.declared.model.Played.{Played}
 use Rattle.ftp_session.specs.declared.model.Played.TheVariants.{Done, Pending}
 use Rattle.ftp_session.specs.declared.model.Script.{Script}
 use Rattle.ftp_session.specs.Coding.{Coding}
-use Rattle.ftp_session.specs.Dialogue.{Expected, expected_of, Tree, Say, Hear, Ask, Leaf, saying, awaiting, armed, doing, exchanging, concluded, later, dialogue}
-use Rattle.ftp_session.specs.Play.{play, fits, heard_then, taken, asked_then}
+use Rattle.ftp_session.specs.Dialogue.{Expected, expected_of, Tree, Say, Hear, Look, Ask, Leaf, saying, awaiting, armed, doing, exchanging, concluded, entered, from_turn, later, negotiating, dialogue}
+use Rattle.ftp_session.specs.Play.{play, address_at, fits, heard_then, taken, asked_then}
 use Rattle.ftp_session.specs.Script.{heard_in, heard_at}
-use Rattle.ftp_session.specs.Steps.Stages.{remaining}
+use Rattle.ftp_session.specs.Steps.Stages.{StageOf, remaining}
 use Rattle.ftp_session.proofs.Stages.{no_read}
 use Rattle.ftp_session.proofs.Moving.{play-Say, play-Leaf, play-Refused}
 use Rattle.ftp_session.proofs.Hearing.{play-Hear}
@@ -155,6 +155,7 @@ play_shrinks room (Hear codes next) s how t is =
       | Ended ↦ λ e. omega (arith, play_shrinks room (next (Err (fault.ConnectionError connection.UnexpectedEof))) (record (taken (left_by Ended s.bytes) s) { failed = true }) how t e, left_shrinks Ended s.bytes)
       | Waits ↦ λ e. omega (arith, ap length (ap bytes_in e))
     ] is
+play_shrinks room (Look end next) s how t is = play_shrinks room (next (address_at end s)) s how t is
 play_shrinks room (Ask request next) s how t is =
     let k : RequestOutcome → Standing → Played = λ answer u. play room (next answer) u in
     elim s.outcomes as (λ o. asked_then o request s k ≡ Pending how t → length t.bytes ≤ length s.bytes) [
@@ -239,8 +240,8 @@ module _ (coding : Coding) (room : Room) (script : Script) (s : Standing) (untak
   never_waits offset state is = let clash : Done answers.Unit (record s { state = armed offset state }) ≡ Pending how t = sym (play-Leaf room answers.Unit (armed offset state) s) ∙ is in cc
 
   -- at each stage of a call
-  pub lacks_room : (call : Call) (state : State) (stage : Stage) → play room (remaining coding call state stage) s ≡ Pending how t → LacksRoomFor room s (remaining coding call state stage)
-  lacks_room call state (At turn) is = row (row_of call turn) is
+  pub lacks_room : (call : Call) (state : State) (stage : Stage) → negotiates call ≡ false → StageOf call stage → play room (remaining coding call state stage) s ≡ Pending how t → LacksRoomFor room s (remaining coding call state stage)
+  lacks_room call state (At turn) plain stage_of is = row (row_of call turn) is
     where
       line : (e : Exchange) (l : Result (List ℕ) Cause) → play room (Say l (awaiting coding (expected_of e.hears) e.ending state (later coding call turn))) s ≡ Pending how t → LacksRoomFor room s (Say l (awaiting coding (expected_of e.hears) e.ending state (later coding call turn)))
       line e (Ok bytes) is = says_more bytes (expected_of e.hears) e.ending state (later coding call turn) is
@@ -253,13 +254,21 @@ module _ (coding : Coding) (room : Room) (script : Script) (s : Standing) (untak
       row : (r : Row) → play room (doing coding r state (later coding call turn)) s ≡ Pending how t → LacksRoomFor room s (doing coding r state (later coding call turn))
       row (Exchanges e) is = go e e.says is
       row (Arms offset) is = never_waits offset state is
-  lacks_room call state (Saying line a) is = says_more (due line) (expected_of a.hears) a.ending state (later coding call a.turn) is
-  lacks_room call state (Hearing a) is = absurd (hears_none (expected_of a.hears) a.ending state (later coding call a.turn) s.said s.unsent is)
-  lacks_room call state (Arming turn offset) is = never_waits offset state is
+  lacks_room call state (Saying line a) plain stage_of is = says_more (due line) (expected_of a.hears) a.ending state (later coding call a.turn) is
+  lacks_room call state (Hearing a) plain stage_of is = absurd (hears_none (expected_of a.hears) a.ending state (later coding call a.turn) s.said s.unsent is)
+  lacks_room call state (Arming turn offset) plain stage_of is = never_waits offset state is
+  lacks_room call state (Agreeing way) plain stage_of is = let clash : true ≡ false = sym stage_of.0 ∙ plain in cc
+
+-- the dialogue of a call that opens no data connection
+pub plain_dialogue : (coding : Coding) (call : Call) (state : State) → negotiates call ≡ false → dialogue coding call state ≡ from_turn coding call First state
+plain_dialogue coding call state plain = ap (λ b. cond b (negotiating coding call state.settings.restart_offset (armed 0 state)) (from_turn coding call First state)) plain
+
+pub plain_entered : (call : Call) (state : State) → negotiates call ≡ false → entered call state ≡ state
+plain_entered call state plain = ap (λ b. cond b (armed 0 state) state) plain
 
 -- a call that says a line first is no plain read
-pub says_no_read : (coding : Coding) (call : Call) (state : State) (line : List ℕ) (next : Tree) → dialogue coding call state ≡ Say (Ok line) next → is_read call ≡ false
-says_no_read coding call state line next is = row (row_of call First) refl is
+pub says_no_read : (coding : Coding) (call : Call) (state : State) (line : List ℕ) (next : Tree) → negotiates call ≡ false → dialogue coding call state ≡ Say (Ok line) next → is_read call ≡ false
+says_no_read coding call state line next plain is = row (row_of call First) refl (sym (plain_dialogue coding call state plain) ∙ is)
   where
     go : (e : Exchange) → row_of call First ≡ Exchanges e → exchanging coding e state (later coding call First) ≡ Say (Ok line) next → (says : Option Command) → e.says ≡ says → is_read call ≡ false
     go e at is None none =
@@ -267,7 +276,7 @@ says_no_read coding call state line next is = row (row_of call First) refl is
         let T : Option Command → Tree = λ o. saying coding o after in
         let clash : after ≡ Say (Ok line) next = sym (ap T none) ∙ is in
         cc
-    go e at is (Some command) some = no_read call First e at (λ second. (let clash : false ≡ true = second in cc)) (ap is_none some)
+    go e at is (Some command) some = no_read call First e at plain (ap is_none some)
 
     row : (r : Row) → row_of call First ≡ r → doing coding r state (later coding call First) ≡ Say (Ok line) next → is_read call ≡ false
     row (Exchanges e) at is = go e at is e.says refl

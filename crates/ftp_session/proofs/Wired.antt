@@ -31,10 +31,12 @@ use Rattle.ftp_session.specs.State.{SessionValue}
 use Rattle.ftp_session.specs.Coding.{Coding}
 use Rattle.ftp_calls.specs.declared.exchange.Row.{Row}
 use Rattle.ftp_calls.specs.declared.exchange.Row.TheVariants.{Exchanges, Arms}
-use Rattle.ftp_calls.specs.Exchanges.{row_of}
-use Rattle.ftp_session.specs.Dialogue.{Expected, expected_of, Tree, Say, Leaf, saying, awaiting, concluded, accepted, exchanging, armed, doing, later, dialogue}
+use Rattle.ftp_calls.specs.Exchanges.{ending_of, negotiates, row_of}
+use Rattle.ftp_session.proofs.Agreeing.{first_plain, row_agrees, second_plain}
+use Rattle.ftp_session.specs.Steps.Moving.{agrees}
+use Rattle.ftp_session.specs.Dialogue.{Expected, expected_of, Tree, Say, Leaf, saying, awaiting, concluded, accepted, exchanging, armed, doing, entered, from_turn, later, negotiating, dialogue}
 use Rattle.ftp_session.specs.Play.{play, heard_then}
-use Rattle.ftp_session.specs.Promises.{standing, Completes, IsSuccess, Says, Exchanged, ExchangedIf, IsSilent, Succeeds, SucceedsBy, Wired, goes_on_with}
+use Rattle.ftp_session.specs.Promises.{standing, begun_by, Completes, IsSuccess, Says, Exchanged, ExchangedIf, IsSilent, Succeeds, SucceedsBy, SucceedsUnless, Wired, goes_on_with}
 use Rattle.ftp_session.proofs.Moving.{play-Say, play-Leaf, play-Refused}
 use Rattle.ftp_session.proofs.Hearing.{play-Hear}
 use Rattle.ftp_session.specs.Link.{Link}
@@ -122,17 +124,21 @@ one_exchange coding exchange state next answer s t success is = go exchange.says
             }
 
 -- the last exchange ends in a leaf
-accepted_leaf : (coding : Coding) (how : Ending) (state : State) (reply : Response) → (answer : Answer) × (new : State) × (accepted coding how state reply (λ x. Leaf Unit x) ≡ Leaf answer new)
-accepted_leaf coding ending.Done state reply = (Unit, state, refl)
-accepted_leaf coding ending.GivesReply state reply = (Reply reply, state, refl)
-accepted_leaf coding ending.Greets state reply = (Unit, _, refl)
-accepted_leaf coding ending.GivesPath state reply = (_, state, refl)
-accepted_leaf coding ending.GivesSecondLine state reply = (_, state, refl)
-accepted_leaf coding ending.GivesTime state reply = (_, state, refl)
-accepted_leaf coding ending.GivesSize state reply = (_, state, refl)
-accepted_leaf coding ending.GivesFeatures state reply = (_, state, refl)
-accepted_leaf coding (ending.SetsText text) state reply = (Unit, _, refl)
-accepted_leaf coding (ending.GoesOn status) state reply = (Unit, state, same (eqb (code_of reply.status) (code_of status)))
+accepted_leaf : (coding : Coding) (how : Ending) (state : State) (reply : Response) → agrees how ≡ false → (answer : Answer) × (new : State) × (accepted coding how state reply (λ x. Leaf Unit x) ≡ Leaf answer new)
+accepted_leaf coding ending.Done state reply plain = (Unit, state, refl)
+accepted_leaf coding ending.GivesReply state reply plain = (Reply reply, state, refl)
+accepted_leaf coding ending.Greets state reply plain = (Unit, _, refl)
+accepted_leaf coding ending.GivesPath state reply plain = (_, state, refl)
+accepted_leaf coding ending.GivesSecondLine state reply plain = (_, state, refl)
+accepted_leaf coding ending.GivesTime state reply plain = (_, state, refl)
+accepted_leaf coding ending.GivesSize state reply plain = (_, state, refl)
+accepted_leaf coding ending.GivesFeatures state reply plain = (_, state, refl)
+accepted_leaf coding (ending.SetsText text) state reply plain = (Unit, _, refl)
+accepted_leaf coding ending.Continues state reply plain = (Unit, state, refl)
+accepted_leaf coding ending.GivesAddress state reply plain = let clash : true ≡ false = plain in cc
+accepted_leaf coding ending.GivesPort state reply plain = let clash : true ≡ false = plain in cc
+accepted_leaf coding (ending.Opens replies) state reply plain = let clash : true ≡ false = plain in cc
+accepted_leaf coding (ending.GoesOn status) state reply plain = (Unit, state, same (eqb (code_of reply.status) (code_of status)))
   where
     same : (b : Bool) → cond b (Leaf Unit state) (Leaf Unit state) ≡ Leaf Unit state
     same true = refl
@@ -143,7 +149,7 @@ says_state coding None s t state says = says
 says_state coding (Some command) s t state says = says
 
 -- a call that succeeded
-module _ (coding : Coding) (call : Call) (answer : Answer) (s t : Standing) (state : State) (success : IsSuccess answer) where
+module _ (coding : Coding) (call : Call) (answer : Answer) (s t : Standing) (state : State) (success : IsSuccess answer) (none : negotiates call ≡ false) where
   -- nothing was said or heard
   stays : (m : Standing) (a : Answer) (new : State) → play Any (Leaf a new) m ≡ Done answer t → IsSilent m t
   stays m a new done =
@@ -151,11 +157,11 @@ module _ (coding : Coding) (call : Call) (answer : Answer) (s t : Standing) (sta
       (ap (λ x. x.said) same, ap (λ x. x.unsent) same, ap (λ x. x.bytes) same)
 
   -- the second row
-  last : (r : Row) (m : Standing) → play Any (doing coding r state (λ x. Leaf Unit x)) m ≡ Done answer t → ExchangedIf true coding r m t
-  last (Arms offset) m done = stays m Unit (armed offset state) done
-  last (Exchanges e) m done =
+  last : (r : Row) (m : Standing) → row_agrees (ending_of r) ≡ false → play Any (doing coding r state (λ x. Leaf Unit x)) m ≡ Done answer t → ExchangedIf true coding r m t
+  last (Arms offset) m plain done = stays m Unit (armed offset state) done
+  last (Exchanges e) m plain done =
       let two = one_exchange coding e state (λ x. Leaf Unit x) answer m t success done in
-      let leaf = accepted_leaf coding e.ending state two.reply in
+      let leaf = accepted_leaf coding e.ending state two.reply plain in
       let L : Tree → Type 0 = λ x. play Any x two.between ≡ Done answer t in
       let same = leaf_at leaf.0 answer leaf.1 two.between t (subst L leaf.2 two.goes) in
       let P : Standing → Type 0 = λ x. Exchanged coding e two.reply m x in (
@@ -171,34 +177,63 @@ module _ (coding : Coding) (call : Call) (answer : Answer) (s t : Standing) (sta
       )
 
   -- what comes after the first exchange
-  next : (how : Ending) (reply : Response) (m : Standing) → play Any (accepted coding how state reply (later coding call First)) m ≡ Done answer t → ExchangedIf (goes_on_with how reply) coding (row_of call Second) m t
-  next ending.Done reply m done = stays m _ _ done
-  next ending.GivesReply reply m done = stays m _ _ done
-  next ending.Greets reply m done = stays m _ _ done
-  next ending.GivesPath reply m done = stays m _ _ done
-  next ending.GivesSecondLine reply m done = stays m _ _ done
-  next ending.GivesTime reply m done = stays m _ _ done
-  next ending.GivesSize reply m done = stays m _ _ done
-  next ending.GivesFeatures reply m done = stays m _ _ done
-  next (ending.SetsText text) reply m done = stays m _ _ done
-  next (ending.GoesOn status) reply m done =
+  next : (how : Ending) (reply : Response) (m : Standing) → agrees how ≡ false → play Any (accepted coding how state reply (later coding call First)) m ≡ Done answer t → ExchangedIf (goes_on_with how reply) coding (row_of call Second) m t
+  next ending.Done reply m plain done = stays m _ _ done
+  next ending.GivesReply reply m plain done = stays m _ _ done
+  next ending.Greets reply m plain done = stays m _ _ done
+  next ending.GivesPath reply m plain done = stays m _ _ done
+  next ending.GivesSecondLine reply m plain done = stays m _ _ done
+  next ending.GivesTime reply m plain done = stays m _ _ done
+  next ending.GivesSize reply m plain done = stays m _ _ done
+  next ending.GivesFeatures reply m plain done = stays m _ _ done
+  next (ending.SetsText text) reply m plain done = stays m _ _ done
+  next (ending.GoesOn status) reply m plain done =
       elim (eqb (code_of reply.status) (code_of status)) as (λ b. play Any (cond b (later coding call First state) (Leaf Unit state)) m ≡ Done answer t → ExchangedIf b coding (row_of call Second) m t) [
-        | true ↦ λ done. last (row_of call Second) m done
+        | true ↦ λ done. last (row_of call Second) m (second_plain call none) done
         | false ↦ λ done. stays m Unit state done
       ] done
+  next ending.Continues reply m plain done = last (row_of call Second) m (second_plain call none) done
+  next ending.GivesAddress reply m plain done = let clash : true ≡ false = plain in cc
+  next ending.GivesPort reply m plain done = let clash : true ≡ false = plain in cc
+  next (ending.Opens replies) reply m plain done = let clash : true ≡ false = plain in cc
 
   -- the first row
-  by_row : (r : Row) → play Any (doing coding r state (later coding call First)) s ≡ Done answer t → SucceedsBy coding r (row_of call Second) s t
-  by_row (Arms offset) done = stays s Unit (armed offset state) done
-  by_row (Exchanges e) done =
+  by_row : (r : Row) → row_agrees (ending_of r) ≡ false → play Any (doing coding r state (later coding call First)) s ≡ Done answer t → SucceedsBy coding r (row_of call Second) s t
+  by_row (Arms offset) plain done = stays s Unit (armed offset state) done
+  by_row (Exchanges e) plain done =
       let one = one_exchange coding e state (later coding call First) answer s t success done in
-      record { reply = one.reply; between = one.between; first = one.exchanged; second = next e.ending one.reply one.between one.goes }
+      record { reply = one.reply; between = one.between; first = one.exchanged; second = next e.ending one.reply one.between plain one.goes }
 
 pub call_succeeds : (coding : Coding) (call : Call) (answer : Answer) (s t : Standing) (state : State) → IsSuccess answer → play Any (dialogue coding call state) s ≡ Done answer t → Succeeds coding call s t
-call_succeeds coding call answer s t state success is = by_row coding call answer s t state success (row_of call First) is
+call_succeeds coding call answer s t state success is =
+    elim (negotiates call) as (λ b. negotiates call ≡ b → play Any (cond b (negotiating coding call state.settings.restart_offset (armed 0 state)) (from_turn coding call First state)) s ≡ Done answer t → SucceedsUnless b coding call s t) [
+      | true ↦ λ opens e. tt
+      | false ↦ λ none e. by_row coding call answer s t state success none (row_of call First) (first_plain call none) e
+    ] refl is
+
+-- where a call began doesn't matter to what it did on the wire
+begun_succeeds : (coding : Coding) (call : Call) (s t : Standing) (state : State) → Succeeds coding call (record s { state = state }) t → Succeeds coding call s t
+begun_succeeds coding call s t state =
+    elim (negotiates call) as (λ b. SucceedsUnless b coding call (record s { state = state }) t → SucceedsUnless b coding call s t) [
+      | true ↦ λ e. tt
+      | false ↦ λ e. by_row (row_of call First) e
+    ]
+  where
+    says : (command : Option Command) (u : Standing) → Says coding command (record s { state = state }) u → Says coding command s u
+    says None u told = told
+    says (Some command) u told = told
+
+    by_row : (r : Row) → SucceedsBy coding r (row_of call Second) (record s { state = state }) t → SucceedsBy coding r (row_of call Second) s t
+    by_row (Arms offset) silent = silent
+    by_row (Exchanges e) two = record {
+      reply = two.reply;
+      between = two.between;
+      first = record { says = says e.says two.between two.first.says; code = two.first.code; whole = two.first.whole; status = two.first.status; accepted = two.first.accepted; consumed = two.first.consumed };
+      second = two.second;
+    }
 
 -- the calls of a session
-pub wired : (link : Link) (coding : Coding) (call : Call) (old new : SessionValue) (answer : Answer) → Completes link (dialogue coding call old.state) answer old new → IsSuccess answer → Wired link coding call old new
+pub wired : (link : Link) (coding : Coding) (call : Call) (old new : SessionValue) (answer : Answer) → Completes link (dialogue coding call old.state) answer (begun_by call old) new → IsSuccess answer → Wired link coding call old new
 wired link coding call old new answer done success = record {
   came = done.came;
   answered = done.answered;
@@ -206,9 +241,10 @@ wired link coding call old new answer done success = record {
   succeeds = λ h resumes.
       let ended = new.channel.ended in
       let played = done.plays h resumes Any [] ended [] tt (record { nothing = λ e. refl; over = λ e. e }) in
-      let F : List ℕ → Standing = λ c. standing old c ended (outcomes_of done.answered ++ []) in
-      let G : List RequestOutcome → Standing = λ o. standing old done.came ended o in
-      let same : standing old (done.came ++ []) ended (outcomes_of done.answered ++ []) ≡ standing old done.came ended (outcomes_of done.answered) = ap F (append-nil done.came) ∙ ap G (append-nil (outcomes_of done.answered)) in
+      let F : List ℕ → Standing = λ c. standing (begun_by call old) c ended (outcomes_of done.answered ++ []) in
+      let G : List RequestOutcome → Standing = λ o. standing (begun_by call old) done.came ended o in
+      let same : standing (begun_by call old) (done.came ++ []) ended (outcomes_of done.answered ++ []) ≡ standing (begun_by call old) done.came ended (outcomes_of done.answered) = ap F (append-nil done.came) ∙ ap G (append-nil (outcomes_of done.answered)) in
       let P : Standing → Type 0 = λ s. play Any (dialogue coding call old.state) s ≡ Done answer (standing new [] ended []) in
-      call_succeeds coding call answer (standing old done.came ended (outcomes_of done.answered)) (standing new [] ended []) old.state success (subst P same played);
+      begun_succeeds coding call (standing old done.came ended (outcomes_of done.answered)) (standing new [] ended []) (entered call old.state)
+      (call_succeeds coding call answer (standing (begun_by call old) done.came ended (outcomes_of done.answered)) (standing new [] ended []) old.state success (subst P same played));
 }

@@ -1,6 +1,9 @@
 -- The dialogues of a session as trees: RFC 959, sections 5.4 and 6. A tree says, hears and asks in turn, and ends
 -- in an answer with the change of state.
-use Rattle.std.specs.Prelude.{ℕ, List, [], ◌∷◌, ◌==◌, Option, Some, None, Result, Ok, Err, if◌then◌else◌}
+use Rattle.std.specs.Prelude.{ℕ, zero, suc, nat_lt, ◌&&◌, Bool, List, [], ◌∷◌, ◌==◌, Option, Some, None, Result, Ok, Err, if◌then◌else◌}
+use Rattle.std.specs.Net.Socket.{socket_ip, socket_port}
+use Rattle.std.specs.declared.net.socket_addr.SocketAddr.{SocketAddr}
+use Rattle.std.specs.declared.net.socket_addr.SocketAddr.TheVariants.{V4, V6}
 use Rattle.ftp_base.specs.declared.status.Status.{Status}
 use Rattle.ftp_base.specs.declared.status.Status.TheVariants.{System}
 use Rattle.ftp_base.specs.Status.{code_of}
@@ -15,28 +18,38 @@ use Rattle.ftp_control.specs.declared.control.form.ReplyForm.{ReplyForm}
 use Rattle.ftp_control.specs.declared.control.form.ReplyForm.TheVariants as form
 use Rattle.ftp_control.specs.Answer.{form_of}
 use Rattle.ftp_control.specs.declared.transport.request.Request.{Request}
+use Rattle.ftp_control.specs.declared.transport.request.Request.TheVariants.{Connect, Listen, Accept}
 use Rattle.ftp_control.specs.declared.transport.request.RequestOutcome.{RequestOutcome}
+use Rattle.ftp_control.specs.declared.transport.request.RequestOutcome.TheVariants.{Done as Made, Address, Refused}
 use Rattle.ftp_session.specs.declared.session.state.State.{State}
 use Rattle.ftp_calls.specs.declared.call.Answer.{Answer}
-use Rattle.ftp_calls.specs.declared.call.Answer.TheVariants.{Unit, Reply, Text, Time, Size, Fault}
+use Rattle.ftp_calls.specs.declared.call.Answer.TheVariants.{Unit, Reply, Text, Time, Size, Opened, OpenedWith, Fault}
 use Rattle.ftp_calls.specs.declared.call.Answer.TheVariants as answer
-use Rattle.ftp_base.specs.declared.types.fault.FtpError.TheVariants.{UnexpectedResponse, BadResponse}
+use Rattle.ftp_base.specs.declared.types.fault.FtpError.TheVariants.{ConnectionError as Connection, UnexpectedResponse, BadResponse}
+use Rattle.ftp_base.specs.declared.types.fault.ConnectionError.TheVariants.{NoAddress as Nowhere, TimedOut}
+use Rattle.ftp_base.specs.declared.types.mode.Mode.{Mode}
+use Rattle.ftp_base.specs.declared.types.mode.Mode.TheVariants as mode
+use Rattle.ftp_base.specs.Peer.{allows}
 use Rattle.ftp_base.specs.Features.{Entries}
 use Rattle.jiff_core.specs.declared.civil.datetime.DateTime.{DateTime}
 use Rattle.ftp_calls.specs.declared.call.Call.{Call}
 use Rattle.ftp_calls.specs.declared.exchange.Turn.{Turn}
-use Rattle.ftp_calls.specs.declared.exchange.Turn.TheVariants.{First, Second}
+use Rattle.ftp_calls.specs.declared.exchange.Turn.TheVariants.{First, Second, Passive, ExtendedPassive, Active, Restart}
 use Rattle.ftp_calls.specs.declared.exchange.Ending.{Ending}
-use Rattle.ftp_calls.specs.declared.exchange.Ending.TheVariants.{Done, GivesReply, Greets, GivesPath, GivesSecondLine, GivesTime, GivesSize, GivesFeatures, SetsText, GoesOn}
+use Rattle.ftp_calls.specs.declared.exchange.Ending.TheVariants.{Done, GivesReply, Greets, GivesPath, GivesSecondLine, GivesTime, GivesSize, GivesFeatures, SetsText, GoesOn, Continues, GivesAddress, GivesPort, Opens}
 use Rattle.ftp_calls.specs.declared.exchange.Exchange.{Exchange}
 use Rattle.ftp_calls.specs.declared.exchange.Row.{Row}
 use Rattle.ftp_calls.specs.declared.exchange.Row.TheVariants.{Exchanges, Arms}
 use Rattle.ftp_session.specs.Coding.{Coding}
 use Rattle.ftp_calls.specs.declared.exchange.Codes.{Codes}
 use Rattle.ftp_calls.specs.declared.exchange.Codes.TheVariants.{One, Either, Given, Features}
-use Rattle.ftp_calls.specs.Exchanges.{row_of}
+use Rattle.ftp_calls.specs.Exchanges.{row_of, negotiates, restarts}
 use Rattle.ftp_answers.specs.Answers.{path_of, second_line_of, size_of, features_in}
 use Rattle.ftp_answers.specs.Times.{time_of}
+use Rattle.ftp_answers.specs.Addresses.{passive_address_of, extended_port_of}
+use Rattle.ftp_answers.specs.declared.addresses.NoAddress.{NoAddress}
+use Rattle.ftp_answers.specs.declared.addresses.NoAddress.TheVariants.{Absent, Unreadable}
+use Rattle.ftp_session.specs.Sound.{cannot_open, one_more}
 
 -- a reply that is awaited: its form, and the statuses that are accepted
 pub record Expected : Type 0 where
@@ -54,11 +67,18 @@ expected_of (Either one other) = expecting (one ∷ other ∷ [])
 expected_of (Given codes) = expecting codes
 expected_of Features = record { form = form.Features; statuses = System ∷ [] }
 
+-- the ends of the control connection: the client's and the server's
+pub data End : Type 0 where
+  Here : End
+  There : End
+
 -- what is left of a call: a command's line, or its refusal, is said; a reply of one of these statuses is heard, or
--- a fault in its place; something is asked; or the call ends with this answer, in this state
+-- a fault in its place; the address of an end of the control connection is looked up; the transport is asked for
+-- something; or the call ends with this answer, in this state
 pub data Tree : Type 0 where
   Say : Result (List ℕ) ConnectionError → Tree → Tree
   Hear : Expected → (Result Response FtpError → Tree) → Tree
+  Look : End → (SocketAddr → Tree) → Tree
   Ask : Request → (RequestOutcome → Tree) → Tree
   Leaf : Answer → State → Tree
 
@@ -87,6 +107,83 @@ abbrev pub features_answer : Option Entries → Answer
 features_answer None = Fault BadResponse
 features_answer (Some features) = answer.Features features
 
+-- A data connection: RFC 959, sections 3.2 and 5.2; RFC 1123, section 4.1.2.7; RFC 2428
+
+-- an address with another port
+abbrev pub at_port : ℕ → SocketAddr → SocketAddr
+at_port port (V4 address) = V4 (record address { port = port })
+at_port port (V6 address) = V6 (record address { port = port })
+
+-- what the address leads to that a request came to; where there is none the fault is the answer
+abbrev pub on_address : State → (SocketAddr → Tree) → RequestOutcome → Tree
+on_address state next Made = Leaf (Fault (Connection Nowhere)) state
+on_address state next (Address address) = next address
+on_address state next (Refused fault) = Leaf (Fault (Connection fault)) state
+
+-- a connection to an address is asked for
+abbrev pub on_connection : State → Tree → RequestOutcome → Tree
+on_connection state next Made = next
+on_connection state next (Address address) = next
+on_connection state next (Refused fault) = Leaf (Fault (Connection fault)) state
+
+abbrev pub connecting_to : SocketAddr → State → Tree → Tree
+connecting_to address state next = Ask (Connect address None) (on_connection state next)
+
+-- a connection to a port of the control connection's peer
+abbrev pub connecting_to_peer : ℕ → State → Tree → Tree
+connecting_to_peer port state next =
+    Look There (λ peer. connecting_to (at_port port peer) state next)
+
+-- a reply that tells no address, or can't be read
+abbrev pub no_address : Response → NoAddress → FtpError
+no_address reply Absent = UnexpectedResponse reply
+no_address reply Unreadable = BadResponse
+
+-- the address that the server told; behind a router that rewrites addresses the peer's takes its host's place
+abbrev pub to_address : State → Response → Tree → Result SocketAddr NoAddress → Tree
+to_address state reply next (Ok address) =
+    if state.settings.passive_nat_workaround then connecting_to_peer (socket_port address) state next
+    else connecting_to address state next
+to_address state reply next (Err cause) = Leaf (Fault (no_address reply cause)) state
+
+-- the port that the server told
+abbrev pub to_port : State → Response → Tree → Result ℕ NoAddress → Tree
+to_port state reply next (Ok port) = connecting_to_peer port state next
+to_port state reply next (Err cause) = Leaf (Fault (no_address reply cause)) state
+
+-- a transfer is live from now on
+abbrev pub with_transfer : State → State
+with_transfer state = record state { counts = one_more state.counts }
+
+-- a peer that is let in opens the data connection; others are dropped
+abbrev pub admitting : Bool → Answer → State → Tree → Tree
+admitting allowed answer state others = if allowed then Leaf answer (with_transfer state) else others
+
+abbrev pub lets_in : State → SocketAddr → SocketAddr → Bool
+lets_in state peer from = allows state.settings.active_peer_check (socket_ip from) (socket_ip peer)
+
+-- peers are accepted until one is let in; so many others may come before, and one more counts as the deadline
+unfoldable pub accepting : Answer → SocketAddr → ℕ → State → Tree
+accepting answer peer zero state =
+    Ask (Accept state.settings.active_deadline) (on_address state (λ from. admitting (lets_in state peer from) answer state (Leaf (Fault (Connection TimedOut)) state)))
+accepting answer peer (suc left) state =
+    Ask (Accept state.settings.active_deadline) (on_address state (λ from. admitting (lets_in state peer from) answer state (accepting answer peer left state)))
+
+-- how many strangers one data command drops
+abbrev pub strangers : ℕ
+strangers = 1000
+
+-- the command was accepted: the data connection stands, or the server opens it now
+abbrev pub opening : Mode → Answer → State → Tree
+opening mode.Active answer state = Look There (λ peer. accepting answer peer strangers state)
+opening mode.Passive answer state = Leaf answer (with_transfer state)
+opening mode.ExtendedPassive answer state = Leaf answer (with_transfer state)
+
+abbrev pub opened_answer : Bool → Response → Answer
+opened_answer gives_reply reply = if gives_reply then OpenedWith reply else Opened
+
+-- Exchanges
+
 -- what an accepted reply does, where `later` is the next exchange
 abbrev pub accepted : Coding → Ending → State → Response → (State → Tree) → Tree
 accepted coding Done state reply later = Leaf Unit state
@@ -99,6 +196,10 @@ accepted coding GivesSize state reply later = Leaf (size_answer (size_of reply.b
 accepted coding GivesFeatures state reply later = Leaf (features_answer (features_in reply.body)) state
 accepted coding (SetsText text) state reply later = Leaf Unit (record state { settings = record state.settings { text = text } })
 accepted coding (GoesOn status) state reply later = if code_of reply.status == code_of status then later state else Leaf Unit state
+accepted coding Continues state reply later = later state
+accepted coding GivesAddress state reply later = to_address state reply (later state) (passive_address_of reply.body)
+accepted coding GivesPort state reply later = to_port state reply (later state) (extended_port_of reply.body)
+accepted coding (Opens gives_reply) state reply later = opening state.settings.mode (opened_answer gives_reply reply) state
 
 -- a reply is accepted, or a fault is the answer
 abbrev pub concluded : Coding → Ending → State → (State → Tree) → Result Response FtpError → Tree
@@ -128,15 +229,56 @@ abbrev pub doing : Coding → Row → State → (State → Tree) → Tree
 doing coding (Exchanges exchange) state later = exchanging coding exchange state later
 doing coding (Arms offset) state later = Leaf Unit (armed offset state)
 
+-- the last turn, and the one before it where an offset is told
+abbrev pub last_turn : Coding → Call → State → Tree
+last_turn coding call state = doing coding (row_of call Second) state (λ s. Leaf Unit s)
+
+abbrev pub restart_turn : Coding → Call → ℕ → State → Tree
+restart_turn coding call offset state =
+    if restarts call && nat_lt 0 offset then doing coding (row_of call (Restart offset)) state (last_turn coding call)
+    else last_turn coding call state
+
 -- what comes after the row of this turn: the next one, or nothing
 abbrev pub later : Coding → Call → Turn → State → Tree
-later coding call First state = doing coding (row_of call Second) state (λ s. Leaf Unit s)
+later coding call First state = last_turn coding call state
 later coding call Second state = Leaf Unit state
+later coding call (Passive offset) state = restart_turn coding call offset state
+later coding call (ExtendedPassive offset) state = restart_turn coding call offset state
+later coding call (Active address offset) state = restart_turn coding call offset state
+later coding call (Restart offset) state = last_turn coding call state
 
 -- the dialogue of a call from this turn on
 abbrev pub from_turn : Coding → Call → Turn → State → Tree
 from_turn coding call turn state = doing coding (row_of call turn) state (later coding call turn)
 
--- the dialogue of a call
+-- the client listens at its own end of the control connection, at any free port, and tells the server where
+abbrev pub listening_at : Coding → Call → ℕ → State → SocketAddr → Tree
+listening_at coding call offset state local =
+    Ask (Listen (at_port 0 local)) (on_address state (λ bound. from_turn coding call (Active (at_port (socket_port bound) local) offset) state))
+
+abbrev pub listening : Coding → Call → ℕ → State → Tree
+listening coding call offset state = Look Here (listening_at coding call offset state)
+
+-- who opens the data connection, and how it is asked for
+abbrev pub agreeing : Mode → Coding → Call → ℕ → State → Tree
+agreeing mode.Active coding call offset state = listening coding call offset state
+agreeing mode.Passive coding call offset state = from_turn coding call (Passive offset) state
+agreeing mode.ExtendedPassive coding call offset state = from_turn coding call (ExtendedPassive offset) state
+
+-- a data connection is negotiated, for a transfer that begins at this offset, where it can be opened
+abbrev pub negotiating_unless : Option FtpError → Coding → Call → ℕ → State → Tree
+negotiating_unless (Some fault) coding call offset state = Leaf (Fault fault) state
+negotiating_unless None coding call offset state = agreeing state.settings.mode coding call offset state
+
+abbrev pub negotiating : Coding → Call → ℕ → State → Tree
+negotiating coding call offset state = negotiating_unless (cannot_open state.counts) coding call offset state
+
+-- the dialogue of a call; one that opens a data connection takes the offset away, whatever comes of it
 abbrev pub dialogue : Coding → Call → State → Tree
-dialogue coding call state = from_turn coding call First state
+dialogue coding call state =
+    if negotiates call then negotiating coding call state.settings.restart_offset (armed 0 state)
+    else from_turn coding call First state
+
+-- the state in which a call begins: one that opens a data connection takes the offset away
+abbrev pub entered : Call → State → State
+entered call state = if negotiates call then armed 0 state else state

@@ -14,6 +14,7 @@ use Rattle.ftp_control.specs.Grammar.{outcome, left_by}
 use Rattle.ftp_control.specs.Answer.{expected_reply}
 use Rattle.ftp_control.specs.declared.transport.request.Request.{Request}
 use Rattle.ftp_control.specs.declared.transport.request.RequestOutcome.{RequestOutcome}
+use Rattle.std.specs.declared.net.socket_addr.SocketAddr.{SocketAddr}
 use Rattle.ftp_calls.specs.declared.call.Answer.TheVariants.{Fault}
 use Rattle.ftp_calls.specs.declared.call.Call.{Call}
 use Rattle.ftp_session.specs.declared.model.Standing.{Standing}
@@ -21,7 +22,7 @@ use Rattle.ftp_session.specs.declared.model.Wait.TheVariants.{Room, Bytes, Outco
 use Rattle.ftp_session.specs.declared.model.Played.{Played}
 use Rattle.ftp_session.specs.declared.model.Played.TheVariants.{Done, Pending}
 use Rattle.ftp_session.specs.Coding.{Coding}
-use Rattle.ftp_session.specs.Dialogue.{Tree, Expected, Say, Hear, Ask, Leaf, dialogue}
+use Rattle.ftp_session.specs.Dialogue.{Tree, Expected, End, Here, There, Say, Hear, Look, Ask, Leaf, dialogue, entered}
 
 -- so much is within the room
 abbrev pub fits : Rooms → List ℕ → Bool
@@ -57,16 +58,23 @@ asked_then [] request s next = Pending Asking (record s { asked = s.asked ++ req
 asked_then (outcome ∷ outcomes) request s next =
     next outcome (record s { asked = s.asked ++ request ∷ []; outcomes = outcomes })
 
+-- the address of an end of the control connection
+abbrev pub address_at : End → Standing → SocketAddr
+address_at Here s = s.local
+address_at There s = s.peer
+
 -- what a tree comes to, from here, in this room
 unfoldable pub play : Rooms → Tree → Standing → Played
 play room (Say (Ok line) next) s = said_then room line s (λ t. play room next t)
 play room (Say (Err cause) next) s = Done (Fault (fault.ConnectionError cause)) s
 play room (Hear codes next) s =
     heard_then (outcome s.rule codes.form s.bytes s.ended) codes s (λ heard t. play room (next heard) t)
+play room (Look end next) s = play room (next (address_at end s)) s
 play room (Ask request next) s = asked_then s.outcomes request s (λ answer t. play room (next answer) t)
 play room (Leaf answer state) s = Done answer (record s { state = state })
 
 -- what a call comes to; once the session has failed it says and hears nothing
 abbrev pub play_call : Rooms → Coding → Call → Standing → Played
 play_call room coding call s =
-    if s.failed then Done (Fault fault.SessionFailed) s else play room (dialogue coding call s.state) s
+    if s.failed then Done (Fault fault.SessionFailed) s
+    else play room (dialogue coding call s.state) (record s { state = entered call s.state })

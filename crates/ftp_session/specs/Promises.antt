@@ -29,7 +29,7 @@ use Rattle.ftp_calls.specs.declared.call.Answer.TheVariants.{Fault}
 use Rattle.ftp_calls.specs.declared.call.Answer.TheVariants as answers
 use Rattle.ftp_calls.specs.declared.exchange.Turn.TheVariants.{First, Second}
 use Rattle.ftp_calls.specs.declared.exchange.Ending.{Ending}
-use Rattle.ftp_calls.specs.declared.exchange.Ending.TheVariants.{Done, GivesReply, Greets, GivesPath, GivesSecondLine, GivesTime, GivesSize, GivesFeatures, SetsText, GoesOn}
+use Rattle.ftp_calls.specs.declared.exchange.Ending.TheVariants.{Done, GivesReply, Greets, GivesPath, GivesSecondLine, GivesTime, GivesSize, GivesFeatures, SetsText, GoesOn, Continues, GivesAddress, GivesPort, Opens}
 use Rattle.ftp_calls.specs.declared.exchange.Exchange.{Exchange}
 use Rattle.ftp_calls.specs.declared.exchange.Row.{Row}
 use Rattle.ftp_calls.specs.declared.exchange.Row.TheVariants.{Exchanges, Arms}
@@ -40,8 +40,8 @@ use Rattle.ftp_session.specs.declared.model.Ran.{Ran}
 use Rattle.ftp_session.specs.declared.model.Ran.TheVariants.{Finished}
 use Rattle.ftp_session.specs.State.{SessionValue}
 use Rattle.ftp_session.specs.Coding.{Coding}
-use Rattle.ftp_calls.specs.Exchanges.{row_of}
-use Rattle.ftp_session.specs.Dialogue.{Expected, expected_of, Tree, Say, Hear, Ask, Leaf, dialogue}
+use Rattle.ftp_calls.specs.Exchanges.{row_of, negotiates}
+use Rattle.ftp_session.specs.Dialogue.{Expected, expected_of, Tree, Say, Hear, Look, Ask, Leaf, dialogue, entered}
 use Rattle.ftp_session.specs.Play.{play}
 use Rattle.ftp_session.specs.Run.{run, before, OneView, Resumes}
 use Rattle.ftp_session.specs.Link.{Link}
@@ -55,6 +55,8 @@ IsSuccess (answers.Text text) = Unit {0}
 IsSuccess (answers.Time time) = Unit {0}
 IsSuccess (answers.Size size) = Unit {0}
 IsSuccess (answers.Features features) = Unit {0}
+IsSuccess answers.Opened = Unit {0}
+IsSuccess (answers.OpenedWith reply) = Unit {0}
 IsSuccess (Fault fault) = ⊥
 
 -- a command's line was said after what was unsent, or nothing was
@@ -83,6 +85,10 @@ goes_on_with GivesSize reply = false
 goes_on_with GivesFeatures reply = false
 goes_on_with (SetsText text) reply = false
 goes_on_with (GoesOn status) reply = code_of reply.status == code_of status
+goes_on_with Continues reply = true
+goes_on_with GivesAddress reply = true
+goes_on_with GivesPort reply = true
+goes_on_with (Opens replies) reply = false
 
 -- nothing was said or consumed
 abbrev pub IsSilent : Standing → Standing → Type 0
@@ -106,8 +112,13 @@ abbrev pub SucceedsBy : Coding → Row → Row → Standing → Standing → Typ
 SucceedsBy coding (Exchanges exchange) next s t = ExchangesTwo coding exchange next s t
 SucceedsBy coding (Arms offset) next s t = IsSilent s t
 
+-- of a call that opens a data connection the dialogue alone says what it did
+abbrev pub SucceedsUnless : Bool → Coding → Call → Standing → Standing → Type 0
+SucceedsUnless true coding call s t = Unit {0}
+SucceedsUnless false coding call s t = SucceedsBy coding (row_of call First) (row_of call Second) s t
+
 abbrev pub Succeeds : Coding → Call → Standing → Standing → Type 0
-Succeeds coding call s t = SucceedsBy coding (row_of call First) (row_of call Second) s t
+Succeeds coding call s t = SucceedsUnless (negotiates call) coding call s t
 
 -- a call failed
 abbrev pub IsFault : Answer → Type 0
@@ -117,6 +128,8 @@ IsFault (answers.Text text) = ⊥
 IsFault (answers.Time time) = ⊥
 IsFault (answers.Size size) = ⊥
 IsFault (answers.Features features) = ⊥
+IsFault answers.Opened = ⊥
+IsFault (answers.OpenedWith reply) = ⊥
 IsFault (Fault fault) = Unit {0}
 
 -- where a run stands in a session, where these bytes are still to come, and these outcomes
@@ -127,6 +140,8 @@ standing v more ended outcomes = record {
   rule = v.channel.rule;
   said = v.channel.told.sent;
   unsent = v.channel.unsent;
+  local = v.channel.told.given.local;
+  peer = v.channel.told.given.peer;
   asked = requests_of v.asked;
   bytes = untaken v.channel ++ more;
   ended = ended;
@@ -169,19 +184,29 @@ pub record Completes (link : Link) (tree : Tree) (answer : Answer) (old new : Se
   pub goes : Goes link came answered old new
   pub plays : link.tells → Resumes old.channel.rule old.channel.kept tree → However old came answered new (λ room s t. play room tree s ≡ played.Done answer t)
 
--- a node fails where a line is said or a reply is read, with a fault that the connection may answer there
+-- a node fails where a line is said, a reply is read or an address is looked up, with a fault that the connection may
+-- answer there
 abbrev pub MayFailAt : Link → Tree → Told → ErrorKind → Type 0
 MayFailAt link (Say line next) told kind = link.tells → link.writes told kind
 MayFailAt link (Hear codes next) told kind = link.reads kind
+MayFailAt link (Look end next) told kind = link.ends kind
 MayFailAt link (Ask request next) told kind = ⊥
 MayFailAt link (Leaf answer state) told kind = ⊥
+
+-- the session fails where a line or a reply may be lost, and goes on where an address isn't known
+abbrev pub fails_at : Tree → Bool
+fails_at (Say line next) = true
+fails_at (Hear codes next) = true
+fails_at (Look end next) = false
+fails_at (Ask request next) = true
+fails_at (Leaf answer state) = true
 
 -- the connection failed at this node, which was counted and is told, and nothing else happened
 pub record Fails (link : Link) (place : Tree) (fault : FtpError) (at new : SessionValue) : Type 0 where
   pub kind : ErrorKind
   pub is : fault ≡ ConnectionError (Io kind)
   pub may : MayFailAt link place at.channel.told kind
-  pub same : new ≡ record at { channel = record at.channel { told = new.channel.told; failed = true } }
+  pub same : new ≡ record at { channel = record at.channel { told = new.channel.told; failed = fails_at place } }
   pub failed : link.tells → HasFailed kind at.channel.told new.channel.told
 
 -- nothing was said and no reply was taken
@@ -224,15 +249,19 @@ pub record IsRefused (old new : SessionValue) (answer : Answer) : Type 0 where
   pub is : answer ≡ Fault SessionFailed
   pub unchanged : new ≡ old
 
+-- where a call begins
+abbrev pub begun_by : Call → SessionValue → SessionValue
+begun_by call v = record v { state = entered call v.state }
+
 pub record IsPlayed (link : Link) (coding : Coding) (call : Call) (old new : SessionValue) (answer : Answer) : Type 0 where
   pub going : old.channel.failed ≡ false
-  pub plays : Completes link (dialogue coding call old.state) answer old new ⊎ Aborts link false (dialogue coding call old.state) answer old new
+  pub plays : Completes link (dialogue coding call old.state) answer (begun_by call old) new ⊎ Aborts link false (dialogue coding call old.state) answer (begun_by call old) new
 
 -- what a call that succeeded did on the wire comes first: these lines were said, these replies were consumed
 pub record Wired (link : Link) (coding : Coding) (call : Call) (old new : SessionValue) : Type 0 where
   pub came : List ℕ
   pub answered : List Asked
-  pub goes : Goes link came answered old new
+  pub goes : Goes link came answered (begun_by call old) new
   pub succeeds : link.tells → Resumes old.channel.rule old.channel.kept (dialogue coding call old.state) → Succeeds coding call (standing old came new.channel.ended (outcomes_of answered)) (standing new [] new.channel.ended [])
 
 pub record Plays (link : Link) (coding : Coding) (call : Call) (old new : SessionValue) (answer : Answer) : Type 0 where
@@ -319,7 +348,7 @@ pub record RunAborts (link : Link) (coding : Coding) (calls to_make : List Call)
   pub going : middle.channel.failed ≡ false
   pub fault : FtpError
   pub after : SessionValue
-  pub aborts : Aborts link false (dialogue coding call middle.state) (Fault fault) middle after
+  pub aborts : Aborts link false (dialogue coding call middle.state) (Fault fault) (begun_by call middle) after
   pub later : List Answer
   pub answers_are : answers ≡ first ++ Fault fault ∷ later
   pub makes : Makes link coding made after new later

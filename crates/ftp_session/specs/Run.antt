@@ -1,5 +1,6 @@
 -- A list of calls, played one after another.
 use Rattle.std.specs.Prelude.{◌≡◌, false, ℕ, List, [], ◌∷◌, Ok, Err}
+use Rattle.std.specs.declared.net.socket_addr.SocketAddr.{SocketAddr}
 use Rattle.ftp_control.specs.declared.control.rule.ReplyRule.{ReplyRule}
 use Rattle.ftp_control.specs.declared.control.outcome.Outcome.TheVariants.{Waits}
 use Rattle.ftp_control.specs.declared.transport.room.Room.{Room}
@@ -14,7 +15,7 @@ use Rattle.ftp_session.specs.declared.model.Played.TheVariants.{Done, Pending}
 use Rattle.ftp_session.specs.declared.model.Ran.{Ran}
 use Rattle.ftp_session.specs.declared.model.Ran.TheVariants.{Finished, Waiting}
 use Rattle.ftp_session.specs.Coding.{Coding}
-use Rattle.ftp_session.specs.Dialogue.{Tree, Say, Hear, Ask, Leaf, dialogue}
+use Rattle.ftp_session.specs.Dialogue.{Tree, Say, Hear, Look, Ask, Leaf, dialogue}
 use Rattle.ftp_session.specs.Play.{play_call}
 
 -- an answer before those of later calls
@@ -39,6 +40,7 @@ abbrev pub Silent : Tree → Type 0
 Silent (Say (Ok line) next) = Silent next
 Silent (Say (Err cause) next) = Unit {0}
 Silent (Hear codes next) = ⊥
+Silent (Look end next) = (address : SocketAddr) × Silent (next address)
 Silent (Ask request next) = (answer : RequestOutcome) × Silent (next answer)
 Silent (Leaf answer state) = Unit {0}
 
@@ -47,6 +49,7 @@ abbrev pub Resumes : ReplyRule → List ℕ → Tree → Type 0
 Resumes rule seen (Say (Ok line) next) = Resumes rule seen next
 Resumes rule seen (Say (Err cause) next) = Unit {0}
 Resumes rule seen (Hear codes next) = outcome rule codes.form seen false ≡ Waits
+Resumes rule seen (Look end next) = (address : SocketAddr) → Resumes rule seen (next address)
 Resumes rule seen (Ask request next) = (answer : RequestOutcome) → Resumes rule seen (next answer)
 Resumes rule seen (Leaf answer state) = Unit {0}
 

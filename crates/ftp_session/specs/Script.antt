@@ -17,7 +17,7 @@ use Rattle.ftp_session.specs.declared.model.Ran.TheVariants.{Finished, Waiting}
 use Rattle.ftp_control.specs.declared.control.form.ReplyForm.{ReplyForm}
 use Rattle.ftp_calls.specs.declared.exchange.Turn.TheVariants.{First}
 use Rattle.ftp_session.specs.Coding.{Coding}
-use Rattle.ftp_calls.specs.Exchanges.{row_of, is_read}
+use Rattle.ftp_calls.specs.Exchanges.{row_of, is_read, negotiates}
 use Rattle.ftp_calls.specs.declared.exchange.Row.{Row}
 use Rattle.ftp_calls.specs.declared.exchange.Row.TheVariants.{Exchanges, Arms}
 use Rattle.ftp_control.specs.declared.control.form.ReplyForm.TheVariants.{Plain}
@@ -156,7 +156,7 @@ abbrev pub script : Coding → Standing → Script → List Event → Script
 script coding start s [] = s
 script coding start s (event ∷ events) = script coding start (after_event coding start s event) events
 
--- Lawful lists: a call is dropped before its first Poll, or it is a plain read; and a reply under way is resumed
+-- Lawful lists: no call opens a data connection; a call is dropped before its first Poll, or it is a plain read; and a reply under way is resumed
 -- as one of the form that it was read as before, unless it is no whole reply of the call's form. Of a session that has failed, of a call that is refused and of one that waits for room before it
 -- hears nothing is asked
 
@@ -178,7 +178,7 @@ abbrev pub IsLawful : Coding → Standing → Script → Event → Type 0
 IsLawful coding start s (event.Feed more) = Unit {0}
 IsLawful coding start s event.End = Unit {0}
 IsLawful coding start s (event.Room more) = Unit {0}
-IsLawful coding start s (event.Start call) = Unit {0}
+IsLawful coding start s (event.Start call) = negotiates call ≡ false
 IsLawful coding start s event.Poll = MayPoll coding start s.call s
 IsLawful coding start s event.Cancel = MayCancel s.call s.polled
 IsLawful coding start s event.Leave = Unit {0}

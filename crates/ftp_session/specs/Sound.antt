@@ -1,5 +1,7 @@
 -- What always holds of a session.
-use Rattle.std.specs.Prelude.{◌≡◌, ℕ, ◌+◌}
+use Rattle.std.specs.Prelude.{◌≡◌, ℕ, ◌+◌, ◌==◌, Option, Some, None, if◌then◌else◌}
+use Rattle.ftp_base.specs.declared.types.fault.FtpError.{FtpError}
+use Rattle.ftp_base.specs.declared.types.fault.FtpError.TheVariants.{DataConnectionAlreadyOpen, SessionFailed}
 use Rattle.ftp_control.specs.Channel.{Channel, IsSound}
 use Rattle.ftp_session.specs.declared.session.state.Owed.{Owed}
 use Rattle.ftp_session.specs.declared.session.state.Owed.TheVariants.{Nothing, Live, Left}
@@ -23,6 +25,27 @@ SoundCounts c = c.opened ≡ c.finished + c.aborted + c.drained + owed_count c.o
 
 abbrev pub no_transfers : Transfers
 no_transfers = record { opened = 0; finished = 0; aborted = 0; drained = 0; owed = Nothing }
+
+-- so many transfers can be counted
+abbrev pub most_transfers : ℕ
+most_transfers = 18446744073709551615
+
+-- why no transfer can be opened: one is owed, or no other can be counted
+abbrev pub cannot_beside : Owed → ℕ → Option FtpError
+cannot_beside Nothing opened = if opened == most_transfers then Some SessionFailed else None
+cannot_beside (Live number) opened = Some DataConnectionAlreadyOpen
+cannot_beside (Left number) opened = Some DataConnectionAlreadyOpen
+
+abbrev pub cannot_open : Transfers → Option FtpError
+cannot_open c = cannot_beside c.owed c.opened
+
+-- one transfer more, which is owed, where it can be opened
+abbrev pub counted_unless : Option FtpError → Transfers → Transfers
+counted_unless None c = record c { opened = c.opened + 1; owed = Live (c.opened + 1) }
+counted_unless (Some fault) c = c
+
+abbrev pub one_more : Transfers → Transfers
+one_more c = counted_unless (cannot_open c) c
 
 -- a sound session: its channel's bytes and lines, and its counts
 pub record Sound (tells : Type 0) (c : Channel) (transfers : Transfers) : Type 0 where

@@ -8,6 +8,7 @@ use crate::session::{Answer, Call, State};
 use ftp_base::types::{Bytes, Items};
 use ftp_control::control::{ReplyForm, ReplyRule};
 use ftp_control::transport::{Request, RequestOutcome, Room};
+use std::net::SocketAddr;
 
 /// Where a run stands.
 #[derive(Clone, Drop)]
@@ -22,13 +23,17 @@ pub struct Standing {
     pub said: Bytes,
     /// The unsent tail of a line that was begun before, which goes out before the next line.
     pub unsent: Bytes,
-    /// What was asked.
+    /// The address of the control connection at this end.
+    pub local: SocketAddr,
+    /// The address of its peer.
+    pub peer: SocketAddr,
+    /// What the transport was asked.
     pub asked: Items<Request>,
     /// The bytes that are part of no reply yet.
     pub bytes: Bytes,
     /// Whether no others come.
     pub ended: bool,
-    /// The outcomes of the requests to come.
+    /// The outcomes of the transport's requests to come.
     pub outcomes: Items<RequestOutcome>,
 }
 

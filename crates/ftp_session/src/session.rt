@@ -5,11 +5,13 @@
 //! which is that machine and the encoding of its texts.
 
 pub mod answers;
+mod asks;
 mod chosen;
 mod client;
 mod commands;
 mod connecting;
 mod machine;
+mod negotiation;
 mod nodes;
 mod parameters;
 mod questions;

@@ -1,12 +1,13 @@
 //! Answers as text.
 
-use ftp_base::types::{Features, FtpError, FtpResult, Response, Text};
+use ftp_base::types::{ConnectionError, Features, FtpError, FtpResult, Response, Text};
 use ftp_session::session::Answer;
 use jiff::civil::DateTime;
 use row_text::shown;
 use std::alloc::{AllocError, Global};
 
-/// An answer: `ok`, `ok` and what it gives, or the number of the refusal, with the code of an unexpected reply.
+/// An answer: `ok`, `ok` and what it gives, `opened`, `opened with` and the reply, or the number of the refusal, with
+/// the kind of a connection's fault or the code of an unexpected reply.
 pub fn text_of(alloc: Global, answer: &Answer) -> Result<String, AllocError> {
     match answer {
         Answer::Unit => String::from_str(alloc, "ok"),
@@ -21,6 +22,11 @@ pub fn text_of(alloc: Global, answer: &Answer) -> Result<String, AllocError> {
         Answer::Time(time) => time_text(alloc, *time),
         Answer::Size(size) => format!(in alloc; "ok {size}"),
         Answer::Features(features) => features_text(alloc, features),
+        Answer::Opened => String::from_str(alloc, "opened"),
+        Answer::OpenedWith(reply) => {
+            let body = shown(alloc, reply.body.as_slice())?;
+            format!(in alloc; "opened with {body}")
+        }
         Answer::Fault(fault) => fault_text(alloc, fault),
     }
 }
@@ -58,6 +64,9 @@ fn fault_text(alloc: Global, fault: &FtpError) -> Result<String, AllocError> {
         FtpError::UnexpectedResponse(reply) => {
             let code = reply.status.code();
             format!(in alloc; "E{number} {code}")
+        }
+        FtpError::ConnectionError(ConnectionError::Io(kind)) => {
+            format!(in alloc; "E{number} {kind:?}")
         }
         _ => format!(in alloc; "E{number}"),
     }

@@ -41,6 +41,10 @@ fn with_argument(alloc: Global, name: &str, argument: &str) -> Result<Call, RowE
         "mlst" => Ok(Call::Mlst(Some(text(alloc, argument)?))),
         "mdtm" => Ok(Call::Mdtm(text(alloc, argument)?)),
         "size" => Ok(Call::Size(text(alloc, argument)?)),
+        "retr" => Ok(Call::RetrAsStream(text(alloc, argument)?)),
+        "put" => Ok(Call::PutWithStream(text(alloc, argument)?)),
+        "append" => Ok(Call::AppendWithStream(text(alloc, argument)?)),
+        "data" => data(alloc, argument),
         "resume" => Ok(Call::ResumeTransfer(value(argument)?)),
         "opts" => opts(alloc, argument),
         "read" => Ok(Call::ReadResponse(status(argument)?)),
@@ -59,6 +63,12 @@ fn with_two(alloc: Global, name: &str, arguments: &str) -> Result<Call, RowError
         "custom" => Ok(Call::CustomCommand(second, statuses(alloc, first)?)),
         _ => Err(RowError::NotUnderstood),
     }
+}
+
+/// `LINE CODES`.
+fn data(alloc: Global, words: &str) -> Result<Call, RowError> {
+    let (line, codes) = words.rsplit_once(' ').ok_or(RowError::NotUnderstood)?;
+    Ok(Call::CustomDataCommand(text(alloc, line)?, statuses(alloc, codes)?))
 }
 
 /// `OPTION`, or `OPTION VALUE`.

@@ -1,7 +1,7 @@
 //! How a row's session comes to its connection, where the row says so.
 
 use ftp_base::types::ConnectionError;
-use ftp_control::transport::{Asked, MemoryConn, MemoryTransport, Request, RequestOutcome, Supply};
+use ftp_control::transport::{MemoryConn, MemoryTransport, Request, RequestOutcome, Supply};
 use row_text::{RowError, bytes_of, pair, value};
 use std::alloc::{AllocError, Global};
 use std::io::ErrorKind;
@@ -137,40 +137,14 @@ impl Dial {
 }
 
 /// A connection that these bytes came on, in pieces of so many.
-pub fn conn_with(alloc: Global, bytes: &[u8], piece: usize) -> Result<MemoryConn, AllocError> {
-    let mut conn = MemoryConn::new(alloc);
+fn conn_with(alloc: Global, bytes: &[u8], piece: usize) -> Result<MemoryConn, AllocError> {
+    fed(MemoryConn::new(alloc), bytes, piece)
+}
+
+/// A connection on which these bytes came besides, in pieces of so many.
+pub fn fed(mut conn: MemoryConn, bytes: &[u8], piece: usize) -> Result<MemoryConn, AllocError> {
     for part in bytes.chunks(piece.max(1)) {
         conn.feed(part)?;
     }
     Ok(conn)
-}
-
-/// The addresses of requests, as text.
-pub fn addresses_of(alloc: Global, requests: &[Request]) -> Result<Vec<String>, AllocError> {
-    let mut texts = Vec::new(alloc);
-    for request in requests {
-        add_address(alloc, &mut texts, request)?;
-    }
-    Ok(texts)
-}
-
-/// The addresses that a transport was asked for, as text.
-pub fn asked_addresses(alloc: Global, asked: &[Asked]) -> Result<Vec<String>, AllocError> {
-    let mut texts = Vec::new(alloc);
-    for one in asked {
-        add_address(alloc, &mut texts, &one.request)?;
-    }
-    Ok(texts)
-}
-
-/// Adds the address of a request for a connection.
-fn add_address(
-    alloc: Global,
-    texts: &mut Vec<String>,
-    request: &Request,
-) -> Result<(), AllocError> {
-    if let Request::Connect(address, _limit) = request {
-        texts.push(format!(in alloc; "{address}")?)?;
-    }
-    Ok(())
 }

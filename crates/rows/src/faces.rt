@@ -9,6 +9,7 @@ use crate::play::Play;
 use crate::transcript::{Mark, Standing};
 use ftp_session::session::Event;
 use row_text::RowError;
+pub use session::NamedSession;
 use std::alloc::{AllocError, Global};
 use std::sync::Wait;
 
@@ -107,13 +108,16 @@ impl Face {
         }
     }
 
-    /// Whether a row can be played on it: the blocking client has no method that reads a reply alone, and a run is
-    /// made on a connection.
+    /// Whether a row can be played on it: the blocking client has no method that reads a reply alone, neither it nor
+    /// the session has one that opens a data connection, a run is made on a connection, and the definition of polled
+    /// runs knows no outcome of a request.
     pub fn plays(self, play: &Play) -> bool {
         match self {
-            Face::Client => client::has_methods(&play.calls),
-            Face::Definition | Face::Methods => true,
-            Face::Script | Face::Run | Face::Polled => play.dial.is_none(),
+            Face::Definition => true,
+            Face::Client => !play.opens_data() && client::has_methods(&play.calls),
+            Face::Methods => !play.opens_data(),
+            Face::Run | Face::Polled => play.dial.is_none(),
+            Face::Script => play.dial.is_none() && !play.opens_data(),
         }
     }
 

@@ -3,8 +3,10 @@
 use crate::calls::call;
 use crate::dial::Dial;
 use crate::encodings::Named;
+use crate::setup::Setup;
 use crate::step::Step;
 use ftp_base::types::Bytes;
+use ftp_calls::exchange::negotiates;
 use ftp_session::session::{Call, Event};
 use row_text::{RowError, bytes_of, value};
 use std::alloc::Global;
@@ -27,6 +29,8 @@ pub struct Play {
     pub encoding: Option<Named>,
     /// How the session comes to its connection, where the row says so.
     pub dial: Option<Dial>,
+    /// How it comes to its data connections.
+    pub setup: Setup,
 }
 
 impl Play {
@@ -45,6 +49,7 @@ impl Play {
             piece,
             encoding: None,
             dial: None,
+            setup: Setup::new(alloc),
         };
         for step in steps {
             play.add_input(alloc, *step)?;
@@ -69,6 +74,8 @@ impl Play {
             Step::Refuses => self.dialled(alloc).add_refusal(),
             Step::Connect(words) => self.dialled(alloc).connect(words),
             Step::Within(words) => self.dialled(alloc).connect_within(words),
+            Step::Set(word, argument) => self.setup.take(alloc, word, argument),
+            Step::Connects => self.setup.connects(),
             _ => Ok(()),
         }
     }
@@ -108,8 +115,17 @@ impl Play {
             Step::Encoding(name) => self.set_encoding(name),
             Step::Connect(_) | Step::Within(_) => Ok(self.calls.push(Call::Greet)?),
             Step::Server(_) | Step::Host(_) | Step::Refuses => Ok(()),
+            Step::Set(..) | Step::Connects => Ok(()),
             Step::Welcome | Step::Sessions | Step::Lists(_) => Ok(()),
         }
+    }
+
+    /// Whether a call of the row opens a data connection.
+    pub fn opens_data(&self) -> bool {
+        self.events.iter().any(|event| match event {
+            Event::Start(call) => negotiates(call),
+            _ => false,
+        })
     }
 
     fn feed(&mut self, alloc: Global, bytes: &str) -> Result<(), RowError> {

@@ -15,6 +15,12 @@ pub enum Step<'a> {
     Connect(&'a str),
     /// `within SECONDS ADDRESS`: the same of one address, within a time.
     Within(&'a str),
+    /// `mode KIND`, `nat on`, `peers any`, `deadline SECONDS`, `local ADDRESS`, `peer ADDRESS`, `listens PORT`,
+    /// `comes ADDRESS`, `refuses KIND`: a setting of the session, an end of its connection, or what a request of its
+    /// transport comes to.
+    Set(&'a str, &'a str),
+    /// `connects`: the next data connection that is asked for connects.
+    Connects,
     /// `encoding NAME`: the encoding of the session's texts.
     Encoding(&'a str),
     /// `call WORDS`: a call, made whole; among events it begins and is polled.
@@ -58,6 +64,7 @@ impl<'a> Step<'a> {
             Some(("room", count)) => Ok(Step::Room(count)),
             Some(("start", words)) => Ok(Step::Start(words)),
             Some(("lists", count)) => Ok(Step::Lists(count)),
+            Some((word, argument)) if is_of_setup(word) => Ok(Step::Set(word, argument)),
             Some(_) => Err(RowError::NotUnderstood),
             None => Step::bare(line),
         }
@@ -67,6 +74,7 @@ impl<'a> Step<'a> {
     fn bare(word: &str) -> Result<Step<'a>, RowError> {
         match word {
             "refuses" => Ok(Step::Refuses),
+            "connects" => Ok(Step::Connects),
             "end" => Ok(Step::End),
             "poll" => Ok(Step::Poll),
             "cancel" => Ok(Step::Cancel),
@@ -83,9 +91,18 @@ impl<'a> Step<'a> {
         match self {
             Step::Server(_) | Step::Encoding(_) | Step::Call(_) => false,
             Step::Host(_) | Step::Refuses | Step::Connect(_) | Step::Within(_) => false,
+            Step::Set(..) | Step::Connects => false,
             Step::Feed(_) | Step::End | Step::Room(_) | Step::Start(_) => true,
             Step::Poll | Step::Cancel | Step::Leave | Step::Later => true,
             Step::Welcome | Step::Sessions | Step::Lists(_) => false,
         }
     }
+}
+
+/// Whether a word sets up the session or its transport.
+fn is_of_setup(word: &str) -> bool {
+    matches!(
+        word,
+        "mode" | "nat" | "peers" | "deadline" | "local" | "peer" | "listens" | "comes" | "refuses"
+    )
 }

@@ -6,7 +6,7 @@ use std::alloc::{AllocError, Global};
 /// Where a session or a definition stands after a part of a row.
 #[derive(Drop)]
 pub struct Standing {
-    /// The addresses that were asked for, where there is a session.
+    /// What its transport was asked, line by line.
     pub asked: Vec<String>,
     /// What went out.
     pub sent: Vec<u8>,
@@ -22,9 +22,10 @@ pub struct Standing {
     pub welcome: Option<String>,
 }
 
-/// How far a row had come at a place: how many bytes were sent, and how many answers given.
+/// How far a row had come at a place: how many requests were made, bytes sent and answers given.
 #[derive(Clone, Copy)]
 pub struct Mark {
+    asked: usize,
     sent: usize,
     answers: usize,
 }
@@ -33,6 +34,7 @@ impl Standing {
     /// How far it has come.
     pub fn mark(&self) -> Mark {
         Mark {
+            asked: self.asked.len(),
             sent: self.sent.len(),
             answers: self.answers.len(),
         }
@@ -41,14 +43,15 @@ impl Standing {
     /// The transcript of a row that ended here and had come so far at these places.
     pub fn transcript(&self, alloc: Global, marks: &[Mark]) -> Result<String, AllocError> {
         let mut text = String::new(alloc);
-        for address in &self.asked {
-            write!(text, "D: {address}\n")?;
-        }
         let mut before = Mark {
+            asked: 0,
             sent: 0,
             answers: 0,
         };
         for mark in marks {
+            for line in between(&self.asked, before.asked, mark.asked) {
+                write!(text, "{line}\n")?;
+            }
             add_sent(
                 alloc,
                 &mut text,

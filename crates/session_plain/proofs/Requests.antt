@@ -12,7 +12,7 @@ use Rattle.ftp_session.specs.Connecting.{connecting, if_connected}
 use Rattle.ftp_session.specs.Dialogue.{Tree, dialogue}
 use Rattle.ftp_session.specs.Play.{play}
 use Rattle.session_plain.specs.Progress.{AsksFor}
-use Rattle.session_plain.specs.declared.connecting.Came.TheVariants.{Known}
+use Rattle.session_plain.specs.declared.asking.Came.TheVariants.{Known}
 
 module _ (coding : Coding) (room : Room) (requests others : List Request) (request : Request) (fault : ConnectionError) (s here : Standing) (outcome : RequestOutcome) where
   -- what is left where this outcome came

@@ -10,8 +10,8 @@ use Rattle.ftp_control.specs.declared.transport.request.RequestOutcome.{RequestO
 use Rattle.ftp_session.specs.declared.model.Played.TheVariants.{Pending}
 use Rattle.ftp_session.specs.declared.model.Standing.{Standing}
 use Rattle.ftp_session.specs.declared.model.Wait.TheVariants.{Outcome as Asking}
-use Rattle.session_plain.specs.declared.connecting.Came.{Came}
-use Rattle.session_plain.specs.declared.connecting.Came.TheVariants.{Unknown, Known}
+use Rattle.session_plain.specs.declared.asking.Came.{Came}
+use Rattle.session_plain.specs.declared.asking.Came.TheVariants.{Unknown, Known}
 use Rattle.session_plain.specs.declared.exchange.Progress.{Progress}
 use Rattle.session_plain.specs.declared.exchange.Progress.TheVariants.{Stops, Continues}
 

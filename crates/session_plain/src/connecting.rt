@@ -3,26 +3,16 @@
 ghost use Rattle.std.specs.Prelude.{◌≡◌, IfOk};
 ghost use Rattle.ftp_session.specs.Coding.{coding_of};
 ghost use Rattle.ftp_session.specs.Connecting.{connecting};
-ghost use Rattle.ftp_session.specs.Play.{asked_then, play};
-ghost use Rattle.session_plain.specs.Progress.{AsksFor};
+ghost use Rattle.ftp_session.specs.Play.{play};
 
+use crate::asking::{Came, asked};
 use crate::play::play_dialogue;
 use ftp_base::encoding::Encoding;
-use ftp_base::types::{ConnectionError, FtpError, Items};
+use ftp_base::types::{ConnectionError, FtpError};
 use ftp_control::transport::{Request, RequestOutcome, Room};
 use ftp_session::model::{Played, Standing, Wait};
 use ftp_session::session::{Answer, Call};
 use std::alloc::{AllocError, Global};
-use std::mem;
-
-/// What a request comes to.
-#[derive(Drop)]
-pub(crate) enum Came {
-    /// No outcome of it is known.
-    Unknown(Standing),
-    /// This outcome.
-    Known(RequestOutcome, Standing),
-}
 
 /// What connecting comes to, where these are the requests, and this the fault where there is none.
 #[tactic(auto, unfolding(ftp_session::specs::Connecting::connecting, ftp_session::specs::Play::play))]
@@ -53,20 +43,4 @@ pub fn connect_in_turn<E: Encoding>(
             play_dialogue(alloc, room, encoding, &Call::Greet, here)
         }
     }
-}
-
-/// A request is made: the next outcome that is known is its.
-fn asked(alloc: Global, request: Request, mut standing: Standing) -> Result<Came, AllocError>
-    ensures { IfOk result (λ came. AsksFor request standing came) }
-{
-    let mut all = mem::replace(&mut standing.asked, Items::from_vec(Vec::new(alloc))).into_vec();
-    all.push(request)?;
-    standing.asked = Items::from_vec(all);
-    let Some((outcome, others)) = standing.outcomes.as_slice().split_first() else {
-        return Ok(Came::Unknown(standing));
-    };
-    let outcome = *outcome;
-    let others = Vec::from_slice(alloc, others)?;
-    standing.outcomes = Items::from_vec(others);
-    Ok(Came::Known(outcome, standing))
 }

@@ -1,5 +1,4 @@
-//! One row of a call on all bytes at once: a line is said, a reply is heard and accepted; or a setting changes. No call
-//! of today asks: requests are made in `connecting`.
+//! One row of a call on all bytes at once: a line is said, a reply is heard and accepted; or a setting changes.
 
 ghost use Rattle.std.specs.Prelude.{◌≡◌, ◌++◌, [], true, IfOk, IfErr, Ok, Some, Result, drop};
 ghost use Rattle.ftp_base.specs.Command.{text_of};
@@ -12,11 +11,13 @@ ghost use Rattle.ftp_calls.specs.Exchanges.{row_of};
 ghost use Rattle.ftp_session.specs.Play.{fits, heard_then, play, said_then, taken};
 ghost use Rattle.session_plain.specs.Progress.{ComesTo};
 
+use crate::addresses::{to_address, to_port};
+use crate::opening::{opened, opened_answer};
 use ftp_base::command::Command;
 use ftp_base::encoding::{Encoding, WelcomeMessage};
 use ftp_base::status::Status;
 use ftp_base::types::{Bytes, ConnectionError, FtpError, FtpResult, Items, Response};
-use ftp_calls::exchange::{Codes, Ending, Exchange, Row, Turn, row_of};
+use ftp_calls::exchange::{Codes, Ending, Exchange, Row, Turn, row_at};
 use ftp_control::control::{Outcome, REPLY_LIMIT, ReplyForm, WireLine, expected_reply, form_of};
 use ftp_control::plain::outcome;
 use ftp_control::transport::Room;
@@ -52,14 +53,14 @@ pub(crate) fn row<E: Encoding>(
         (play room (doing coding (row_of call.now turn) standing.state later) standing)
         progress) }
 {
-    match row_of(copy_of(call)?, turn) {
+    match row_at(alloc, call, turn)? {
         Row::Exchanges(made) => exchange(alloc, room, encoding, made, standing),
         Row::Arms(offset) => Ok(done(Answer::Unit, armed(offset, standing))),
     }
 }
 
 /// The next transfer begins at this offset.
-fn armed(offset: u64, mut standing: Standing) -> Standing
+pub(crate) fn armed(offset: u64, mut standing: Standing) -> Standing
     ensures { result ≡ record standing { state = armed offset standing.state } }
 {
     standing.state.settings.restart_offset = offset;
@@ -327,6 +328,13 @@ fn accepted<E: Encoding>(
         Ending::GivesSize => Ok(done(size_answer(&reply), standing)),
         Ending::GivesFeatures => Ok(done(features_answer(alloc, &reply)?, standing)),
         Ending::SetsText(text) => Ok(done(Answer::Unit, text_set(text, standing))),
+        Ending::Continues => Ok(Progress::Continues(standing)),
+        Ending::GivesAddress => to_address(alloc, reply, standing),
+        Ending::GivesPort => to_port(alloc, reply, standing),
+        Ending::Opens(gives_reply) => {
+            let played = opened(alloc, opened_answer(gives_reply, reply), standing)?;
+            Ok(Progress::Stops(played))
+        }
         Ending::GoesOn(status) => {
             let goes_on = reply.status.code() == status.code();
             if goes_on {
@@ -376,7 +384,7 @@ fn greeting_of<E: Encoding>(
 }
 
 /// A call has its answer.
-fn done(answer: Answer, standing: Standing) -> Progress
+pub(crate) fn done(answer: Answer, standing: Standing) -> Progress
     ensures { result ≡ Progress.Stops (Played.Done answer standing) }
 {
     Progress::Stops(Played::Done(answer, standing))

@@ -1,12 +1,17 @@
 //! Calls, runs and polled runs computed as they are defined, slowly, over all bytes at once. The tests compare a
-//! session with them. What each call says and hears is read from the session's own table, `row_of`.
+//! session with them. What each call says and hears is read from the session's own table, `row_at`.
 #![tactic(auto)]
 
+mod addresses;
+mod asking;
 mod connecting;
 mod events;
 mod exchange;
+mod negotiation;
+mod opening;
 mod play;
 mod runs;
+mod turns;
 
 pub use connecting::connect_in_turn;
 pub use events::run_polled;

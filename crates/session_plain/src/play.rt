@@ -1,14 +1,16 @@
-//! What a call comes to: its rows in turn.
+//! What a call comes to: its turns, after negotiation where it opens a data connection.
 
 ghost use Rattle.std.specs.Prelude.{◌≡◌, IfOk};
 ghost use Rattle.ftp_session.specs.Coding.{coding_of};
-ghost use Rattle.ftp_session.specs.Dialogue.{dialogue};
+ghost use Rattle.ftp_session.specs.Dialogue.{dialogue, entered};
 ghost use Rattle.ftp_session.specs.Play.{play, play_call};
 
-use crate::exchange::{Progress, row};
+use crate::exchange::armed;
+use crate::negotiation::negotiating;
+use crate::turns::from_turn;
 use ftp_base::encoding::Encoding;
 use ftp_base::types::FtpError;
-use ftp_calls::exchange::Turn;
+use ftp_calls::exchange::{Turn, negotiates};
 use ftp_control::transport::Room;
 use ftp_session::model::{Played, Standing};
 use ftp_session::session::{Answer, Call};
@@ -32,7 +34,7 @@ pub fn play_call<E: Encoding>(
     play_dialogue(alloc, room, encoding, call, standing)
 }
 
-/// What the dialogue of a call comes to.
+/// What the dialogue of a call comes to. One that opens a data connection takes the offset away.
 pub(crate) fn play_dialogue<E: Encoding>(
     alloc: Global,
     room: Room,
@@ -41,15 +43,12 @@ pub(crate) fn play_dialogue<E: Encoding>(
     standing: Standing,
 ) -> Result<Played, AllocError>
     ensures { IfOk result (λ played. played ≡ play room
-        (dialogue (coding_of E.decoded E.encoded encoding.now) call.now standing.state) standing) }
+        (dialogue (coding_of E.decoded E.encoded encoding.now) call.now standing.state)
+        (record standing { state = entered call.now standing.state })) }
 {
-    match row(alloc, room, encoding, call, Turn::First, standing)? {
-        Progress::Stops(played) => Ok(played),
-        Progress::Continues(here) => {
-            match row(alloc, room, encoding, call, Turn::Second, here)? {
-                Progress::Stops(played) => Ok(played),
-                Progress::Continues(there) => Ok(Played::Done(Answer::Unit, there)),
-            }
-        }
+    if !negotiates(call) {
+        return from_turn(alloc, room, encoding, call, Turn::First, standing);
     }
+    let offset = standing.state.settings.restart_offset;
+    negotiating(alloc, room, encoding, call, offset, armed(0, standing))
 }

@@ -20,12 +20,12 @@ use Rattle.ftp_session.specs.declared.session.stage.Stage.{Stage}
 use Rattle.ftp_session.specs.declared.session.stage.Stage.TheVariants.{At}
 use Rattle.ftp_session.specs.State.{SessionValue}
 use Rattle.ftp_session.specs.Coding.{Coding}
-use Rattle.ftp_calls.specs.Exchanges.{is_read}
+use Rattle.ftp_calls.specs.Exchanges.{is_read, negotiates}
 use Rattle.ftp_control.specs.declared.control.rule.ReplyRule.{ReplyRule}
 use Rattle.ftp_session.specs.Dialogue.{dialogue}
 use Rattle.ftp_session.specs.Run.{Resumes}
 use Rattle.ftp_session.specs.Scripted.{SaysFrontOf, SaysNothing, SaysOrTakes, Stands, Reaches}
-use Rattle.ftp_session.specs.Promises.{AllRefused, Aborts, Rests}
+use Rattle.ftp_session.specs.Promises.{AllRefused, Aborts, HasFault, Rests}
 use Rattle.ftp_session.specs.Steps.Stages.{remaining, begun_at, StageOf}
 use Rattle.ftp_session.specs.Steps.Moving.{HasBegun, PollSteps}
 use Rattle.ftp_session.specs.declared.model.Script.{Script}
@@ -46,6 +46,7 @@ pub record Since (coding : Coding) (old : SessionValue) (items : List Call) (ans
 
 -- a call that was polled; of a plain read no trace is left where it is dropped
 pub record UnderWay (coding : Coding) (old : SessionValue) (s : Script) (came : List ℕ) (v : SessionValue) (call : Call) (stage : Stage) : Type 0 where
+  pub plain : negotiates call ≡ false
   pub polled : s.polled ≡ true
   pub going : v.channel.failed ≡ false
   pub reaches : Reaches coding old s.items came v s.answers call (remaining coding call v.state stage)
@@ -55,6 +56,8 @@ pub record UnderWay (coding : Coding) (old : SessionValue) (s : Script) (came : 
 
 -- a call that was polled and has waited for room since, before it hears: its first line still goes out
 pub record Unheard (coding : Coding) (old : SessionValue) (s : Script) (came : List ℕ) (v : SessionValue) (call : Call) (stage : Stage) : Type 0 where
+  pub plain : negotiates call ≡ false
+  pub stage_of : StageOf call stage
   pub polled : s.polled ≡ true
   pub unheard : s.heard ≡ false
   pub going : v.channel.failed ≡ false
@@ -64,7 +67,8 @@ pub record Unheard (coding : Coding) (old : SessionValue) (s : Script) (came : L
   pub since : Since coding old s.items s.answers came v (begun_at stage)
 
 -- a call that wasn't polled
-pub record Started (coding : Coding) (old : SessionValue) (s : Script) (came : List ℕ) (v : SessionValue) (stage : Stage) : Type 0 where
+pub record Started (coding : Coding) (old : SessionValue) (s : Script) (came : List ℕ) (v : SessionValue) (call : Call) (stage : Stage) : Type 0 where
+  pub plain : negotiates call ≡ false
   pub at : stage ≡ At First
   pub unpolled : s.polled ≡ false
   pub unheard : s.heard ≡ false
@@ -72,7 +76,7 @@ pub record Started (coding : Coding) (old : SessionValue) (s : Script) (came : L
 
 abbrev pub Place : Coding → SessionValue → Script → List ℕ → SessionValue → Option Call → Stage → Type 0
 Place coding old s came v None stage = Stands coding old s.items came v s.answers
-Place coding old s came v (Some call) stage = Started coding old s came v stage ⊎ UnderWay coding old s came v call stage ⊎ Unheard coding old s came v call stage
+Place coding old s came v (Some call) stage = Started coding old s came v call stage ⊎ UnderWay coding old s came v call stage ⊎ Unheard coding old s came v call stage
 
 -- the session follows the script
 pub record Follows (coding : Coding) (old : SessionValue) (s : Script) (v : SessionValue) (call : Option Call) (stage : Stage) (answers : List Answer) : Type 0 where
@@ -100,7 +104,7 @@ pub record Follows (coding : Coding) (old : SessionValue) (s : Script) (v : Sess
 -- the stage of the call under way, if any, is one of that call's
 abbrev pub StageIn : Option Call → Stage → Type 0
 StageIn None stage = Unit {0}
-StageIn (Some call) stage = StageOf call stage
+StageIn (Some call) stage = StageOf call stage ⊎ (stage ≡ At First)
 
 abbrev pub given_answer : Option Answer → List Answer
 given_answer None = []
@@ -111,13 +115,20 @@ abbrev pub Starts : Call → Option Call → Option Call → Stage → Stage →
 Starts call None call' stage stage' = (call' ≡ Some call) × (stage' ≡ At First)
 Starts call (Some other) call' stage stage' = (call' ≡ Some other) × (stage' ≡ stage)
 
+-- the answer that a poll gives, if any
+abbrev pub polled_answer : Poll Answer → List Answer
+polled_answer (Ready answer) = answer ∷ []
+polled_answer Pending = []
+
 -- what a poll over memory does, and what holds then
 pub record PollsHere (coding : Coding) (call : Call) (stage stage' : Stage) (v w : SessionValue) (result : Poll Answer) : Type 0 where
   pub refused : v.channel.failed ≡ true → (result ≡ Ready (Fault SessionFailed)) × (w ≡ v)
-  pub polls : v.channel.failed ≡ false → PollSteps over_memory (begun_at stage) (remaining coding call v.state stage) (remaining coding call v.state stage') v w result
+  pub polls : v.channel.failed ≡ false → negotiates call ≡ false → PollSteps over_memory (begun_at stage) (remaining coding call v.state stage) (remaining coding call v.state stage') v w result
   pub rests : result ≡ Pending → is_read call ≡ true → Rests over_memory v w
-  pub begun : result ≡ Pending → HasBegun over_memory (begun_at stage) (begun_at stage') (remaining coding call v.state stage) v w
-  pub asked : w.asked ≡ v.asked
+  pub begun : result ≡ Pending → negotiates call ≡ false → HasBegun over_memory (begun_at stage) (begun_at stage') (remaining coding call v.state stage) v w
+  pub asked : negotiates call ≡ false → w.asked ≡ v.asked
+  pub fails : w.channel.failed ≡ true → (v.channel.failed ≡ true) ⊎ HasFault (polled_answer result)
+  pub left_at : result ≡ Pending → StageOf call stage'
   pub end : EndsAsTold v.channel.ended w.channel.ended v.channel.told
   pub given : IsGiven w.channel.told
   pub sound : IsSound (Unit {0}) w.channel

@@ -1,6 +1,6 @@
 -- What a step of a dialogue does: whatever the server still sends, and whatever room there is, the tree before it and
 -- the tree after it come to the same. Beside what is promised it keeps how much is kept of a reply under way.
-use Rattle.std.specs.Prelude.{◌++◌, ◌≡◌, ◌<◌, ◌≤◌, ◌+◌, ◌⊎◌, ℕ, Bool, true, false, ◌&&◌, if◌then◌else◌, Option, None, List, [], length, Result, Ok, Err}
+use Rattle.std.specs.Prelude.{◌++◌, ◌≡◌, ◌<◌, ◌≤◌, ◌+◌, ◌⊎◌, ℕ, zero, suc, Bool, true, false, ◌&&◌, if◌then◌else◌, Option, None, List, [], length, Result, Ok, Err}
 use Rattle.futures.specs.declared.task.Poll.{Poll}
 use Rattle.futures.specs.declared.task.Poll.TheVariants as poll
 use Rattle.ftp_base.specs.declared.types.reply.Response.{Response}
@@ -9,6 +9,13 @@ use Rattle.ftp_base.specs.declared.types.fault.FtpError.TheVariants.{ConnectionE
 use Rattle.ftp_control.specs.Told.{IsDry, IsFull}
 use Rattle.ftp_control.specs.declared.control.rule.ReplyRule.{ReplyRule}
 use Rattle.ftp_control.specs.declared.transport.request.Asked.{Asked}
+use Rattle.ftp_control.specs.declared.transport.request.Request.{Request}
+use Rattle.ftp_control.specs.declared.transport.request.RequestOutcome.{RequestOutcome}
+use Rattle.ftp_control.specs.declared.transport.request.RequestOutcome.TheVariants as outcomes
+use Rattle.std.specs.declared.alloc.AllocError.{AllocError}
+use Rattle.std.specs.declared.io.ErrorKind.{ErrorKind}
+use Rattle.std.specs.declared.net.socket_addr.SocketAddr.{SocketAddr}
+use Rattle.ftp_base.specs.declared.types.fault.ConnectionError.TheVariants.{Io, NoAddress, TimedOut}
 use Rattle.ftp_session.specs.Play.{play}
 use Rattle.ftp_control.specs.Channel.{untaken}
 use Rattle.ftp_control.specs.Saying.{due, said}
@@ -17,21 +24,26 @@ use Rattle.ftp_calls.specs.declared.call.Answer.{Answer}
 use Rattle.ftp_calls.specs.declared.call.Answer.TheVariants.{Fault}
 use Rattle.ftp_calls.specs.declared.call.Call.{Call}
 use Rattle.ftp_calls.specs.declared.exchange.Ending.{Ending}
+use Rattle.ftp_calls.specs.declared.exchange.Ending.TheVariants.{GivesAddress, GivesPort, Opens}
 use Rattle.ftp_session.specs.declared.session.nodes.Accepted.{Accepted}
 use Rattle.ftp_session.specs.declared.session.nodes.Accepted.TheVariants as accepts
+use Rattle.ftp_session.specs.declared.session.stage.Asking.{Asking}
+use Rattle.ftp_session.specs.declared.session.stage.Asking.TheVariants.{PeerPort, Connection, Peer, Accepting}
 use Rattle.ftp_session.specs.declared.session.stage.Awaits.{Awaits}
 use Rattle.ftp_session.specs.declared.session.stage.Stage.{Stage}
+use Rattle.ftp_session.specs.declared.session.stage.Stage.TheVariants.{Agreeing}
+use Rattle.ftp_session.specs.declared.session.stage.Agreeing.TheVariants.{Asking as Asks}
 use Rattle.ftp_session.specs.declared.session.stage.Step.{Step}
 use Rattle.ftp_session.specs.declared.session.stage.Step.TheVariants.{Next, Pending, Done}
 use Rattle.ftp_session.specs.State.{SessionValue}
 use Rattle.ftp_session.specs.Coding.{Coding}
 use Rattle.ftp_calls.specs.declared.exchange.Turn.{Turn}
 use Rattle.ftp_control.specs.Refusal.{IsRefusalOf}
-use Rattle.ftp_calls.specs.Exchanges.{row_of, says_of, Nothing, kind_of}
-use Rattle.ftp_session.specs.Dialogue.{Expected, Tree, Say, Hear, Ask, Leaf, accepted, later, dialogue}
+use Rattle.ftp_calls.specs.Exchanges.{is_read, row_of, says_of, Kind, Nothing, kind_of}
+use Rattle.ftp_session.specs.Dialogue.{Expected, End, Tree, Say, Hear, Look, Ask, Leaf, accepted, later, lets_in, with_transfer, dialogue}
 use Rattle.ftp_session.specs.Run.{Resumes, Silent}
-use Rattle.ftp_session.specs.Promises.{IsFault, Leads, Completes, Aborts, Fails, However, SaidOrTaken, Untouched, Rests, IsRefused, failed_from}
-use Rattle.ftp_session.specs.Steps.Stages.{AnswersKind, Begun, remaining, begun_at, is_second, line_of}
+use Rattle.ftp_session.specs.Promises.{IsFault, Leads, Completes, Aborts, Fails, However, SaidOrTaken, Untouched, Rests, IsRefused, begun_by, failed_from}
+use Rattle.ftp_session.specs.Steps.Stages.{AnswersKind, Begun, GoesOnTo, StageAfter, StepAnswers, asking_of, nodes_left, remaining, begun_at, is_later, line_of}
 use Rattle.ftp_session.specs.Link.{Link}
 
 -- what is kept afterwards: nothing, as after a reply; or what was, where none was read
@@ -46,6 +58,7 @@ Shrinks came old new = length new.channel.ahead ≤ length old.channel.ahead + l
 abbrev pub Calm : Tree → Type 0
 Calm (Say line next) = Unit {0}
 Calm (Hear codes next) = ⊥
+Calm (Look end next) = Unit {0}
 Calm (Ask request next) = Unit {0}
 Calm (Leaf answer state) = Unit {0}
 
@@ -54,6 +67,7 @@ abbrev pub Speaks : Tree → Type 0
 Speaks (Say (Ok line) next) = Unit {0}
 Speaks (Say (Err cause) next) = ⊥
 Speaks (Hear codes next) = ⊥
+Speaks (Look end next) = ⊥
 Speaks (Ask request next) = ⊥
 Speaks (Leaf answer state) = ⊥
 
@@ -115,8 +129,15 @@ pub record WaitsToHear (link : Link) (tree : Tree) (v : SessionValue) : Type 0 w
   pub none_ahead : v.channel.ahead ≡ []
   pub dry : link.tells → IsDry v.channel.told
 
+-- or for an outcome, where requests may wait
+pub record WaitsToAsk (link : Link) (tree : Tree) : Type 0 where
+  pub request : Request
+  pub next : RequestOutcome → Tree
+  pub is : tree ≡ Ask request next
+  pub may : link.asks_wait
+
 abbrev pub WaitsFor : Link → Tree → SessionValue → Type 0
-WaitsFor link tree v = WaitsToSay link tree v ⊎ WaitsToHear link tree v
+WaitsFor link tree v = WaitsToSay link tree v ⊎ WaitsToHear link tree v ⊎ WaitsToAsk link tree
 
 -- a step: the next node is reached, or the connection waits, or the dialogue has its answer or is aborted
 abbrev pub Steps : Link → Bool → Tree → Tree → SessionValue → SessionValue → Step → Type 0
@@ -181,6 +202,7 @@ Hears link codes next old new poll.Pending = Advances link (Hear codes next) (He
 -- an accepted reply: the next exchange, or the answer with the change of state
 abbrev pub Accepts : Coding → Ending → Response → State → State → Accepted → Type 0
 Accepts coding ending reply state state' accepts.GoesOn = (state' ≡ state) × ((later : State → Tree) → accepted coding ending state reply later ≡ later state)
+Accepts coding ending reply state state' (accepts.Asks asking) = (state' ≡ state) × ((later : State → Tree) → accepted coding ending state reply later ≡ asking_of asking state (later state))
 Accepts coding ending reply state state' (accepts.Done answer) = (later : State → Tree) → accepted coding ending state reply later ≡ Leaf answer state'
 
 abbrev pub wants_memory : FtpError → Bool
@@ -197,11 +219,29 @@ wants_memory SessionFailed = false
 abbrev pub after_fault : Bool → FtpError → SessionValue → SessionValue
 after_fault begun fault v = if wants_memory fault && begun then failed_from v else v
 
--- as long as nothing was said or taken, nothing has changed
-pub record NothingYet (coding : Coding) (call : Call) (stage stage' : Stage) (old new : SessionValue) : Type 0 where
-  pub same : new ≡ old
+-- nothing was said or read, and this is left
+pub record Still (link : Link) (tree tree' : Tree) (old new : SessionValue) : Type 0 where
+  pub advances : Advances link tree tree' old new
+  pub none : advances.moves.leads.came ≡ []
+  pub untouched : Untouched link [] old new
+
+-- as long as nothing was said or taken, the transport was asked at most; a plain read asks nothing
+pub record NothingYet (link : Link) (coding : Coding) (call : Call) (stage stage' : Stage) (old new : SessionValue) : Type 0 where
+  pub still : Still link (remaining coding call old.state stage) (remaining coding call old.state stage') old new
   pub begun : begun_at stage ≡ false
-  pub tree : (state : State) → remaining coding call state stage' ≡ remaining coding call state stage
+  pub speaks : Speaks (remaining coding call old.state stage) → Speaks (remaining coding call old.state stage')
+  pub read : is_read call ≡ true → new ≡ old
+
+-- the address of an end of the control connection was looked up; or that failed, which was counted
+abbrev pub LooksUp : Link → End → SessionValue → SessionValue → Result SocketAddr ErrorKind → Type 0
+LooksUp link end old new (Ok address) = (next : SocketAddr → Tree) → Still link (Look end next) (next address) old new
+LooksUp link end old new (Err kind) = (begun : Bool) (next : SocketAddr → Tree) → Aborts link begun (Look end next) (Fault (ConnectionError (Io kind))) old new
+
+-- the transport was asked, or will be again
+abbrev pub AsksFor : Link → Request → SessionValue → SessionValue → Poll (Result RequestOutcome AllocError) → Type 0
+AsksFor link request old new (poll.Ready (Ok outcome)) = (next : RequestOutcome → Tree) → Still link (Ask request next) (next outcome) old new
+AsksFor link request old new (poll.Ready (Err full)) = (tree : Tree) → Still link tree tree old new
+AsksFor link request old new poll.Pending = ((tree : Tree) → Still link tree tree old new) × link.asks_wait
 
 -- a dialogue begins: a line that is said first is said, whatever is kept of a reply
 abbrev pub BeginsHere : Link → Tree → SessionValue → SessionValue → Type 0
@@ -217,26 +257,50 @@ Tracks link begun begun' tree old new Next = HasBegun link begun begun' tree old
 Tracks link begun begun' tree old new Pending = HasBegun link begun begun' tree old new
 Tracks link begun begun' tree old new (Done answer) = Unit {0}
 
-abbrev pub Quiet : Coding → Call → Stage → Stage → SessionValue → SessionValue → Step → Type 0
-Quiet coding call stage stage' old new Next = begun_at stage' ≡ false → NothingYet coding call stage stage' old new
-Quiet coding call stage stage' old new Pending = Unit {0}
-Quiet coding call stage stage' old new (Done answer) = Unit {0}
+abbrev pub Quiet : Link → Coding → Call → Stage → Stage → SessionValue → SessionValue → Step → Type 0
+Quiet link coding call stage stage' old new Next = begun_at stage' ≡ false → NothingYet link coding call stage stage' old new
+Quiet link coding call stage stage' old new Pending = Unit {0}
+Quiet link coding call stage stage' old new (Done answer) = Unit {0}
+
+-- a step on the way to a data connection
+pub record Walks (link : Link) (coding : Coding) (call : Call) (stage stage' : Stage) (old new : SessionValue) (result : Step) : Type 0 where
+  pub steps : Steps link (begun_at stage) (remaining coding call old.state stage) (remaining coding call old.state stage') old new result
+  pub quiet : Quiet link coding call stage stage' old new result
+  pub begun : Tracks link (begun_at stage) (begun_at stage') (remaining coding call old.state stage) old new result
+  pub answers : StepAnswers call result
+  pub fewer : result ≡ Next → nodes_left stage' < nodes_left stage
+  pub stage_of : StageAfter call stage' result
+  pub waits : result ≡ Pending → link.asks_wait
 
 -- an exchange begins, and nothing else happens; or its line is refused, or finds no memory
 pub record IsRefusedLine (coding : Coding) (call : Call) (turn : Turn) (old new : SessionValue) (answer : Answer) : Type 0 where
   pub fault : FtpError
   pub is : answer ≡ Fault fault
   pub cause : IsRefusalOf (line_of coding (says_of (row_of call turn))) fault
-  pub leaves : new ≡ after_fault (is_second turn) fault old
+  pub leaves : new ≡ after_fault (is_later turn) fault old
 
 abbrev pub BeginsExchange : Coding → Call → Turn → Stage → SessionValue → SessionValue → Step → Type 0
 BeginsExchange coding call turn stage old new Next = (new ≡ old) × Begun coding call turn stage
 BeginsExchange coding call turn stage old new Pending = ⊥
 BeginsExchange coding call turn stage old new (Done answer) = IsRefusedLine coding call turn old new answer
 
+-- an accepted reply leads to a data connection
+abbrev pub agrees : Ending → Bool
+agrees GivesAddress = true
+agrees GivesPort = true
+agrees (Opens replies) = true
+agrees other = false
+
+abbrev pub AskingAnswers : Kind → Asking → Type 0
+AskingAnswers kind (PeerPort port) = Unit {0}
+AskingAnswers kind (Connection address) = Unit {0}
+AskingAnswers kind (Peer answer) = AnswersKind kind answer
+AskingAnswers kind (Accepting peer left answer) = ⊥
+
 -- the kind of an answer is its ending's
 abbrev pub AnswersAs : Ending → Accepted → Type 0
 AnswersAs ending accepts.GoesOn = kind_of ending ≡ Nothing
+AnswersAs ending (accepts.Asks asking) = (agrees ending ≡ true) × AskingAnswers (kind_of ending) asking
 AnswersAs ending (accepts.Done answer) = AnswersKind (kind_of ending) answer
 
 -- a reply that was heard is accepted: the next exchange is reached, or the answer with the change of state; where
@@ -254,7 +318,7 @@ Concludes coding call a reply stage old new (Done answer) = EndsWith coding call
 -- a call, whole, with how much is kept afterwards
 pub record IsMade (link : Link) (coding : Coding) (call : Call) (old new : SessionValue) (answer : Answer) : Type 0 where
   pub going : old.channel.failed ≡ false
-  pub plays : Ends link (dialogue coding call old.state) answer old new ⊎ Aborts link false (dialogue coding call old.state) answer old new
+  pub plays : Ends link (dialogue coding call old.state) answer (begun_by call old) new ⊎ Aborts link false (dialogue coding call old.state) answer (begun_by call old) new
 
 abbrev pub Made : Link → Coding → Call → SessionValue → SessionValue → Answer → Type 0
 Made link coding call old new answer = IsRefused old new answer ⊎ IsMade link coding call old new answer
@@ -262,3 +326,25 @@ Made link coding call old new answer = IsRefused old new answer ⊎ IsMade link 
 -- why a call isn't made whose arguments found no memory
 abbrev pub withheld : SessionValue → FtpError
 withheld v = if v.channel.failed then SessionFailed else OutOfMemory
+
+-- a stranger was dropped: another may come, or the one after so many was as good as the deadline
+abbrev pub TurnsAway : Turn → SocketAddr → ℕ → Answer → Stage → Step → Type 0
+TurnsAway turn peer left answer stage Next = (rest : ℕ) × (left ≡ suc rest) × (stage ≡ Agreeing (Asks turn (Accepting peer rest answer)))
+TurnsAway turn peer left answer stage Pending = ⊥
+TurnsAway turn peer left answer stage (Done last) = (left ≡ zero) × (last ≡ Fault (ConnectionError TimedOut))
+
+-- a connection was made, and the next turn begins; or it was refused
+abbrev pub ConnectsTo : Call → Turn → RequestOutcome → Stage → Step → Type 0
+ConnectsTo call turn outcomes.Done stage result = GoesOnTo call turn stage result
+ConnectsTo call turn (outcomes.Address address) stage result = GoesOnTo call turn stage result
+ConnectsTo call turn (outcomes.Refused fault) stage result = result ≡ Done (Fault (ConnectionError fault))
+
+-- a peer came: one that is let in opens the transfer, another is dropped; or none came
+abbrev pub MeetsIf : Bool → Turn → SocketAddr → ℕ → Answer → Stage → SessionValue → SessionValue → Step → Type 0
+MeetsIf true turn peer left answer stage old new result = (result ≡ Done answer) × (new ≡ record old { state = with_transfer old.state })
+MeetsIf false turn peer left answer stage old new result = (new ≡ old) × TurnsAway turn peer left answer stage result
+
+abbrev pub Meets : RequestOutcome → Turn → SocketAddr → ℕ → Answer → Stage → SessionValue → SessionValue → Step → Type 0
+Meets (outcomes.Address from) turn peer left answer stage old new result = MeetsIf (lets_in old.state peer from) turn peer left answer stage old new result
+Meets (outcomes.Refused fault) turn peer left answer stage old new result = (new ≡ old) × (result ≡ Done (Fault (ConnectionError fault)))
+Meets outcomes.Done turn peer left answer stage old new result = (new ≡ old) × (result ≡ Done (Fault (ConnectionError NoAddress)))

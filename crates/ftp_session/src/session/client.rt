@@ -72,9 +72,9 @@ impl<Tr: Network, K: Drop, E: Encoding, B: Drop> Session<Tr, K, E, B> {
         Tr::Conn: Conn,
         ensures encoding { IfOk result (λ session. session.encoding.0 ≡ None) }
         ensures connects { MatchResult result
-            (λ session. Connects (link Tr.Conn.tells Tr.Conn.blocking_read_faults Tr.Conn.blocking_write_faults) (chosen E.decoded E.encoded None) (Tr.Conn.told conn)
+            (λ session. Connects (link Tr.Conn.tells Tr.Conn.blocking_read_faults Tr.Conn.blocking_write_faults Tr.Conn.end_faults) (chosen E.decoded E.encoded None) (Tr.Conn.told conn)
             (Tr.asked transport) session.machine (Ok tt))
-            (λ fault. FailsToConnect (link Tr.Conn.tells Tr.Conn.blocking_read_faults Tr.Conn.blocking_write_faults) (chosen E.decoded E.encoded None) (Tr.Conn.told conn)
+            (λ fault. FailsToConnect (link Tr.Conn.tells Tr.Conn.blocking_read_faults Tr.Conn.blocking_write_faults Tr.Conn.end_faults) (chosen E.decoded E.encoded None) (Tr.Conn.told conn)
             (Tr.asked transport) fault) }
     {
         let mut session = Session::new(alloc, transport, conn)?;

@@ -8,6 +8,7 @@ ghost use Rattle.std.specs.Prelude.{◌⊎◌, ◌≡◌, Err, IfOk, Result, tru
 ghost use Rattle.futures.specs.declared.task.Poll.TheVariants as poll;
 ghost use Rattle.ftp_base.specs.declared.types.reply.Response.{Response as Heard};
 ghost use Rattle.ftp_base.specs.declared.types.fault.FtpError.{FtpError as Faults};
+ghost use Rattle.ftp_calls.specs.Exchanges.{negotiates};
 ghost use Rattle.ftp_calls.specs.declared.call.Call.{Call as Called};
 ghost use Rattle.ftp_session.specs.Calls.{reply_answer, unit_answer};
 ghost use Rattle.ftp_session.specs.Coding.{chosen};
@@ -17,6 +18,7 @@ ghost use Rattle.ftp_session.specs.Promises.{GivesFault, Plays, Reads};
 ghost use Rattle.ftp_session.specs.Steps.Moving.{withheld};
 ghost use Rattle.ftp_session.specs.Steps.Stages.{GivesNothing, GivesReply, MayAnswer};
 
+use super::asks::Nothing;
 use super::client::Session;
 use super::{Answer, Call};
 use ftp_base::encoding::Encoding;
@@ -34,7 +36,7 @@ where
     /// Reads the server's greeting (220).
     pub(super) fn greet(&mut self, alloc: Global) -> FtpResult<()>
         ensures encoding { self.new.encoding ≡ self.old.encoding }
-        ensures plays { Plays (link Tr.Conn.tells Tr.Conn.blocking_read_faults Tr.Conn.blocking_write_faults) (chosen E.decoded E.encoded self.old.encoding.0) Call.Greet
+        ensures plays { Plays (link Tr.Conn.tells Tr.Conn.blocking_read_faults Tr.Conn.blocking_write_faults Tr.Conn.end_faults) (chosen E.decoded E.encoded self.old.encoding.0) Call.Greet
             self.old.machine self.new.machine (unit_answer result) }
     {
         unit(self.call(alloc, &Call::Greet))
@@ -46,7 +48,7 @@ where
     /// # Errors
     /// Those of a command and its reply: `LineBreak` where CR or LF stands in the user's name or the password.
     pub fn login(&mut self, alloc: Global, user: &str, password: &str) -> FtpResult<()>
-        ensures { Plays (link Tr.Conn.tells Tr.Conn.blocking_read_faults Tr.Conn.blocking_write_faults) (chosen E.decoded E.encoded self.old.encoding.0) (Call.Login user.now password.now)
+        ensures { Plays (link Tr.Conn.tells Tr.Conn.blocking_read_faults Tr.Conn.blocking_write_faults Tr.Conn.end_faults) (chosen E.decoded E.encoded self.old.encoding.0) (Call.Login user.now password.now)
             self.old.machine self.new.machine (unit_answer result) }
     {
         self.perform(alloc, login_call(alloc, user, password))
@@ -57,7 +59,7 @@ where
     /// # Errors
     /// Those of a command and its reply.
     pub fn cwd(&mut self, alloc: Global, path: &str) -> FtpResult<()>
-        ensures { Plays (link Tr.Conn.tells Tr.Conn.blocking_read_faults Tr.Conn.blocking_write_faults) (chosen E.decoded E.encoded self.old.encoding.0) (Call.Cwd path.now)
+        ensures { Plays (link Tr.Conn.tells Tr.Conn.blocking_read_faults Tr.Conn.blocking_write_faults Tr.Conn.end_faults) (chosen E.decoded E.encoded self.old.encoding.0) (Call.Cwd path.now)
             self.old.machine self.new.machine (unit_answer result) }
     {
         self.perform(alloc, cwd_call(alloc, path))
@@ -68,7 +70,7 @@ where
     /// # Errors
     /// Those of a command and its reply.
     pub fn cdup(&mut self, alloc: Global) -> FtpResult<()>
-        ensures { Plays (link Tr.Conn.tells Tr.Conn.blocking_read_faults Tr.Conn.blocking_write_faults) (chosen E.decoded E.encoded self.old.encoding.0) Call.Cdup
+        ensures { Plays (link Tr.Conn.tells Tr.Conn.blocking_read_faults Tr.Conn.blocking_write_faults Tr.Conn.end_faults) (chosen E.decoded E.encoded self.old.encoding.0) Call.Cdup
             self.old.machine self.new.machine (unit_answer result) }
     {
         unit(self.call(alloc, &Call::Cdup))
@@ -79,7 +81,7 @@ where
     /// # Errors
     /// Those of a command and its reply.
     pub fn noop(&mut self, alloc: Global) -> FtpResult<()>
-        ensures { Plays (link Tr.Conn.tells Tr.Conn.blocking_read_faults Tr.Conn.blocking_write_faults) (chosen E.decoded E.encoded self.old.encoding.0) Call.Noop
+        ensures { Plays (link Tr.Conn.tells Tr.Conn.blocking_read_faults Tr.Conn.blocking_write_faults Tr.Conn.end_faults) (chosen E.decoded E.encoded self.old.encoding.0) Call.Noop
             self.old.machine self.new.machine (unit_answer result) }
     {
         unit(self.call(alloc, &Call::Noop))
@@ -90,7 +92,7 @@ where
     /// # Errors
     /// Those of a command and its reply.
     pub fn eprt(&mut self, alloc: Global, address: SocketAddr) -> FtpResult<()>
-        ensures { Plays (link Tr.Conn.tells Tr.Conn.blocking_read_faults Tr.Conn.blocking_write_faults) (chosen E.decoded E.encoded self.old.encoding.0) (Call.Eprt address)
+        ensures { Plays (link Tr.Conn.tells Tr.Conn.blocking_read_faults Tr.Conn.blocking_write_faults Tr.Conn.end_faults) (chosen E.decoded E.encoded self.old.encoding.0) (Call.Eprt address)
             self.old.machine self.new.machine (unit_answer result) }
     {
         unit(self.call(alloc, &Call::Eprt(address)))
@@ -101,7 +103,7 @@ where
     /// # Errors
     /// Those of a command and its reply.
     pub fn opts(&mut self, alloc: Global, option: &str, value: Option<&str>) -> FtpResult<()>
-        ensures { Plays (link Tr.Conn.tells Tr.Conn.blocking_read_faults Tr.Conn.blocking_write_faults) (chosen E.decoded E.encoded self.old.encoding.0) (Call.Opts option.now (option_map (λ text. text.now) value.entry))
+        ensures { Plays (link Tr.Conn.tells Tr.Conn.blocking_read_faults Tr.Conn.blocking_write_faults Tr.Conn.end_faults) (chosen E.decoded E.encoded self.old.encoding.0) (Call.Opts option.now (option_map (λ text. text.now) value.entry))
             self.old.machine self.new.machine (unit_answer result) }
     {
         self.perform(alloc, opts_call(alloc, option, value))
@@ -112,7 +114,7 @@ where
     /// # Errors
     /// Those of a command and its reply.
     pub fn site(&mut self, alloc: Global, command: &str) -> FtpResult<Response>
-        ensures { Plays (link Tr.Conn.tells Tr.Conn.blocking_read_faults Tr.Conn.blocking_write_faults) (chosen E.decoded E.encoded self.old.encoding.0) (Call.Site command.now)
+        ensures { Plays (link Tr.Conn.tells Tr.Conn.blocking_read_faults Tr.Conn.blocking_write_faults Tr.Conn.end_faults) (chosen E.decoded E.encoded self.old.encoding.0) (Call.Site command.now)
             self.old.machine self.new.machine (reply_answer result) }
     {
         self.perform_for_reply(alloc, site_call(alloc, command))
@@ -123,7 +125,7 @@ where
     /// # Errors
     /// Those of a command and its reply.
     pub fn transfer_type(&mut self, alloc: Global, kind: FileType) -> FtpResult<()>
-        ensures { Plays (link Tr.Conn.tells Tr.Conn.blocking_read_faults Tr.Conn.blocking_write_faults) (chosen E.decoded E.encoded self.old.encoding.0) (Call.TransferType kind)
+        ensures { Plays (link Tr.Conn.tells Tr.Conn.blocking_read_faults Tr.Conn.blocking_write_faults Tr.Conn.end_faults) (chosen E.decoded E.encoded self.old.encoding.0) (Call.TransferType kind)
             self.old.machine self.new.machine (unit_answer result) }
     {
         unit(self.call(alloc, &Call::TransferType(kind)))
@@ -134,7 +136,7 @@ where
     /// # Errors
     /// Those of a command and its reply.
     pub fn mkdir(&mut self, alloc: Global, path: &str) -> FtpResult<()>
-        ensures { Plays (link Tr.Conn.tells Tr.Conn.blocking_read_faults Tr.Conn.blocking_write_faults) (chosen E.decoded E.encoded self.old.encoding.0) (Call.Mkdir path.now)
+        ensures { Plays (link Tr.Conn.tells Tr.Conn.blocking_read_faults Tr.Conn.blocking_write_faults Tr.Conn.end_faults) (chosen E.decoded E.encoded self.old.encoding.0) (Call.Mkdir path.now)
             self.old.machine self.new.machine (unit_answer result) }
     {
         self.perform(alloc, mkdir_call(alloc, path))
@@ -145,7 +147,7 @@ where
     /// # Errors
     /// Those of a command and its reply.
     pub fn rmdir(&mut self, alloc: Global, path: &str) -> FtpResult<()>
-        ensures { Plays (link Tr.Conn.tells Tr.Conn.blocking_read_faults Tr.Conn.blocking_write_faults) (chosen E.decoded E.encoded self.old.encoding.0) (Call.Rmdir path.now)
+        ensures { Plays (link Tr.Conn.tells Tr.Conn.blocking_read_faults Tr.Conn.blocking_write_faults Tr.Conn.end_faults) (chosen E.decoded E.encoded self.old.encoding.0) (Call.Rmdir path.now)
             self.old.machine self.new.machine (unit_answer result) }
     {
         self.perform(alloc, rmdir_call(alloc, path))
@@ -156,7 +158,7 @@ where
     /// # Errors
     /// Those of a command and its reply.
     pub fn rm(&mut self, alloc: Global, path: &str) -> FtpResult<()>
-        ensures { Plays (link Tr.Conn.tells Tr.Conn.blocking_read_faults Tr.Conn.blocking_write_faults) (chosen E.decoded E.encoded self.old.encoding.0) (Call.Rm path.now)
+        ensures { Plays (link Tr.Conn.tells Tr.Conn.blocking_read_faults Tr.Conn.blocking_write_faults Tr.Conn.end_faults) (chosen E.decoded E.encoded self.old.encoding.0) (Call.Rm path.now)
             self.old.machine self.new.machine (unit_answer result) }
     {
         self.perform(alloc, rm_call(alloc, path))
@@ -167,7 +169,7 @@ where
     /// # Errors
     /// Those of a command and its reply.
     pub fn rename(&mut self, alloc: Global, from: &str, to: &str) -> FtpResult<()>
-        ensures { Plays (link Tr.Conn.tells Tr.Conn.blocking_read_faults Tr.Conn.blocking_write_faults) (chosen E.decoded E.encoded self.old.encoding.0) (Call.Rename from.now to.now)
+        ensures { Plays (link Tr.Conn.tells Tr.Conn.blocking_read_faults Tr.Conn.blocking_write_faults Tr.Conn.end_faults) (chosen E.decoded E.encoded self.old.encoding.0) (Call.Rename from.now to.now)
             self.old.machine self.new.machine (unit_answer result) }
     {
         self.perform(alloc, rename_call(alloc, from, to))
@@ -178,7 +180,7 @@ where
     /// # Errors
     /// Those of a command and its reply.
     pub fn quit(&mut self, alloc: Global) -> FtpResult<()>
-        ensures { Plays (link Tr.Conn.tells Tr.Conn.blocking_read_faults Tr.Conn.blocking_write_faults) (chosen E.decoded E.encoded self.old.encoding.0) Call.Quit
+        ensures { Plays (link Tr.Conn.tells Tr.Conn.blocking_read_faults Tr.Conn.blocking_write_faults Tr.Conn.end_faults) (chosen E.decoded E.encoded self.old.encoding.0) Call.Quit
             self.old.machine self.new.machine (unit_answer result) }
     {
         unit(self.call(alloc, &Call::Quit))
@@ -194,7 +196,7 @@ where
         line: &str,
         expected: &[Status],
     ) -> FtpResult<Response>
-        ensures { Plays (link Tr.Conn.tells Tr.Conn.blocking_read_faults Tr.Conn.blocking_write_faults) (chosen E.decoded E.encoded self.old.encoding.0) (Call.CustomCommand line.now expected.now)
+        ensures { Plays (link Tr.Conn.tells Tr.Conn.blocking_read_faults Tr.Conn.blocking_write_faults Tr.Conn.end_faults) (chosen E.decoded E.encoded self.old.encoding.0) (Call.CustomCommand line.now expected.now)
             self.old.machine self.new.machine (reply_answer result) }
     {
         self.perform_for_reply(alloc, custom_call(alloc, line, expected))
@@ -205,7 +207,7 @@ where
     /// # Errors
     /// Those of a read of one reply.
     pub fn read_response(&mut self, alloc: Global, expected: Status) -> FtpResult<Response>
-        ensures { Plays (link Tr.Conn.tells Tr.Conn.blocking_read_faults Tr.Conn.blocking_write_faults) (chosen E.decoded E.encoded self.old.encoding.0) (Call.ReadResponse expected)
+        ensures { Plays (link Tr.Conn.tells Tr.Conn.blocking_read_faults Tr.Conn.blocking_write_faults Tr.Conn.end_faults) (chosen E.decoded E.encoded self.old.encoding.0) (Call.ReadResponse expected)
             self.old.machine self.new.machine (reply_answer result) }
     {
         reply(self.call(alloc, &Call::ReadResponse(expected)))
@@ -216,7 +218,7 @@ where
     /// # Errors
     /// Those of a read of one reply.
     pub fn read_response_in(&mut self, alloc: Global, expected: &[Status]) -> FtpResult<Response>
-        ensures { Plays (link Tr.Conn.tells Tr.Conn.blocking_read_faults Tr.Conn.blocking_write_faults) (chosen E.decoded E.encoded self.old.encoding.0) (Call.ReadResponseIn expected.now)
+        ensures { Plays (link Tr.Conn.tells Tr.Conn.blocking_read_faults Tr.Conn.blocking_write_faults Tr.Conn.end_faults) (chosen E.decoded E.encoded self.old.encoding.0) (Call.ReadResponseIn expected.now)
             self.old.machine self.new.machine (reply_answer result) }
     {
         self.perform_for_reply(alloc, read_call(alloc, expected))
@@ -224,20 +226,21 @@ where
 
     /// Makes a call.
     pub(super) fn call(&mut self, alloc: Global, call: &Call) -> Answer
+        requires { negotiates call.now ≡ false }
         ensures encoding { self.new.encoding ≡ self.old.encoding }
         ensures answers { MayAnswer call.now result }
-        ensures plays { Plays (link Tr.Conn.tells Tr.Conn.blocking_read_faults Tr.Conn.blocking_write_faults) (chosen E.decoded E.encoded self.old.encoding.0)
+        ensures plays { Plays (link Tr.Conn.tells Tr.Conn.blocking_read_faults Tr.Conn.blocking_write_faults Tr.Conn.end_faults) (chosen E.decoded E.encoded self.old.encoding.0)
             call.now self.old.machine self.new.machine result }
     {
-        self.machine.call(alloc, &self.encoding, call)
+        self.machine.call(&Nothing, alloc, &self.encoding, call)
     }
 
     /// Makes a call that gives nothing, whose arguments were copied. Where memory ran out for them nothing happens.
     fn perform(&mut self, alloc: Global, call: Result<Call, AllocError>) -> FtpResult<()>
         requires { IfOk call GivesNothing }
         ensures encoding { self.new.encoding ≡ self.old.encoding }
-        ensures plays { (made : Called) → IfOk call (λ c. c ≡ made) →
-            Plays (link Tr.Conn.tells Tr.Conn.blocking_read_faults Tr.Conn.blocking_write_faults) (chosen E.decoded E.encoded self.old.encoding.0) made
+        ensures plays { (made : Called) → negotiates made ≡ false → IfOk call (λ c. c ≡ made) →
+            Plays (link Tr.Conn.tells Tr.Conn.blocking_read_faults Tr.Conn.blocking_write_faults Tr.Conn.end_faults) (chosen E.decoded E.encoded self.old.encoding.0) made
             self.old.machine self.new.machine (unit_answer result) }
     {
         match call {
@@ -254,8 +257,8 @@ where
     ) -> FtpResult<Response>
         requires { IfOk call GivesReply }
         ensures encoding { self.new.encoding ≡ self.old.encoding }
-        ensures plays { (made : Called) → IfOk call (λ c. c ≡ made) →
-            Plays (link Tr.Conn.tells Tr.Conn.blocking_read_faults Tr.Conn.blocking_write_faults) (chosen E.decoded E.encoded self.old.encoding.0) made
+        ensures plays { (made : Called) → negotiates made ≡ false → IfOk call (λ c. c ≡ made) →
+            Plays (link Tr.Conn.tells Tr.Conn.blocking_read_faults Tr.Conn.blocking_write_faults Tr.Conn.end_faults) (chosen E.decoded E.encoded self.old.encoding.0) made
             self.old.machine self.new.machine (reply_answer result) }
     {
         match call {
@@ -297,12 +300,12 @@ impl<Tr: Network, K: Drop, E: Encoding, B: Drop> Session<Tr, K, E, B> {
             (self.old.machine.channel.failed ≡ true) ⊎ GivesFault result }
         ensures reads { self.old.machine.channel.failed ≡ false →
             (next : Result Heard Faults → Tree) →
-            Reads (link Tr.Conn.tells Tr.Conn.read_faults Tr.Conn.write_faults) (expecting expected.now) next self.old.machine self.new.machine result }
+            Reads (link Tr.Conn.tells Tr.Conn.read_faults Tr.Conn.write_faults Tr.Conn.end_faults) (expecting expected.now) next self.old.machine self.new.machine result }
     {
         if self.machine.channel.failed() {
             return Poll::Ready(Err(FtpError::SessionFailed));
         }
-        self.machine.hear(alloc, expected, w)
+        self.machine.hear(&Nothing, alloc, expected, w)
     }
 
     /// Reads one reply of this status, as `poll_read_response_in` does.
@@ -324,7 +327,7 @@ impl<Tr: Network, K: Drop, E: Encoding, B: Drop> Session<Tr, K, E, B> {
             (self.old.machine.channel.failed ≡ true) ⊎ GivesFault result }
         ensures reads { self.old.machine.channel.failed ≡ false →
             (next : Result Heard Faults → Tree) →
-            Reads (link Tr.Conn.tells Tr.Conn.read_faults Tr.Conn.write_faults) (expecting (expected ∷ [])) next self.old.machine self.new.machine result }
+            Reads (link Tr.Conn.tells Tr.Conn.read_faults Tr.Conn.write_faults Tr.Conn.end_faults) (expecting (expected ∷ [])) next self.old.machine self.new.machine result }
     {
         self.poll_read_response_in(alloc, &[expected], w)
     }
@@ -443,6 +446,8 @@ fn unit(answer: Answer) -> FtpResult<()>
         Answer::Time(_) => unreachable!(),
         Answer::Size(_) => unreachable!(),
         Answer::Features(_) => unreachable!(),
+        Answer::Opened => unreachable!(),
+        Answer::OpenedWith(_) => unreachable!(),
     }
 }
 
@@ -459,5 +464,7 @@ fn reply(answer: Answer) -> FtpResult<Response>
         Answer::Time(_) => unreachable!(),
         Answer::Size(_) => unreachable!(),
         Answer::Features(_) => unreachable!(),
+        Answer::Opened => unreachable!(),
+        Answer::OpenedWith(_) => unreachable!(),
     }
 }

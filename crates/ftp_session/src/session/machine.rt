@@ -9,12 +9,15 @@ use ftp_control::transport::Network;
 use std::alloc::Global;
 use std::marker::Model;
 
-/// A transport, the control channel on one of its connections, and the state of the dialogues.
+/// A transport, the control channel on one of its connections, and the state of the dialogues. Beside them stand the
+/// listener while a data connection is waited for, and the data connection, from the moment that it was made.
 #[derive(Drop)]
 pub(crate) struct Machine<Tr: Network> {
     pub(super) transport: Tr,
     pub(super) channel: ControlChannel<Tr::Conn>,
     pub(super) state: State,
+    pub(super) listener: Option<Tr::Listener>,
+    pub(super) data: Option<Tr::Conn>,
 }
 
 impl<Tr: Network> Model for Machine<Tr> {
@@ -40,6 +43,8 @@ impl<Tr: Network> Machine<Tr> {
             transport,
             channel: ControlChannel::new(alloc, conn),
             state: State::new(),
+            listener: None,
+            data: None,
         }
     }
 

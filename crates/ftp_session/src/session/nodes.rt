@@ -8,18 +8,21 @@ ghost use Rattle.futures.specs.declared.task.Poll.TheVariants as poll;
 ghost use Rattle.ftp_base.specs.declared.types.reply.Response.{Response as Heard};
 ghost use Rattle.ftp_base.specs.declared.types.fault.FtpError.{FtpError as Faults};
 ghost use Rattle.ftp_control.specs.Told.{EndsAsTold};
-ghost use Rattle.ftp_session.specs.Coding.{coding_of};
-ghost use Rattle.ftp_session.specs.Dialogue.{Tree, expected_of, expecting};
-ghost use Rattle.ftp_session.specs.Link.{link};
+ghost use Rattle.ftp_session.specs.Coding.{Coding, coding_of};
+ghost use Rattle.ftp_session.specs.Dialogue.{Tree, expected_of, expecting, opened_answer};
+ghost use Rattle.ftp_session.specs.declared.session.state.State.{State as States};
+ghost use Rattle.ftp_session.specs.Link.{asking};
 ghost use Rattle.ftp_session.specs.Steps.Moving.{Accepts, AnswersAs, Hears, SaysNode, TakesLine, step_of};
 
 use super::answers::{features_answer, line_answer, path_answer, size_answer, time_answer};
+use super::asks::Asks;
 use super::machine::Machine;
-use super::stage::Step;
+use super::stage::{Asking, Step};
 use super::{Answer, State};
+use ftp_answers::{NoAddress, read_extended_port, read_passive_address};
 use ftp_base::encoding::{Encoding, WelcomeMessage};
 use ftp_base::status::Status;
-use ftp_base::types::{FtpError, FtpResult, Response};
+use ftp_base::types::{FtpError, FtpResult, Mode, Response};
 use ftp_calls::exchange::{Codes, Ending};
 use ftp_control::control::{ReplyForm, WireLine, form_of};
 use ftp_control::transport::{Network, PollConn};
@@ -28,7 +31,12 @@ use std::alloc::{AllocError, Global};
 
 impl<Tr: Network> Machine<Tr> {
     /// Sends a line, after the unsent tail of the one before.
-    pub(super) fn say<W>(&mut self, line: &mut Option<WireLine>, w: &mut W) -> Step
+    pub(super) fn say<W, A: Asks<Tr, W>>(
+        &mut self,
+        _asker: &A,
+        line: &mut Option<WireLine>,
+        w: &mut W,
+    ) -> Step
     where
         Tr::Conn: PollConn<W>,
         requires { self.old.channel.failed ≡ false }
@@ -38,16 +46,17 @@ impl<Tr: Network> Machine<Tr> {
             (fault : Faults) × (answer ≡ Answer.Fault fault) }
         ensures end { Tr.Conn.tells → Tr.Conn.may_wait →
             EndsAsTold self.old.channel.ended self.new.channel.ended self.old.channel.told }
-        ensures takes { TakesLine (link Tr.Conn.tells Tr.Conn.read_faults Tr.Conn.write_faults) line.old line.new self.old
+        ensures takes { TakesLine (asking Tr.Conn.tells Tr.Conn.read_faults Tr.Conn.write_faults Tr.Conn.end_faults A.may_wait) line.old line.new self.old
             self.new result }
-        ensures says { SaysNode (link Tr.Conn.tells Tr.Conn.read_faults Tr.Conn.write_faults) line.old line.new self.old self.new result }
+        ensures says { SaysNode (asking Tr.Conn.tells Tr.Conn.read_faults Tr.Conn.write_faults Tr.Conn.end_faults A.may_wait) line.old line.new self.old self.new result }
     {
         step_of(self.channel.poll_perform(line, w))
     }
 
     /// Reads a reply of one of these statuses.
-    pub(super) fn hear<W>(
+    pub(super) fn hear<W, A: Asks<Tr, W>>(
         &mut self,
+        asker: &A,
         alloc: Global,
         expected: &[Status],
         w: &mut W,
@@ -60,14 +69,15 @@ impl<Tr: Network> Machine<Tr> {
         ensures end { Tr.Conn.tells → Tr.Conn.may_wait →
             EndsAsTold self.old.channel.ended self.new.channel.ended self.old.channel.told }
         ensures hears { (next : Result Heard Faults → Tree) →
-            Hears (link Tr.Conn.tells Tr.Conn.read_faults Tr.Conn.write_faults) (expecting expected.now) next self.old self.new result }
+            Hears (asking Tr.Conn.tells Tr.Conn.read_faults Tr.Conn.write_faults Tr.Conn.end_faults A.may_wait) (expecting expected.now) next self.old self.new result }
     {
-        self.hear_reply_of(alloc, form_of(expected), expected, w)
+        self.hear_reply_of(asker, alloc, form_of(expected), expected, w)
     }
 
     /// Reads a reply of this form and one of these statuses.
-    fn hear_reply_of<W>(
+    fn hear_reply_of<W, A: Asks<Tr, W>>(
         &mut self,
+        _asker: &A,
         alloc: Global,
         form: ReplyForm,
         expected: &[Status],
@@ -81,15 +91,16 @@ impl<Tr: Network> Machine<Tr> {
         ensures end { Tr.Conn.tells → Tr.Conn.may_wait →
             EndsAsTold self.old.channel.ended self.new.channel.ended self.old.channel.told }
         ensures hears { (next : Result Heard Faults → Tree) →
-            Hears (link Tr.Conn.tells Tr.Conn.read_faults Tr.Conn.write_faults) (record { form = form; statuses = expected.now })
+            Hears (asking Tr.Conn.tells Tr.Conn.read_faults Tr.Conn.write_faults Tr.Conn.end_faults A.may_wait) (record { form = form; statuses = expected.now })
             next self.old self.new result }
     {
         self.channel.poll_read_reply(alloc, form, expected, w)
     }
 
     /// Reads the reply that an exchange awaits.
-    pub(super) fn hear_codes<W>(
+    pub(super) fn hear_codes<W, A: Asks<Tr, W>>(
         &mut self,
+        asker: &A,
         alloc: Global,
         codes: &Codes,
         w: &mut W,
@@ -102,13 +113,19 @@ impl<Tr: Network> Machine<Tr> {
         ensures end { Tr.Conn.tells → Tr.Conn.may_wait →
             EndsAsTold self.old.channel.ended self.new.channel.ended self.old.channel.told }
         ensures hears { (next : Result Heard Faults → Tree) →
-            Hears (link Tr.Conn.tells Tr.Conn.read_faults Tr.Conn.write_faults) (expected_of codes.now) next self.old self.new result }
+            Hears (asking Tr.Conn.tells Tr.Conn.read_faults Tr.Conn.write_faults Tr.Conn.end_faults A.may_wait) (expected_of codes.now) next self.old self.new result }
     {
         match codes {
-            Codes::One(status) => self.hear(alloc, &[*status], w),
-            Codes::Either(one, other) => self.hear(alloc, &[*one, *other], w),
-            Codes::Given(statuses) => self.hear(alloc, statuses.as_slice(), w),
-            Codes::Features => self.hear_reply_of(alloc, ReplyForm::Features, &[Status::System], w),
+            Codes::One(status) => self.hear(asker, alloc, &[*status], w),
+            Codes::Either(one, other) => self.hear(asker, alloc, &[*one, *other], w),
+            Codes::Given(statuses) => self.hear(asker, alloc, statuses.as_slice(), w),
+            Codes::Features => self.hear_reply_of(
+                asker,
+                alloc,
+                ReplyForm::Features,
+                &[Status::System],
+                w,
+            ),
         }
     }
 }
@@ -118,6 +135,8 @@ impl<Tr: Network> Machine<Tr> {
 pub(crate) enum Accepted {
     /// The next exchange.
     GoesOn,
+    /// The transport is asked, or an address looked up, before the next exchange or the answer.
+    Asks(Asking),
     /// The answer.
     Done(Answer),
 }
@@ -153,12 +172,79 @@ pub(crate) fn accept<E: Encoding>(
             state.settings.text = text;
             Ok(Accepted::Done(Answer::Unit))
         }
+        Ending::Continues => Ok(Accepted::GoesOn),
+        Ending::GivesAddress => Ok(address_told(reply, state)),
+        Ending::GivesPort => Ok(port_told(reply)),
+        Ending::Opens(gives_reply) => Ok(opens(gives_reply, reply, state)),
         Ending::GoesOn(status) => {
             if reply.status.code() == status.code() {
                 Ok(Accepted::GoesOn)
             } else {
                 Ok(Accepted::Done(Answer::Unit))
             }
+        }
+    }
+}
+
+/// The reply tells the address to connect to. Behind a router that rewrites addresses its host is the control peer's.
+fn address_told(reply: Response, state: &State) -> Accepted
+    ensures accepts { (coding : Coding) →
+        Accepts coding Ending.GivesAddress reply state.now state.now result }
+    ensures answers { AnswersAs Ending.GivesAddress result }
+{
+    match read_passive_address(reply.body.as_slice()) {
+        Ok(address) => {
+            if state.settings.passive_nat_workaround {
+                Accepted::Asks(Asking::PeerPort(address.port()))
+            } else {
+                Accepted::Asks(Asking::Connection(address))
+            }
+        }
+        Err(NoAddress::Absent) => Accepted::Done(Answer::Fault(FtpError::UnexpectedResponse(
+            reply,
+        ))),
+        Err(NoAddress::Unreadable) => Accepted::Done(Answer::Fault(FtpError::BadResponse)),
+    }
+}
+
+/// The reply tells the port to connect to.
+fn port_told(reply: Response) -> Accepted
+    ensures accepts { (coding : Coding) (state : States) →
+        Accepts coding Ending.GivesPort reply state state result }
+    ensures answers { AnswersAs Ending.GivesPort result }
+{
+    match read_extended_port(reply.body.as_slice()) {
+        Ok(port) => Accepted::Asks(Asking::PeerPort(port)),
+        Err(NoAddress::Absent) => Accepted::Done(Answer::Fault(FtpError::UnexpectedResponse(
+            reply,
+        ))),
+        Err(NoAddress::Unreadable) => Accepted::Done(Answer::Fault(FtpError::BadResponse)),
+    }
+}
+
+/// The answer of a call that opens a data connection.
+fn opened(gives_reply: bool, reply: Response) -> Answer
+    ensures { result ≡ opened_answer gives_reply reply }
+{
+    if gives_reply {
+        Answer::OpenedWith(reply)
+    } else {
+        Answer::Opened
+    }
+}
+
+/// The command was accepted: the data connection stands, or the server opens it now.
+fn opens(gives_reply: bool, reply: Response, state: &mut State) -> Accepted
+    ensures accepts { (coding : Coding) →
+        Accepts coding (Ending.Opens gives_reply) reply state.old state.new result }
+    ensures answers { AnswersAs (Ending.Opens gives_reply) result }
+{
+    let answer = opened(gives_reply, reply);
+    match state.settings.mode {
+        Mode::Active => Accepted::Asks(Asking::Peer(answer)),
+        Mode::Passive | Mode::ExtendedPassive => {
+            state.counts.open();
+            Accepted::Done(answer)
         }
     }
 }

@@ -31,7 +31,7 @@ where
     /// # Errors
     /// Those of a command and its reply; `UnexpectedResponse` where the reply has fewer than two quotes.
     pub fn pwd(&mut self, alloc: Global) -> FtpResult<String>
-        ensures { Plays (link Tr.Conn.tells Tr.Conn.blocking_read_faults Tr.Conn.blocking_write_faults) (chosen E.decoded E.encoded self.old.encoding.0) Call.Pwd
+        ensures { Plays (link Tr.Conn.tells Tr.Conn.blocking_read_faults Tr.Conn.blocking_write_faults Tr.Conn.end_faults) (chosen E.decoded E.encoded self.old.encoding.0) Call.Pwd
             self.old.machine self.new.machine (text_answer result) }
     {
         text(self.call(alloc, &Call::Pwd))
@@ -43,7 +43,7 @@ where
     /// # Errors
     /// Those of a command and its reply; `BadResponse` where the second line is absent or empty.
     pub fn mlst(&mut self, alloc: Global, path: Option<&str>) -> FtpResult<String>
-        ensures { Plays (link Tr.Conn.tells Tr.Conn.blocking_read_faults Tr.Conn.blocking_write_faults) (chosen E.decoded E.encoded self.old.encoding.0) (Call.Mlst (option_map (λ text. text.now) path.entry))
+        ensures { Plays (link Tr.Conn.tells Tr.Conn.blocking_read_faults Tr.Conn.blocking_write_faults Tr.Conn.end_faults) (chosen E.decoded E.encoded self.old.encoding.0) (Call.Mlst (option_map (λ text. text.now) path.entry))
             self.old.machine self.new.machine (text_answer result) }
     {
         match mlst_call(alloc, path) {
@@ -58,7 +58,7 @@ where
     /// # Errors
     /// Those of a command and its reply; `BadResponse` where the reply isn't UTF-8 or tells no date and time.
     pub fn mdtm(&mut self, alloc: Global, path: &str) -> FtpResult<DateTime>
-        ensures { Plays (link Tr.Conn.tells Tr.Conn.blocking_read_faults Tr.Conn.blocking_write_faults) (chosen E.decoded E.encoded self.old.encoding.0) (Call.Mdtm path.now)
+        ensures { Plays (link Tr.Conn.tells Tr.Conn.blocking_read_faults Tr.Conn.blocking_write_faults Tr.Conn.end_faults) (chosen E.decoded E.encoded self.old.encoding.0) (Call.Mdtm path.now)
             self.old.machine self.new.machine (time_answer result) }
     {
         match mdtm_call(alloc, path) {
@@ -73,7 +73,7 @@ where
     /// Those of a command and its reply; `BadResponse` where the reply isn't UTF-8 or its last word is no number below
     /// 2^64.
     pub fn size(&mut self, alloc: Global, path: &str) -> FtpResult<usize>
-        ensures { Plays (link Tr.Conn.tells Tr.Conn.blocking_read_faults Tr.Conn.blocking_write_faults) (chosen E.decoded E.encoded self.old.encoding.0) (Call.Size path.now)
+        ensures { Plays (link Tr.Conn.tells Tr.Conn.blocking_read_faults Tr.Conn.blocking_write_faults Tr.Conn.end_faults) (chosen E.decoded E.encoded self.old.encoding.0) (Call.Size path.now)
             self.old.machine self.new.machine (size_answer result) }
     {
         match size_call(alloc, path) {
@@ -89,7 +89,7 @@ where
     /// Those of a command and its reply, the list being part of the reply; `BadResponse` where a line of the list
     /// doesn't begin with a space.
     pub fn feat(&mut self, alloc: Global) -> FtpResult<Features>
-        ensures { Plays (link Tr.Conn.tells Tr.Conn.blocking_read_faults Tr.Conn.blocking_write_faults) (chosen E.decoded E.encoded self.old.encoding.0) Call.Feat
+        ensures { Plays (link Tr.Conn.tells Tr.Conn.blocking_read_faults Tr.Conn.blocking_write_faults Tr.Conn.end_faults) (chosen E.decoded E.encoded self.old.encoding.0) Call.Feat
             self.old.machine self.new.machine (features_answer result) }
     {
         features(self.call(alloc, &Call::Feat))
@@ -132,6 +132,8 @@ fn text(answer: Answer) -> FtpResult<String>
         Answer::Time(_) => unreachable!(),
         Answer::Size(_) => unreachable!(),
         Answer::Features(_) => unreachable!(),
+        Answer::Opened => unreachable!(),
+        Answer::OpenedWith(_) => unreachable!(),
         Answer::Fault(fault) => Err(fault),
     }
 }
@@ -148,6 +150,8 @@ fn time(answer: Answer) -> FtpResult<DateTime>
         Answer::Time(time) => Ok(time),
         Answer::Size(_) => unreachable!(),
         Answer::Features(_) => unreachable!(),
+        Answer::Opened => unreachable!(),
+        Answer::OpenedWith(_) => unreachable!(),
         Answer::Fault(fault) => Err(fault),
     }
 }
@@ -164,6 +168,8 @@ fn size(answer: Answer) -> FtpResult<usize>
         Answer::Time(_) => unreachable!(),
         Answer::Size(size) => Ok(size),
         Answer::Features(_) => unreachable!(),
+        Answer::Opened => unreachable!(),
+        Answer::OpenedWith(_) => unreachable!(),
         Answer::Fault(fault) => Err(fault),
     }
 }
@@ -180,6 +186,8 @@ fn features(answer: Answer) -> FtpResult<Features>
         Answer::Time(_) => unreachable!(),
         Answer::Size(_) => unreachable!(),
         Answer::Features(features) => Ok(features),
+        Answer::Opened => unreachable!(),
+        Answer::OpenedWith(_) => unreachable!(),
         Answer::Fault(fault) => Err(fault),
     }
 }

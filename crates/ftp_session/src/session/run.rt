@@ -9,12 +9,13 @@ ghost use Rattle.ftp_session.specs.Link.{link};
 ghost use Rattle.ftp_session.specs.Promises.{FailsWith, Runs};
 ghost use Rattle.ftp_session.specs.Sound.{Sound};
 
+use super::asks::By;
 use super::client::Session;
 use super::machine::Machine;
 use super::{Answer, Call};
 use ftp_base::encoding::Encoding;
 use ftp_base::types::{FtpError, FtpResult};
-use ftp_control::transport::{Conn, Network};
+use ftp_control::transport::{Conn, Network, Transport};
 use std::alloc::Global;
 
 impl<Tr: Network, K: Drop, E: Encoding, B: Drop> Session<Tr, K, E, B>
@@ -26,9 +27,11 @@ where
     ///
     /// # Errors
     /// `OutOfMemory` where there is no memory for the answers, and nothing changes.
-    pub fn run(&mut self, alloc: Global, calls: &[Call]) -> FtpResult<Vec<Answer>>
+    pub fn run<R>(&mut self, alloc: Global, rt: &R, calls: &[Call]) -> FtpResult<Vec<Answer>>
+    where
+        Tr: Transport<R>,
         ensures runs { IfOk result (λ answers.
-            Runs (link Tr.Conn.tells Tr.Conn.blocking_read_faults Tr.Conn.blocking_write_faults) (chosen E.decoded E.encoded self.old.encoding.0) calls.now
+            Runs (link Tr.Conn.tells Tr.Conn.blocking_read_faults Tr.Conn.blocking_write_faults Tr.Conn.end_faults) (chosen E.decoded E.encoded self.old.encoding.0) calls.now
             self.old.machine self.new.machine answers.items) }
         ensures count { IfOk result (λ answers. length answers.items ≡ length calls.now) }
         ensures fails { IfOk result (λ answers.
@@ -39,7 +42,7 @@ where
         ensures sound { Sound Tr.Conn.tells self.new.machine.channel
             self.new.machine.state.counts }
     {
-        let answers = self.machine.run(alloc, &self.encoding, calls);
+        let answers = self.machine.run(alloc, rt, &self.encoding, calls);
         self.machine.holds();
         answers
     }
@@ -50,14 +53,17 @@ where
     Tr::Conn: Conn,
 {
     /// Makes these calls.
-    fn run<E: Encoding>(
+    fn run<R, E: Encoding>(
         &mut self,
         alloc: Global,
+        rt: &R,
         encoding: &E,
         calls: &[Call],
     ) -> FtpResult<Vec<Answer>>
+    where
+        Tr: Transport<R>,
         ensures runs { IfOk result (λ answers.
-            Runs (link Tr.Conn.tells Tr.Conn.blocking_read_faults Tr.Conn.blocking_write_faults) (coding_of E.decoded E.encoded encoding.now) calls.now self.old
+            Runs (link Tr.Conn.tells Tr.Conn.blocking_read_faults Tr.Conn.blocking_write_faults Tr.Conn.end_faults) (coding_of E.decoded E.encoded encoding.now) calls.now self.old
             self.new answers.items) }
         ensures fails { IfOk result (λ answers. FailsWith self.old self.new answers.items) }
         ensures count { IfOk result (λ answers. length answers.items ≡ length calls.now) }
@@ -66,7 +72,7 @@ where
     {
         let mut answers = Vec::with_capacity(alloc, calls.len())?;
         for call in calls {
-            let answer = self.call(alloc, encoding, call);
+            let answer = self.call(&By(rt), alloc, encoding, call);
             answers.push(answer).unwrap();
         }
         Ok(answers)

@@ -4,7 +4,8 @@
 //! the call is dropped and another begins. What a run comes to is defined by playing all calls anew at each poll, on
 //! all bytes that came by then; here each byte is read once.
 
-ghost use Rattle.std.specs.Prelude.{◌≡◌, ◌<◌, ◌≤◌, ◌++◌, IfOk, IfErr, OnErr, option_map, vec_len, vec_capacity};
+ghost use Rattle.std.specs.Prelude.{◌≡◌, ◌<◌, ◌≤◌, ◌++◌, IfOk, IfErr, OnErr, option_map, Some, vec_len, vec_capacity};
+ghost use Rattle.futures.specs.declared.task.Poll.TheVariants as poll;
 ghost use Rattle.ftp_control.specs.Channel.{IsSound};
 ghost use Rattle.ftp_control.specs.Memory.{IsGiven};
 ghost use Rattle.ftp_session.specs.Coding.{chosen, coding_of};
@@ -14,6 +15,7 @@ ghost use Rattle.ftp_session.specs.Sound.{Sound, SoundCounts};
 ghost use Rattle.ftp_session.specs.Steps.Following.{FailedStays, Happens, IsFeed, PollsHere, StageIn, Starts, given_answer};
 ghost use Rattle.ftp_session.specs.Steps.Stages.{StageOf};
 
+use super::asks::By;
 use super::client::Session;
 use super::machine::Machine;
 use super::stage::Stage;
@@ -149,12 +151,12 @@ impl Machine<MemoryTransport> {
         call: &Call,
         stage: &mut Stage,
     ) -> Poll<Answer>
-        requires { StageOf call.now stage.old }
-        ensures stage { StageOf call.now stage.new }
+        requires { StageIn (Some call.now) stage.old }
+        ensures stage { result ≡ poll.Pending → StageOf call.now stage.new }
         ensures polled { PollsHere (coding_of E.decoded E.encoded encoding.now) call.now stage.old
             stage.new self.old self.new result }
     {
-        let polled = self.poll_started(alloc, encoding, call, stage, &mut ());
+        let polled = self.poll_started(&By(&()), alloc, encoding, call, stage, &mut ());
         self.holds_memory();
         polled
     }

@@ -4,11 +4,11 @@
 //! that was opened was finished, aborted or drained, or is owed.
 
 ghost use Rattle.std.specs.Prelude.{◌≡◌};
-ghost use Rattle.ftp_session.specs.Sound.{no_transfers, SoundCounts};
+ghost use Rattle.ftp_session.specs.Sound.{SoundCounts, cannot_open, no_transfers, one_more};
 ghost use Rattle.ftp_session.specs.State.{IsFirst};
 
 use ftp_base::encoding::WelcomeMessage;
-use ftp_base::types::{ActivePeerCheck, Mode};
+use ftp_base::types::{ActivePeerCheck, FtpError, Mode};
 use std::marker::Model;
 use std::time::Duration;
 
@@ -88,6 +88,35 @@ impl Counts {
             aborted: 0,
             drained: 0,
             owed: Owed::Nothing,
+        }
+    }
+
+    /// Why no transfer can be opened: `DataConnectionAlreadyOpen` where one is owed, `SessionFailed` where no other
+    /// can be counted.
+    pub fn cannot_open(&self) -> Option<FtpError>
+        ensures { result ≡ cannot_open self.now }
+    {
+        match self.owed {
+            Owed::Live(_) | Owed::Left(_) => Some(FtpError::DataConnectionAlreadyOpen),
+            Owed::Nothing => {
+                if self.opened == u64::MAX {
+                    Some(FtpError::SessionFailed)
+                } else {
+                    None
+                }
+            }
+        }
+    }
+
+    /// One transfer more is opened, and is owed, where it can be.
+    pub fn open(&mut self)
+        ensures { self.new ≡ one_more self.old }
+    {
+        if let Owed::Nothing = self.owed {
+            if self.opened < u64::MAX {
+                self.opened += 1;
+                self.owed = Owed::Live(self.opened);
+            }
         }
     }
 

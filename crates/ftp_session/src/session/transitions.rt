@@ -3,24 +3,26 @@
 //! `step` does one node and is the only function that does I/O; `poll_call` makes steps until the call has its answer
 //! or the connection waits. A step that waits may be dropped and made again.
 
-ghost use Rattle.std.specs.Prelude.{◌≡◌, ◌<◌, true, false};
+ghost use Rattle.std.specs.Prelude.{◌≡◌, ◌<◌, ◌⊎◌, Some, true, false};
 ghost use Rattle.futures.specs.declared.task.Poll.TheVariants as poll;
 ghost use Rattle.ftp_control.specs.Told.{EndsAsTold};
 ghost use Rattle.ftp_session.specs.Coding.{Coding, coding_of};
-ghost use Rattle.ftp_session.specs.Dialogue.{Tree, armed};
-ghost use Rattle.ftp_calls.specs.Exchanges.{is_read};
-ghost use Rattle.ftp_session.specs.Link.{Link, link};
-ghost use Rattle.ftp_session.specs.Promises.{Rests};
+ghost use Rattle.ftp_session.specs.Dialogue.{Tree, armed, dialogue};
+ghost use Rattle.ftp_calls.specs.Exchanges.{is_read, negotiates};
+ghost use Rattle.ftp_session.specs.Link.{asking};
+ghost use Rattle.ftp_session.specs.Promises.{HasFault, Rests, begun_by};
+ghost use Rattle.ftp_session.specs.Steps.Following.{StageIn, polled_answer};
 ghost use Rattle.ftp_session.specs.Steps.Moving.{BeginsExchange, Concludes, HasBegun, Made, PollSteps, Quiet, Steps, Tracks, after_fault, wants_memory};
-ghost use Rattle.ftp_session.specs.Steps.Stages.{MayAnswer, PollAnswers, StageOf, StepAnswers, begun_at, nodes_left, remaining};
+ghost use Rattle.ftp_session.specs.Steps.Stages.{MayAnswer, PollAnswers, StageAfter, StageOf, StepAnswers, begun_at, nodes_left, remaining};
 
+use super::asks::Asks;
 use super::machine::Machine;
 use super::nodes::{Accepted, accept};
-use super::stage::{Awaits, Stage, Step, begin, is_second};
+use super::stage::{Agreeing, Awaits, Stage, Step, begin, go_on, go_to, is_later};
 use super::{Answer, Call};
 use ftp_base::encoding::Encoding;
 use ftp_base::types::{FtpError, Response};
-use ftp_calls::exchange::Turn;
+use ftp_calls::exchange::{Turn, negotiates};
 use ftp_control::control::WireLine;
 use ftp_control::transport::{Conn, Network, NeverWaits, PollConn};
 use futures::task::Poll;
@@ -29,8 +31,9 @@ use std::mem;
 
 impl<Tr: Network> Machine<Tr> {
     /// One node of a call's dialogue. One that waits may be dropped and made again.
-    pub(super) fn step<W, E: Encoding>(
+    pub(super) fn step<W, E: Encoding, A: Asks<Tr, W>>(
         &mut self,
+        asker: &A,
         alloc: Global,
         encoding: &E,
         call: &Call,
@@ -41,30 +44,34 @@ impl<Tr: Network> Machine<Tr> {
         Tr::Conn: PollConn<W>,
         requires going { self.old.channel.failed ≡ false }
         requires stage { StageOf call.now stage.old }
-        ensures stage { StageOf call.now stage.new }
-        ensures waits { result ≡ Step.Pending → Tr.Conn.may_wait }
-        ensures asked { self.new.asked ≡ self.old.asked }
+        requires may { negotiates call.now ≡ true → A.may_ask }
+        ensures stage { StageAfter call.now stage.new result }
+        ensures waits { result ≡ Step.Pending → Tr.Conn.may_wait ⊎ A.may_wait }
+        ensures asked { negotiates call.now ≡ false → self.new.asked ≡ self.old.asked }
         ensures end { Tr.Conn.tells → Tr.Conn.may_wait →
             EndsAsTold self.old.channel.ended self.new.channel.ended self.old.channel.told }
         ensures answers { StepAnswers call.now result }
         ensures fewer { result ≡ Step.Next → nodes_left stage.new < nodes_left stage.old }
         ensures steps { let coding = coding_of E.decoded E.encoded encoding.now in
-            Steps (link Tr.Conn.tells Tr.Conn.read_faults Tr.Conn.write_faults) (begun_at stage.old)
+            Steps (asking Tr.Conn.tells Tr.Conn.read_faults Tr.Conn.write_faults Tr.Conn.end_faults A.may_wait) (begun_at stage.old)
             (remaining coding call.now self.old.state stage.old)
             (remaining coding call.now self.old.state stage.new) self.old self.new result }
-        ensures quiet { Quiet (coding_of E.decoded E.encoded encoding.now) call.now stage.old
+        ensures quiet { Quiet (asking Tr.Conn.tells Tr.Conn.read_faults Tr.Conn.write_faults Tr.Conn.end_faults A.may_wait) (coding_of E.decoded E.encoded encoding.now) call.now stage.old
             stage.new self.old self.new result }
         ensures begun { let coding = coding_of E.decoded E.encoded encoding.now in
-            Tracks (link Tr.Conn.tells Tr.Conn.read_faults Tr.Conn.write_faults) (begun_at stage.old) (begun_at stage.new)
+            Tracks (asking Tr.Conn.tells Tr.Conn.read_faults Tr.Conn.write_faults Tr.Conn.end_faults A.may_wait) (begun_at stage.old) (begun_at stage.new)
             (remaining coding call.now self.old.state stage.old) self.old self.new result }
         ensures rests { result ≡ Step.Pending → is_read call.now ≡ true →
-            Rests (link Tr.Conn.tells Tr.Conn.read_faults Tr.Conn.write_faults) self.old self.new }
+            Rests (asking Tr.Conn.tells Tr.Conn.read_faults Tr.Conn.write_faults Tr.Conn.end_faults A.may_wait) self.old self.new }
     {
         match mem::replace(stage, Stage::At(Turn::First)) {
             Stage::At(turn) => self.begin_exchange(alloc, encoding, call, turn, stage),
-            Stage::Saying(line, awaits) => self.say_line(line, awaits, stage, w),
-            Stage::Hearing(awaits) => self.hear_reply(alloc, encoding, awaits, stage, w),
+            Stage::Saying(line, awaits) => self.say_line(asker, line, awaits, stage, w),
+            Stage::Hearing(awaits) => self.hear_reply(
+                asker, alloc, encoding, call, awaits, stage, w,
+            ),
             Stage::Arming(_turn, offset) => self.arm(offset),
+            Stage::Agreeing(agreeing) => self.walk(asker, call, agreeing, stage, w),
         }
     }
 
@@ -88,7 +95,7 @@ impl<Tr: Network> Machine<Tr> {
     ) -> Step
         requires going { self.old.channel.failed ≡ false }
         requires stage { StageOf call.now (Stage.At turn) }
-        ensures stage { StageOf call.now stage.old → StageOf call.now stage.new }
+        ensures stage { StageAfter call.now stage.new result }
         ensures asked { self.new.asked ≡ self.old.asked }
         ensures end { self.new.channel.ended ≡ self.old.channel.ended }
         ensures answers { StepAnswers call.now result }
@@ -98,19 +105,20 @@ impl<Tr: Network> Machine<Tr> {
     {
         match begin(alloc, encoding, call, turn) {
             Ok(next) => {
-                *stage = next;
+                go_to(stage, next);
                 Step::Next
             }
             Err(fault) => {
-                self.abort_dialogue(is_second(turn), &fault);
+                self.abort_dialogue(is_later(turn), &fault);
                 Step::Done(Answer::Fault(fault))
             }
         }
     }
 
     /// The line of an exchange goes out.
-    fn say_line<W>(
+    fn say_line<W, A: Asks<Tr, W>>(
         &mut self,
+        asker: &A,
         mut line: Option<WireLine>,
         awaits: Awaits,
         stage: &mut Stage,
@@ -119,29 +127,29 @@ impl<Tr: Network> Machine<Tr> {
     where
         Tr::Conn: PollConn<W>,
         requires going { self.old.channel.failed ≡ false }
-        ensures stage { (call : Call) → StageOf call stage.old →
-            StageOf call (Stage.Saying line awaits) → StageOf call stage.new }
-        ensures waits { result ≡ Step.Pending → Tr.Conn.may_wait }
+        ensures stage { (call : Call) →
+            StageOf call (Stage.Saying line awaits) → StageAfter call stage.new result }
+        ensures waits { result ≡ Step.Pending → Tr.Conn.may_wait ⊎ A.may_wait }
         ensures asked { self.new.asked ≡ self.old.asked }
         ensures end { Tr.Conn.tells → Tr.Conn.may_wait →
             EndsAsTold self.old.channel.ended self.new.channel.ended self.old.channel.told }
         ensures answers { (call : Call) → StepAnswers call result }
         ensures fewer { result ≡ Step.Next →
             nodes_left stage.new < nodes_left (Stage.Saying line awaits) }
-        ensures steps { (coding : Coding) (call : Call) → Steps (link Tr.Conn.tells Tr.Conn.read_faults Tr.Conn.write_faults)
+        ensures steps { (coding : Coding) (call : Call) → Steps (asking Tr.Conn.tells Tr.Conn.read_faults Tr.Conn.write_faults Tr.Conn.end_faults A.may_wait)
             (begun_at (Stage.Saying line awaits)) (remaining coding call self.old.state (Stage.Saying line awaits))
             (remaining coding call self.old.state stage.new) self.old self.new result }
         ensures goes_on { result ≡ Step.Next → begun_at stage.new ≡ true }
-        ensures begun { (tree : Tree) → Tracks (link Tr.Conn.tells Tr.Conn.read_faults Tr.Conn.write_faults) (begun_at (Stage.Saying line awaits))
+        ensures begun { (tree : Tree) → Tracks (asking Tr.Conn.tells Tr.Conn.read_faults Tr.Conn.write_faults Tr.Conn.end_faults A.may_wait) (begun_at (Stage.Saying line awaits))
             (begun_at stage.new) tree self.old self.new result }
     {
-        match self.say(&mut line, w) {
+        match self.say(asker, &mut line, w) {
             Step::Next => {
-                *stage = Stage::Hearing(begun(awaits));
+                go_to(stage, Stage::Hearing(begun(awaits)));
                 Step::Next
             }
             Step::Pending => {
-                *stage = Stage::Saying(line, awaits);
+                go_to(stage, Stage::Saying(line, awaits));
                 Step::Pending
             }
             Step::Done(answer) => Step::Done(answer),
@@ -149,10 +157,12 @@ impl<Tr: Network> Machine<Tr> {
     }
 
     /// The reply of an exchange is read and accepted. Out of memory after the dialogue has begun fails the session.
-    fn hear_reply<W, E: Encoding>(
+    fn hear_reply<W, E: Encoding, A: Asks<Tr, W>>(
         &mut self,
+        asker: &A,
         alloc: Global,
         encoding: &E,
+        call: &Call,
         awaits: Awaits,
         stage: &mut Stage,
         w: &mut W,
@@ -160,36 +170,35 @@ impl<Tr: Network> Machine<Tr> {
     where
         Tr::Conn: PollConn<W>,
         requires going { self.old.channel.failed ≡ false }
-        ensures stage { (call : Call) → StageOf call stage.old →
-            StageOf call (Stage.Hearing awaits) → StageOf call stage.new }
-        ensures waits { result ≡ Step.Pending → Tr.Conn.may_wait }
+        requires stage { StageOf call.now (Stage.Hearing awaits) }
+        ensures stage { StageAfter call.now stage.new result }
+        ensures waits { result ≡ Step.Pending → Tr.Conn.may_wait ⊎ A.may_wait }
         ensures asked { self.new.asked ≡ self.old.asked }
         ensures end { Tr.Conn.tells → Tr.Conn.may_wait →
             EndsAsTold self.old.channel.ended self.new.channel.ended self.old.channel.told }
-        ensures answers { (call : Call) → StageOf call (Stage.Hearing awaits) →
-            StepAnswers call result }
+        ensures answers { StepAnswers call.now result }
         ensures fewer { result ≡ Step.Next →
             nodes_left stage.new < nodes_left (Stage.Hearing awaits) }
-        ensures steps { (call : Call) →
-            let coding = coding_of E.decoded E.encoded encoding.now in
-            Steps (link Tr.Conn.tells Tr.Conn.read_faults Tr.Conn.write_faults) awaits.begun
-            (remaining coding call self.old.state (Stage.Hearing awaits))
-            (remaining coding call self.old.state stage.new) self.old self.new result }
+        ensures steps { let coding = coding_of E.decoded E.encoded encoding.now in
+            Steps (asking Tr.Conn.tells Tr.Conn.read_faults Tr.Conn.write_faults Tr.Conn.end_faults A.may_wait) awaits.begun
+            (remaining coding call.now self.old.state (Stage.Hearing awaits))
+            (remaining coding call.now self.old.state stage.new) self.old self.new result }
         ensures goes_on { result ≡ Step.Next → begun_at stage.new ≡ true }
-        ensures begun { (call : Call) →
-            let coding = coding_of E.decoded E.encoded encoding.now in
-            Tracks (link Tr.Conn.tells Tr.Conn.read_faults Tr.Conn.write_faults) awaits.begun (begun_at stage.new)
-            (remaining coding call self.old.state (Stage.Hearing awaits)) self.old self.new result }
-        ensures rests { result ≡ Step.Pending → Rests (link Tr.Conn.tells Tr.Conn.read_faults Tr.Conn.write_faults) self.old self.new }
+        ensures begun { let coding = coding_of E.decoded E.encoded encoding.now in
+            Tracks (asking Tr.Conn.tells Tr.Conn.read_faults Tr.Conn.write_faults Tr.Conn.end_faults A.may_wait) awaits.begun (begun_at stage.new)
+            (remaining coding call.now self.old.state (Stage.Hearing awaits)) self.old self.new result }
+        ensures rests { result ≡ Step.Pending → Rests (asking Tr.Conn.tells Tr.Conn.read_faults Tr.Conn.write_faults Tr.Conn.end_faults A.may_wait) self.old self.new }
     {
-        match self.hear_codes(alloc, &awaits.hears, w) {
-            Poll::Ready(Ok(reply)) => self.accept_reply(alloc, encoding, awaits, reply, stage),
+        match self.hear_codes(asker, alloc, &awaits.hears, w) {
+            Poll::Ready(Ok(reply)) => self.accept_reply(
+                alloc, encoding, call, awaits, reply, stage,
+            ),
             Poll::Ready(Err(fault)) => {
                 self.abort_dialogue(awaits.begun, &fault);
                 Step::Done(Answer::Fault(fault))
             }
             Poll::Pending => {
-                *stage = Stage::Hearing(awaits);
+                go_to(stage, Stage::Hearing(awaits));
                 Step::Pending
             }
         }
@@ -200,33 +209,33 @@ impl<Tr: Network> Machine<Tr> {
         &mut self,
         alloc: Global,
         encoding: &E,
+        call: &Call,
         awaits: Awaits,
         reply: Response,
         stage: &mut Stage,
     ) -> Step
-        ensures stage { (call : Call) → StageOf call stage.old →
-            StageOf call (Stage.Hearing awaits) → StageOf call stage.new }
+        requires stage { StageOf call.now (Stage.Hearing awaits) }
+        ensures stage { StageAfter call.now stage.new result }
         ensures moves { result ≡ Step.Pending → ⊥ }
         ensures asked { self.new.asked ≡ self.old.asked }
         ensures end { self.new.channel.ended ≡ self.old.channel.ended }
-        ensures answers { (call : Call) → StageOf call (Stage.Hearing awaits) →
-            StepAnswers call result }
+        ensures answers { StepAnswers call.now result }
         ensures fewer { result ≡ Step.Next →
             nodes_left stage.new < nodes_left (Stage.Hearing awaits) }
-        ensures concludes { (call : Call) →
-            let coding = coding_of E.decoded E.encoded encoding.now in
-            Concludes coding call awaits reply stage.new self.old self.new result }
+        ensures concludes { let coding = coding_of E.decoded E.encoded encoding.now in
+            Concludes coding call.now awaits reply stage.new self.old self.new result }
         ensures goes_on { result ≡ Step.Next → begun_at stage.new ≡ true }
     {
         match accept(alloc, encoding, awaits.ending, reply, &mut self.state) {
             Ok(Accepted::Done(answer)) => Step::Done(answer),
-            Ok(Accepted::GoesOn) => match awaits.turn {
-                Turn::First => {
-                    *stage = Stage::At(Turn::Second);
-                    Step::Next
-                }
-                Turn::Second => Step::Done(Answer::Unit),
-            },
+            Ok(Accepted::GoesOn) => go_on(call, awaits.turn, stage),
+            Ok(Accepted::Asks(asking)) => {
+                go_to(
+                    stage,
+                    Stage::Agreeing(Agreeing::Asking(awaits.turn, asking)),
+                );
+                Step::Next
+            }
             Err(fault) => {
                 self.abort_dialogue(true, &fault);
                 Step::Done(Answer::Fault(fault))
@@ -244,8 +253,9 @@ impl<Tr: Network> Machine<Tr> {
     }
 
     /// Goes on with a call as far as it gets.
-    pub(super) fn poll_call<W, E: Encoding>(
+    pub(super) fn poll_call<W, E: Encoding, A: Asks<Tr, W>>(
         &mut self,
+        asker: &A,
         alloc: Global,
         encoding: &E,
         call: &Call,
@@ -256,25 +266,26 @@ impl<Tr: Network> Machine<Tr> {
         Tr::Conn: PollConn<W>,
         requires going { self.old.channel.failed ≡ false }
         requires stage { StageOf call.now stage.old }
-        ensures stage { StageOf call.now stage.new }
-        ensures waits { result ≡ poll.Pending → Tr.Conn.may_wait }
-        ensures asked { self.new.asked ≡ self.old.asked }
+        requires may { negotiates call.now ≡ true → A.may_ask }
+        ensures stage { result ≡ poll.Pending → StageOf call.now stage.new }
+        ensures waits { result ≡ poll.Pending → Tr.Conn.may_wait ⊎ A.may_wait }
+        ensures asked { negotiates call.now ≡ false → self.new.asked ≡ self.old.asked }
         ensures end { Tr.Conn.tells → Tr.Conn.may_wait →
             EndsAsTold self.old.channel.ended self.new.channel.ended self.old.channel.told }
         ensures answers { PollAnswers call.now result }
         ensures rests { result ≡ poll.Pending → is_read call.now ≡ true →
-            Rests (link Tr.Conn.tells Tr.Conn.read_faults Tr.Conn.write_faults) self.old self.new }
+            Rests (asking Tr.Conn.tells Tr.Conn.read_faults Tr.Conn.write_faults Tr.Conn.end_faults A.may_wait) self.old self.new }
         ensures begun { result ≡ poll.Pending →
             let coding = coding_of E.decoded E.encoded encoding.now in
-            HasBegun (link Tr.Conn.tells Tr.Conn.read_faults Tr.Conn.write_faults) (begun_at stage.old) (begun_at stage.new)
+            HasBegun (asking Tr.Conn.tells Tr.Conn.read_faults Tr.Conn.write_faults Tr.Conn.end_faults A.may_wait) (begun_at stage.old) (begun_at stage.new)
             (remaining coding call.now self.old.state stage.old) self.old self.new }
         ensures polls { let coding = coding_of E.decoded E.encoded encoding.now in
-            PollSteps (link Tr.Conn.tells Tr.Conn.read_faults Tr.Conn.write_faults) (begun_at stage.old)
+            PollSteps (asking Tr.Conn.tells Tr.Conn.read_faults Tr.Conn.write_faults Tr.Conn.end_faults A.may_wait) (begun_at stage.old)
             (remaining coding call.now self.old.state stage.old)
             (remaining coding call.now self.old.state stage.new) self.old self.new result }
     {
         loop {
-            match self.step(alloc, encoding, call, stage, w) {
+            match self.step(asker, alloc, encoding, call, stage, w) {
                 Step::Next => {}
                 Step::Pending => return Poll::Pending,
                 Step::Done(answer) => return Poll::Ready(answer),
@@ -283,26 +294,65 @@ impl<Tr: Network> Machine<Tr> {
     }
 
     /// Makes a call, whole.
-    pub(super) fn call<E: Encoding>(&mut self, alloc: Global, encoding: &E, call: &Call) -> Answer
+    pub(super) fn call<E: Encoding, A: Asks<Tr, NeverWaits>>(
+        &mut self,
+        asker: &A,
+        alloc: Global,
+        encoding: &E,
+        call: &Call,
+    ) -> Answer
     where
         Tr::Conn: Conn,
+        requires may { negotiates call.now ≡ true → A.may_ask }
+        requires blocks { A.may_wait → ⊥ }
         ensures answers { MayAnswer call.now result }
-        ensures made { Made (link Tr.Conn.tells Tr.Conn.blocking_read_faults Tr.Conn.blocking_write_faults) (coding_of E.decoded E.encoded encoding.now) call.now
+        ensures made { Made (asking Tr.Conn.tells Tr.Conn.blocking_read_faults Tr.Conn.blocking_write_faults Tr.Conn.end_faults A.may_wait) (coding_of E.decoded E.encoded encoding.now) call.now
             self.old self.new result }
     {
         if self.channel.failed() {
             return Answer::Fault(FtpError::SessionFailed);
         }
-        let mut stage = Stage::At(Turn::First);
-        match self.poll_call(alloc, encoding, call, &mut stage, &mut NeverWaits) {
+        let mut stage = self.enter(call);
+        match self.poll_call(asker, alloc, encoding, call, &mut stage, &mut NeverWaits) {
             Poll::Ready(answer) => answer,
             Poll::Pending => unreachable!(),
         }
     }
 
+    /// A call begins. One that opens a data connection takes the offset with it.
+    fn enter(&mut self, call: &Call) -> Stage
+        ensures state { self.new ≡ begun_by call.now self.old }
+        ensures stage { StageOf call.now result }
+        ensures begun { begun_at result ≡ false }
+        ensures plain { negotiates call.now ≡ false → (self.new ≡ self.old) × (result ≡ Stage.At Turn.First) }
+        ensures enters { (coding : Coding) →
+            remaining coding call.now self.new.state result ≡ dialogue coding call.now self.old.state }
+    {
+        if negotiates(call) {
+            let offset = mem::replace(&mut self.state.settings.restart_offset, 0);
+            Stage::Agreeing(Agreeing::Negotiating(offset))
+        } else {
+            Stage::At(Turn::First)
+        }
+    }
+
+    /// A call begins where it stands at its beginning.
+    fn begin_call(&mut self, call: &Call, stage: &mut Stage)
+        requires stage { StageIn (Some call.now) stage.old }
+        ensures stage { StageOf call.now stage.new }
+        ensures channel { self.new.channel ≡ self.old.channel }
+        ensures same { negotiates call.now ≡ false → (self.new ≡ self.old) × (stage.new ≡ stage.old) }
+    {
+        if negotiates(call) && is_first(stage) {
+            let first = self.enter(call);
+            go_to(stage, first);
+        }
+    }
+
     /// Goes on with a call as far as it gets. A session that has failed refuses it.
-    pub(super) fn poll_started<W, E: Encoding>(
+    pub(super) fn poll_started<W, E: Encoding, A: Asks<Tr, W>>(
         &mut self,
+        asker: &A,
         alloc: Global,
         encoding: &E,
         call: &Call,
@@ -311,29 +361,32 @@ impl<Tr: Network> Machine<Tr> {
     ) -> Poll<Answer>
     where
         Tr::Conn: PollConn<W>,
-        requires stage { StageOf call.now stage.old }
-        ensures stage { StageOf call.now stage.new }
+        requires stage { StageIn (Some call.now) stage.old }
+        requires may { negotiates call.now ≡ true → A.may_ask }
+        ensures stage { result ≡ poll.Pending → StageOf call.now stage.new }
         ensures refused { self.old.channel.failed ≡ true →
             (result ≡ poll.Ready (Answer.Fault FtpError.SessionFailed)) × (self.new ≡ self.old) }
-        ensures polls { self.old.channel.failed ≡ false →
+        ensures polls { self.old.channel.failed ≡ false → negotiates call.now ≡ false →
             let coding = coding_of E.decoded E.encoded encoding.now in
-            PollSteps (link Tr.Conn.tells Tr.Conn.read_faults Tr.Conn.write_faults) (begun_at stage.old)
+            PollSteps (asking Tr.Conn.tells Tr.Conn.read_faults Tr.Conn.write_faults Tr.Conn.end_faults A.may_wait) (begun_at stage.old)
             (remaining coding call.now self.old.state stage.old)
             (remaining coding call.now self.old.state stage.new) self.old self.new result }
         ensures rests { result ≡ poll.Pending → is_read call.now ≡ true →
-            Rests (link Tr.Conn.tells Tr.Conn.read_faults Tr.Conn.write_faults) self.old self.new }
-        ensures begun { result ≡ poll.Pending →
+            Rests (asking Tr.Conn.tells Tr.Conn.read_faults Tr.Conn.write_faults Tr.Conn.end_faults A.may_wait) self.old self.new }
+        ensures begun { result ≡ poll.Pending → negotiates call.now ≡ false →
             let coding = coding_of E.decoded E.encoded encoding.now in
-            HasBegun (link Tr.Conn.tells Tr.Conn.read_faults Tr.Conn.write_faults) (begun_at stage.old) (begun_at stage.new)
+            HasBegun (asking Tr.Conn.tells Tr.Conn.read_faults Tr.Conn.write_faults Tr.Conn.end_faults A.may_wait) (begun_at stage.old) (begun_at stage.new)
             (remaining coding call.now self.old.state stage.old) self.old self.new }
-        ensures asked { self.new.asked ≡ self.old.asked }
+        ensures fails { self.new.channel.failed ≡ true → (self.old.channel.failed ≡ true) ⊎ HasFault (polled_answer result) }
+        ensures asked { negotiates call.now ≡ false → self.new.asked ≡ self.old.asked }
         ensures end { Tr.Conn.tells → Tr.Conn.may_wait →
             EndsAsTold self.old.channel.ended self.new.channel.ended self.old.channel.told }
     {
         if self.channel.failed() {
             return Poll::Ready(Answer::Fault(FtpError::SessionFailed));
         }
-        self.poll_call(alloc, encoding, call, stage, w)
+        self.begin_call(call, stage);
+        self.poll_call(asker, alloc, encoding, call, stage, w)
     }
 }
 
@@ -352,4 +405,14 @@ fn wants_memory(fault: &FtpError) -> bool
     ensures { result ≡ wants_memory fault.now }
 {
     matches!(fault, FtpError::OutOfMemory)
+}
+
+/// Whether nothing was made of a call yet.
+fn is_first(stage: &Stage) -> bool
+    ensures { result ≡ false → stage.now ≡ Stage.At Turn.First → ⊥ }
+{
+    match stage {
+        Stage::At(turn) => matches!(turn, Turn::First),
+        Stage::Saying(..) | Stage::Hearing(_) | Stage::Arming(..) | Stage::Agreeing(_) => false,
+    }
 }

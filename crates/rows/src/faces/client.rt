@@ -2,9 +2,9 @@
 
 use super::methods::{Opening, greeted};
 use crate::answers::{features, reply, size, text, texts_of, time, unit};
-use crate::dial::asked_addresses;
 use crate::encodings::Named;
 use crate::play::Play;
+use crate::requests::recorded;
 use crate::transcript::Standing;
 use ftp_base::types::{FtpError, FtpResult};
 use ftp_control::transport::MemoryTransport;
@@ -46,7 +46,7 @@ pub fn called<R: Wait + AllocGlobal>(
         mut answers,
         others,
     } = greeted(rt.alloc(), calls, play)?;
-    let asked = asked_addresses(rt.alloc(), session.transport().asked())?;
+    let asked = recorded(rt.alloc(), session.transport().asked())?;
     let client = had(ImplFtpStream::new(rt.alloc(), session))?;
     if let Some(encoding) = play.encoding {
         had(client.set_encoding(rt, encoding))?;
@@ -97,6 +97,12 @@ fn make<R: Wait + AllocGlobal>(rt: &R, client: &Client, call: &Call) -> Result<A
             reply(client.custom_command(rt, line.as_str(), codes.as_slice()))
         }
         Call::Greet | Call::ReadResponse(_) | Call::ReadResponseIn(_) => {
+            return Err(RowError::NotUnderstood);
+        }
+        Call::RetrAsStream(_)
+        | Call::PutWithStream(_)
+        | Call::AppendWithStream(_)
+        | Call::CustomDataCommand(..) => {
             return Err(RowError::NotUnderstood);
         }
     })

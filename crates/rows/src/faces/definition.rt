@@ -1,27 +1,31 @@
 //! What the definitions of runs say.
 
 use crate::answers::texts_of;
-use crate::dial::{Dial, addresses_of};
+use crate::dial::Dial;
 use crate::encodings::Named;
 use crate::play::Play;
+use crate::requests::lines_of;
 use crate::transcript::Standing;
 use ftp_base::types::{Bytes, Items};
 use ftp_control::control::{ReplyForm, ReplyRule};
 use ftp_control::transport::Room;
-use ftp_session::model::{self, Played, Ran, Script};
+use ftp_session::model::{self, Played, Ran, Script, Wait};
 use ftp_session::session::{Answer, Call, Event, State};
 use row_text::RowError;
 use session_plain::{connect_in_turn, run, run_polled};
 use std::alloc::{AllocError, Global};
 
 /// A run that begins: these are all bytes of the server.
-fn first(alloc: Global, input: &[u8]) -> Result<model::Standing, AllocError> {
+fn first(alloc: Global, input: &[u8], play: &Play) -> Result<model::Standing, AllocError> {
+    let (local, peer) = play.setup.ends();
     Ok(model::Standing {
-        state: State::new(),
+        state: play.setup.state()?,
         failed: false,
         rule: ReplyRule::Lenient,
         said: Bytes::new(alloc),
         unsent: Bytes::new(alloc),
+        local,
+        peer,
         asked: Items::from_vec(Vec::new(alloc)),
         bytes: Bytes::from_slice(alloc, input)?,
         ended: true,
@@ -56,17 +60,26 @@ fn encoding_of(play: &Play) -> Named {
     play.encoding.unwrap_or(Named::Utf8)
 }
 
-/// Where a run of these calls ends.
+/// Where a run of these calls ends. It is played again for each request, with one outcome more.
 pub fn ran(alloc: Global, calls: &[Call], play: &Play) -> Result<Standing, RowError> {
-    let first = first(alloc, &play.input)?;
     if let (Some(dial), Some((_greet, others))) = (&play.dial, calls.split_first()) {
-        return dialled(alloc, dial, others, play, first);
+        return dialled(alloc, dial, others, play, first(alloc, &play.input, play)?);
     }
-    match run(alloc, Room::Any, &encoding_of(play), calls, first)? {
-        Ran::Finished(answers, here) | Ran::Waiting(answers, _, here) => {
-            stands(alloc, answers, here, play.input.len())
+    let mut outcomes = Vec::new(alloc);
+    for _ in 0..u64::MAX {
+        let mut begun = first(alloc, &play.input, play)?;
+        begun.outcomes = Items::from_vec(Vec::from_slice(alloc, &outcomes)?);
+        match run(alloc, Room::Any, &encoding_of(play), calls, begun)? {
+            Ran::Waiting(_, Wait::Outcome, here) => {
+                outcomes = play.setup.outcomes(alloc, here.asked.as_slice())?;
+            }
+            Ran::Finished(answers, here) | Ran::Waiting(answers, _, here) => {
+                let asked = lines_of(alloc, here.asked.as_slice(), &outcomes)?;
+                return stands(alloc, asked, answers, here, play.input.len());
+            }
         }
     }
+    Err(RowError::NotUnderstood)
 }
 
 /// Where a session comes to that connects first, and then makes these calls. Without a connection it makes none.
@@ -77,26 +90,31 @@ fn dialled(
     play: &Play,
     mut first: model::Standing,
 ) -> Result<Standing, RowError> {
-    first.outcomes = Items::from_vec(dial.outcomes(alloc)?);
+    let outcomes = dial.outcomes(alloc)?;
+    first.outcomes = Items::from_vec(Vec::from_slice(alloc, &outcomes)?);
     let requests = dial.requests(alloc)?;
     let encoding = encoding_of(play);
     match connect_in_turn(alloc, Room::Any, &encoding, &requests, dial.fault(), first)? {
         Played::Done(Answer::Unit, here) => {
-            let asked = addresses_of(alloc, here.asked.as_slice())?;
+            let asked = lines_of(alloc, here.asked.as_slice(), &outcomes)?;
             match run(alloc, Room::Any, &encoding, others, here)? {
                 Ran::Finished(answers, here) | Ran::Waiting(answers, _, here) => {
                     let mut all = answers.into_vec();
                     all.insert(0, Answer::Unit)?;
-                    let mut there = stands(alloc, Items::from_vec(all), here, play.input.len())?;
-                    there.asked = asked;
-                    Ok(there)
+                    stands(alloc, asked, Items::from_vec(all), here, play.input.len())
                 }
             }
         }
         Played::Done(answer, here) => {
             let mut all = Vec::new(alloc);
             all.push(answer)?;
-            stands(alloc, Items::from_vec(all), here, play.input.len())
+            stands(
+                alloc,
+                Vec::new(alloc),
+                Items::from_vec(all),
+                here,
+                play.input.len(),
+            )
         }
         Played::Pending(_, _) => Err(RowError::NotUnderstood),
     }
@@ -105,6 +123,7 @@ fn dialled(
 /// Where a run stands that had these answers.
 fn stands(
     alloc: Global,
+    asked: Vec<String>,
     answers: Items<Answer>,
     here: model::Standing,
     came: usize,
@@ -112,7 +131,7 @@ fn stands(
     let answers = texts_of(alloc, answers.as_slice())?;
     let welcome = welcome(alloc, &here.state)?;
     Ok(Standing {
-        asked: Vec::new(alloc),
+        asked,
         sent: here.said.into_vec(),
         answers,
         taken: came.saturating_sub(here.bytes.len()),
@@ -133,7 +152,7 @@ pub fn welcome(alloc: Global, state: &State) -> Result<Option<String>, AllocErro
 /// Where these events lead to.
 pub fn scripted(alloc: Global, events: &[Event], play: &Play) -> Result<Standing, RowError> {
     let encoding = encoding_of(play);
-    let first = first(alloc, b"")?;
+    let first = first(alloc, b"", play)?;
     let script = run_polled(alloc, &encoding, &first, first_script(alloc), events)?;
     stands_in(alloc, &script)
 }

@@ -6,7 +6,6 @@ use crate::play::Play;
 use crate::transcript::Standing;
 use ftp_base::status::Status;
 use ftp_base::types::FtpResult;
-use ftp_control::transport::MemoryTransport;
 use ftp_session::session::{Answer, Call, Session};
 use row_text::RowError;
 use std::alloc::{AllocError, Global};
@@ -26,7 +25,7 @@ pub struct Opening<'a> {
 pub fn greeted<'a>(alloc: Global, calls: &'a [Call], play: &Play) -> Result<Opening<'a>, RowError> {
     let Some((Call::Greet, others)) = calls.split_first() else {
         return Ok(Opening {
-            session: unread(alloc, conn_of(alloc, play)?)?,
+            session: unread(alloc, play)?,
             answers: Vec::new(alloc),
             others: calls,
         });
@@ -39,7 +38,7 @@ pub fn greeted<'a>(alloc: Global, calls: &'a [Call], play: &Play) -> Result<Open
         }),
         // The session is gone with its connection: another that reads the same bytes stands for it.
         Err(fault) => {
-            let mut session = unread(alloc, conn_of(alloc, play)?)?;
+            let mut session = unread(alloc, play)?;
             if play.dial.is_none() {
                 let _again = session.read_response(alloc, Status::Ready);
             }
@@ -56,7 +55,7 @@ pub fn greeted<'a>(alloc: Global, calls: &'a [Call], play: &Play) -> Result<Open
 fn connected(alloc: Global, play: &Play) -> Result<FtpResult<NamedSession>, RowError> {
     let Some(dial) = &play.dial else {
         let conn = conn_of(alloc, play)?;
-        let transport = MemoryTransport::new(alloc);
+        let transport = play.setup.transport(alloc)?;
         return Ok(Session::connect_with_stream(alloc, transport, conn));
     };
     let transport = dial.transport(alloc, play.piece)?;
@@ -90,7 +89,7 @@ fn first(alloc: Global, answer: Answer) -> Result<Vec<Answer>, AllocError> {
 }
 
 /// Makes a call by its method.
-fn make(alloc: Global, session: &mut NamedSession, call: &Call) -> Result<Answer, AllocError> {
+fn make(alloc: Global, session: &mut NamedSession, call: &Call) -> Result<Answer, RowError> {
     Ok(match call {
         Call::Greet => reply(session.read_response(alloc, Status::Ready)),
         Call::Login(user, password) => {
@@ -123,5 +122,11 @@ fn make(alloc: Global, session: &mut NamedSession, call: &Call) -> Result<Answer
         }
         Call::ReadResponse(status) => reply(session.read_response(alloc, *status)),
         Call::ReadResponseIn(codes) => reply(session.read_response_in(alloc, codes.as_slice())),
+        Call::RetrAsStream(_)
+        | Call::PutWithStream(_)
+        | Call::AppendWithStream(_)
+        | Call::CustomDataCommand(..) => {
+            return Err(RowError::NotUnderstood);
+        }
     })
 }

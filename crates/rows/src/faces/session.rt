@@ -2,9 +2,10 @@
 
 use super::definition::welcome;
 use crate::answers::texts_of;
-use crate::dial::{asked_addresses, conn_with};
+use crate::dial::fed;
 use crate::encodings::Named;
 use crate::play::Play;
+use crate::requests::recorded;
 use crate::transcript::Standing;
 use ftp_control::transport::{MemoryConn, MemoryTransport};
 use ftp_session::session::{Answer, Call, Event, NoTlsConnector, Session};
@@ -14,22 +15,36 @@ use std::alloc::{AllocError, Global};
 /// A session over memory whose encoding a row may choose.
 pub type NamedSession = Session<MemoryTransport, NoTlsConnector, Named>;
 
-/// A connection that the server's bytes came on, in their pieces.
-pub fn conn_of(alloc: Global, play: &Play) -> Result<MemoryConn, AllocError> {
-    conn_with(alloc, &play.input, play.piece)
+/// A connection between the row's ends on which nothing came.
+fn bare(alloc: Global, play: &Play) -> MemoryConn {
+    let (local, peer) = play.setup.ends();
+    MemoryConn::between(alloc, local, peer)
 }
 
-/// A session on which nothing was read.
-pub fn unread(alloc: Global, conn: MemoryConn) -> Result<NamedSession, RowError> {
-    match Session::new(alloc, MemoryTransport::new(alloc), conn) {
-        Ok(session) => Ok(session),
+/// A connection that the server's bytes came on, in their pieces.
+pub fn conn_of(alloc: Global, play: &Play) -> Result<MemoryConn, AllocError> {
+    fed(bare(alloc, play), &play.input, play.piece)
+}
+
+/// A session on the server's bytes, of which nothing was read.
+pub fn unread(alloc: Global, play: &Play) -> Result<NamedSession, RowError> {
+    session_on(alloc, conn_of(alloc, play)?, play)
+}
+
+/// A session with the row's settings.
+fn session_on(alloc: Global, conn: MemoryConn, play: &Play) -> Result<NamedSession, RowError> {
+    match Session::new(alloc, play.setup.transport(alloc)?, conn) {
+        Ok(mut session) => {
+            play.setup.set(&mut session)?;
+            Ok(session)
+        }
         Err(_) => Err(RowError::OutOfMemory),
     }
 }
 
 /// Such a session with the row's encoding.
 fn begun(alloc: Global, conn: MemoryConn, play: &Play) -> Result<NamedSession, RowError> {
-    encoded(alloc, unread(alloc, conn)?, play)
+    encoded(alloc, session_on(alloc, conn, play)?, play)
 }
 
 /// A session with the row's encoding.
@@ -50,7 +65,7 @@ pub fn encoded(
 /// Where a run of these calls ends.
 pub fn ran(alloc: Global, calls: &[Call], play: &Play) -> Result<Standing, RowError> {
     let mut session = begun(alloc, conn_of(alloc, play)?, play)?;
-    match session.run(alloc, calls) {
+    match session.run(alloc, &(), calls) {
         Ok(answers) => stands(alloc, &session, &answers),
         Err(_) => Err(RowError::OutOfMemory),
     }
@@ -58,7 +73,7 @@ pub fn ran(alloc: Global, calls: &[Call], play: &Play) -> Result<Standing, RowEr
 
 /// Where these events lead to, in runs that begin at these places.
 pub fn polled(alloc: Global, events: &[Event], play: &Play) -> Result<Standing, RowError> {
-    let mut session = begun(alloc, MemoryConn::new(alloc), play)?;
+    let mut session = begun(alloc, bare(alloc, play), play)?;
     let mut answers = Vec::new(alloc);
     let mut before = 0;
     for place in &play.runs {
@@ -101,7 +116,7 @@ pub fn stands(
     let answers = texts_of(alloc, answers)?;
     let welcome = welcome(alloc, session.state())?;
     Ok(Standing {
-        asked: asked_addresses(alloc, session.transport().asked())?,
+        asked: recorded(alloc, session.transport().asked())?,
         sent: Vec::from_slice(alloc, conn.sent())?,
         answers,
         taken: conn.received().saturating_sub(session.untaken()),

@@ -1,4 +1,4 @@
-use Rattle.std.proofs.Common.{◌≡◌, ◌∙◌, sym, subst, Ok, Err, true, false}
+use Rattle.std.proofs.Common.{◌≡◌, ◌∙◌, sym, subst, Ok, Err}
 use Rattle.std.specs.Prelude.{Result}
 use Rattle.ftp_base.specs.declared.types.fault.FtpError.{FtpError}
 use Rattle.ftp_calls.specs.declared.call.Call.{Call}
@@ -7,14 +7,14 @@ use Rattle.ftp_calls.specs.declared.exchange.Exchange.{Exchange}
 use Rattle.ftp_calls.specs.declared.exchange.Row.TheVariants.{Exchanges}
 use Rattle.ftp_session.specs.declared.session.stage.Stage.{Stage}
 use Rattle.ftp_session.specs.Coding.{Coding, coding_of}
-use Rattle.ftp_calls.specs.Exchanges.{is_read, row_of, says_of}
-use Rattle.ftp_session.specs.Steps.Stages.{Begins, FirstNode, is_second}
+use Rattle.ftp_calls.specs.Exchanges.{row_of, says_of}
+use Rattle.ftp_session.specs.Steps.Stages.{Begins, FirstNode, TurnOf}
 use Rattle.ftp_session.specs.Steps.Stages.{line_of}
 use Rattle.ftp_control.specs.Refusal.{IsRefusalOf}
 use Rattle.ftp_session.proofs.Stages.{arming_begins, node_begins}
 use Rattle.ftp_session.proofs.session.stage.begin.Goals as goal
 
-begins : (coding : Coding) (call : Call) (turn : Turn) (e : Exchange) (result : Result Stage FtpError) → row_of call turn ≡ Exchanges e → (is_second turn ≡ true → is_read call ≡ false) → FirstNode coding turn e result → Begins coding call turn result
+begins : (coding : Coding) (call : Call) (turn : Turn) (e : Exchange) (result : Result Stage FtpError) → row_of call turn ≡ Exchanges e → TurnOf call turn → FirstNode coding turn e result → Begins coding call turn result
 begins coding call turn e (Ok stage) row read first = node_begins coding call turn e stage row read first
 begins coding call turn e (Err fault) row read first = subst (λ r. IsRefusalOf (line_of coding (says_of r)) fault) (sym row) first
 

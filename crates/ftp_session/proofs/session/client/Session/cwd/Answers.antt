@@ -1,5 +1,6 @@
+use Rattle.std.proofs.Common.{refl}
 use Rattle.ftp_calls.specs.declared.call.Call.TheVariants.{Cwd}
 use Rattle.ftp_session.proofs.session.client.Session.cwd.Goals as goal
 
 pub returns : goal.returns
-returns g c = c.perform.ensures.plays (Cwd c.args.path.now) c.cwd_call.ensures.call
+returns g c = c.perform.ensures.plays (Cwd c.args.path.now) refl c.cwd_call.ensures.call

@@ -1,5 +1,6 @@
+use Rattle.std.proofs.Common.{refl}
 use Rattle.ftp_calls.specs.declared.call.Call.TheVariants.{Login}
 use Rattle.ftp_session.proofs.session.client.Session.login.Goals as goal
 
 pub returns : goal.returns
-returns g c = c.perform.ensures.plays (Login c.args.user.now c.args.password.now) c.login_call.ensures.call
+returns g c = c.perform.ensures.plays (Login c.args.user.now c.args.password.now) refl c.login_call.ensures.call

@@ -1,5 +1,6 @@
+use Rattle.std.proofs.Common.{refl}
 use Rattle.ftp_calls.specs.declared.call.Call.TheVariants.{Mkdir}
 use Rattle.ftp_session.proofs.session.client.Session.mkdir.Goals as goal
 
 pub returns : goal.returns
-returns g c = c.perform.ensures.plays (Mkdir c.args.path.now) c.mkdir_call.ensures.call
+returns g c = c.perform.ensures.plays (Mkdir c.args.path.now) refl c.mkdir_call.ensures.call

@@ -1,5 +1,6 @@
+use Rattle.std.proofs.Common.{refl}
 use Rattle.ftp_calls.specs.declared.call.Call.TheVariants.{ReadResponseIn}
 use Rattle.ftp_session.proofs.session.client.Session.read_response_in.Goals as goal
 
 pub returns : goal.returns
-returns g c = c.perform_for_reply.ensures.plays (ReadResponseIn c.args.expected.now) c.read_call.ensures.call
+returns g c = c.perform_for_reply.ensures.plays (ReadResponseIn c.args.expected.now) refl c.read_call.ensures.call

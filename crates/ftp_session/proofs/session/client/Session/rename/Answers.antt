@@ -1,5 +1,6 @@
+use Rattle.std.proofs.Common.{refl}
 use Rattle.ftp_calls.specs.declared.call.Call.TheVariants.{Rename}
 use Rattle.ftp_session.proofs.session.client.Session.rename.Goals as goal
 
 pub returns : goal.returns
-returns g c = c.perform.ensures.plays (Rename c.args.from.now c.args.to.now) c.rename_call.ensures.call
+returns g c = c.perform.ensures.plays (Rename c.args.from.now c.args.to.now) refl c.rename_call.ensures.call

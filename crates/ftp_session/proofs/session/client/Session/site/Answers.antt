@@ -1,5 +1,6 @@
+use Rattle.std.proofs.Common.{refl}
 use Rattle.ftp_calls.specs.declared.call.Call.TheVariants.{Site}
 use Rattle.ftp_session.proofs.session.client.Session.site.Goals as goal
 
 pub returns : goal.returns
-returns g c = c.perform_for_reply.ensures.plays (Site c.args.command.now) c.site_call.ensures.call
+returns g c = c.perform_for_reply.ensures.plays (Site c.args.command.now) refl c.site_call.ensures.call

@@ -9,7 +9,7 @@ use Rattle.ftp_session.proofs.session.machine.Machine.run.Given as goal
 abbrev pub invariant-loop-call : goal.invariant-loop-call
 invariant-loop-call g l =
     record {
-      so_far : RunsSoFar (link g.Tr.Conn.Tells.tells g.Tr.Conn.Conn.blocking_read_faults g.Tr.Conn.Conn.blocking_write_faults) (coding_of g.E.Encoding.decoded g.E.Encoding.encoded l.encoding) l.calls (drop l.call-index l.calls) l.fn.self l.self l.answers.items;
+      so_far : RunsSoFar (link g.Tr.Conn.Tells.tells g.Tr.Conn.Conn.blocking_read_faults g.Tr.Conn.Conn.blocking_write_faults g.Tr.Conn.Tells.end_faults) (coding_of g.E.Encoding.decoded g.E.Encoding.encoded l.encoding) l.calls (drop l.call-index l.calls) l.fn.self l.self l.answers.items;
       fails : FailsWith l.fn.self l.self l.answers.items;
       count : length l.answers.items ≡ l.call-index;
       room : length l.calls ≤ vec_capacity l.answers;

@@ -1,9 +1,9 @@
 use Rattle.ftp_session.specs.Coding.{coding_of}
-use Rattle.ftp_session.specs.Link.{link}
+use Rattle.ftp_session.specs.Link.{asking}
 use Rattle.ftp_session.specs.Dialogue.{from_turn}
 use Rattle.ftp_session.specs.Steps.Stages.{remaining}
 use Rattle.ftp_session.specs.declared.session.stage.Stage.TheVariants.{Saying}
-use Rattle.std.proofs.Common.{ap, inl}
+use Rattle.std.proofs.Common.{ap, inl, inr}
 use Rattle.ftp_calls.specs.Exchanges.{given_by}
 use Rattle.ftp_session.proofs.Transitions.{arms, exchange_begins, exchange_is_quiet, exchange_tracks}
 use Rattle.ftp_session.proofs.session.machine.Machine.step.Goals as goal
@@ -16,12 +16,12 @@ returns-in-At-clause-steps g c =
 pub returns-in-At-clause-quiet : goal.returns-in-At-clause-quiet
 returns-in-At-clause-quiet g c =
     let is = c.in-At.ensures.value in
-    rw (← is) (exchange_is_quiet _ c.args.call.now c.in-At.turn _ _ _ _ c.begin_exchange.ensures.begins)
+    rw (← is) (exchange_is_quiet _ _ c.args.call.now c.in-At.turn _ _ _ _ c.begin_exchange.ensures.begins)
 
 pub returns-in-At-clause-begun : goal.returns-in-At-clause-begun
 returns-in-At-clause-begun g c =
     let is = c.in-At.ensures.value in
-    rw (← is) (exchange_tracks (link g.Tr.Conn.Tells.tells g.Tr.Conn.PollConn.read_faults g.Tr.Conn.PollConn.write_faults) (coding_of g.E.Encoding.decoded g.E.Encoding.encoded c.args.encoding.now) c.args.call.now c.in-At.turn _ (from_turn (coding_of g.E.Encoding.decoded g.E.Encoding.encoded c.args.encoding.now) c.args.call.now c.in-At.turn c.args.self.now.state) _ _ _ c.begin_exchange.ensures.begins)
+    rw (← is) (exchange_tracks (asking g.Tr.Conn.Tells.tells g.Tr.Conn.PollConn.read_faults g.Tr.Conn.PollConn.write_faults g.Tr.Conn.Tells.end_faults g.A.Asks.may_wait) (coding_of g.E.Encoding.decoded g.E.Encoding.encoded c.args.encoding.now) c.args.call.now c.in-At.turn _ (from_turn (coding_of g.E.Encoding.decoded g.E.Encoding.encoded c.args.encoding.now) c.args.call.now c.in-At.turn c.args.self.now.state) _ _ _ c.begin_exchange.ensures.begins)
 
 pub returns-in-Saying-clause-answers : goal.returns-in-Saying-clause-answers
 returns-in-Saying-clause-answers g c = c.say_line.ensures.answers c.args.call.now
@@ -39,19 +39,48 @@ returns-in-Saying-clause-begun g c =
 pub returns-in-Hearing-clause-steps : goal.returns-in-Hearing-clause-steps
 returns-in-Hearing-clause-steps g c =
     let is = c.in-Hearing.ensures.value in
-    rw (← is) (c.hear_reply.ensures.steps c.args.call.now)
+    rw (← is) c.hear_reply.ensures.steps
 
 pub returns-in-Hearing-clause-begun : goal.returns-in-Hearing-clause-begun
 returns-in-Hearing-clause-begun g c =
     let is = c.in-Hearing.ensures.value in
-    rw (← is) (c.hear_reply.ensures.begun c.args.call.now)
+    rw (← is) c.hear_reply.ensures.begun
 
 pub returns-in-Arming-clause-answers : goal.returns-in-Arming-clause-answers
 returns-in-Arming-clause-answers g c =
     let stage_of = rw (← c.in-Arming.ensures.value) at c.requires.stage in
-    rw c.arm.ensures.done (c.in-Arming._turn, ap given_by stage_of.0)
+    rw c.arm.ensures.done (c.in-Arming._turn, inl stage_of.1, ap given_by stage_of.0)
 
 pub returns-in-Arming-clause-steps : goal.returns-in-Arming-clause-steps
 returns-in-Arming-clause-steps g c =
     let is = c.in-Arming.ensures.value in
     rw (← is, c.arm.ensures.done) (inl (arms _ c.in-Arming.offset c.args.self.now c.arm.new.self c.requires.going c.arm.ensures.armed))
+
+pub returns-in-Agreeing-clause-stage : goal.returns-in-Agreeing-clause-stage
+returns-in-Agreeing-clause-stage g c = (c.walk.ensures.walks (coding_of g.E.Encoding.decoded g.E.Encoding.encoded c.args.encoding.now)).stage_of
+
+pub returns-in-Agreeing-clause-waits : goal.returns-in-Agreeing-clause-waits
+returns-in-Agreeing-clause-waits g c = λ waits. inr ((c.walk.ensures.walks (coding_of g.E.Encoding.decoded g.E.Encoding.encoded c.args.encoding.now)).waits waits)
+
+pub returns-in-Agreeing-clause-answers : goal.returns-in-Agreeing-clause-answers
+returns-in-Agreeing-clause-answers g c = (c.walk.ensures.walks (coding_of g.E.Encoding.decoded g.E.Encoding.encoded c.args.encoding.now)).answers
+
+pub returns-in-Agreeing-clause-fewer : goal.returns-in-Agreeing-clause-fewer
+returns-in-Agreeing-clause-fewer g c =
+    let is = c.in-Agreeing.ensures.value in
+    rw (← is) (c.walk.ensures.walks (coding_of g.E.Encoding.decoded g.E.Encoding.encoded c.args.encoding.now)).fewer
+
+pub returns-in-Agreeing-clause-steps : goal.returns-in-Agreeing-clause-steps
+returns-in-Agreeing-clause-steps g c =
+    let is = c.in-Agreeing.ensures.value in
+    rw (← is) (c.walk.ensures.walks (coding_of g.E.Encoding.decoded g.E.Encoding.encoded c.args.encoding.now)).steps
+
+pub returns-in-Agreeing-clause-quiet : goal.returns-in-Agreeing-clause-quiet
+returns-in-Agreeing-clause-quiet g c =
+    let is = c.in-Agreeing.ensures.value in
+    rw (← is) (c.walk.ensures.walks (coding_of g.E.Encoding.decoded g.E.Encoding.encoded c.args.encoding.now)).quiet
+
+pub returns-in-Agreeing-clause-begun : goal.returns-in-Agreeing-clause-begun
+returns-in-Agreeing-clause-begun g c =
+    let is = c.in-Agreeing.ensures.value in
+    rw (← is) (c.walk.ensures.walks (coding_of g.E.Encoding.decoded g.E.Encoding.encoded c.args.encoding.now)).begun

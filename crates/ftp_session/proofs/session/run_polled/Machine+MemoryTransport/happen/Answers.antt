@@ -37,7 +37,8 @@ returns-clause-happens g c = λ old s answers follows may.
           )
       | in-Start w ↦ (
           let same = ap (λ o. option_map (λ c'. c'.now) o) w.under_way-is in
-          let begun = starts coding old s v w.in-Start.call _ _ _ _ answers follows w.start.ensures.starts in
+          let L : Event → Type 0 = λ e. IsLawful coding (start_of old) s e in
+          let begun = starts coding old s v w.in-Start.call _ _ _ _ answers (subst L w.in-Start.is may) follows w.start.ensures.starts in
           inl (happened coding old s z c.args.event.now (event.Start w.in-Start.call) _ _ _ _ answers w.in-Start.is same w.stage-is (stayed coding old _ v z _ _ answers w.self-is begun))
           )
       | in-Cancel w ↦ (

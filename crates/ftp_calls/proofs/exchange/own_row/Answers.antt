@@ -1,7 +1,7 @@
-use Rattle.ftp_calls.proofs.exchange.row_of.Goals as goal
+use Rattle.ftp_calls.proofs.exchange.own_row.Goals as goal
 
 pub returns-in-TransferType : goal.returns-in-TransferType
-returns-in-TransferType c = rw c.in-TransferType.is (c.transfer_type.ensures c.args.turn)
+returns-in-TransferType c = rw c.in-TransferType.is (c.transfer_type.ensures c.args.first)
 
 pub returns-in-Quit : goal.returns-in-Quit
 returns-in-Quit c = rw c.in-Quit.is c.says-in-Quit.ensures

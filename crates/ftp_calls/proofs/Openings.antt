@@ -1,0 +1,66 @@
+-- Which calls open a data connection.
+use Rattle.std.proofs.Common.{◌≡◌, Bool, true, false, ◌&&◌, refl}
+use Rattle.ftp_calls.specs.declared.call.Call.{Call}
+use Rattle.ftp_calls.specs.declared.call.Call.TheVariants.{Greet, Login, Cwd, Cdup, Pwd, Noop, Eprt, Opts, Site, TransferType, Mkdir, Rmdir, Rm, Rename, Quit, Mlst, Mdtm, Size, Feat, CustomCommand, ReadResponse, ReadResponseIn, ResumeTransfer, RetrAsStream, PutWithStream, AppendWithStream, CustomDataCommand}
+use Rattle.ftp_calls.specs.declared.exchange.Turn.TheVariants.{Second}
+use Rattle.ftp_calls.specs.Exchanges.{is_read, negotiates, opens, row_of}
+
+-- the last turn of a call opens a data connection where the first does
+pub opens_alike : (call : Call) → opens (row_of call Second) ≡ negotiates call
+opens_alike Greet = refl
+opens_alike (Login u p) = refl
+opens_alike (Cwd p) = refl
+opens_alike Cdup = refl
+opens_alike Pwd = refl
+opens_alike Noop = refl
+opens_alike (Eprt a) = refl
+opens_alike (Opts n v) = refl
+opens_alike (Site w) = refl
+opens_alike (TransferType k) = refl
+opens_alike (Mkdir p) = refl
+opens_alike (Rmdir p) = refl
+opens_alike (Rm p) = refl
+opens_alike (Rename a b) = refl
+opens_alike Quit = refl
+opens_alike (Mlst p) = refl
+opens_alike (Mdtm p) = refl
+opens_alike (Size p) = refl
+opens_alike Feat = refl
+opens_alike (CustomCommand l c) = refl
+opens_alike (ReadResponse s) = refl
+opens_alike (ReadResponseIn c) = refl
+opens_alike (ResumeTransfer o) = refl
+opens_alike (RetrAsStream p) = refl
+opens_alike (PutWithStream p) = refl
+opens_alike (AppendWithStream p) = refl
+opens_alike (CustomDataCommand l c) = refl
+
+-- a plain read opens none
+pub read_opens_none : (call : Call) → negotiates call ≡ true → is_read call ≡ false
+read_opens_none Greet opens = let clash : false ≡ true = opens in cc
+read_opens_none (Login u p) opens = let clash : false ≡ true = opens in cc
+read_opens_none (Cwd p) opens = let clash : false ≡ true = opens in cc
+read_opens_none Cdup opens = let clash : false ≡ true = opens in cc
+read_opens_none Pwd opens = let clash : false ≡ true = opens in cc
+read_opens_none Noop opens = let clash : false ≡ true = opens in cc
+read_opens_none (Eprt a) opens = let clash : false ≡ true = opens in cc
+read_opens_none (Opts n v) opens = let clash : false ≡ true = opens in cc
+read_opens_none (Site w) opens = let clash : false ≡ true = opens in cc
+read_opens_none (TransferType k) opens = let clash : false ≡ true = opens in cc
+read_opens_none (Mkdir p) opens = let clash : false ≡ true = opens in cc
+read_opens_none (Rmdir p) opens = let clash : false ≡ true = opens in cc
+read_opens_none (Rm p) opens = let clash : false ≡ true = opens in cc
+read_opens_none (Rename a b) opens = let clash : false ≡ true = opens in cc
+read_opens_none Quit opens = let clash : false ≡ true = opens in cc
+read_opens_none (Mlst p) opens = let clash : false ≡ true = opens in cc
+read_opens_none (Mdtm p) opens = let clash : false ≡ true = opens in cc
+read_opens_none (Size p) opens = let clash : false ≡ true = opens in cc
+read_opens_none Feat opens = let clash : false ≡ true = opens in cc
+read_opens_none (CustomCommand l c) opens = let clash : false ≡ true = opens in cc
+read_opens_none (ReadResponse s) opens = let clash : false ≡ true = opens in cc
+read_opens_none (ReadResponseIn c) opens = let clash : false ≡ true = opens in cc
+read_opens_none (ResumeTransfer o) opens = let clash : false ≡ true = opens in cc
+read_opens_none (RetrAsStream p) opens = refl
+read_opens_none (PutWithStream p) opens = refl
+read_opens_none (AppendWithStream p) opens = refl
+read_opens_none (CustomDataCommand l c) opens = refl

@@ -1,0 +1,136 @@
+//! How the machine asks its transport.
+//!
+//! Most calls ask nothing, and take no runtime; so the machine is passed what asks for it: a runtime, by which its
+//! transport is polled, or nothing that can be used.
+
+ghost use Rattle.std.specs.Prelude.{◌≡◌, None};
+ghost use Rattle.futures.specs.declared.task.Poll.TheVariants as poll;
+ghost use Rattle.ftp_control.specs.Asking.{Asks as Records, done, done_at};
+ghost use Rattle.ftp_control.specs.declared.transport.request.Request.TheVariants.{Accept, Connect, Listen};
+
+use ftp_control::transport::{Accepted, Connected, Listening, Network, PollTransport};
+use futures::task::Poll;
+use std::net::SocketAddr;
+use std::time::Duration;
+
+/// What asks a transport for the machine.
+pub(crate) trait Asks<Tr: Network, W> {
+    /// Whether it may be used.
+    ghost may_ask: { Type 0 };
+
+    /// Whether a request may have to wait.
+    ghost may_wait: { Type 0 };
+
+    /// Asks for a connection to this address.
+    fn connect(
+        &self,
+        transport: &mut Tr,
+        w: &mut W,
+        address: SocketAddr,
+    ) -> Poll<Connected<Tr::Conn>>
+        requires may { may_ask }
+        ensures waits { result ≡ poll.Pending → may_wait }
+        ensures asks { Tr.Conn.tells → Records (Connect address None) done result
+            (Tr.asked transport.old) (Tr.asked transport.new) };
+
+    /// Asks for a listener on this address.
+    fn listen(
+        &self,
+        transport: &mut Tr,
+        w: &mut W,
+        address: SocketAddr,
+    ) -> Poll<Listening<Tr::Listener>>
+        requires may { may_ask }
+        ensures waits { result ≡ poll.Pending → may_wait }
+        ensures asks { Tr.Conn.tells → Records (Listen address) done_at result
+            (Tr.asked transport.old) (Tr.asked transport.new) };
+
+    /// Asks for a peer's connection.
+    fn accept(
+        &self,
+        transport: &mut Tr,
+        w: &mut W,
+        listener: &mut Tr::Listener,
+        deadline: Duration,
+    ) -> Poll<Accepted<Tr::Conn>>
+        requires may { may_ask }
+        ensures waits { result ≡ poll.Pending → may_wait }
+        ensures asks { Tr.Conn.tells → Records (Accept deadline) done_at result
+            (Tr.asked transport.old) (Tr.asked transport.new) };
+}
+
+/// Asks by a runtime.
+#[derive(Drop)]
+pub(crate) struct By<'r, R>(pub(crate) &'r R);
+
+impl<'r, R, W, Tr: PollTransport<R, W>> Asks<Tr, W> for By<'r, R> {
+    ghost may_ask = { Unit {0} };
+
+    ghost may_wait = { Tr.PollTransport.may_wait };
+
+    fn connect(
+        &self,
+        transport: &mut Tr,
+        w: &mut W,
+        address: SocketAddr,
+    ) -> Poll<Connected<Tr::Conn>> {
+        transport.poll_connect(self.0, w, address, None)
+    }
+
+    fn listen(
+        &self,
+        transport: &mut Tr,
+        w: &mut W,
+        address: SocketAddr,
+    ) -> Poll<Listening<Tr::Listener>> {
+        transport.poll_listen(self.0, w, address)
+    }
+
+    fn accept(
+        &self,
+        transport: &mut Tr,
+        w: &mut W,
+        listener: &mut Tr::Listener,
+        deadline: Duration,
+    ) -> Poll<Accepted<Tr::Conn>> {
+        transport.poll_accept(self.0, w, listener, deadline)
+    }
+}
+
+/// Asks nothing: what the calls are passed that open no data connection.
+#[derive(Drop)]
+pub(crate) struct Nothing;
+
+impl<Tr: Network, W> Asks<Tr, W> for Nothing {
+    ghost may_ask = { ⊥ };
+
+    ghost may_wait = { ⊥ };
+
+    fn connect(
+        &self,
+        _transport: &mut Tr,
+        _w: &mut W,
+        _address: SocketAddr,
+    ) -> Poll<Connected<Tr::Conn>> {
+        unreachable!()
+    }
+
+    fn listen(
+        &self,
+        _transport: &mut Tr,
+        _w: &mut W,
+        _address: SocketAddr,
+    ) -> Poll<Listening<Tr::Listener>> {
+        unreachable!()
+    }
+
+    fn accept(
+        &self,
+        _transport: &mut Tr,
+        _w: &mut W,
+        _listener: &mut Tr::Listener,
+        _deadline: Duration,
+    ) -> Poll<Accepted<Tr::Conn>> {
+        unreachable!()
+    }
+}

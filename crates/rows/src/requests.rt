@@ -1,0 +1,46 @@
+//! What a transport was asked, as lines of a transcript.
+
+use ftp_control::transport::{Asked, Request, RequestOutcome};
+use std::alloc::{AllocError, Global};
+
+/// A line for each request that is shown, where this is what they came to.
+pub fn lines_of(
+    alloc: Global,
+    requests: &[Request],
+    outcomes: &[RequestOutcome],
+) -> Result<Vec<String>, AllocError> {
+    let mut lines = Vec::new(alloc);
+    for (request, outcome) in requests.iter().zip(outcomes.iter()) {
+        add_line(alloc, &mut lines, *request, *outcome)?;
+    }
+    Ok(lines)
+}
+
+/// The same of what a transport recorded.
+pub fn recorded(alloc: Global, asked: &[Asked]) -> Result<Vec<String>, AllocError> {
+    let mut lines = Vec::new(alloc);
+    for one in asked {
+        add_line(alloc, &mut lines, one.request, one.outcome)?;
+    }
+    Ok(lines)
+}
+
+/// Adds the line of a request: the address that was connected to or listened at, or the peer that came.
+fn add_line(
+    alloc: Global,
+    lines: &mut Vec<String>,
+    request: Request,
+    outcome: RequestOutcome,
+) -> Result<(), AllocError> {
+    match (request, outcome) {
+        (Request::Connect(address, _limit), _) => {
+            lines.push(format!(in alloc; "D: {address}")?)?;
+        }
+        (Request::Listen(address), _) => lines.push(format!(in alloc; "L: {address}")?)?,
+        (Request::Accept(_), RequestOutcome::Address(from)) => {
+            lines.push(format!(in alloc; "P: {from}")?)?;
+        }
+        (Request::Accept(_) | Request::LocalAddress | Request::PeerAddress, _) => {}
+    }
+    Ok(())
+}

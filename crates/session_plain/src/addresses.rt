@@ -1,0 +1,125 @@
+//! The address that a reply tells, and the connection to it: the replies to PASV (RFC 959, section 4.1.2) and EPSV
+//! (RFC 2428, section 3).
+
+ghost use Rattle.std.specs.Prelude.{◌≡◌, IfOk};
+ghost use Rattle.ftp_answers.specs.Addresses.{extended_port_of, passive_address_of};
+ghost use Rattle.ftp_control.specs.declared.transport.room.Room.{Room as Rooms};
+ghost use Rattle.ftp_session.specs.Dialogue.{Tree, at_port, connecting_to, connecting_to_peer, no_address, to_address, to_port};
+ghost use Rattle.ftp_session.specs.Play.{play};
+ghost use Rattle.ftp_session.specs.declared.session.state.State.{State as States};
+ghost use Rattle.session_plain.specs.Progress.{ComesTo};
+
+use crate::asking::{Came, asked};
+use crate::exchange::{Progress, done};
+use ftp_answers::{NoAddress, read_extended_port, read_passive_address};
+use ftp_base::types::{ConnectionError, FtpError, Response};
+use ftp_control::transport::{Request, RequestOutcome};
+use ftp_session::model::{Played, Standing, Wait};
+use ftp_session::session::Answer;
+use std::alloc::{AllocError, Global};
+use std::net::{SocketAddr, SocketAddrV4, SocketAddrV6};
+
+/// The reply to PASV tells the address. Behind a router that rewrites addresses its host is the control peer's.
+#[tactic(auto, unfolding(ftp_session::specs::Play::play))]
+pub(crate) fn to_address(
+    alloc: Global,
+    reply: Response,
+    standing: Standing,
+) -> Result<Progress, AllocError>
+    ensures { IfOk result (λ progress. (room : Rooms) (later : States → Tree) → ComesTo room later
+        (play room (to_address standing.state reply (later standing.state)
+        (passive_address_of reply.body)) standing) progress) }
+{
+    match read_passive_address(reply.body.as_slice()) {
+        Ok(address) => {
+            if standing.state.settings.passive_nat_workaround {
+                connecting_to_peer(alloc, address.port(), standing)
+            } else {
+                connecting_to(alloc, address, standing)
+            }
+        }
+        Err(cause) => Ok(no_address(reply, cause, standing)),
+    }
+}
+
+/// The reply to EPSV tells the port.
+#[tactic(auto, unfolding(ftp_session::specs::Play::play))]
+pub(crate) fn to_port(
+    alloc: Global,
+    reply: Response,
+    standing: Standing,
+) -> Result<Progress, AllocError>
+    ensures { IfOk result (λ progress. (room : Rooms) (later : States → Tree) → ComesTo room later
+        (play room (to_port standing.state reply (later standing.state)
+        (extended_port_of reply.body)) standing) progress) }
+{
+    match read_extended_port(reply.body.as_slice()) {
+        Ok(port) => connecting_to_peer(alloc, port, standing),
+        Err(cause) => Ok(no_address(reply, cause, standing)),
+    }
+}
+
+/// The reply tells no address, or can't be read.
+fn no_address(reply: Response, cause: NoAddress, standing: Standing) -> Progress
+    ensures { result ≡ Progress.Stops
+        (Played.Done (Answer.Fault (no_address reply cause)) standing) }
+{
+    let fault = match cause {
+        NoAddress::Absent => FtpError::UnexpectedResponse(reply),
+        NoAddress::Unreadable => FtpError::BadResponse,
+    };
+    done(Answer::Fault(fault), standing)
+}
+
+/// A connection to a port of the control connection's peer.
+#[tactic(auto, unfolding(ftp_session::specs::Play::play))]
+fn connecting_to_peer(alloc: Global, port: u16, standing: Standing) -> Result<Progress, AllocError>
+    ensures { IfOk result (λ progress. (room : Rooms) (later : States → Tree) → ComesTo room later
+        (play room (connecting_to_peer port standing.state (later standing.state)) standing)
+        progress) }
+{
+    let peer = standing.peer;
+    connecting_to(alloc, at_port(port, peer), standing)
+}
+
+/// A connection to an address is asked for.
+#[tactic(auto, unfolding(ftp_session::specs::Play::play))]
+fn connecting_to(
+    alloc: Global,
+    address: SocketAddr,
+    standing: Standing,
+) -> Result<Progress, AllocError>
+    ensures { IfOk result (λ progress. (room : Rooms) (later : States → Tree) → ComesTo room later
+        (play room (connecting_to address standing.state (later standing.state)) standing)
+        progress) }
+{
+    match asked(alloc, Request::Connect(address, None), standing)? {
+        Came::Unknown(here) => Ok(Progress::Stops(Played::Pending(Wait::Outcome, here))),
+        Came::Known(RequestOutcome::Refused(cause), here) => Ok(refused(cause, here)),
+        Came::Known(RequestOutcome::Done, here) => Ok(Progress::Continues(here)),
+        Came::Known(RequestOutcome::Address(_), here) => Ok(Progress::Continues(here)),
+    }
+}
+
+/// A request was refused.
+fn refused(cause: ConnectionError, standing: Standing) -> Progress
+    ensures { result ≡ Progress.Stops
+        (Played.Done (Answer.Fault (FtpError.ConnectionError cause)) standing) }
+{
+    done(Answer::Fault(FtpError::ConnectionError(cause)), standing)
+}
+
+/// An address with another port.
+pub(crate) fn at_port(port: u16, address: SocketAddr) -> SocketAddr
+    ensures { result ≡ at_port port address }
+{
+    match address {
+        SocketAddr::V4(host) => SocketAddr::V4(SocketAddrV4::new(*host.ip(), port)),
+        SocketAddr::V6(host) => SocketAddr::V6(SocketAddrV6::new(
+            *host.ip(),
+            port,
+            host.flowinfo(),
+            host.scope_id(),
+        )),
+    }
+}

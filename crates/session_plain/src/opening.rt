@@ -1,0 +1,102 @@
+//! What an accepted command of a data connection comes to: the connection stands, or the server opens it now, and peers
+//! are accepted until one is let in.
+
+ghost use Rattle.std.specs.Prelude.{◌≡◌, IfOk};
+ghost use Rattle.ftp_control.specs.declared.transport.room.Room.{Room as Rooms};
+ghost use Rattle.ftp_session.specs.Dialogue.{accepting, lets_in, opened_answer, opening, with_transfer};
+ghost use Rattle.ftp_session.specs.Play.{play};
+
+use crate::asking::{Came, asked};
+use ftp_base::types::{ConnectionError, FtpError, Mode, Response};
+use ftp_control::transport::{Request, RequestOutcome};
+use ftp_session::model::{Played, Standing, Wait};
+use ftp_session::session::Answer;
+use std::alloc::{AllocError, Global};
+use std::net::SocketAddr;
+
+/// How many strangers one data command drops.
+const STRANGERS: u64 = 1000;
+
+/// The answer of a call that opens a data connection.
+pub(crate) fn opened_answer(gives_reply: bool, reply: Response) -> Answer
+    ensures { result ≡ opened_answer gives_reply reply }
+{
+    if gives_reply {
+        Answer::OpenedWith(reply)
+    } else {
+        Answer::Opened
+    }
+}
+
+/// The command was accepted.
+#[tactic(auto, unfolding(ftp_session::specs::Play::play))]
+pub(crate) fn opened(
+    alloc: Global,
+    answer: Answer,
+    standing: Standing,
+) -> Result<Played, AllocError>
+    ensures { IfOk result (λ played. (room : Rooms) → played ≡
+        play room (opening standing.state.settings.mode answer standing.state) standing) }
+{
+    match standing.state.settings.mode {
+        Mode::Passive | Mode::ExtendedPassive => {
+            Ok(Played::Done(answer, with_transfer(standing)))
+        }
+        Mode::Active => {
+            let peer = standing.peer;
+            accepting(alloc, answer, peer, STRANGERS, standing)
+        }
+    }
+}
+
+/// A peer is accepted: it is let in, or dropped, and so many others may come after it.
+#[tactic(auto, unfolding(ftp_session::specs::Play::play, ftp_session::specs::Dialogue::accepting))]
+fn accepting(
+    alloc: Global,
+    answer: Answer,
+    peer: SocketAddr,
+    left: u64,
+    standing: Standing,
+) -> Result<Played, AllocError>
+    ensures { IfOk result (λ played. (room : Rooms) → played ≡
+        play room (accepting answer peer left standing.state) standing) }
+{
+    let deadline = standing.state.settings.active_deadline;
+    match asked(alloc, Request::Accept(deadline), standing)? {
+        Came::Unknown(here) => Ok(Played::Pending(Wait::Outcome, here)),
+        Came::Known(RequestOutcome::Done, here) => Ok(fault(ConnectionError::NoAddress, here)),
+        Came::Known(RequestOutcome::Refused(cause), here) => Ok(fault(cause, here)),
+        Came::Known(RequestOutcome::Address(from), here) => {
+            if lets_in(&here, peer, from) {
+                Ok(Played::Done(answer, with_transfer(here)))
+            } else if left == 0 {
+                Ok(fault(ConnectionError::TimedOut, here))
+            } else {
+                accepting(alloc, answer, peer, left - 1, here)
+            }
+        }
+    }
+}
+
+/// Whether a peer may open the data connection, beside a control connection to this one.
+fn lets_in(standing: &Standing, peer: SocketAddr, from: SocketAddr) -> bool
+    ensures { result ≡ lets_in standing.now.state peer from }
+{
+    let check = &standing.state.settings.active_peer_check;
+    check.allows(from.ip(), peer.ip())
+}
+
+/// A transfer is live from now on.
+fn with_transfer(mut standing: Standing) -> Standing
+    ensures { result ≡ record standing { state = with_transfer standing.state } }
+{
+    standing.state.counts.open();
+    standing
+}
+
+/// A connection's fault is the answer.
+pub(crate) fn fault(cause: ConnectionError, standing: Standing) -> Played
+    ensures { result ≡ Played.Done (Answer.Fault (FtpError.ConnectionError cause)) standing }
+{
+    Played::Done(Answer::Fault(FtpError::ConnectionError(cause)), standing)
+}

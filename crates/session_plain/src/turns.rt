@@ -1,0 +1,121 @@
+//! The turns of a call, one after another: those of negotiation, the offset where there is one, and the call's own.
+
+ghost use Rattle.std.specs.Prelude.{◌≡◌, ◌&&◌, IfOk, nat_lt};
+ghost use Rattle.ftp_calls.specs.Exchanges.{restarts};
+ghost use Rattle.ftp_session.specs.Coding.{coding_of};
+ghost use Rattle.ftp_session.specs.Dialogue.{from_turn, last_turn, later, restart_turn};
+ghost use Rattle.ftp_session.specs.Play.{play};
+
+use crate::exchange::{Progress, row};
+use ftp_base::encoding::Encoding;
+use ftp_calls::exchange::Turn;
+use ftp_control::transport::Room;
+use ftp_session::model::{Played, Standing};
+use ftp_session::session::{Answer, Call};
+use std::alloc::{AllocError, Global};
+
+/// What a call comes to from this turn on.
+pub(crate) fn from_turn<E: Encoding>(
+    alloc: Global,
+    room: Room,
+    encoding: &E,
+    call: &Call,
+    turn: Turn,
+    standing: Standing,
+) -> Result<Played, AllocError>
+    ensures { IfOk result (λ played. played ≡ play room (from_turn
+        (coding_of E.decoded E.encoded encoding.now) call.now turn standing.state) standing) }
+{
+    match row(alloc, room, encoding, call, turn, standing)? {
+        Progress::Stops(played) => Ok(played),
+        Progress::Continues(here) => later(alloc, room, encoding, call, turn, here),
+    }
+}
+
+/// What comes after the row of this turn.
+#[tactic(auto, unfolding(ftp_session::specs::Play::play))]
+fn later<E: Encoding>(
+    alloc: Global,
+    room: Room,
+    encoding: &E,
+    call: &Call,
+    turn: Turn,
+    standing: Standing,
+) -> Result<Played, AllocError>
+    ensures { IfOk result (λ played. played ≡ play room (later
+        (coding_of E.decoded E.encoded encoding.now) call.now turn standing.state) standing) }
+{
+    match turn {
+        Turn::First => last_turn(alloc, room, encoding, call, standing),
+        Turn::Second => Ok(Played::Done(Answer::Unit, standing)),
+        Turn::Passive(offset) => restart_turn(alloc, room, encoding, call, offset, standing),
+        Turn::ExtendedPassive(offset) => {
+            restart_turn(alloc, room, encoding, call, offset, standing)
+        }
+        Turn::Active(_address, offset) => {
+            restart_turn(alloc, room, encoding, call, offset, standing)
+        }
+        Turn::Restart(_offset) => last_turn(alloc, room, encoding, call, standing),
+    }
+}
+
+/// The offset is told, where there is one, and then the command.
+#[tactic(auto, unfolding(ftp_session::specs::Play::play))]
+fn restart_turn<E: Encoding>(
+    alloc: Global,
+    room: Room,
+    encoding: &E,
+    call: &Call,
+    offset: u64,
+    standing: Standing,
+) -> Result<Played, AllocError>
+    ensures { IfOk result (λ played. played ≡ play room (restart_turn
+        (coding_of E.decoded E.encoded encoding.now) call.now offset standing.state) standing) }
+{
+    if !tells_offset(call, offset) {
+        return last_turn(alloc, room, encoding, call, standing);
+    }
+    match row(alloc, room, encoding, call, Turn::Restart(offset), standing)? {
+        Progress::Stops(played) => Ok(played),
+        Progress::Continues(here) => last_turn(alloc, room, encoding, call, here),
+    }
+}
+
+/// The last turn.
+#[tactic(auto, unfolding(ftp_session::specs::Play::play))]
+fn last_turn<E: Encoding>(
+    alloc: Global,
+    room: Room,
+    encoding: &E,
+    call: &Call,
+    standing: Standing,
+) -> Result<Played, AllocError>
+    ensures { IfOk result (λ played. played ≡ play room (last_turn
+        (coding_of E.decoded E.encoded encoding.now) call.now standing.state) standing) }
+{
+    match row(alloc, room, encoding, call, Turn::Second, standing)? {
+        Progress::Stops(played) => Ok(played),
+        Progress::Continues(here) => Ok(Played::Done(Answer::Unit, here)),
+    }
+}
+
+/// Whether the server is told the offset: there is one, and a transfer of this call may begin there (RFC 3659,
+/// section 5).
+fn tells_offset(call: &Call, offset: u64) -> bool
+    ensures { result ≡ (restarts call.now && nat_lt 0 offset) }
+{
+    restarts(call) && 0 < offset
+}
+
+/// Whether a transfer of this call may begin at an offset.
+fn restarts(call: &Call) -> bool
+    ensures { result ≡ restarts call.now }
+{
+    matches!(
+        call,
+        Call::RetrAsStream(_)
+            | Call::PutWithStream(_)
+            | Call::AppendWithStream(_)
+            | Call::CustomDataCommand(..)
+    )
+}
