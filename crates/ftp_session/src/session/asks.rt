@@ -1,7 +1,7 @@
 //! How the machine asks its transport.
 //!
 //! Most calls ask nothing, and take no runtime; so the machine is passed what asks for it: a runtime, by which its
-//! transport is polled, or nothing that can be used.
+//! transport is polled, or nothing, of which no contract says anything.
 
 ghost use Rattle.std.specs.Prelude.{◌≡◌, None};
 ghost use Rattle.futures.specs.declared.task.Poll.TheVariants as poll;
@@ -10,6 +10,7 @@ ghost use Rattle.ftp_control.specs.declared.transport.request.Request.TheVariant
 
 use ftp_control::transport::{Accepted, Connected, Listening, Network, PollTransport};
 use futures::task::Poll;
+use std::alloc::AllocError;
 use std::net::SocketAddr;
 use std::time::Duration;
 
@@ -28,9 +29,8 @@ pub(crate) trait Asks<Tr: Network, W> {
         w: &mut W,
         address: SocketAddr,
     ) -> Poll<Connected<Tr::Conn>>
-        requires may { may_ask }
-        ensures waits { result ≡ poll.Pending → may_wait }
-        ensures asks { Tr.Conn.tells → Records (Connect address None) done result
+        ensures waits { may_ask → result ≡ poll.Pending → may_wait }
+        ensures asks { may_ask → Tr.Conn.tells → Records (Connect address None) done result
             (Tr.asked transport.old) (Tr.asked transport.new) };
 
     /// Asks for a listener on this address.
@@ -40,9 +40,8 @@ pub(crate) trait Asks<Tr: Network, W> {
         w: &mut W,
         address: SocketAddr,
     ) -> Poll<Listening<Tr::Listener>>
-        requires may { may_ask }
-        ensures waits { result ≡ poll.Pending → may_wait }
-        ensures asks { Tr.Conn.tells → Records (Listen address) done_at result
+        ensures waits { may_ask → result ≡ poll.Pending → may_wait }
+        ensures asks { may_ask → Tr.Conn.tells → Records (Listen address) done_at result
             (Tr.asked transport.old) (Tr.asked transport.new) };
 
     /// Asks for a peer's connection.
@@ -53,9 +52,8 @@ pub(crate) trait Asks<Tr: Network, W> {
         listener: &mut Tr::Listener,
         deadline: Duration,
     ) -> Poll<Accepted<Tr::Conn>>
-        requires may { may_ask }
-        ensures waits { result ≡ poll.Pending → may_wait }
-        ensures asks { Tr.Conn.tells → Records (Accept deadline) done_at result
+        ensures waits { may_ask → result ≡ poll.Pending → may_wait }
+        ensures asks { may_ask → Tr.Conn.tells → Records (Accept deadline) done_at result
             (Tr.asked transport.old) (Tr.asked transport.new) };
 }
 
@@ -112,7 +110,7 @@ impl<Tr: Network, W> Asks<Tr, W> for Nothing {
         _w: &mut W,
         _address: SocketAddr,
     ) -> Poll<Connected<Tr::Conn>> {
-        unreachable!()
+        Poll::Ready(Err(AllocError))
     }
 
     fn listen(
@@ -121,7 +119,7 @@ impl<Tr: Network, W> Asks<Tr, W> for Nothing {
         _w: &mut W,
         _address: SocketAddr,
     ) -> Poll<Listening<Tr::Listener>> {
-        unreachable!()
+        Poll::Ready(Err(AllocError))
     }
 
     fn accept(
@@ -131,6 +129,6 @@ impl<Tr: Network, W> Asks<Tr, W> for Nothing {
         _listener: &mut Tr::Listener,
         _deadline: Duration,
     ) -> Poll<Accepted<Tr::Conn>> {
-        unreachable!()
+        Poll::Ready(Err(AllocError))
     }
 }

@@ -120,6 +120,13 @@ impl Counts {
         }
     }
 
+    /// The transfer whose last reply hasn't been read.
+    pub fn owed(&self) -> Owed
+        ensures { result ≡ self.now.owed }
+    {
+        self.owed
+    }
+
     /// How many transfers were opened.
     pub fn opened(&self) -> u64
         ensures value { result ≡ self.now.opened }

@@ -19,6 +19,7 @@ use super::asks::Asks;
 use super::machine::Machine;
 use super::nodes::{Accepted, accept};
 use super::stage::{Agreeing, Awaits, Stage, Step, begin, go_on, go_to, is_later};
+use super::state::{Counts, Owed};
 use super::{Answer, Call};
 use ftp_base::encoding::Encoding;
 use ftp_base::types::{FtpError, Response};
@@ -313,7 +314,14 @@ impl<Tr: Network> Machine<Tr> {
             return Answer::Fault(FtpError::SessionFailed);
         }
         let mut stage = self.enter(call);
-        match self.poll_call(asker, alloc, encoding, call, &mut stage, &mut NeverWaits) {
+        let polled = self.poll_call(asker, alloc, encoding, call, &mut stage, &mut NeverWaits);
+        let_go(
+            polled.is_ready(),
+            &self.state.counts,
+            &mut self.listener,
+            &mut self.data,
+        );
+        match polled {
             Poll::Ready(answer) => answer,
             Poll::Pending => unreachable!(),
         }
@@ -386,7 +394,29 @@ impl<Tr: Network> Machine<Tr> {
             return Poll::Ready(Answer::Fault(FtpError::SessionFailed));
         }
         self.begin_call(call, stage);
-        self.poll_call(asker, alloc, encoding, call, stage, w)
+        let polled = self.poll_call(asker, alloc, encoding, call, stage, w);
+        let_go(
+            polled.is_ready(),
+            &self.state.counts,
+            &mut self.listener,
+            &mut self.data,
+        );
+        polled
+    }
+}
+
+/// A call that is done closes its listener, and a data connection that opened no transfer.
+fn let_go<L: Drop, C: Drop>(
+    is_done: bool,
+    counts: &Counts,
+    listener: &mut Option<L>,
+    data: &mut Option<C>,
+) {
+    if is_done {
+        *listener = None;
+        if matches!(counts.owed(), Owed::Nothing) {
+            *data = None;
+        }
     }
 }
 

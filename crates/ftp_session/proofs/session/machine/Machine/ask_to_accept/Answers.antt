@@ -8,20 +8,20 @@ returns-in_default-clause-asks g c = λ tree. unchanged_still _ tree tree _ _ c.
 
 pub returns-in-Ready-Ok-Ok-clause-asks : goal.returns-in-Ready-Ok-Ok-clause-asks
 returns-in-Ready-Ok-Ok-clause-asks g c =
-    let made = rw (c.in-Ready-Ok-Ok.is, c.in-Ready-Ok-Ok.field-0-is, c.in-Ready-Ok-Ok.field-0-0-is) at c.accept.ensures.asks in
+    let made = rw (c.in-Ready-Ok-Ok.is, c.in-Ready-Ok-Ok.field-0-is, c.in-Ready-Ok-Ok.field-0-0-is) at c.accept.ensures.asks c.requires.may in
     accepted_through _ (Address c.in-Ready-Ok-Ok.from) _ _ _ c.self.view_is made
 
 pub returns-in-Ready-Ok-Err-clause-asks : goal.returns-in-Ready-Ok-Err-clause-asks
 returns-in-Ready-Ok-Err-clause-asks g c =
-    let made = rw (c.in-Ready-Ok-Err.is, c.in-Ready-Ok-Err.field-0-is, c.in-Ready-Ok-Err.field-0-0-is) at c.accept.ensures.asks in
+    let made = rw (c.in-Ready-Ok-Err.is, c.in-Ready-Ok-Err.field-0-is, c.in-Ready-Ok-Err.field-0-0-is) at c.accept.ensures.asks c.requires.may in
     accepted_through _ (Refused c.in-Ready-Ok-Err.fault) _ _ _ c.self.view_is made
 
 pub returns-in-Ready-Err-clause-asks : goal.returns-in-Ready-Err-clause-asks
 returns-in-Ready-Err-clause-asks g c =
-    let made = rw (c.in-Ready-Err.is, c.in-Ready-Err.field-0-is) at c.accept.ensures.asks in
+    let made = rw (c.in-Ready-Err.is, c.in-Ready-Err.field-0-is) at c.accept.ensures.asks c.requires.may in
     unasked_through _ _ _ _ c.self.view_is made
 
 pub returns-in-Pending-clause-asks : goal.returns-in-Pending-clause-asks
 returns-in-Pending-clause-asks g c =
-    let made = rw c.in-Pending.is at c.accept.ensures.asks in
-    (unasked_through _ _ _ _ c.self.view_is made, c.accept.ensures.waits c.in-Pending.is)
+    let made = rw c.in-Pending.is at c.accept.ensures.asks c.requires.may in
+    (unasked_through _ _ _ _ c.self.view_is made, c.accept.ensures.waits c.requires.may c.in-Pending.is)

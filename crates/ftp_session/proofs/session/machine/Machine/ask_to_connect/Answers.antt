@@ -6,20 +6,20 @@ use Rattle.ftp_session.proofs.session.machine.Machine.ask_to_connect.Goals as go
 
 pub returns-in-Ready-Ok-Ok-clause-asks : goal.returns-in-Ready-Ok-Ok-clause-asks
 returns-in-Ready-Ok-Ok-clause-asks g c =
-    let made = rw (c.in-Ready-Ok-Ok.is, c.in-Ready-Ok-Ok.field-0-is, c.in-Ready-Ok-Ok.field-0-0-is) at c.connect.ensures.asks in
+    let made = rw (c.in-Ready-Ok-Ok.is, c.in-Ready-Ok-Ok.field-0-is, c.in-Ready-Ok-Ok.field-0-0-is) at c.connect.ensures.asks c.requires.may in
     asked_through _ (Connect c.args.address None) Done _ _ _ c.self.view_is made
 
 pub returns-in-Ready-Ok-Err-clause-asks : goal.returns-in-Ready-Ok-Err-clause-asks
 returns-in-Ready-Ok-Err-clause-asks g c =
-    let made = rw (c.in-Ready-Ok-Err.is, c.in-Ready-Ok-Err.field-0-is, c.in-Ready-Ok-Err.field-0-0-is) at c.connect.ensures.asks in
+    let made = rw (c.in-Ready-Ok-Err.is, c.in-Ready-Ok-Err.field-0-is, c.in-Ready-Ok-Err.field-0-0-is) at c.connect.ensures.asks c.requires.may in
     asked_through _ (Connect c.args.address None) (Refused c.in-Ready-Ok-Err.fault) _ _ _ c.self.view_is made
 
 pub returns-in-Ready-Err-clause-asks : goal.returns-in-Ready-Err-clause-asks
 returns-in-Ready-Err-clause-asks g c =
-    let made = rw (c.in-Ready-Err.is, c.in-Ready-Err.field-0-is) at c.connect.ensures.asks in
+    let made = rw (c.in-Ready-Err.is, c.in-Ready-Err.field-0-is) at c.connect.ensures.asks c.requires.may in
     unasked_through _ _ _ _ c.self.view_is made
 
 pub returns-in-Pending-clause-asks : goal.returns-in-Pending-clause-asks
 returns-in-Pending-clause-asks g c =
-    let made = rw c.in-Pending.is at c.connect.ensures.asks in
-    (unasked_through _ _ _ _ c.self.view_is made, c.connect.ensures.waits c.in-Pending.is)
+    let made = rw c.in-Pending.is at c.connect.ensures.asks c.requires.may in
+    (unasked_through _ _ _ _ c.self.view_is made, c.connect.ensures.waits c.requires.may c.in-Pending.is)
