@@ -14,6 +14,8 @@ mod grammar;
 #[cfg(test)]
 mod memory_transport;
 #[cfg(test)]
+mod negotiations;
+#[cfg(test)]
 mod reads;
 #[cfg(test)]
 mod room;
@@ -23,3 +25,5 @@ mod scene;
 mod sockets;
 #[cfg(test)]
 mod state;
+#[cfg(test)]
+mod strangers;
