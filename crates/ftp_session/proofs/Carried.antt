@@ -7,6 +7,8 @@ use Rattle.ftp_control.specs.declared.transport.room.Room.{Room}
 use Rattle.ftp_control.specs.declared.transport.room.Room.TheVariants.{Any, UpTo}
 use Rattle.ftp_control.specs.declared.transport.request.Asked.{Asked}
 use Rattle.ftp_control.specs.Asking.{outcomes_of}
+use Rattle.ftp_control.proofs.Asking.{outcomes-append}
+use Rattle.ftp_control.specs.declared.transport.request.RequestOutcome.{RequestOutcome}
 use Rattle.ftp_control.specs.Told.{Told, HasRoomFor, HasNoRoom, EndsAsTold}
 use Rattle.ftp_control.specs.Memory.{IsGiven}
 use Rattle.ftp_control.specs.Reading.{GoesOn}
@@ -14,17 +16,14 @@ use Rattle.ftp_control.specs.Channel.{Channel, IsSound, untaken}
 use Rattle.ftp_control.specs.Saying.{said}
 use Rattle.ftp_control.specs.declared.control.outcome.Outcome.TheVariants.{Waits}
 use Rattle.ftp_control.specs.Grammar.{outcome}
-use Rattle.ftp_calls.specs.declared.call.Answer.{Answer}
-use Rattle.ftp_session.specs.declared.model.Played.TheVariants as played
 use Rattle.ftp_session.specs.declared.model.Script.{Script}
 use Rattle.ftp_session.specs.State.{SessionValue}
-use Rattle.ftp_session.specs.Dialogue.{Tree}
-use Rattle.ftp_session.specs.Play.{play, fits}
-use Rattle.ftp_session.specs.Run.{Resumes}
-use Rattle.ftp_session.specs.Promises.{standing, However, Goes, Leads}
+use Rattle.ftp_session.specs.declared.session.state.State.{State}
+use Rattle.ftp_session.specs.Play.{fits}
+use Rattle.ftp_session.specs.Promises.{Goes}
 use Rattle.ftp_session.specs.Script.{unread, is_over, front, seen_in}
 use Rattle.ftp_session.specs.Scripted.{SaysFrontOf}
-use Rattle.ftp_session.specs.Steps.Moving.{Keeps, Shrinks, Ends}
+use Rattle.ftp_session.specs.Steps.Moving.{Keeps, Shrinks}
 use Rattle.ftp_session.proofs.Hearing.{nothing_says}
 use Rattle.ftp_session.specs.Link.{over_memory}
 
@@ -70,23 +69,17 @@ same_over t u same grows told =
         clash (inr e) = cc e
     go false false false grows told = refl
 
--- nothing was asked
+-- what was asked
+
+pub outcomes_on : (a b : List Asked) (later : List RequestOutcome) → outcomes_of (a ++ b) ++ later ≡ outcomes_of a ++ (outcomes_of b ++ later)
+outcomes_on a b later = ap (λ l. l ++ later) (outcomes-append a b) ∙ append_assoc (outcomes_of a) (outcomes_of b) later
+
+-- what is on record tells what was asked since
+pub same_answered : (asked all one two : List Asked) → all ≡ asked ++ one → all ≡ asked ++ two → one ≡ two
+same_answered asked all one two first second = append_cancel_left asked one two (sym first ∙ second)
+
 pub none_answered : (asked answered : List Asked) → asked ≡ asked ++ answered → answered ≡ []
-none_answered asked answered is = append_cancel_left asked answered [] (sym is ∙ sym (append-nil asked))
-
-module _ (v w : SessionValue) (same : w.asked ≡ v.asked) where
-  pub plain_ends : (tree : Tree) (answer : Answer) (ends : Ends over_memory tree answer v w) → Resumes v.channel.rule v.channel.kept tree → (room : Room) (more : List ℕ) (ended : Bool) → HasRoomFor room (length w.channel.told.sent) → GoesOn w.channel.ended more ended → play room tree (standing v (ends.completes.came ++ more) ended []) ≡ played.Done answer (standing w more ended [])
-  plain_ends tree answer ends resumes room more ended fit on =
-      let done = ends.completes in
-      let none : done.answered ≡ [] = none_answered v.asked done.answered (sym same ∙ done.goes.asked tt) in
-      let P : List Asked → Type 0 = λ a. play room tree (standing v (done.came ++ more) ended (outcomes_of a ++ [])) ≡ played.Done answer (standing w more ended []) in
-      subst P none (done.plays tt resumes room more ended [] fit on)
-
-  pub plain_leads : (tree tree' : Tree) (leads : Leads over_memory tree tree' v w) → However v leads.came leads.answered w (λ room s t. play room tree s ≡ play room tree' t) → (room : Room) (more : List ℕ) (ended : Bool) → HasRoomFor room (length w.channel.told.sent) → GoesOn w.channel.ended more ended → play room tree (standing v (leads.came ++ more) ended []) ≡ play room tree' (standing w more ended [])
-  plain_leads tree tree' leads plays room more ended fit on =
-      let none : leads.answered ≡ [] = none_answered v.asked leads.answered (sym same ∙ leads.goes.asked tt) in
-      let P : List Asked → Type 0 = λ a. play room tree (standing v (leads.came ++ more) ended (outcomes_of a ++ [])) ≡ play room tree' (standing w more ended []) in
-      subst P none (plays room more ended [] fit on)
+none_answered asked answered is = same_answered asked asked answered [] is (sym (append-nil asked))
 
 -- What is read
 
@@ -133,7 +126,8 @@ full_room (UpTo most) sent unsent line fit full some =
     (lt-leb _ _ (omega (arith, count, positive unsent some, fit, full)), rw (same, append_assoc sent unsent line) (take-append_seam sent (unsent ++ line)))
 
 -- what a poll leaves of a connection
-pub record Carried (v w : SessionValue) (came : List ℕ) : Type 0 where
+pub record Carried (v w : SessionValue) (came : List ℕ) (asked : List Asked) : Type 0 where
+  pub grown : w.asked ≡ v.asked ++ asked
   pub rule : w.channel.rule ≡ v.channel.rule
   pub received : w.channel.told.received ≡ v.channel.told.received ++ came
   pub failures : w.channel.told.failures ≡ v.channel.told.failures
@@ -143,8 +137,9 @@ pub record Carried (v w : SessionValue) (came : List ℕ) : Type 0 where
   pub has : IsGiven w.channel.told
   pub sound : IsSound (Unit {0}) w.channel
 
-pub carried : (v w : SessionValue) (came : List ℕ) (answered : List Asked) → Goes over_memory came answered v w → IsSound (Unit {0}) v.channel → EndsAsTold v.channel.ended w.channel.ended v.channel.told → IsGiven w.channel.told → IsSound (Unit {0}) w.channel → Carried v w came
-carried v w came answered goes sound end given sound' = record {
+pub carried : (v w : SessionValue) (state : State) (came : List ℕ) (answered : List Asked) → Goes over_memory came answered (record v { state = state }) w → IsSound (Unit {0}) v.channel → EndsAsTold v.channel.ended w.channel.ended v.channel.told → IsGiven w.channel.told → IsSound (Unit {0}) w.channel → Carried v w came answered
+carried v w state came answered goes sound end given sound' = record {
+  grown = goes.asked tt;
   rule = goes.rule;
   received = goes.received tt;
   failures = (goes.failures tt).failures;
@@ -159,8 +154,8 @@ carried v w came answered goes sound end given sound' = record {
     go (inl e) = inl (sound.ended tt ∙ e)
     go (inr e) = inr e
 
-pub carried_none : (v : SessionValue) → IsGiven v.channel.told → IsSound (Unit {0}) v.channel → Carried v v []
-carried_none v given sound = record { rule = refl; received = sym (append-nil v.channel.told.received); failures = refl; split = refl; given = refl; over = refl; has = given; sound = sound }
+pub carried_none : (v : SessionValue) → IsGiven v.channel.told → IsSound (Unit {0}) v.channel → Carried v v [] []
+carried_none v given sound = record { grown = sym (append-nil v.asked); rule = refl; received = sym (append-nil v.channel.told.received); failures = refl; split = refl; given = refl; over = refl; has = given; sound = sound }
 
 -- what went out and is unsent begins what is said with the next line
 pub line_front : (c : Channel) (line : List ℕ) → (c.unsent ≡ [] → ⊥) → SaysFrontOf c ((c.told.sent ++ c.unsent ++ line) ++ [])

@@ -14,13 +14,14 @@ use Rattle.ftp_calls.specs.declared.call.Event.{Event}
 use Rattle.ftp_calls.specs.declared.call.Event.TheVariants as event
 use Rattle.ftp_session.specs.declared.session.stage.Stage.{Stage}
 use Rattle.futures.specs.declared.task.Poll.TheVariants.{Ready, Pending}
-use Rattle.ftp_calls.specs.Exchanges.{negotiates}
+use Rattle.ftp_control.specs.Asking.{requests_of, outcomes_of}
+use Rattle.ftp_control.specs.declared.transport.request.RequestOutcome.{RequestOutcome}
 use Rattle.ftp_session.specs.declared.session.state.State.{State}
 use Rattle.ftp_session.specs.declared.model.Script.{Script}
 use Rattle.ftp_session.specs.State.{SessionValue}
 use Rattle.ftp_session.specs.Coding.{Coding}
 use Rattle.ftp_session.specs.Script.{unread, is_over, start_of, script_of, after_event, start_script, MayCancel, MayPoll, poll_script}
-use Rattle.ftp_session.specs.Steps.Following.{polled_answer, Place, Follows, Starts, PollsHere, AbortsCall}
+use Rattle.ftp_session.specs.Steps.Following.{Grows, polled_answer, Place, Follows, Starts, PollsHere, AbortsCall}
 use Rattle.ftp_session.specs.Promises.{HasFault, FailsWith, before_all, standing}
 use Rattle.ftp_control.specs.Saying.{said}
 use Rattle.ftp_session.specs.Scripted.{Stands, Reaches}
@@ -31,19 +32,19 @@ use Rattle.ftp_session.specs.declared.model.Standing.{Standing}
 use Rattle.futures.specs.declared.task.Poll.{Poll}
 use Rattle.ftp_session.specs.Steps.Stages.{remaining}
 use Rattle.ftp_session.proofs.Transitions.{given_by}
-use Rattle.ftp_session.proofs.Carried.{unread_is}
+use Rattle.ftp_session.proofs.Carried.{none_answered, unread_is}
 use Rattle.ftp_session.proofs.Following.{poll_follows}
 
-module _ (coding : Coding) where
+module _ (coding : Coding) (outcomes left : List RequestOutcome) where
   -- what is given to a connection
   abbrev pub with_given : SessionValue → Given → SessionValue
   with_given v given = record v { channel = record v.channel { told = record v.channel.told { given = given } } }
 
   -- a place doesn't change with what is given, nor with what is fed of a script
-  place_given : (old : SessionValue) (s t : Script) (came : List ℕ) (v : SessionValue) (given : Given) (call : Option Call) (stage : Stage) → given.local ≡ v.channel.told.given.local → given.peer ≡ v.channel.told.given.peer → t.items ≡ s.items → t.answers ≡ s.answers → t.polled ≡ s.polled → t.heard ≡ s.heard → Place coding old s came v call stage → Place coding old t came (with_given v given) call stage
-  place_given old s t came v given call stage local peer items answers polled heard place =
-      let same : Place coding old s came (with_given v given) call stage = go call stage place in
-      let P : List Call → List Answer → Bool → Bool → Type 0 = λ i a p h. Place coding old (record s { items = i; answers = a; polled = p; heard = h }) came (with_given v given) call stage in
+  place_given : (old : SessionValue) (s t : Script) (came : List ℕ) (answered : List Asked) (v : SessionValue) (given : Given) (call : Option Call) (stage : Stage) → given.local ≡ v.channel.told.given.local → given.peer ≡ v.channel.told.given.peer → t.items ≡ s.items → t.answers ≡ s.answers → t.polled ≡ s.polled → t.heard ≡ s.heard → Place coding old s came answered v call stage → Place coding old t came answered (with_given v given) call stage
+  place_given old s t came answered v given call stage local peer items answers polled heard place =
+      let same : Place coding old s came answered (with_given v given) call stage = go call stage place in
+      let P : List Call → List Answer → Bool → Bool → Type 0 = λ i a p h. Place coding old (record s { items = i; answers = a; polled = p; heard = h }) came answered (with_given v given) call stage in
       let Q : List Call → Type 0 = λ i. P i t.answers t.polled t.heard in
       let R : List Answer → Type 0 = λ a. P s.items a t.polled t.heard in
       let S : Bool → Type 0 = λ p. P s.items s.answers p t.heard in
@@ -51,28 +52,28 @@ module _ (coding : Coding) where
       back call stage (subst Q (sym items) (subst R (sym answers) (subst S (sym polled) (subst H (sym heard) same))))
     where
       -- the ends of the connection stay, and so does all that a run sees
-      same_standing : (more : List ℕ) (ended : Bool) → standing v more ended [] ≡ standing (with_given v given) more ended []
-      same_standing more ended =
-          let s : Standing = standing v more ended [] in
+      same_standing : (more : List ℕ) (ended : Bool) (outcomes : List RequestOutcome) → standing v more ended outcomes ≡ standing (with_given v given) more ended outcomes
+      same_standing more ended outcomes =
+          let s : Standing = standing v more ended outcomes in
           ap (λ a. record s { local = a }) (sym local) ∙ ap (λ a. record s { local = given.local; peer = a }) (sym peer)
 
-      stands_given : Stands coding old s.items came v s.answers → Stands coding old s.items came (with_given v given) s.answers
-      stands_given stands = λ later room more ended fit on. stands later room more ended fit on ∙ ap (λ x. before_all s.answers (run room coding later x)) (same_standing more ended)
+      stands_given : Stands coding old s.items came answered v s.answers → Stands coding old s.items came answered (with_given v given) s.answers
+      stands_given stands = λ later room more ended outcomes fit on. stands later room more ended outcomes fit on ∙ ap (λ x. before_all s.answers (run room coding later x)) (same_standing more ended outcomes)
 
-      reaches_given : (call : Call) (tree : Tree) → Reaches coding old s.items came v s.answers call tree → Reaches coding old s.items came (with_given v given) s.answers call tree
-      reaches_given call tree reaches = λ later room more ended fit on. reaches later room more ended fit on ∙ ap (λ x. before_all s.answers (and_then (play room tree x) (λ t. run room coding later t))) (same_standing more ended)
+      reaches_given : (call : Call) (tree : Tree) → Reaches coding old s.items came answered v s.answers call tree → Reaches coding old s.items came answered (with_given v given) s.answers call tree
+      reaches_given call tree reaches = λ later room more ended outcomes fit on. reaches later room more ended outcomes fit on ∙ ap (λ x. before_all s.answers (and_then (play room tree x) (λ t. run room coding later t))) (same_standing more ended outcomes)
 
-      go : (call : Option Call) (stage : Stage) → Place coding old s came v call stage → Place coding old s came (with_given v given) call stage
+      go : (call : Option Call) (stage : Stage) → Place coding old s came answered v call stage → Place coding old s came answered (with_given v given) call stage
       go None stage place = stands_given place
-      go (Some call) stage (inl place) = inl (record { plain = place.plain; at = place.at; unpolled = place.unpolled; unheard = place.unheard; stands = stands_given place.stands })
-      go (Some call) stage (inr (inl place)) = inr (inl (record { plain = place.plain; polled = place.polled; going = place.going; reaches = reaches_given call (remaining coding call v.state stage) place.reaches; resumes = place.resumes; read = λ r. stands_given (place.read r); since = record { start = place.since.start; before = place.since.before; later = place.since.later; split = place.since.split; stands = place.since.stands; said = place.since.said; taken = place.since.taken; has_begun = place.since.has_begun; not_begun = place.since.not_begun } }))
-      go (Some call) stage (inr (inr place)) = inr (inr (record { plain = place.plain; stage_of = place.stage_of; polled = place.polled; unheard = place.unheard; going = place.going; no_read = place.no_read; reaches = reaches_given call (remaining coding call v.state stage) place.reaches; resumes = place.resumes; since = record { start = place.since.start; before = place.since.before; later = place.since.later; split = place.since.split; stands = place.since.stands; said = place.since.said; taken = place.since.taken; has_begun = place.since.has_begun; not_begun = place.since.not_begun } }))
+      go (Some call) stage (inl place) = inl (record { at = place.at; unpolled = place.unpolled; unheard = place.unheard; stands = stands_given place.stands })
+      go (Some call) stage (inr (inl place)) = inr (inl (record { stage_of = place.stage_of; polled = place.polled; going = place.going; reaches = reaches_given call (remaining coding call v.state stage) place.reaches; resumes = place.resumes; read = λ r. stands_given (place.read r); since = record { start = place.since.start; before = place.since.before; later = place.since.later; split = place.since.split; asked_before = place.since.asked_before; asked_later = place.since.asked_later; asked_split = place.since.asked_split; stands = place.since.stands; said = place.since.said; taken = place.since.taken; has_begun = place.since.has_begun; not_begun = place.since.not_begun } }))
+      go (Some call) stage (inr (inr place)) = inr (inr (record { plain = place.plain; stage_of = place.stage_of; polled = place.polled; unheard = place.unheard; going = place.going; no_read = place.no_read; reaches = reaches_given call (remaining coding call v.state stage) place.reaches; resumes = place.resumes; since = record { start = place.since.start; before = place.since.before; later = place.since.later; split = place.since.split; asked_before = place.since.asked_before; asked_later = place.since.asked_later; asked_split = place.since.asked_split; stands = place.since.stands; said = place.since.said; taken = place.since.taken; has_begun = place.since.has_begun; not_begun = place.since.not_begun } }))
 
-      back : (call : Option Call) (stage : Stage) → Place coding old (record s { items = t.items; answers = t.answers; polled = t.polled; heard = t.heard }) came (with_given v given) call stage → Place coding old t came (with_given v given) call stage
+      back : (call : Option Call) (stage : Stage) → Place coding old (record s { items = t.items; answers = t.answers; polled = t.polled; heard = t.heard }) came answered (with_given v given) call stage → Place coding old t came answered (with_given v given) call stage
       back None stage place = place
-      back (Some call) stage (inl place) = inl (record { plain = place.plain; at = place.at; unpolled = place.unpolled; unheard = place.unheard; stands = place.stands })
-      back (Some call) stage (inr (inl place)) = inr (inl (record { plain = place.plain; polled = place.polled; going = place.going; reaches = place.reaches; resumes = place.resumes; read = place.read; since = record { start = place.since.start; before = place.since.before; later = place.since.later; split = place.since.split; stands = place.since.stands; said = place.since.said; taken = place.since.taken; has_begun = place.since.has_begun; not_begun = place.since.not_begun } }))
-      back (Some call) stage (inr (inr place)) = inr (inr (record { plain = place.plain; stage_of = place.stage_of; polled = place.polled; unheard = place.unheard; going = place.going; no_read = place.no_read; reaches = place.reaches; resumes = place.resumes; since = record { start = place.since.start; before = place.since.before; later = place.since.later; split = place.since.split; stands = place.since.stands; said = place.since.said; taken = place.since.taken; has_begun = place.since.has_begun; not_begun = place.since.not_begun } }))
+      back (Some call) stage (inl place) = inl (record { at = place.at; unpolled = place.unpolled; unheard = place.unheard; stands = place.stands })
+      back (Some call) stage (inr (inl place)) = inr (inl (record { stage_of = place.stage_of; polled = place.polled; going = place.going; reaches = place.reaches; resumes = place.resumes; read = place.read; since = record { start = place.since.start; before = place.since.before; later = place.since.later; split = place.since.split; asked_before = place.since.asked_before; asked_later = place.since.asked_later; asked_split = place.since.asked_split; stands = place.since.stands; said = place.since.said; taken = place.since.taken; has_begun = place.since.has_begun; not_begun = place.since.not_begun } }))
+      back (Some call) stage (inr (inr place)) = inr (inr (record { plain = place.plain; stage_of = place.stage_of; polled = place.polled; unheard = place.unheard; going = place.going; no_read = place.no_read; reaches = place.reaches; resumes = place.resumes; since = record { start = place.since.start; before = place.since.before; later = place.since.later; split = place.since.split; asked_before = place.since.asked_before; asked_later = place.since.asked_later; asked_split = place.since.asked_split; stands = place.since.stands; said = place.since.said; taken = place.since.taken; has_begun = place.since.has_begun; not_begun = place.since.not_begun } }))
 
   -- what is fed is unread
   fed_unread : (t : Told) (more : List ℕ) → IsGiven t → drop (length t.received) (t.given.bytes ++ more) ≡ unread t ++ more
@@ -82,15 +83,19 @@ module _ (coding : Coding) where
       ∙ drop-append_seam t.received (given.ahead ++ more)
       ∙ ap (λ u. u ++ more) (sym (unread_is t given))
 
-  module _ (old : SessionValue) (s : Script) (v : SessionValue) (call : Option Call) (stage : Stage) (answers : List Answer) (f : Follows coding old s v call stage answers) where
+  module _ (old : SessionValue) (s : Script) (v : SessionValue) (call : Option Call) (stage : Stage) (answers : List Answer) (f : Follows coding outcomes left old s v call stage answers) where
     -- bytes come, where the end hadn't
-    fed_open : (more : List ℕ) → is_over v.channel.told ≡ false → (given : Given) → given ≡ record v.channel.told.given { bytes = v.channel.told.given.bytes ++ more } → IsGiven (with_given v given).channel.told → IsSound (Unit {0}) (with_given v given).channel → Follows coding old (record s { bytes = s.bytes ++ more; untaken = s.untaken ++ more }) (with_given v given) call stage answers
+    fed_open : (more : List ℕ) → is_over v.channel.told ≡ false → (given : Given) → given ≡ record v.channel.told.given { bytes = v.channel.told.given.bytes ++ more } → IsGiven (with_given v given).channel.told → IsSound (Unit {0}) (with_given v given).channel → Follows coding outcomes left old (record s { bytes = s.bytes ++ more; untaken = s.untaken ++ more }) (with_given v given) call stage answers
     fed_open more on given is has sound =
         let t = v.channel.told in
         let unread' : drop (length t.received) given.bytes ≡ unread t ++ more = ap (λ g. drop (length t.received) g.bytes) is ∙ fed_unread t more f.given in
         record {
           came = f.came;
-          place = place_given old s (record s { bytes = s.bytes ++ more; untaken = s.untaken ++ more }) f.came v given call stage (ap (λ g. g.local) is) (ap (λ g. g.peer) is) refl refl refl refl f.place;
+          answered = f.answered;
+          asked = f.asked;
+          outcomes_are = f.outcomes_are;
+          requests = f.requests;
+          place = place_given old s (record s { bytes = s.bytes ++ more; untaken = s.untaken ++ more }) f.came f.answered v given call stage (ap (λ g. g.local) is) (ap (λ g. g.peer) is) refl refl refl refl f.place;
           rule = f.rule;
           failures = f.failures;
           given = has;
@@ -111,13 +116,13 @@ module _ (coding : Coding) where
           answers_are = f.answers_are;
         }
 
-    pub feeds : (more : List ℕ) (w : SessionValue) → w ≡ record v { channel = record v.channel { told = fed more v.channel.told } } → IsGiven w.channel.told → IsSound (Unit {0}) w.channel → Follows coding old (after_event coding (start_of old) s (event.Feed more)) w call stage answers
+    pub feeds : (more : List ℕ) (w : SessionValue) → w ≡ record v { channel = record v.channel { told = fed more v.channel.told } } → IsGiven w.channel.told → IsSound (Unit {0}) w.channel → Follows coding outcomes left old (after_event coding (start_of old outcomes) s (event.Feed more)) w call stage answers
     feeds more w is has sound =
         let t = v.channel.told in
         let given : Given = record t.given { bytes = t.given.bytes ++ more } in
         let later : Script = record s { bytes = s.bytes ++ more; untaken = s.untaken ++ more } in
-        let P : SessionValue → Type 0 = λ x. IsGiven x.channel.told → IsSound (Unit {0}) x.channel → Follows coding old (after_event coding (start_of old) s (event.Feed more)) x call stage answers in
-        let Q : Bool → Bool → Type 0 = λ a b. IsGiven (cond b t (record t { given = given })) → IsSound (Unit {0}) (record v.channel { told = cond b t (record t { given = given }) }) → Follows coding old (cond a s later) (record v { channel = record v.channel { told = cond b t (record t { given = given }) } }) call stage answers in
+        let P : SessionValue → Type 0 = λ x. IsGiven x.channel.told → IsSound (Unit {0}) x.channel → Follows coding outcomes left old (after_event coding (start_of old outcomes) s (event.Feed more)) x call stage answers in
+        let Q : Bool → Bool → Type 0 = λ a b. IsGiven (cond b t (record t { given = given })) → IsSound (Unit {0}) (record v.channel { told = cond b t (record t { given = given }) }) → Follows coding outcomes left old (cond a s later) (record v { channel = record v.channel { told = cond b t (record t { given = given }) } }) call stage answers in
         let R : Bool → Type 0 = λ a. Q a (is_over t) in
         let go : (over : Bool) → is_over t ≡ over → Q over over = λ over. elim over as (λ o. is_over t ≡ o → Q o o) [
           | true ↦ λ on has sound. f
@@ -125,14 +130,18 @@ module _ (coding : Coding) where
         ] in
         subst P (sym is) (subst R (sym f.ended) (go (is_over t) refl)) has sound
 
-    pub ends : (w : SessionValue) → w ≡ record v { channel = record v.channel { told = closed_memory v.channel.told } } → IsGiven w.channel.told → IsSound (Unit {0}) w.channel → Follows coding old (after_event coding (start_of old) s event.End) w call stage answers
+    pub ends : (w : SessionValue) → w ≡ record v { channel = record v.channel { told = closed_memory v.channel.told } } → IsGiven w.channel.told → IsSound (Unit {0}) w.channel → Follows coding outcomes left old (after_event coding (start_of old outcomes) s event.End) w call stage answers
     ends w is has sound =
-        let P : SessionValue → Type 0 = λ x. IsGiven x.channel.told → IsSound (Unit {0}) x.channel → Follows coding old (after_event coding (start_of old) s event.End) x call stage answers in
+        let P : SessionValue → Type 0 = λ x. IsGiven x.channel.told → IsSound (Unit {0}) x.channel → Follows coding outcomes left old (after_event coding (start_of old outcomes) s event.End) x call stage answers in
         let given : Given = record v.channel.told.given { closed = true } in
         let after : Script = record s { ended = true } in
-        let ended : IsGiven (with_given v given).channel.told → IsSound (Unit {0}) (with_given v given).channel → Follows coding old after (with_given v given) call stage answers = λ has sound. record {
+        let ended : IsGiven (with_given v given).channel.told → IsSound (Unit {0}) (with_given v given).channel → Follows coding outcomes left old after (with_given v given) call stage answers = λ has sound. record {
           came = f.came;
-          place = place_given old s after f.came v given call stage refl refl refl refl refl refl f.place;
+          answered = f.answered;
+          asked = f.asked;
+          outcomes_are = f.outcomes_are;
+          requests = f.requests;
+          place = place_given old s after f.came f.answered v given call stage refl refl refl refl refl refl f.place;
           rule = f.rule;
           failures = f.failures;
           given = has;
@@ -154,15 +163,19 @@ module _ (coding : Coding) where
         } in
         subst P (sym is) ended has sound
 
-    pub widens : (more : ℕ) (w : SessionValue) → w ≡ record v { channel = record v.channel { told = widened more v.channel.told } } → IsGiven w.channel.told → IsSound (Unit {0}) w.channel → Follows coding old (after_event coding (start_of old) s (event.Room more)) w call stage answers
+    pub widens : (more : ℕ) (w : SessionValue) → w ≡ record v { channel = record v.channel { told = widened more v.channel.told } } → IsGiven w.channel.told → IsSound (Unit {0}) w.channel → Follows coding outcomes left old (after_event coding (start_of old outcomes) s (event.Room more)) w call stage answers
     widens more w is has sound =
-        let P : SessionValue → Type 0 = λ x. IsGiven x.channel.told → IsSound (Unit {0}) x.channel → Follows coding old (after_event coding (start_of old) s (event.Room more)) x call stage answers in
+        let P : SessionValue → Type 0 = λ x. IsGiven x.channel.told → IsSound (Unit {0}) x.channel → Follows coding outcomes left old (after_event coding (start_of old outcomes) s (event.Room more)) x call stage answers in
         let t = v.channel.told in
         let given : Given = record t.given { room = more_room more (length t.sent) t.given.room } in
         let after : Script = record s { room = more_room more (length s.sent) s.room } in
-        let wide : IsGiven (with_given v given).channel.told → IsSound (Unit {0}) (with_given v given).channel → Follows coding old after (with_given v given) call stage answers = λ has sound. record {
+        let wide : IsGiven (with_given v given).channel.told → IsSound (Unit {0}) (with_given v given).channel → Follows coding outcomes left old after (with_given v given) call stage answers = λ has sound. record {
           came = f.came;
-          place = place_given old s after f.came v given call stage refl refl refl refl refl refl f.place;
+          answered = f.answered;
+          asked = f.asked;
+          outcomes_are = f.outcomes_are;
+          requests = f.requests;
+          place = place_given old s after f.came f.answered v given call stage refl refl refl refl refl refl f.place;
           rule = f.rule;
           failures = f.failures;
           given = has;
@@ -185,17 +198,21 @@ module _ (coding : Coding) where
         subst P (sym is) wide has sound
 
   -- a call begins, where none is under way
-  pub starts : (old : SessionValue) (s : Script) (v : SessionValue) (next : Call) (call call' : Option Call) (stage stage' : Stage) (answers : List Answer) → negotiates next ≡ false → Follows coding old s v call stage answers → Starts next call call' stage stage' → Follows coding old (after_event coding (start_of old) s (event.Start next)) v call' stage' answers
-  starts old s v next None call' stage stage' answers plain f is =
-      let P : Option Call → Type 0 = λ c. Follows coding old (start_script next c s) v call' stage' answers in
-      let Q : Option Call → Type 0 = λ c. Follows coding old (record s { call = Some next; polled = false; heard = false }) v c stage' answers in
-      let R : Stage → Type 0 = λ x. Follows coding old (record s { call = Some next; polled = false; heard = false }) v (Some next) x answers in
+  pub starts : (old : SessionValue) (s : Script) (v : SessionValue) (next : Call) (call call' : Option Call) (stage stage' : Stage) (answers : List Answer) → Follows coding outcomes left old s v call stage answers → Starts next call call' stage stage' → Follows coding outcomes left old (after_event coding (start_of old outcomes) s (event.Start next)) v call' stage' answers
+  starts old s v next None call' stage stage' answers f is =
+      let P : Option Call → Type 0 = λ c. Follows coding outcomes left old (start_script next c s) v call' stage' answers in
+      let Q : Option Call → Type 0 = λ c. Follows coding outcomes left old (record s { call = Some next; polled = false; heard = false }) v c stage' answers in
+      let R : Stage → Type 0 = λ x. Follows coding outcomes left old (record s { call = Some next; polled = false; heard = false }) v (Some next) x answers in
       subst P (sym f.call_is)
       (subst Q (sym is.0)
       (subst R (sym is.1)
       (record {
         came = f.came;
-        place = inl (record { plain = plain; at = refl; unpolled = refl; unheard = refl; stands = f.place });
+        answered = f.answered;
+        asked = f.asked;
+        outcomes_are = f.outcomes_are;
+        requests = f.requests;
+        place = inl (record { at = refl; unpolled = refl; unheard = refl; stands = f.place });
         rule = f.rule;
         failures = f.failures;
         given = f.given;
@@ -215,16 +232,20 @@ module _ (coding : Coding) where
         call_is = refl;
         answers_are = f.answers_are;
       })))
-  starts old s v next (Some other) call' stage stage' answers plain f is =
-      let P : Option Call → Type 0 = λ c. Follows coding old (start_script next c s) v call' stage' answers in
-      let Q : Option Call → Type 0 = λ c. Follows coding old s v c stage' answers in
-      let R : Stage → Type 0 = λ x. Follows coding old s v (Some other) x answers in
+  starts old s v next (Some other) call' stage stage' answers f is =
+      let P : Option Call → Type 0 = λ c. Follows coding outcomes left old (start_script next c s) v call' stage' answers in
+      let Q : Option Call → Type 0 = λ c. Follows coding outcomes left old s v c stage' answers in
+      let R : Stage → Type 0 = λ x. Follows coding outcomes left old s v (Some other) x answers in
       subst P (sym f.call_is) (subst Q (sym is.0) (subst R (sym is.1) f))
 
   -- the call under way is dropped
-  pub cancels : (old : SessionValue) (s : Script) (v : SessionValue) (call : Option Call) (stage stage' : Stage) (answers : List Answer) → Follows coding old s v call stage answers → MayCancel s.call s.polled → Follows coding old (after_event coding (start_of old) s event.Cancel) v None stage' answers
+  pub cancels : (old : SessionValue) (s : Script) (v : SessionValue) (call : Option Call) (stage stage' : Stage) (answers : List Answer) → Follows coding outcomes left old s v call stage answers → MayCancel s.call s.polled → Follows coding outcomes left old (after_event coding (start_of old outcomes) s event.Cancel) v None stage' answers
   cancels old s v call stage stage' answers f dropped = record {
     came = f.came;
+    answered = f.answered;
+    asked = f.asked;
+    outcomes_are = f.outcomes_are;
+    requests = f.requests;
     place = go call stage f.place (let P : Option Call → Type 0 = λ c. MayCancel c s.polled in subst P f.call_is dropped);
     rule = f.rule;
     failures = f.failures;
@@ -246,7 +267,7 @@ module _ (coding : Coding) where
     answers_are = f.answers_are;
   }
     where
-      go : (call : Option Call) (stage : Stage) → Place coding old s f.came v call stage → MayCancel call s.polled → Stands coding old s.items f.came v s.answers
+      go : (call : Option Call) (stage : Stage) → Place coding old s f.came f.answered v call stage → MayCancel call s.polled → Stands coding old s.items f.came f.answered v s.answers
       go None stage place may = place
       go (Some call) stage (inl place) may = place.stands
       go (Some call) stage (inr (inl place)) (inl new) = let clash : true ≡ false = sym place.polled ∙ new in cc
@@ -255,10 +276,14 @@ module _ (coding : Coding) where
       go (Some call) stage (inr (inr place)) (inr read) = let clash : true ≡ false = sym read ∙ place.no_read in cc
 
   -- a script begins
-  pub begins : (v : SessionValue) (form : ReplyForm) (stage : Stage) → IsGiven v.channel.told → IsSound (Unit {0}) v.channel → outcome v.channel.rule form v.channel.kept false ≡ Waits → Follows coding v (script_of v form) v None stage []
-  begins v form stage given sound waits = record {
+  pub begins : (v : SessionValue) (form : ReplyForm) (stage : Stage) → outcomes ≡ left → IsGiven v.channel.told → IsSound (Unit {0}) v.channel → outcome v.channel.rule form v.channel.kept false ≡ Waits → Follows coding outcomes left v (script_of v form) v None stage []
+  begins v form stage all given sound waits = record {
     came = [];
-    place = λ later room more ended fit on. refl;
+    answered = [];
+    asked = sym (append-nil v.asked);
+    outcomes_are = all;
+    requests = refl;
+    place = λ later room more ended outcomes' fit on. refl;
     rule = refl;
     failures = refl;
     given = given;
@@ -279,65 +304,82 @@ module _ (coding : Coding) where
     answers_are = refl;
   }
 
-  -- a poll of the call under way
-  pub polled_ready : (old : SessionValue) (s : Script) (v w : SessionValue) (under_way : Option Call) (call : Call) (stage stage' : Stage) (answers : List Answer) (answer : Answer) → under_way ≡ Some call → Follows coding old s v under_way stage answers → MayPoll coding (start_of old) s.call s → PollsHere coding call stage stage' v w (Ready answer) → Follows coding old (poll_script coding (start_of old) s.call s) w None stage' (answers ++ answer ∷ []) ⊎ AbortsCall coding call stage v w (Some answer)
-  polled_ready old s v w under_way call stage stage' answers answer is f may here =
-      let F : Option Call → Type 0 = λ c. Follows coding old s v c stage answers in
-      let M : Option Call → Type 0 = λ c. MayPoll coding (start_of old) c s in
-      let R : Option Call → Type 0 = λ c. Follows coding old (poll_script coding (start_of old) c s) w None stage' (answers ++ answer ∷ []) ⊎ AbortsCall coding call stage v w (Some answer) in
-      let named : s.call ≡ Some call = f.call_is ∙ is in
-      subst R (sym named) (poll_follows coding old s v w call stage stage' answers (Ready answer) (subst F is f) (subst M named may) here)
+  -- an event that asks nothing
+  pub still_asked : (asked : List Asked) (old : SessionValue) (s : Script) (v w : SessionValue) (call : Option Call) (stage : Stage) (answers : List Answer) → w.asked ≡ v.asked → w.asked ≡ v.asked ++ asked → Follows coding outcomes (outcomes_of asked ++ left) old s v call stage answers → Follows coding outcomes left old s v call stage answers
+  still_asked asked old s v w call stage answers same grown f =
+      let P : List Asked → Type 0 = λ a. Follows coding outcomes (outcomes_of a ++ left) old s v call stage answers in
+      subst P (none_answered v.asked asked (sym same ∙ grown)) f
 
-  pub polled_pending : (old : SessionValue) (s : Script) (v w : SessionValue) (under_way : Option Call) (call : Call) (stage stage' : Stage) (answers : List Answer) → under_way ≡ Some call → Follows coding old s v under_way stage answers → MayPoll coding (start_of old) s.call s → PollsHere coding call stage stage' v w Pending → Follows coding old (poll_script coding (start_of old) s.call s) w under_way stage' (answers ++ [])
-  polled_pending old s v w under_way call stage stage' answers is f may here =
-      let F : Option Call → Type 0 = λ c. Follows coding old s v c stage answers in
-      let M : Option Call → Type 0 = λ c. MayPoll coding (start_of old) c s in
-      let R : Option Call → Type 0 = λ c. Follows coding old (poll_script coding (start_of old) c s) w under_way stage' (answers ++ []) in
-      let U : Option Call → Type 0 = λ c. Follows coding old (poll_script coding (start_of old) (Some call) s) w c stage' (answers ++ []) in
-      let A : List Answer → Type 0 = λ a. Follows coding old (poll_script coding (start_of old) (Some call) s) w (Some call) stage' a in
+  -- a poll where no call is under way
+  pub polled_none : (asked : List Asked) (old : SessionValue) (s : Script) (v : SessionValue) (under_way : Option Call) (stage : Stage) (answers : List Answer) → under_way ≡ None → v.asked ≡ v.asked ++ asked → Follows coding outcomes (outcomes_of asked ++ left) old s v under_way stage answers → Follows coding outcomes left old (poll_script coding (start_of old outcomes) s.call s) v under_way stage (answers ++ [])
+  polled_none asked old s v under_way stage answers none grown f =
+      let S : Option Call → Type 0 = λ c. Follows coding outcomes left old (poll_script coding (start_of old outcomes) c s) v under_way stage (answers ++ []) in
+      let A : List Answer → Type 0 = λ a. Follows coding outcomes left old s v under_way stage a in
+      subst S (sym (f.call_is ∙ none)) (subst A (sym (append-nil answers)) (still_asked asked old s v v under_way stage answers refl grown f))
+
+  -- a poll of the call under way
+  pub polled_ready : (asked : List Asked) (old : SessionValue) (s : Script) (v w : SessionValue) (under_way : Option Call) (call : Call) (stage stage' : Stage) (answers : List Answer) (answer : Answer) → under_way ≡ Some call → w.asked ≡ v.asked ++ asked → Follows coding outcomes (outcomes_of asked ++ left) old s v under_way stage answers → MayPoll coding (start_of old outcomes) s.call s → PollsHere coding call stage stage' v w (Ready answer) → Follows coding outcomes left old (poll_script coding (start_of old outcomes) s.call s) w None stage' (answers ++ answer ∷ []) ⊎ AbortsCall coding call stage v w (Some answer)
+  polled_ready asked old s v w under_way call stage stage' answers answer is grown f may here =
+      let F : Option Call → Type 0 = λ c. Follows coding outcomes (outcomes_of asked ++ left) old s v c stage answers in
+      let M : Option Call → Type 0 = λ c. MayPoll coding (start_of old outcomes) c s in
+      let R : Option Call → Type 0 = λ c. Follows coding outcomes left old (poll_script coding (start_of old outcomes) c s) w None stage' (answers ++ answer ∷ []) ⊎ AbortsCall coding call stage v w (Some answer) in
       let named : s.call ≡ Some call = f.call_is ∙ is in
-      subst R (sym named) (subst U (sym is) (subst A (sym (append-nil answers)) (poll_follows coding old s v w call stage stage' answers Pending (subst F is f) (subst M named may) here)))
+      subst R (sym named) (poll_follows coding outcomes left asked old s v w call stage stage' answers (Ready answer) grown (subst F is f) (subst M named may) here)
+
+  pub polled_pending : (asked : List Asked) (old : SessionValue) (s : Script) (v w : SessionValue) (under_way : Option Call) (call : Call) (stage stage' : Stage) (answers : List Answer) → under_way ≡ Some call → w.asked ≡ v.asked ++ asked → Follows coding outcomes (outcomes_of asked ++ left) old s v under_way stage answers → MayPoll coding (start_of old outcomes) s.call s → PollsHere coding call stage stage' v w Pending → Follows coding outcomes left old (poll_script coding (start_of old outcomes) s.call s) w under_way stage' (answers ++ [])
+  polled_pending asked old s v w under_way call stage stage' answers is grown f may here =
+      let F : Option Call → Type 0 = λ c. Follows coding outcomes (outcomes_of asked ++ left) old s v c stage answers in
+      let M : Option Call → Type 0 = λ c. MayPoll coding (start_of old outcomes) c s in
+      let R : Option Call → Type 0 = λ c. Follows coding outcomes left old (poll_script coding (start_of old outcomes) c s) w under_way stage' (answers ++ []) in
+      let U : Option Call → Type 0 = λ c. Follows coding outcomes left old (poll_script coding (start_of old outcomes) (Some call) s) w c stage' (answers ++ []) in
+      let A : List Answer → Type 0 = λ a. Follows coding outcomes left old (poll_script coding (start_of old outcomes) (Some call) s) w (Some call) stage' a in
+      let named : s.call ≡ Some call = f.call_is ∙ is in
+      subst R (sym named) (subst U (sym is) (subst A (sym (append-nil answers)) (poll_follows coding outcomes left asked old s v w call stage stage' answers Pending grown (subst F is f) (subst M named may) here)))
 
   -- a call that is aborted by a poll is under way no more
   pub at_poll : (F : Type 0) (v w : SessionValue) (result : Option Answer) (under_way : Call) (stage : Stage) (call call' : Option Call) → call ≡ Some under_way → call' ≡ None → F ⊎ AbortsCall coding under_way stage v w result → F ⊎ (((c : Call) × (call ≡ Some c) × AbortsCall coding c stage v w result) × (call' ≡ None) × (event.Poll ≡ event.Poll))
   at_poll F v w result under_way stage call call' is none (inl follows) = inl follows
   at_poll F v w result under_way stage call call' is none (inr aborts) = inr ((under_way, is, aborts), none, refl)
 
-  -- what happens to the channel alone
-  pub through : (F : Channel → Channel) (v w : SessionValue) (a b : Channel) (state : State) (asked : List Asked) → record { channel = a; state = state; asked = asked } ≡ v → w ≡ record { channel = b; state = state; asked = asked } → b ≡ F a → w ≡ record v { channel = F v.channel }
-  through F v w a b state asked before after is =
-      let P : SessionValue → Type 0 = λ x. w ≡ record x { channel = F x.channel } in
-      let Q : Channel → SessionValue = λ c. record { channel = c; state = state; asked = asked } in
-      subst P before (after ∙ ap Q is)
-
   -- an event without an answer
-  pub happened : (old : SessionValue) (s : Script) (w : SessionValue) (event kind : Event) (call call' : Option Call) (stage stage' : Stage) (answers : List Answer) → event ≡ kind → call' ≡ call → stage' ≡ stage → Follows coding old (after_event coding (start_of old) s kind) w call stage answers → Follows coding old (after_event coding (start_of old) s event) w call' stage' (answers ++ [])
+  pub happened : (old : SessionValue) (s : Script) (w : SessionValue) (event kind : Event) (call call' : Option Call) (stage stage' : Stage) (answers : List Answer) → event ≡ kind → call' ≡ call → stage' ≡ stage → Follows coding outcomes left old (after_event coding (start_of old outcomes) s kind) w call stage answers → Follows coding outcomes left old (after_event coding (start_of old outcomes) s event) w call' stage' (answers ++ [])
   happened old s w event kind call call' stage stage' answers is same stays f =
-      let E : Event → Type 0 = λ e. Follows coding old (after_event coding (start_of old) s e) w call' stage' (answers ++ []) in
-      let C : Option Call → Type 0 = λ c. Follows coding old (after_event coding (start_of old) s kind) w c stage' (answers ++ []) in
-      let S : Stage → Type 0 = λ x. Follows coding old (after_event coding (start_of old) s kind) w call x (answers ++ []) in
-      let A : List Answer → Type 0 = λ a. Follows coding old (after_event coding (start_of old) s kind) w call stage a in
+      let E : Event → Type 0 = λ e. Follows coding outcomes left old (after_event coding (start_of old outcomes) s e) w call' stage' (answers ++ []) in
+      let C : Option Call → Type 0 = λ c. Follows coding outcomes left old (after_event coding (start_of old outcomes) s kind) w c stage' (answers ++ []) in
+      let S : Stage → Type 0 = λ x. Follows coding outcomes left old (after_event coding (start_of old outcomes) s kind) w call x (answers ++ []) in
+      let A : List Answer → Type 0 = λ a. Follows coding outcomes left old (after_event coding (start_of old outcomes) s kind) w call stage a in
       subst E (sym is) (subst C (sym same) (subst S (sym stays) (subst A (sym (append-nil answers)) f)))
 
   -- the session itself stays
-  pub stayed : (old : SessionValue) (s : Script) (v w : SessionValue) (call : Option Call) (stage : Stage) (answers : List Answer) → w ≡ v → Follows coding old s v call stage answers → Follows coding old s w call stage answers
-  stayed old s v w call stage answers same f = let P : SessionValue → Type 0 = λ x. Follows coding old s x call stage answers in subst P (sym same) f
+  pub stayed : (old : SessionValue) (s : Script) (v w : SessionValue) (call : Option Call) (stage : Stage) (answers : List Answer) → w ≡ v → Follows coding outcomes left old s v call stage answers → Follows coding outcomes left old s w call stage answers
+  stayed old s v w call stage answers same f = let P : SessionValue → Type 0 = λ x. Follows coding outcomes left old s x call stage answers in subst P (sym same) f
 
-  -- what is fed fails nothing
-  pub fed_failures : (more : List ℕ) (t : Told) → (fed more t).failures ≡ t.failures
-  fed_failures more t =
-      let P : Bool → Type 0 = λ b. (cond b t (record t { given = record t.given { bytes = t.given.bytes ++ more } })).failures ≡ t.failures in
-      let go : (b : Bool) → P b = λ b. elim b as P [ true ↦ refl | false ↦ refl ] in
-      go (is_over t)
+-- what is fed fails nothing
+pub fed_failures : (more : List ℕ) (t : Told) → (fed more t).failures ≡ t.failures
+fed_failures more t =
+    let P : Bool → Type 0 = λ b. (cond b t (record t { given = record t.given { bytes = t.given.bytes ++ more } })).failures ≡ t.failures in
+    let go : (b : Bool) → P b = λ b. elim b as P [ true ↦ refl | false ↦ refl ] in
+    go (is_over t)
 
-  -- a poll over memory fails the session only where its call fails
-  pub polls_here_fail : (call : Call) (stage stage' : Stage) (v w : SessionValue) (result : Poll Answer) → PollsHere coding call stage stage' v w result → FailsWith v w (given_by result)
-  polls_here_fail call stage stage' v w result here = go result here.fails
-    where
-      go : (r : Poll Answer) → (w.channel.failed ≡ true → (v.channel.failed ≡ true) ⊎ HasFault (polled_answer r)) → FailsWith v w (given_by r)
-      go (Ready answer) fails = fails
-      go Pending fails = fails
+-- a poll over memory fails the session only where its call fails
+pub polls_here_fail : (coding : Coding) (call : Call) (stage stage' : Stage) (v w : SessionValue) (result : Poll Answer) → PollsHere coding call stage stage' v w result → FailsWith v w (given_by result)
+polls_here_fail coding call stage stage' v w result here = go result here.fails
+  where
+    go : (r : Poll Answer) → (w.channel.failed ≡ true → (v.channel.failed ≡ true) ⊎ HasFault (polled_answer r)) → FailsWith v w (given_by r)
+    go (Ready answer) fails = fails
+    go Pending fails = fails
 
-  -- what doesn't fail a session
-  pub still_fails : (v w : SessionValue) → w.channel.failed ≡ v.channel.failed → FailsWith v w []
-  still_fails v w same = λ failed. inl (sym same ∙ failed)
+-- what doesn't fail a session
+pub still_fails : (v w : SessionValue) → w.channel.failed ≡ v.channel.failed → FailsWith v w []
+still_fails v w same = λ failed. inl (sym same ∙ failed)
+
+-- what happens to the channel alone
+pub through : (F : Channel → Channel) (v w : SessionValue) (a b : Channel) (state : State) (asked : List Asked) → record { channel = a; state = state; asked = asked } ≡ v → w ≡ record { channel = b; state = state; asked = asked } → b ≡ F a → w ≡ record v { channel = F v.channel }
+through F v w a b state asked before after is =
+    let P : SessionValue → Type 0 = λ x. w ≡ record x { channel = F x.channel } in
+    let Q : Channel → SessionValue = λ c. record { channel = c; state = state; asked = asked } in
+    subst P before (after ∙ ap Q is)
+
+-- nothing is asked
+pub grows_none : (v w : SessionValue) → w.asked ≡ v.asked → Grows v w
+grows_none v w same = ([], same ∙ sym (append-nil v.asked))

@@ -16,6 +16,13 @@ use Rattle.ftp_control.specs.declared.control.rule.ReplyRule.{ReplyRule}
 use Rattle.ftp_control.specs.declared.transport.room.Room.{Room}
 use Rattle.ftp_control.specs.declared.transport.room.Room.TheVariants.{Any, UpTo}
 use Rattle.ftp_control.specs.declared.transport.request.Asked.{Asked}
+use Rattle.ftp_control.specs.declared.transport.request.RequestOutcome.{RequestOutcome}
+use Rattle.ftp_control.specs.declared.transport.request.RequestOutcome.TheVariants as asked
+use Rattle.ftp_control.specs.declared.control.form.ReplyForm.TheVariants.{Plain}
+use Rattle.ftp_control.specs.Asking.{requests_of, outcomes_of}
+use Rattle.ftp_base.specs.declared.types.mode.Mode.{Mode}
+use Rattle.ftp_base.specs.declared.types.mode.Mode.TheVariants as mode
+use Rattle.std.specs.declared.net.socket_addr.SocketAddr.{SocketAddr}
 use Rattle.ftp_control.specs.Told.{HasRoomFor, HasNoRoom, IsDry, IsFull}
 use Rattle.ftp_control.specs.Reading.{GoesOn}
 use Rattle.ftp_control.specs.Channel.{untaken}
@@ -26,9 +33,10 @@ use Rattle.ftp_session.specs.declared.session.state.State.{State}
 use Rattle.ftp_calls.specs.declared.call.Answer.{Answer}
 use Rattle.ftp_calls.specs.declared.call.Answer.TheVariants.{Fault}
 use Rattle.ftp_calls.specs.declared.call.Call.{Call}
-use Rattle.ftp_calls.specs.declared.exchange.Turn.TheVariants.{First}
+use Rattle.ftp_calls.specs.declared.exchange.Turn.{Turn}
+use Rattle.ftp_calls.specs.declared.exchange.Turn.TheVariants.{First, Second, Passive, ExtendedPassive, Active, Restart}
 use Rattle.ftp_session.specs.declared.session.stage.Stage.{Stage}
-use Rattle.ftp_session.specs.declared.session.stage.Stage.TheVariants.{At}
+use Rattle.ftp_session.specs.declared.session.stage.Stage.TheVariants.{At, Saying, Hearing, Arming, Agreeing}
 use Rattle.ftp_session.specs.declared.model.Standing.{Standing}
 use Rattle.ftp_session.specs.declared.model.Wait.{Wait}
 use Rattle.ftp_session.specs.declared.model.Wait.TheVariants as wait
@@ -42,94 +50,145 @@ use Rattle.ftp_calls.specs.declared.exchange.Exchange.{Exchange}
 use Rattle.ftp_calls.specs.declared.exchange.Row.{Row}
 use Rattle.ftp_calls.specs.declared.exchange.Row.TheVariants.{Exchanges, Arms}
 use Rattle.ftp_calls.specs.Exchanges.{negotiates, is_read, row_of}
-use Rattle.ftp_session.specs.Dialogue.{entered, Expected, expected_of, Tree, Say, Hear, saying, awaiting, doing, later, dialogue}
+use Rattle.std.specs.Net.Socket.{socket_port}
+use Rattle.ftp_session.specs.Sound.{cannot_open}
+use Rattle.ftp_session.specs.Dialogue.{agreeing, armed, at_port, entered, from_turn, negotiating, negotiating_unless, on_address, Expected, expected_of, Tree, Say, Hear, saying, awaiting, doing, later, dialogue}
 use Rattle.ftp_session.specs.Play.{play, fits, heard_then}
 use Rattle.ftp_session.specs.declared.model.Played.{Played}
 use Rattle.ftp_session.specs.Run.{run, before, and_then, Resumes, Silent}
-use Rattle.ftp_session.specs.Promises.{standing, before_all, However, Goes, Leads, Rests, Aborts}
+use Rattle.ftp_session.specs.Promises.{begun_by, failed_from, standing, before_all, However, Fails, LacksMemory, Touched, Untouched, Goes, Leads, Rests, Aborts}
 use Rattle.ftp_session.specs.Script.{unread, is_over, start_of, front, seen_at, form_at, first_form, heard_form, polled_as, run_with, poll_script, HearsNothing, MayCancel, MayPoll}
-use Rattle.ftp_session.specs.Scripted.{SaysFrontOf, SaysNothing, Stands, SaysOrTakes, CallHasBegun, Reaches, LeftOf}
+use Rattle.ftp_session.specs.Scripted.{SaysFrontOf, SaysNothing, Stands, SaysOrTakes, CallHasBegun, Reaches, LeftOf, entering}
 use Rattle.ftp_session.specs.Steps.Stages.{StageOf, remaining, begun_at}
 use Rattle.ftp_session.specs.Steps.Moving.{BeginsHere, HasBegun, HasGoneOut, NothingTouched, Speaks, StillSays, Keeps, Shrinks, Calm, Advances, Ends, PollSteps, WaitsFor, WaitsToSay}
-use Rattle.ftp_session.specs.Steps.Following.{Since, Started, UnderWay, Unheard, Place, Follows, PollsHere, AbortsCall}
+use Rattle.ftp_session.specs.Steps.Following.{Grows, entered_at, entered_state, entered_tree, Since, Started, UnderWay, Unheard, Place, Follows, PollsHere, AbortsCall}
 use Rattle.ftp_session.proofs.Moving.{goes_after, fitted, play-Say}
 use Rattle.ftp_session.proofs.Hearing.{play-Hear}
 use Rattle.ftp_session.proofs.Unheard.{LacksRoomFor, lacks_room, plain_dialogue, plain_entered, says_no_read}
 use Rattle.ftp_session.proofs.Running.{run-nil, run-cons, before_all-snoc, before_all-Finished, before_all-Waiting, refuses_on}
 use Rattle.ftp_session.specs.Link.{over_memory}
-use Rattle.ftp_session.proofs.Carried.{front_fits, over_at_end, plain_ends, plain_leads, seen_kept, waits_kept, full_room, Carried, carried, carried_none, line_front, all_said}
+use Rattle.ftp_session.proofs.Carried.{front_fits, outcomes_on, over_at_end, same_answered, seen_kept, waits_kept, full_room, Carried, carried, carried_none, line_front, all_said}
 
 -- what a poll comes to
-abbrev pub PollFollows : Coding → SessionValue → Script → SessionValue → SessionValue → Call → Stage → Stage → List Answer → Poll Answer → Type 0
-PollFollows coding old s v w call stage stage' answers (Ready answer) =
-    Follows coding old (poll_script coding (start_of old) (Some call) s) w None stage' (answers ++ answer ∷ []) ⊎ AbortsCall coding call stage v w (Some answer)
-PollFollows coding old s v w call stage stage' answers Pending = Follows coding old (poll_script coding (start_of old) (Some call) s) w (Some call) stage' answers
+abbrev pub PollFollows : Coding → List RequestOutcome → List RequestOutcome → SessionValue → Script → SessionValue → SessionValue → Call → Stage → Stage → List Answer → Poll Answer → Type 0
+PollFollows coding outcomes left old s v w call stage stage' answers (Ready answer) =
+    Follows coding outcomes left old (poll_script coding (start_of old outcomes) (Some call) s) w None stage' (answers ++ answer ∷ []) ⊎ AbortsCall coding call stage v w (Some answer)
+PollFollows coding outcomes left old s v w call stage stage' answers Pending = Follows coding outcomes left old (poll_script coding (start_of old outcomes) (Some call) s) w (Some call) stage' answers
 
-module _ (coding : Coding) where
+module _ (coding : Coding) (outcomes : List RequestOutcome) where
   -- Runs
 
   -- the next call under way
-  stands_reaches : (old v : SessionValue) (items : List Call) (came : List ℕ) (answers : List Answer) (call : Call) → negotiates call ≡ false → v.channel.failed ≡ false → Stands coding old items came v answers → Reaches coding old items came v answers call (dialogue coding call v.state)
-  stands_reaches old v items came answers call plain going stands = λ later room more ended fit on.
-      let s : Standing = standing v more ended [] in
+  stands_reaches : (old v : SessionValue) (items : List Call) (came : List ℕ) (answered : List Asked) (answers : List Answer) (call : Call) → v.channel.failed ≡ false → Stands coding old items came answered v answers → Reaches coding old items came answered (begun_by call v) answers call (dialogue coding call v.state)
+  stands_reaches old v items came answered answers call going stands = λ later room more ended outcomes' fit on.
+      let s : Standing = standing v more ended outcomes' in
       let next : Standing → Ran = λ t. run room coding later t in
-      let P : Bool → Type 0 = λ failed. cond failed (played.Done (Fault SessionFailed) s) (play room (dialogue coding call s.state) (record s { state = entered call s.state })) ≡ play room (dialogue coding call s.state) s in
-      stands (call ∷ later) room more ended fit on
-      ∙ ap (before_all answers) (run-cons coding room call later s ∙ ap (λ p. and_then p next) (subst P (sym going) (ap (λ x. play room (dialogue coding call s.state) (record s { state = x })) (plain_entered call s.state plain))))
+      let here : Played = play room (dialogue coding call v.state) (standing (begun_by call v) more ended outcomes') in
+      let P : Bool → Type 0 = λ failed. cond failed (played.Done (Fault SessionFailed) s) here ≡ here in
+      stands (call ∷ later) room more ended outcomes' fit on
+      ∙ ap (before_all answers) (run-cons coding room call later s ∙ ap (λ p. and_then p next) (subst P (sym going) refl))
 
-  module _ (old v w : SessionValue) (same : w.asked ≡ v.asked) (items : List Call) (came : List ℕ) (answers : List Answer) (call : Call) where
+  module _ (old v w : SessionValue) (items : List Call) (came : List ℕ) (answered : List Asked) (answers : List Answer) (call : Call) where
     -- the call has its answer
-    reaches_stands : (tree : Tree) (answer : Answer) → Reaches coding old items came v answers call tree → (ends : Ends over_memory tree answer v w) → Resumes v.channel.rule v.channel.kept tree → Stands coding old (items ++ call ∷ []) (came ++ ends.completes.came) w (answers ++ answer ∷ [])
-    reaches_stands tree answer reaches ends resumes = λ later room more ended fit on.
+    reaches_stands : (tree : Tree) (answer : Answer) → Reaches coding old items came answered v answers call tree → (ends : Ends over_memory tree answer v w) → Resumes v.channel.rule v.channel.kept tree → Stands coding old (items ++ call ∷ []) (came ++ ends.completes.came) (answered ++ ends.completes.answered) w (answers ++ answer ∷ [])
+    reaches_stands tree answer reaches ends resumes = λ later room more ended outcomes' fit on.
         let done = ends.completes in
         let next : Standing → Ran = λ t. run room coding later t in
-        let first = reaches later room (done.came ++ more) ended (fitted room _ _ (done.goes.sent tt) fit) (goes_after v.channel.ended done.came more w.channel.ended ended done.goes.over on) in
-        rw (append_assoc items (call ∷ []) later, append_assoc came done.came more)
+        let first = reaches later room (done.came ++ more) ended (outcomes_of done.answered ++ outcomes') (fitted room _ _ (done.goes.sent tt) fit) (goes_after v.channel.ended done.came more w.channel.ended ended done.goes.over on) in
+        rw (append_assoc items (call ∷ []) later, append_assoc came done.came more, outcomes_on answered done.answered outcomes')
         (first
-        ∙ ap (λ p. before_all answers (and_then p next)) (plain_ends v w same tree answer ends resumes room more ended fit on)
-        ∙ sym (before_all-snoc answers answer (run room coding later (standing w more ended []))))
+        ∙ ap (λ p. before_all answers (and_then p next)) (done.plays tt resumes room more ended outcomes' fit on)
+        ∙ sym (before_all-snoc answers answer (run room coding later (standing w more ended outcomes'))))
 
     -- more of it is left
-    reaches_on : (tree tree' : Tree) → Reaches coding old items came v answers call tree → (leads : Leads over_memory tree tree' v w) → However v leads.came leads.answered w (λ room s t. play room tree s ≡ play room tree' t) → Reaches coding old items (came ++ leads.came) w answers call tree'
-    reaches_on tree tree' reaches leads plays = λ later room more ended fit on.
+    reaches_on : (tree tree' : Tree) → Reaches coding old items came answered v answers call tree → (leads : Leads over_memory tree tree' v w) → However v leads.came leads.answered w (λ room s t. play room tree s ≡ play room tree' t) → Reaches coding old items (came ++ leads.came) (answered ++ leads.answered) w answers call tree'
+    reaches_on tree tree' reaches leads plays = λ later room more ended outcomes' fit on.
         let next : Standing → Ran = λ t. run room coding later t in
-        let first = reaches later room (leads.came ++ more) ended (fitted room _ _ (leads.goes.sent tt) fit) (goes_after v.channel.ended leads.came more w.channel.ended ended leads.goes.over on) in
-        rw (append_assoc came leads.came more)
-        (first ∙ ap (λ p. before_all answers (and_then p next)) (plain_leads v w same tree tree' leads plays room more ended fit on))
+        let first = reaches later room (leads.came ++ more) ended (outcomes_of leads.answered ++ outcomes') (fitted room _ _ (leads.goes.sent tt) fit) (goes_after v.channel.ended leads.came more w.channel.ended ended leads.goes.over on) in
+        rw (append_assoc came leads.came more, outcomes_on answered leads.answered outcomes')
+        (first ∙ ap (λ p. before_all answers (and_then p next)) (plays room more ended outcomes' fit on))
 
   -- the session has failed
-  stands_refused : (old v : SessionValue) (items : List Call) (came : List ℕ) (answers : List Answer) (call : Call) → v.channel.failed ≡ true → Stands coding old items came v answers → Stands coding old (items ++ call ∷ []) (came ++ []) v (answers ++ Fault SessionFailed ∷ [])
-  stands_refused old v items came answers call failed stands = λ later room more ended fit on.
-      rw (append_assoc items (call ∷ []) later, append-nil came)
-      (stands (call ∷ later) room more ended fit on
-      ∙ ap (before_all answers) (refuses_on coding room call later (standing v more ended []) failed)
-      ∙ sym (before_all-snoc answers (Fault SessionFailed) (run room coding later (standing v more ended []))))
+  stands_refused : (old v : SessionValue) (items : List Call) (came : List ℕ) (answered : List Asked) (answers : List Answer) (call : Call) → v.channel.failed ≡ true → Stands coding old items came answered v answers → Stands coding old (items ++ call ∷ []) (came ++ []) (answered ++ []) v (answers ++ Fault SessionFailed ∷ [])
+  stands_refused old v items came answered answers call failed stands = λ later room more ended outcomes' fit on.
+      rw (append_assoc items (call ∷ []) later, append-nil came, append-nil answered)
+      (stands (call ∷ later) room more ended outcomes' fit on
+      ∙ ap (before_all answers) (refuses_on coding room call later (standing v more ended outcomes') failed)
+      ∙ sym (before_all-snoc answers (Fault SessionFailed) (run room coding later (standing v more ended outcomes'))))
 
   -- a plain read that waits leaves no trace
-  stands_rests : (old v w : SessionValue) (items : List Call) (came : List ℕ) (answers : List Answer) → Stands coding old items came v answers → (rests : Rests over_memory v w) → Stands coding old items (came ++ rests.came) w answers
-  stands_rests old v w items came answers stands rests = λ later room more ended fit on.
-      let first = stands later room (rests.came ++ more) ended (fitted room _ _ (rests.goes.sent tt) fit) (goes_after v.channel.ended rests.came more w.channel.ended ended rests.goes.over on) in
-      rw (append_assoc came rests.came more)
-      (first ∙ ap (λ s. before_all answers (run room coding later s)) (rests.stays tt more ended []))
+  stands_rests : (old v w : SessionValue) (items : List Call) (came : List ℕ) (answered : List Asked) (answers : List Answer) → Stands coding old items came answered v answers → (rests : Rests over_memory v w) → Stands coding old items (came ++ rests.came) (answered ++ []) w answers
+  stands_rests old v w items came answered answers stands rests = λ later room more ended outcomes' fit on.
+      let first = stands later room (rests.came ++ more) ended outcomes' (fitted room _ _ (rests.goes.sent tt) fit) (goes_after v.channel.ended rests.came more w.channel.ended ended rests.goes.over on) in
+      rw (append_assoc came rests.came more, append-nil answered)
+      (first ∙ ap (λ s. before_all answers (run room coding later s)) (rests.stays tt more ended outcomes'))
 
-  -- a reply that says nothing yet under a call's list is resumed by the call
-  resumes_dialogue : (rule : ReplyRule) (kept : List ℕ) (call : Call) (state : State) → negotiates call ≡ false → outcome rule (first_form call) kept false ≡ Waits → Resumes rule kept (dialogue coding call state)
-  resumes_dialogue rule kept call state plain waits = (let P : Tree → Type 0 = λ t. Resumes rule kept t in subst P (sym (plain_dialogue coding call state plain)) (row (row_of call First) waits))
-    where
-      line : (e : Exchange) → outcome rule (expected_of e.hears).form kept false ≡ Waits → (l : Result (List ℕ) Cause) → Resumes rule kept (Say l (awaiting coding (expected_of e.hears) e.ending state (later coding call First)))
-      line e waits (Ok bytes) = waits
-      line e waits (Err cause) = tt
+  -- a reply that says nothing yet as one of a call's form is resumed by the call
+  module _ (rule : ReplyRule) (kept : List ℕ) (call : Call) where
+    resumes_row : (turn : Turn) (state : State) → outcome rule (heard_form (row_of call turn)) kept false ≡ Waits → Resumes rule kept (from_turn coding call turn state)
+    resumes_row turn state waits = row (row_of call turn) waits
+      where
+        line : (e : Exchange) → outcome rule (expected_of e.hears).form kept false ≡ Waits → (l : Result (List ℕ) Cause) → Resumes rule kept (Say l (awaiting coding (expected_of e.hears) e.ending state (later coding call turn)))
+        line e waits (Ok bytes) = waits
+        line e waits (Err cause) = tt
 
-      go : (e : Exchange) → outcome rule (expected_of e.hears).form kept false ≡ Waits → (command : Option Command) → Resumes rule kept (saying coding command (awaiting coding (expected_of e.hears) e.ending state (later coding call First)))
-      go e waits None = waits
-      go e waits (Some command) = line e waits (wire coding.encode (text_of command))
+        go : (e : Exchange) → outcome rule (expected_of e.hears).form kept false ≡ Waits → (command : Option Command) → Resumes rule kept (saying coding command (awaiting coding (expected_of e.hears) e.ending state (later coding call turn)))
+        go e waits None = waits
+        go e waits (Some command) = line e waits (wire coding.encode (text_of command))
 
-      row : (r : Row) → outcome rule (heard_form r) kept false ≡ Waits → Resumes rule kept (doing coding r state (later coding call First))
-      row (Exchanges e) waits = go e waits e.says
-      row (Arms offset) waits = tt
+        row : (r : Row) → outcome rule (heard_form r) kept false ≡ Waits → Resumes rule kept (doing coding r state (later coding call turn))
+        row (Exchanges e) waits = go e waits e.says
+        row (Arms offset) waits = tt
+
+    -- no way to a data connection hears a list
+    resumes_bound : (offset : ℕ) (state : State) (local : SocketAddr) → outcome rule Plain kept false ≡ Waits → (answer : RequestOutcome) → Resumes rule kept (on_address state (λ bound. from_turn coding call (Active (at_port (socket_port bound) local) offset) state) answer)
+    resumes_bound offset state local waits asked.Done = tt
+    resumes_bound offset state local waits (asked.Address bound) = resumes_row (Active (at_port (socket_port bound) local) offset) state waits
+    resumes_bound offset state local waits (asked.Refused fault) = tt
+
+    resumes_mode : (m : Mode) (offset : ℕ) (state : State) → outcome rule Plain kept false ≡ Waits → Resumes rule kept (agreeing m coding call offset state)
+    resumes_mode mode.Active offset state waits = λ local answer. resumes_bound offset state local waits answer
+    resumes_mode mode.Passive offset state waits = resumes_row (Passive offset) state waits
+    resumes_mode mode.ExtendedPassive offset state waits = resumes_row (ExtendedPassive offset) state waits
+
+    resumes_unless : (cannot : Option FtpError) (offset : ℕ) (state : State) → outcome rule Plain kept false ≡ Waits → Resumes rule kept (negotiating_unless cannot coding call offset state)
+    resumes_unless (Some fault) offset state waits = tt
+    resumes_unless None offset state waits = resumes_mode state.settings.mode offset state waits
+
+    resumes_dialogue : (state : State) → outcome rule (first_form call) kept false ≡ Waits → Resumes rule kept (dialogue coding call state)
+    resumes_dialogue state waits = go (negotiates call) waits
+      where
+        go : (b : Bool) → outcome rule (cond b Plain (heard_form (row_of call First))) kept false ≡ Waits → Resumes rule kept (cond b (negotiating coding call state.settings.restart_offset (armed 0 state)) (from_turn coding call First state))
+        go true waits = resumes_unless (cannot_open state.counts) state.settings.restart_offset (armed 0 state) waits
+        go false waits = resumes_row First state waits
+
+  -- where a poll begins of a call that was polled before
+  settled_state : (call : Call) (stage : Stage) (state : State) → StageOf call stage → entered_state call stage state ≡ state
+  settled_state call (At First) state plain = plain_entered call state plain
+  settled_state call (At Second) state stage_of = refl
+  settled_state call (At (Passive offset)) state stage_of = refl
+  settled_state call (At (ExtendedPassive offset)) state stage_of = refl
+  settled_state call (At (Active address offset)) state stage_of = refl
+  settled_state call (At (Restart offset)) state stage_of = refl
+  settled_state call (Saying line a) state stage_of = refl
+  settled_state call (Hearing a) state stage_of = refl
+  settled_state call (Arming turn offset) state stage_of = refl
+  settled_state call (Agreeing way) state stage_of = refl
+
+  settled_tree : (call : Call) (stage : Stage) (state : State) → StageOf call stage → entered_tree coding call stage state ≡ remaining coding call state stage
+  settled_tree call (At First) state plain = plain_dialogue coding call state plain
+  settled_tree call (At Second) state stage_of = refl
+  settled_tree call (At (Passive offset)) state stage_of = refl
+  settled_tree call (At (ExtendedPassive offset)) state stage_of = refl
+  settled_tree call (At (Active address offset)) state stage_of = refl
+  settled_tree call (At (Restart offset)) state stage_of = refl
+  settled_tree call (Saying line a) state stage_of = refl
+  settled_tree call (Hearing a) state stage_of = refl
+  settled_tree call (Arming turn offset) state stage_of = refl
+  settled_tree call (Agreeing way) state stage_of = refl
 
   -- what was fed, seen from after a poll
-  module _ (old : SessionValue) (s : Script) (v w : SessionValue) (call : Call) (stage : Stage) (answers : List Answer) (f : Follows coding old s v (Some call) stage answers) (came : List ℕ) (c : Carried v w came) where
+  module _ (left : List RequestOutcome) (asked : List Asked) (old : SessionValue) (s : Script) (v w : SessionValue) (call : Call) (stage : Stage) (answers : List Answer) (f : Follows coding outcomes (outcomes_of asked ++ left) old s v (Some call) stage answers) (came : List ℕ) (c : Carried v w came asked) where
     fed_bytes : s.bytes ≡ untaken old.channel ++ (f.came ++ came) ++ unread w.channel.told
     fed_bytes =
         f.bytes
@@ -138,7 +197,7 @@ module _ (coding : Coding) where
         ∙ ap (λ k. k ++ unread w.channel.told) (append_assoc (untaken old.channel) f.came came)
 
     abbrev here : Standing
-    here = standing w (unread w.channel.told) (is_over w.channel.told) []
+    here = standing w (unread w.channel.told) (is_over w.channel.told) left
 
     fits_here : HasRoomFor s.room (length w.channel.told.sent)
     fits_here = let P : Room → Type 0 = λ room. HasRoomFor room (length w.channel.told.sent) in subst P (sym (f.room ∙ ap (λ g. g.room) (sym c.given))) (c.sound.fits tt)
@@ -146,32 +205,43 @@ module _ (coding : Coding) where
     all_received : w.channel.told.received ≡ old.channel.told.received ++ (f.came ++ came)
     all_received = c.received ∙ ap (λ x. x ++ came) f.received ∙ append_assoc old.channel.told.received f.came came
 
+    all_asked : w.asked ≡ old.asked ++ (f.answered ++ asked)
+    all_asked = c.grown ∙ ap (λ x. x ++ asked) f.asked ∙ append_assoc old.asked f.answered asked
+
+    all_outcomes : outcomes ≡ outcomes_of (f.answered ++ asked) ++ left
+    all_outcomes = f.outcomes_are ∙ sym (outcomes_on f.answered asked left)
+
     over_is : s.ended ≡ is_over w.channel.told
     over_is = f.ended ∙ sym c.over
 
     -- the run from the script's beginning is the one that the session has made
-    from_start : (calls : List Call) → run s.room coding calls (record (start_of old) { bytes = s.bytes; ended = s.ended }) ≡ run s.room coding calls (standing old ((f.came ++ came) ++ unread w.channel.told) (is_over w.channel.told) [])
+    from_start : (calls : List Call) → run s.room coding calls (record (start_of old outcomes) { bytes = s.bytes; ended = s.ended }) ≡ run s.room coding calls (standing old ((f.came ++ came) ++ unread w.channel.told) (is_over w.channel.told) (outcomes_of (f.answered ++ asked) ++ left))
     from_start calls =
         let bytes : s.bytes ≡ untaken old.channel ++ ((f.came ++ came) ++ unread w.channel.told) = fed_bytes ∙ append_assoc (untaken old.channel) (f.came ++ came) (unread w.channel.told) in
-        rw (bytes, over_is)
+        let S : List RequestOutcome → Standing = λ o. record (start_of old o) { bytes = s.bytes; ended = s.ended } in
+        ap (λ o. run s.room coding calls (S o)) all_outcomes ∙ rw (bytes, over_is)
 
     going_on : GoesOn w.channel.ended (unread w.channel.told) (is_over w.channel.told)
     going_on = over_at_end w c.has c.sound
 
     -- the call is done
-    finish : (P : Type 0) (stage' : Stage) (answer : Answer) → Stands coding old (s.items ++ call ∷ []) (f.came ++ came) w (s.answers ++ answer ∷ []) → Shrinks came v w → Keeps P came v w → Follows coding old (poll_script coding (start_of old) (Some call) s) w None stage' (answers ++ answer ∷ [])
+    finish : (P : Type 0) (stage' : Stage) (answer : Answer) → Stands coding old (s.items ++ call ∷ []) (f.came ++ came) (f.answered ++ asked) w (s.answers ++ answer ∷ []) → Shrinks came v w → Keeps P came v w → Follows coding outcomes left old (poll_script coding (start_of old outcomes) (Some call) s) w None stage' (answers ++ answer ∷ [])
     finish P stage' answer stands shrinks keeps =
-        let ran : run s.room coding (s.items ++ call ∷ []) (record (start_of old) { bytes = s.bytes; ended = s.ended }) ≡ Finished (s.answers ++ answer ∷ []) here =
+        let ran : run s.room coding (s.items ++ call ∷ []) (record (start_of old outcomes) { bytes = s.bytes; ended = s.ended }) ≡ Finished (s.answers ++ answer ∷ []) here =
         from_start (s.items ++ call ∷ [])
-        ∙ ap (λ items. run s.room coding items (standing old ((f.came ++ came) ++ unread w.channel.told) (is_over w.channel.told) [])) (sym (append-nil (s.items ++ call ∷ [])))
-        ∙ stands [] s.room (unread w.channel.told) (is_over w.channel.told) fits_here going_on
+        ∙ ap (λ items. run s.room coding items (standing old ((f.came ++ came) ++ unread w.channel.told) (is_over w.channel.told) (outcomes_of (f.answered ++ asked) ++ left))) (sym (append-nil (s.items ++ call ∷ [])))
+        ∙ stands [] s.room (unread w.channel.told) (is_over w.channel.told) left fits_here going_on
         ∙ ap (before_all (s.answers ++ answer ∷ [])) (run-nil coding s.room here)
         ∙ before_all-Finished (s.answers ++ answer ∷ []) [] here
         ∙ ap (λ a. Finished a here) (append-nil (s.answers ++ answer ∷ [])) in
         let after : Script = polled_as (Finished (s.answers ++ answer ∷ []) here) call s in
-        let Q : Ran → Type 0 = λ r. Follows coding old (polled_as r call s) w None stage' (answers ++ answer ∷ []) in
-        let follows : Follows coding old after w None stage' (answers ++ answer ∷ []) = record {
+        let Q : Ran → Type 0 = λ r. Follows coding outcomes left old (polled_as r call s) w None stage' (answers ++ answer ∷ []) in
+        let follows : Follows coding outcomes left old after w None stage' (answers ++ answer ∷ []) = record {
           came = f.came ++ came;
+          answered = f.answered ++ asked;
+          asked = all_asked;
+          outcomes_are = all_outcomes;
+          requests = refl;
           place = stands;
           rule = c.rule ∙ f.rule;
           failures = c.failures ∙ f.failures;
@@ -195,17 +265,17 @@ module _ (coding : Coding) where
         subst Q (sym ran) follows
 
     -- the run of all calls waits where the call does
-    waits_ran : (tree : Tree) (wait : Wait) (t : Standing) → Reaches coding old s.items (f.came ++ came) w s.answers call tree → play s.room tree here ≡ played.Pending wait t → run_with coding (start_of old) call s ≡ Waiting s.answers wait t
+    waits_ran : (tree : Tree) (wait : Wait) (t : Standing) → Reaches coding old s.items (f.came ++ came) (f.answered ++ asked) w s.answers call tree → play s.room tree here ≡ played.Pending wait t → run_with coding (start_of old outcomes) call s ≡ Waiting s.answers wait t
     waits_ran tree wait t reaches waits =
         let next : Standing → Ran = λ u. run s.room coding [] u in
         from_start (s.items ++ call ∷ [])
-        ∙ reaches [] s.room (unread w.channel.told) (is_over w.channel.told) fits_here going_on
+        ∙ reaches [] s.room (unread w.channel.told) (is_over w.channel.told) left fits_here going_on
         ∙ ap (λ p. before_all s.answers (and_then p next)) waits
         ∙ before_all-Waiting s.answers [] wait t
         ∙ ap (λ a. Waiting a wait t) (append-nil s.answers)
 
     -- a call that waits without having heard says a line that isn't within the room
-    unheard_lacks : (state : State) (stage' : Stage) → negotiates call ≡ false → StageOf call stage' → Reaches coding old s.items (f.came ++ came) w s.answers call (remaining coding call state stage') → HearsNothing (run_with coding (start_of old) call s) s → untaken w.channel ++ unread w.channel.told ≡ s.untaken → LacksRoomFor s.room here (remaining coding call state stage')
+    unheard_lacks : (state : State) (stage' : Stage) → negotiates call ≡ false → StageOf call stage' → Reaches coding old s.items (f.came ++ came) (f.answered ++ asked) w s.answers call (remaining coding call state stage') → HearsNothing (run_with coding (start_of old outcomes) call s) s → untaken w.channel ++ unread w.channel.told ≡ s.untaken → LacksRoomFor s.room here (remaining coding call state stage')
     unheard_lacks state stage' plain stage_of reaches nothing bytes = go (play s.room (remaining coding call state stage') here) refl (subst Nothing ran nothing)
       where
         Nothing : Ran → Type 0
@@ -214,8 +284,8 @@ module _ (coding : Coding) where
         next : Standing → Ran
         next = λ u. run s.room coding [] u
 
-        ran : run_with coding (start_of old) call s ≡ before_all s.answers (and_then (play s.room (remaining coding call state stage') here) next)
-        ran = from_start (s.items ++ call ∷ []) ∙ reaches [] s.room (unread w.channel.told) (is_over w.channel.told) fits_here going_on
+        ran : run_with coding (start_of old outcomes) call s ≡ before_all s.answers (and_then (play s.room (remaining coding call state stage') here) next)
+        ran = from_start (s.items ++ call ∷ []) ∙ reaches [] s.room (unread w.channel.told) (is_over w.channel.told) left fits_here going_on
 
         go : (p : Played) → play s.room (remaining coding call state stage') here ≡ p → Nothing (before_all s.answers (and_then p next)) → LacksRoomFor s.room here (remaining coding call state stage')
         go (played.Done answer u) is none =
@@ -240,12 +310,16 @@ module _ (coding : Coding) where
             cc
 
     -- the call waits
-    wait_on : (tree : Tree) (stage' : Stage) (wait : Wait) (t : Standing) → Reaches coding old s.items (f.came ++ came) w s.answers call tree → play s.room tree here ≡ played.Pending wait t → front s.room t.said ≡ w.channel.told.sent → SaysFrontOf w.channel (t.said ++ t.unsent) → t.bytes ≡ untaken w.channel ++ unread w.channel.told → seen_at wait s t.bytes ≡ length w.channel.kept → outcome w.channel.rule (form_at wait s) w.channel.kept false ≡ Waits → t.state ≡ w.state → t.failed ≡ w.channel.failed → (MayCancel (Some call) true → s.unsent ≡ w.channel.unsent) → Place coding old (polled_as (Waiting s.answers wait t) call s) (f.came ++ came) w (Some call) stage' → Follows coding old (poll_script coding (start_of old) (Some call) s) w (Some call) stage' answers
-    wait_on tree stage' wait t reaches waits sent begins bytes seen says_nothing state failed unsent place =
+    wait_on : (tree : Tree) (stage' : Stage) (wait : Wait) (t : Standing) → Reaches coding old s.items (f.came ++ came) (f.answered ++ asked) w s.answers call tree → play s.room tree here ≡ played.Pending wait t → front s.room t.said ≡ w.channel.told.sent → SaysFrontOf w.channel (t.said ++ t.unsent) → t.bytes ≡ untaken w.channel ++ unread w.channel.told → seen_at wait s t.bytes ≡ length w.channel.kept → outcome w.channel.rule (form_at wait s) w.channel.kept false ≡ Waits → t.state ≡ w.state → t.failed ≡ w.channel.failed → t.asked ≡ requests_of w.asked → (MayCancel (Some call) true → s.unsent ≡ w.channel.unsent) → Place coding old (polled_as (Waiting s.answers wait t) call s) (f.came ++ came) (f.answered ++ asked) w (Some call) stage' → Follows coding outcomes left old (poll_script coding (start_of old outcomes) (Some call) s) w (Some call) stage' answers
+    wait_on tree stage' wait t reaches waits sent begins bytes seen says_nothing state failed requests unsent place =
         let ran = waits_ran tree wait t reaches waits in
-        let Q : Ran → Type 0 = λ r. Follows coding old (polled_as r call s) w (Some call) stage' answers in
-        let follows : Follows coding old (polled_as (Waiting s.answers wait t) call s) w (Some call) stage' answers = record {
+        let Q : Ran → Type 0 = λ r. Follows coding outcomes left old (polled_as r call s) w (Some call) stage' answers in
+        let follows : Follows coding outcomes left old (polled_as (Waiting s.answers wait t) call s) w (Some call) stage' answers = record {
           came = f.came ++ came;
+          answered = f.answered ++ asked;
+          asked = all_asked;
+          outcomes_are = all_outcomes;
+          requests = requests;
           place = place;
           rule = c.rule ∙ f.rule;
           failures = c.failures ∙ f.failures;
@@ -295,12 +369,15 @@ module _ (coding : Coding) where
         play-Hear s.room codes next here ∙ ap (λ h. heard_then h codes here (λ heard u. play s.room (next heard) u)) more
 
   -- how a call goes on since the calls before it were done
-  since_start : (old : SessionValue) (items : List Call) (answers : List Answer) (came : List ℕ) (v : SessionValue) → Stands coding old items came v answers → Since coding old items answers came v false
-  since_start old items answers came v stands = record {
+  since_start : (old : SessionValue) (items : List Call) (answers : List Answer) (came : List ℕ) (answered : List Asked) (v : SessionValue) (state : State) → Stands coding old items came answered v answers → Since coding old items answers came answered (record v { state = state }) false
+  since_start old items answers came answered v state stands = record {
     start = v;
     before = came;
     later = [];
     split = sym (append-nil came);
+    asked_before = answered;
+    asked_later = [];
+    asked_split = sym (append-nil answered);
     stands = stands;
     said = omega arith;
     taken = omega arith;
@@ -308,12 +385,15 @@ module _ (coding : Coding) where
     not_begun = λ none. (refl, sym (append-nil (untaken v.channel)));
   }
 
-  since_on : (old : SessionValue) (items : List Call) (answers : List Answer) (came : List ℕ) (v w : SessionValue) (begun begun' : Bool) (tree : Tree) (since : Since coding old items answers came v begun) → Speaks tree ⊎ Resumes v.channel.rule v.channel.kept tree → (more : List ℕ) (answered : List Asked) → Goes over_memory more answered v w → HasBegun over_memory begun begun' tree v w → Since coding old items answers (came ++ more) w begun'
-  since_on old items answers came v w begun begun' tree since resumes more answered goes here = record {
+  since_on : (old : SessionValue) (items : List Call) (answers : List Answer) (came : List ℕ) (asked : List Asked) (v w : SessionValue) (begun begun' : Bool) (tree : Tree) (since : Since coding old items answers came asked v begun) → Speaks tree ⊎ Resumes v.channel.rule v.channel.kept tree → (more : List ℕ) (answered : List Asked) → Goes over_memory more answered v w → HasBegun over_memory begun begun' tree v w → Since coding old items answers (came ++ more) (asked ++ answered) w begun'
+  since_on old items answers came asked v w begun begun' tree since resumes more answered goes here = record {
     start = since.start;
     before = since.before;
     later = since.later ++ more;
     split = ap (λ c. c ++ more) since.split ∙ append_assoc since.before since.later more;
+    asked_before = since.asked_before;
+    asked_later = since.asked_later ++ answered;
+    asked_split = ap (λ c. c ++ answered) since.asked_split ∙ append_assoc since.asked_before since.asked_later answered;
     stands = since.stands;
     said = omega (arith, since.said, goes.said tt);
     taken = omega (arith, since.taken, goes.untaken, length-append came more);
@@ -340,55 +420,78 @@ module _ (coding : Coding) where
       go (inl has) = before_this (since.has_begun has)
       go (inr touched) = in_this (touched tt resumes)
 
+  -- what holds where a poll began before holds where it begins
+  settle : (call : Call) (stage : Stage) (v : SessionValue) → StageOf call stage → (P : SessionValue → State → Tree → Type 0) → P v v.state (remaining coding call v.state stage) → P (entered_at call stage v) (entered_state call stage v.state) (entered_tree coding call stage v.state)
+  settle call stage v stage_of P holds =
+      let Q : State → Type 0 = λ x. P (record v { state = x }) x (remaining coding call v.state stage) in
+      let R : Tree → Type 0 = λ t. P (entered_at call stage v) (entered_state call stage v.state) t in
+      subst R (sym (settled_tree call stage v.state stage_of)) (subst Q (sym (settled_state call stage v.state stage_of)) holds)
+
   -- where a poll begins
-  pub record Resumed (old : SessionValue) (s : Script) (came : List ℕ) (v : SessionValue) (call : Call) (stage : Stage) : Type 0 where
-    pub plain : negotiates call ≡ false
-    pub reaches : Reaches coding old s.items came v s.answers call (remaining coding call v.state stage)
-    pub resumes : Resumes v.channel.rule v.channel.kept (remaining coding call v.state stage)
-    pub read : is_read call ≡ true → Stands coding old s.items came v s.answers
-    pub since : Since coding old s.items s.answers came v (begun_at stage)
+  pub record Resumed (old : SessionValue) (s : Script) (came : List ℕ) (asked : List Asked) (v : SessionValue) (call : Call) (begun : Bool) (e : SessionValue) (tree : Tree) : Type 0 where
+    pub reaches : Reaches coding old s.items came asked e s.answers call tree
+    pub resumes : Resumes v.channel.rule v.channel.kept tree
+    pub read : is_read call ≡ true → Stands coding old s.items came asked v s.answers
+    pub since : Since coding old s.items s.answers came asked e begun
 
   -- where a poll begins that waits for room and hears nothing
-  pub record KeptWaiting (old : SessionValue) (s : Script) (came : List ℕ) (v : SessionValue) (call : Call) (stage : Stage) : Type 0 where
+  pub record KeptWaiting (old : SessionValue) (s : Script) (came : List ℕ) (asked : List Asked) (v : SessionValue) (call : Call) (begun : Bool) (e : SessionValue) (state : State) (tree : Tree) : Type 0 where
     pub plain : negotiates call ≡ false
-    pub stage_of : StageOf call stage
     pub no_read : is_read call ≡ false
-    pub reaches : Reaches coding old s.items came v s.answers call (remaining coding call v.state stage)
-    pub resumes : (rule : ReplyRule) (kept : List ℕ) → Resumes rule kept (dialogue coding call v.state) → Resumes rule kept (remaining coding call v.state stage)
-    pub since : Since coding old s.items s.answers came v (begun_at stage)
-    pub nothing : HearsNothing (run_with coding (start_of old) call s) s
-    pub lacks : LacksRoomFor s.room (standing v (unread v.channel.told) (is_over v.channel.told) []) (remaining coding call v.state stage)
+    pub reaches : Reaches coding old s.items came asked e s.answers call tree
+    pub resumes : (rule : ReplyRule) (kept : List ℕ) → Resumes rule kept (dialogue coding call state) → Resumes rule kept tree
+    pub since : Since coding old s.items s.answers came asked e begun
+    pub nothing : HearsNothing (run_with coding (start_of old outcomes) call s) s
+    pub lacks : LacksRoomFor s.room (standing v (unread v.channel.told) (is_over v.channel.told) []) tree
 
-  module _ (old : SessionValue) (s : Script) (v w : SessionValue) (call : Call) (stage : Stage) (answers : List Answer) (f : Follows coding old s v (Some call) stage answers) (stage' : Stage) (advances : Advances over_memory (remaining coding call v.state stage) (remaining coding call v.state stage') v w) (c : Carried v w advances.moves.leads.came) where
+  -- where the poll of a call at this stage begins
+  abbrev Goes_on : SessionValue → Script → List ℕ → List Asked → SessionValue → Call → Stage → Type 0
+  Goes_on old s came asked v call stage =
+      Resumed old s came asked v call (begun_at stage) (entered_at call stage v) (entered_tree coding call stage v.state)
+
+  abbrev Kept : SessionValue → Script → List ℕ → List Asked → SessionValue → Call → Stage → Type 0
+  Kept old s came asked v call stage =
+      KeptWaiting old s came asked v call (begun_at stage) (entered_at call stage v) (entered_state call stage v.state) (entered_tree coding call stage v.state)
+
+  module _ (left : List RequestOutcome) (old : SessionValue) (s : Script) (v w : SessionValue) (call : Call) (stage : Stage) (answers : List Answer) (stage' : Stage) (advances : Advances over_memory (entered_tree coding call stage v.state) (remaining coding call (entered_state call stage v.state) stage') (entered_at call stage v) w) (f : Follows coding outcomes (outcomes_of advances.moves.leads.answered ++ left) old s v (Some call) stage answers) (c : Carried v w advances.moves.leads.came advances.moves.leads.answered) where
     -- a poll that waits for room
-    room_waits : WaitsToSay over_memory (remaining coding call v.state stage') w → Reaches coding old s.items (f.came ++ advances.moves.leads.came) w s.answers call (remaining coding call v.state stage') → (MayCancel (Some call) true → s.unsent ≡ w.channel.unsent) → ((t : Standing) → run_with coding (start_of old) call s ≡ Waiting s.answers wait.Room t → Place coding old (polled_as (Waiting s.answers wait.Room t) call s) (f.came ++ advances.moves.leads.came) w (Some call) stage') → Follows coding old (poll_script coding (start_of old) (Some call) s) w (Some call) stage' answers
+    room_waits : WaitsToSay over_memory (remaining coding call (entered_state call stage v.state) stage') w → Reaches coding old s.items (f.came ++ advances.moves.leads.came) (f.answered ++ advances.moves.leads.answered) w s.answers call (remaining coding call (entered_state call stage v.state) stage') → (MayCancel (Some call) true → s.unsent ≡ w.channel.unsent) → ((t : Standing) → run_with coding (start_of old outcomes) call s ≡ Waiting s.answers wait.Room t → Place coding old (polled_as (Waiting s.answers wait.Room t) call s) (f.came ++ advances.moves.leads.came) (f.answered ++ advances.moves.leads.answered) w (Some call) stage') → Follows coding outcomes left old (poll_script coding (start_of old outcomes) (Some call) s) w (Some call) stage' answers
     room_waits says reaches' unsent' place =
         let moves = advances.moves in
-        let P : Tree → Type 0 = λ x. Reaches coding old s.items (f.came ++ moves.leads.came) w s.answers call x in
+        let asked = moves.leads.answered in
+        let before : Tree = entered_tree coding call stage v.state in
+        let P : Tree → Type 0 = λ x. Reaches coding old s.items (f.came ++ moves.leads.came) (f.answered ++ asked) w s.answers call x in
         let C : Tree → Type 0 = Calm in
-        let t : Standing = record (here old s v w call stage answers f moves.leads.came c) { said = w.channel.told.sent ++ w.channel.unsent ++ says.line; unsent = [] } in
-        let stuck = say_waits old s v w call stage answers f moves.leads.came c says.line says.next says.some (says.full tt) in
+        let t : Standing = record (here left asked old s v w call stage answers f moves.leads.came c) { said = w.channel.told.sent ++ w.channel.unsent ++ says.line; unsent = [] } in
+        let stuck = say_waits left asked old s v w call stage answers f moves.leads.came c says.line says.next says.some (says.full tt) in
         let calm = moves.calm (subst C (sym says.is) tt) in
-        let seen = seen_kept (Calm (remaining coding call v.state stage)) s v w moves.leads.came f.seen f.untaken c.split moves.shrinks calm in
-        let says_nothing = waits_kept (Calm (remaining coding call v.state stage)) s v w moves.leads.came c.rule f.waits calm in
+        let seen = seen_kept (Calm before) s v w moves.leads.came f.seen f.untaken c.split moves.shrinks calm in
+        let says_nothing = waits_kept (Calm before) s v w moves.leads.came c.rule f.waits calm in
         let there = subst P says.is reaches' in
-        let ran = waits_ran old s v w call stage answers f moves.leads.came c (Say (Ok says.line) says.next) wait.Room t there stuck.0 in
-        wait_on old s v w call stage answers f moves.leads.came c (Say (Ok says.line) says.next) stage' wait.Room t there stuck.0 stuck.1 (line_front w.channel says.line says.some) refl seen says_nothing refl refl unsent' (place t ran)
+        let ran = waits_ran left asked old s v w call stage answers f moves.leads.came c (Say (Ok says.line) says.next) wait.Room t there stuck.0 in
+        wait_on left asked old s v w call stage answers f moves.leads.came c (Say (Ok says.line) says.next) stage' wait.Room t there stuck.0 stuck.1 (line_front w.channel says.line says.some) refl seen says_nothing refl refl refl unsent' (place t ran)
 
-  -- a poll of a call that is kept waiting
-  module _ (old : SessionValue) (s : Script) (v w : SessionValue) (same : w.asked ≡ v.asked) (call : Call) (stage : Stage) (answers : List Answer) (f : Follows coding old s v (Some call) stage answers) (going : v.channel.failed ≡ false) (from : KeptWaiting old s f.came v call stage) where
-    -- it still waits for room
-    still_waits : (stage' : Stage) → StageOf call stage' → (advances : Advances over_memory (remaining coding call v.state stage) (remaining coding call v.state stage') v w) → WaitsFor over_memory (remaining coding call v.state stage') w → HasBegun over_memory (begun_at stage) (begun_at stage') (remaining coding call v.state stage) v w → Carried v w advances.moves.leads.came → Follows coding old (poll_script coding (start_of old) (Some call) s) w (Some call) stage' answers
-    still_waits stage' stage_of advances waits begun c = go (advances.moves.says from.lacks.line from.lacks.next from.lacks.is tt) waits
+    -- it still waits for room, where it was kept waiting
+    still_waits : v.channel.failed ≡ false → Kept old s f.came f.answered v call stage → StageOf call stage' → WaitsFor over_memory (remaining coding call (entered_state call stage v.state) stage') w → HasBegun over_memory (begun_at stage) (begun_at stage') (entered_tree coding call stage v.state) (entered_at call stage v) w → Follows coding outcomes left old (poll_script coding (start_of old outcomes) (Some call) s) w (Some call) stage' answers
+    still_waits going from stage_of waits begun = go (advances.moves.says from.lacks.line from.lacks.next from.lacks.is tt) waits
       where
+        e : SessionValue
+        e = entered_at call stage v
+
+        before : Tree
+        before = entered_tree coding call stage v.state
+
+        tree' : Tree
+        tree' = remaining coding call (entered_state call stage v.state) stage'
+
         unsent' : MayCancel (Some call) true → s.unsent ≡ w.channel.unsent
         unsent' (inl new) = let clash : true ≡ false = new in cc
         unsent' (inr read) = let clash : true ≡ false = sym read ∙ from.no_read in cc
 
-        speaks : Speaks (remaining coding call v.state stage)
+        speaks : Speaks before
         speaks = let P : Tree → Type 0 = Speaks in subst P (sym from.lacks.is) tt
 
-        place : (still : StillSays over_memory (remaining coding call v.state stage) (remaining coding call v.state stage') advances.moves.leads.came advances.moves.leads.answered from.lacks.line v w) → Reaches coding old s.items (f.came ++ advances.moves.leads.came) w s.answers call (remaining coding call v.state stage') → (t : Standing) → run_with coding (start_of old) call s ≡ Waiting s.answers wait.Room t → Place coding old (polled_as (Waiting s.answers wait.Room t) call s) (f.came ++ advances.moves.leads.came) w (Some call) stage'
+        place : (still : StillSays over_memory before tree' advances.moves.leads.came advances.moves.leads.answered from.lacks.line e w) → Reaches coding old s.items (f.came ++ advances.moves.leads.came) (f.answered ++ advances.moves.leads.answered) w s.answers call tree' → (t : Standing) → run_with coding (start_of old outcomes) call s ≡ Waiting s.answers wait.Room t → Place coding old (polled_as (Waiting s.answers wait.Room t) call s) (f.came ++ advances.moves.leads.came) (f.answered ++ advances.moves.leads.answered) w (Some call) stage'
         place still reaches' t ran = inr (inr (record {
           plain = from.plain;
           stage_of = stage_of;
@@ -396,100 +499,116 @@ module _ (coding : Coding) where
           unheard = let P : Ran → Type 0 = λ r. HearsNothing r s in subst P ran from.nothing;
           going = advances.failed ∙ going;
           no_read = from.no_read;
-          reaches = let P : State → Type 0 = λ state. Reaches coding old s.items (f.came ++ advances.moves.leads.came) w s.answers call (remaining coding call state stage') in subst P (sym advances.moves.state) reaches';
+          reaches = let P : State → Type 0 = λ state. Reaches coding old s.items (f.came ++ advances.moves.leads.came) (f.answered ++ advances.moves.leads.answered) w s.answers call (remaining coding call state stage') in subst P (sym advances.moves.state) reaches';
           resumes = let P : State → Type 0 = λ state. (rule : ReplyRule) (kept : List ℕ) → Resumes rule kept (dialogue coding call state) → Resumes rule kept (remaining coding call state stage') in subst P (sym advances.moves.state) (λ rule kept r. still.resumes rule kept (from.resumes rule kept r));
-          since = since_on old s.items s.answers f.came v w (begun_at stage) (begun_at stage') (remaining coding call v.state stage) from.since (inl speaks) advances.moves.leads.came advances.moves.leads.answered advances.moves.leads.goes begun;
+          since = since_on old s.items s.answers f.came f.answered e w (begun_at stage) (begun_at stage') before from.since (inl speaks) advances.moves.leads.came advances.moves.leads.answered advances.moves.leads.goes begun;
         }))
 
-        go : StillSays over_memory (remaining coding call v.state stage) (remaining coding call v.state stage') advances.moves.leads.came advances.moves.leads.answered from.lacks.line v w ⊎ HasGoneOut from.lacks.line v w → WaitsFor over_memory (remaining coding call v.state stage') w → Follows coding old (poll_script coding (start_of old) (Some call) s) w (Some call) stage' answers
-        go (inr gone) waits = absurd (never_gone old s v w call stage answers f advances.moves.leads.came c from.lacks.line from.lacks.full gone)
+        go : StillSays over_memory before tree' advances.moves.leads.came advances.moves.leads.answered from.lacks.line e w ⊎ HasGoneOut from.lacks.line v w → WaitsFor over_memory tree' w → Follows coding outcomes left old (poll_script coding (start_of old outcomes) (Some call) s) w (Some call) stage' answers
+        go (inr gone) waits = absurd (never_gone left advances.moves.leads.answered old s v w call stage answers f advances.moves.leads.came c from.lacks.line from.lacks.full gone)
         go (inl still) (inr (inl hears)) = let clash : Hear hears.codes hears.next ≡ Say (Ok still.rest) still.next = sym hears.is ∙ still.is in cc
         go (inl still) (inr (inr asks)) = absurd asks.may
         go (inl still) (inl says) =
-            let reaches' = reaches_on old v w same s.items f.came s.answers call (remaining coding call v.state stage) (remaining coding call v.state stage') from.reaches advances.moves.leads still.plays in
-            room_waits old s v w call stage answers f stage' advances c says reaches' unsent' (place still reaches')
+            let reaches' = reaches_on old e w s.items f.came f.answered s.answers call before tree' from.reaches advances.moves.leads still.plays in
+            room_waits says reaches' unsent' (place still reaches')
 
-    -- it has no answer yet
-    no_answer : (answer : Answer) (ends : Ends over_memory (remaining coding call v.state stage) answer v w) → Carried v w ends.completes.came → ⊥
-    no_answer answer ends c = never_gone old s v w call stage answers f ends.completes.came c from.lacks.line from.lacks.full (ends.gone from.lacks.line from.lacks.next from.lacks.is tt)
-
-  module _ (old : SessionValue) (s : Script) (v w : SessionValue) (same : w.asked ≡ v.asked) (call : Call) (stage : Stage) (answers : List Answer) (f : Follows coding old s v (Some call) stage answers) (going : v.channel.failed ≡ false) (from : Resumed old s f.came v call stage) where
     -- a poll that waits
-    pending : (stage' : Stage) (moves : Advances over_memory (remaining coding call v.state stage) (remaining coding call v.state stage') v w) → WaitsFor over_memory (remaining coding call v.state stage') w → (is_read call ≡ true → Rests over_memory v w) → HasBegun over_memory (begun_at stage) (begun_at stage') (remaining coding call v.state stage) v w → Carried v w moves.moves.leads.came → Follows coding old (poll_script coding (start_of old) (Some call) s) w (Some call) stage' answers
-    pending stage' advances waits rests begun c = go waits
+    pending : v.channel.failed ≡ false → Goes_on old s f.came f.answered v call stage → StageOf call stage' → WaitsFor over_memory (remaining coding call (entered_state call stage v.state) stage') w → (is_read call ≡ true → Rests over_memory v w) → HasBegun over_memory (begun_at stage) (begun_at stage') (entered_tree coding call stage v.state) (entered_at call stage v) w → Follows coding outcomes left old (poll_script coding (start_of old outcomes) (Some call) s) w (Some call) stage' answers
+    pending going from stage_of waits rests begun = go waits
       where
+        e : SessionValue
+        e = entered_at call stage v
+
+        came' : List ℕ
+        came' = f.came ++ advances.moves.leads.came
+
+        asked' : List Asked
+        asked' = f.answered ++ advances.moves.leads.answered
+
+        before : Tree
+        before = entered_tree coding call stage v.state
+
         tree' : Tree
-        tree' = remaining coding call v.state stage'
+        tree' = remaining coding call (entered_state call stage v.state) stage'
 
-        reaches' : Reaches coding old s.items (f.came ++ advances.moves.leads.came) w s.answers call (remaining coding call v.state stage')
-        reaches' = reaches_on old v w same s.items f.came s.answers call (remaining coding call v.state stage) (remaining coding call v.state stage') from.reaches advances.moves.leads (advances.moves.leads.plays tt from.resumes)
+        reaches' : Reaches coding old s.items came' asked' w s.answers call tree'
+        reaches' = reaches_on old e w s.items f.came f.answered s.answers call before tree' from.reaches advances.moves.leads (advances.moves.leads.plays tt from.resumes)
 
-        resumes' : Resumes w.channel.rule w.channel.kept (remaining coding call v.state stage')
+        resumes' : Resumes w.channel.rule w.channel.kept tree'
         resumes' = advances.moves.resumes from.resumes
 
-        read' : is_read call ≡ true → Stands coding old s.items (f.came ++ advances.moves.leads.came) w s.answers
+        read' : is_read call ≡ true → Stands coding old s.items came' asked' w s.answers
         read' is =
             let rest = rests is in
-            let came : rest.came ≡ advances.moves.leads.came = append_cancel_left v.channel.told.received rest.came advances.moves.leads.came (sym (rest.goes.received tt) ∙ advances.moves.leads.goes.received tt) in
-            let P : List ℕ → Type 0 = λ x. Stands coding old s.items (f.came ++ x) w s.answers in
-            subst P came (stands_rests old v w s.items f.came s.answers (from.read is) rest)
+            let goes = advances.moves.leads.goes in
+            let came : rest.came ≡ advances.moves.leads.came = append_cancel_left v.channel.told.received rest.came advances.moves.leads.came (sym (rest.goes.received tt) ∙ goes.received tt) in
+            let none : [] ≡ advances.moves.leads.answered = same_answered v.asked w.asked [] advances.moves.leads.answered (rest.goes.asked tt) (goes.asked tt) in
+            let P : List ℕ → Type 0 = λ x. Stands coding old s.items (f.came ++ x) asked' w s.answers in
+            let A : List Asked → Type 0 = λ a. Stands coding old s.items (f.came ++ rest.came) (f.answered ++ a) w s.answers in
+            subst P came (subst A none (stands_rests old v w s.items f.came f.answered s.answers (from.read is) rest))
 
         unsent' : MayCancel (Some call) true → s.unsent ≡ w.channel.unsent
         unsent' (inl new) = let clash : true ≡ false = new in cc
         unsent' (inr read) = f.unsent (inr read) ∙ ap (λ t. t.unsent) ((rests read).stays tt [] false [])
 
-        under_way : (t : Standing) (wait : Wait) → UnderWay coding old (polled_as (Waiting s.answers wait t) call s) (f.came ++ advances.moves.leads.came) w call stage'
+        under_way : (t : Standing) (wait : Wait) → UnderWay coding old (polled_as (Waiting s.answers wait t) call s) came' asked' w call stage'
         under_way t wait = record {
-          plain = from.plain;
+          stage_of = stage_of;
           polled = refl;
           going = advances.failed ∙ going;
-          reaches = let P : State → Type 0 = λ state. Reaches coding old s.items (f.came ++ advances.moves.leads.came) w s.answers call (remaining coding call state stage') in subst P (sym advances.moves.state) reaches';
+          reaches = let P : State → Type 0 = λ state. Reaches coding old s.items came' asked' w s.answers call (remaining coding call state stage') in subst P (sym advances.moves.state) reaches';
           resumes = let P : State → Type 0 = λ state. Resumes w.channel.rule w.channel.kept (remaining coding call state stage') in subst P (sym advances.moves.state) resumes';
           read = read';
-          since = since_on old s.items s.answers f.came v w (begun_at stage) (begun_at stage') (remaining coding call v.state stage) from.since (inr from.resumes) advances.moves.leads.came advances.moves.leads.answered advances.moves.leads.goes begun;
+          since = since_on old s.items s.answers f.came f.answered e w (begun_at stage) (begun_at stage') before from.since (inr from.resumes) advances.moves.leads.came advances.moves.leads.answered advances.moves.leads.goes begun;
         }
 
-        go : WaitsFor over_memory (remaining coding call v.state stage') w → Follows coding old (poll_script coding (start_of old) (Some call) s) w (Some call) stage' answers
-        go (inl says) = room_waits old s v w call stage answers f stage' advances c says reaches' unsent' (λ t ran. inr (inl (under_way t wait.Room)))
+        go : WaitsFor over_memory tree' w → Follows coding outcomes left old (poll_script coding (start_of old outcomes) (Some call) s) w (Some call) stage' answers
+        go (inl says) = room_waits says reaches' unsent' (λ t ran. inr (inl (under_way t wait.Room)))
         go (inr (inr asks)) = absurd asks.may
         go (inr (inl hears)) =
             let moves = advances.moves in
-            let P : Tree → Type 0 = λ x. Reaches coding old s.items (f.came ++ moves.leads.came) w s.answers call x in
+            let asked = moves.leads.answered in
+            let P : Tree → Type 0 = λ x. Reaches coding old s.items came' asked' w s.answers call x in
             let R : Tree → Type 0 = λ x. Resumes w.channel.rule w.channel.kept x in
-            let t : Standing = here old s v w call stage answers f moves.leads.came c in
+            let t : Standing = here left asked old s v w call stage answers f moves.leads.came c in
             let resumed = subst R hears.is resumes' in
-            let stuck = hear_waits old s v w call stage answers f moves.leads.came c hears.codes hears.next (hears.dry tt) hears.none_ahead hears.unended resumed in
-            let seen : length (untaken w.channel ++ unread w.channel.told) ≡ length w.channel.kept = ap length (all_read old s v w call stage answers f moves.leads.came c hears.none_ahead (hears.dry tt)) in
-            let sent = front_fits s.room w.channel.told.sent (fits_here old s v w call stage answers f moves.leads.came c) in
+            let stuck = hear_waits left asked old s v w call stage answers f moves.leads.came c hears.codes hears.next (hears.dry tt) hears.none_ahead hears.unended resumed in
+            let seen : length (untaken w.channel ++ unread w.channel.told) ≡ length w.channel.kept = ap length (all_read left asked old s v w call stage answers f moves.leads.came c hears.none_ahead (hears.dry tt)) in
+            let sent = front_fits s.room w.channel.told.sent (fits_here left asked old s v w call stage answers f moves.leads.came c) in
             let b : Wait = wait.Bytes hears.codes.form in
-            wait_on old s v w call stage answers f moves.leads.came c (Hear hears.codes hears.next) stage' b t (subst P hears.is reaches') stuck sent (all_said w.channel) refl seen resumed refl refl unsent' (inr (inl (under_way t b)))
+            wait_on left asked old s v w call stage answers f moves.leads.came c (Hear hears.codes hears.next) stage' b t (subst P hears.is reaches') stuck sent (all_said w.channel) refl seen resumed refl refl refl unsent' (inr (inl (under_way t b)))
+
+  module _ (left : List RequestOutcome) (old : SessionValue) (s : Script) (v w : SessionValue) (call : Call) (stage : Stage) (answers : List Answer) (answer : Answer) (ends : Ends over_memory (entered_tree coding call stage v.state) answer (entered_at call stage v) w) (f : Follows coding outcomes (outcomes_of ends.completes.answered ++ left) old s v (Some call) stage answers) (c : Carried v w ends.completes.came ends.completes.answered) where
+    -- a call that is kept waiting has no answer yet
+    no_answer : Kept old s f.came f.answered v call stage → ⊥
+    no_answer from = never_gone left ends.completes.answered old s v w call stage answers f ends.completes.came c from.lacks.line from.lacks.full (ends.gone from.lacks.line from.lacks.next from.lacks.is tt)
 
     -- a poll that completes the call
-    completed : (stage' : Stage) (answer : Answer) (ends : Ends over_memory (remaining coding call v.state stage) answer v w) → Carried v w ends.completes.came → Follows coding old (poll_script coding (start_of old) (Some call) s) w None stage' (answers ++ answer ∷ [])
-    completed stage' answer ends c =
-        finish old s v w call stage answers f ends.completes.came c (Silent (remaining coding call v.state stage)) stage' answer
-        (reaches_stands old v w same s.items f.came s.answers call (remaining coding call v.state stage) answer from.reaches ends from.resumes)
+    completed : (stage' : Stage) → Goes_on old s f.came f.answered v call stage → Follows coding outcomes left old (poll_script coding (start_of old outcomes) (Some call) s) w None stage' (answers ++ answer ∷ [])
+    completed stage' from =
+        finish left ends.completes.answered old s v w call stage answers f ends.completes.came c (Silent (entered_tree coding call stage v.state)) stage' answer
+        (reaches_stands old (entered_at call stage v) w s.items f.came f.answered s.answers call (entered_tree coding call stage v.state) answer from.reaches ends from.resumes)
         ends.shrinks ends.keeps
 
   -- a session that has failed refuses the call
-  refused_poll : (old : SessionValue) (s : Script) (v : SessionValue) (call : Call) (stage stage' : Stage) (answers : List Answer) (f : Follows coding old s v (Some call) stage answers) → v.channel.failed ≡ true → Stands coding old s.items f.came v s.answers → Follows coding old (poll_script coding (start_of old) (Some call) s) v None stage' (answers ++ Fault SessionFailed ∷ [])
-  refused_poll old s v call stage stage' answers f failed stands =
-      finish old s v v call stage answers f [] (carried_none v f.given f.sound) (Unit {0}) stage' (Fault SessionFailed)
-      (stands_refused old v s.items f.came s.answers call failed stands)
+  refused_poll : (left : List RequestOutcome) (old : SessionValue) (s : Script) (v : SessionValue) (call : Call) (stage stage' : Stage) (answers : List Answer) (f : Follows coding outcomes left old s v (Some call) stage answers) → v.channel.failed ≡ true → Stands coding old s.items f.came f.answered v s.answers → Follows coding outcomes left old (poll_script coding (start_of old outcomes) (Some call) s) v None stage' (answers ++ Fault SessionFailed ∷ [])
+  refused_poll left old s v call stage stage' answers f failed stands =
+      finish left [] old s v v call stage answers f [] (carried_none v f.given f.sound) (Unit {0}) stage' (Fault SessionFailed)
+      (stands_refused old v s.items f.came f.answered s.answers call failed stands)
       (omega arith)
       (inr (refl, refl, refl, tt))
 
   -- where a poll of the call under way begins
-  module _ (old : SessionValue) (s : Script) (v : SessionValue) (call : Call) (stage : Stage) (answers : List Answer) (f : Follows coding old s v (Some call) stage answers) (may : MayPoll coding (start_of old) (Some call) s) where
-    -- the list of before goes on, or the call is kept waiting
-    agreed : negotiates call ≡ false → s.heard ≡ false → v.channel.failed ≡ false → Resumes v.channel.rule v.channel.kept (dialogue coding call v.state) ⊎ HearsNothing (run_with coding (start_of old) call s) s
-    agreed plain unheard going = pick (may unheard (f.failed ∙ going))
+  module _ (due : List RequestOutcome) (old : SessionValue) (s : Script) (v : SessionValue) (call : Call) (stage : Stage) (answers : List Answer) (f : Follows coding outcomes due old s v (Some call) stage answers) (may : MayPoll coding (start_of old outcomes) (Some call) s) where
+    -- the form of before goes on, or the call is kept waiting
+    agreed : s.heard ≡ false → v.channel.failed ≡ false → Resumes v.channel.rule v.channel.kept (dialogue coding call v.state) ⊎ ((negotiates call ≡ false) × HearsNothing (run_with coding (start_of old outcomes) call s) s)
+    agreed unheard going = pick (may unheard (f.failed ∙ going))
       where
         kept : take s.seen s.untaken ≡ v.channel.kept
         kept = ap (λ n. take n s.untaken) f.seen ∙ ap (λ u. take (length v.channel.kept) u) (f.untaken ∙ append_assoc v.channel.kept v.channel.ahead (unread v.channel.told)) ∙ take-append_seam v.channel.kept (v.channel.ahead ++ unread v.channel.told)
 
-        pick : (first_form call ≡ s.form) ⊎ Resumes old.channel.rule (take s.seen s.untaken) (dialogue coding call s.state) ⊎ HearsNothing (run_with coding (start_of old) call s) s → Resumes v.channel.rule v.channel.kept (dialogue coding call v.state) ⊎ HearsNothing (run_with coding (start_of old) call s) s
-        pick (inl same) = inl (resumes_dialogue v.channel.rule v.channel.kept call v.state plain (ap (λ b. outcome v.channel.rule b v.channel.kept false) same ∙ f.waits))
+        pick : (first_form call ≡ s.form) ⊎ Resumes old.channel.rule (take s.seen s.untaken) (dialogue coding call s.state) ⊎ ((negotiates call ≡ false) × HearsNothing (run_with coding (start_of old outcomes) call s) s) → Resumes v.channel.rule v.channel.kept (dialogue coding call v.state) ⊎ ((negotiates call ≡ false) × HearsNothing (run_with coding (start_of old outcomes) call s) s)
+        pick (inl same) = inl (resumes_dialogue v.channel.rule v.channel.kept call v.state (ap (λ b. outcome v.channel.rule b v.channel.kept false) same ∙ f.waits))
         pick (inr (inl waits)) =
             let P : State → Type 0 = λ state. Resumes old.channel.rule (take s.seen s.untaken) (dialogue coding call state) in
             let Q : List ℕ → Type 0 = λ k. Resumes old.channel.rule k (dialogue coding call v.state) in
@@ -498,148 +617,207 @@ module _ (coding : Coding) where
         pick (inr (inr nothing)) = inr nothing
 
     -- the line that doesn't go out
-    lacking : (stage' : Stage) → negotiates call ≡ false → StageOf call stage' → Reaches coding old s.items f.came v s.answers call (remaining coding call v.state stage') → HearsNothing (run_with coding (start_of old) call s) s → LacksRoomFor s.room (standing v (unread v.channel.told) (is_over v.channel.told) []) (remaining coding call v.state stage')
+    lacking : (stage' : Stage) → negotiates call ≡ false → StageOf call stage' → Reaches coding old s.items f.came f.answered v s.answers call (remaining coding call v.state stage') → HearsNothing (run_with coding (start_of old outcomes) call s) s → LacksRoomFor s.room (standing v (unread v.channel.told) (is_over v.channel.told) []) (remaining coding call v.state stage')
     lacking stage' plain stage_of reaches nothing =
-        let P : List ℕ → Type 0 = λ x. Reaches coding old s.items x v s.answers call (remaining coding call v.state stage') in
-        unheard_lacks old s v v call stage answers f [] (carried_none v f.given f.sound) v.state stage' plain stage_of (subst P (sym (append-nil f.came)) reaches) nothing (sym f.untaken)
+        let P : List ℕ → Type 0 = λ x. Reaches coding old s.items x (f.answered ++ []) v s.answers call (remaining coding call v.state stage') in
+        let A : List Asked → Type 0 = λ a. Reaches coding old s.items f.came a v s.answers call (remaining coding call v.state stage') in
+        let lacks = unheard_lacks due [] old s v v call stage answers f [] (carried_none v f.given f.sound) v.state stage' plain stage_of (subst P (sym (append-nil f.came)) (subst A (sym (append-nil f.answered)) reaches)) nothing (sym f.untaken) in
+        record { line = lacks.line; next = lacks.next; is = lacks.is; full = lacks.full }
 
-    begun_anew : Started coding old s f.came v call stage → v.channel.failed ≡ false → Resumes v.channel.rule v.channel.kept (dialogue coding call v.state) ⊎ HearsNothing (run_with coding (start_of old) call s) s → Resumed old s f.came v call (At First) ⊎ KeptWaiting old s f.came v call (At First)
+    begun_anew : Started coding old s f.came f.answered v call stage → v.channel.failed ≡ false → Resumes v.channel.rule v.channel.kept (dialogue coding call v.state) ⊎ ((negotiates call ≡ false) × HearsNothing (run_with coding (start_of old outcomes) call s) s) → Goes_on old s f.came f.answered v call (At First) ⊎ Kept old s f.came f.answered v call (At First)
     begun_anew started going (inl resumes) =
-        let is = plain_dialogue coding call v.state started.plain in
-        let R : Tree → Type 0 = λ t. Reaches coding old s.items f.came v s.answers call t in
-        let S : Tree → Type 0 = λ t. Resumes v.channel.rule v.channel.kept t in
         inl (record {
-          plain = started.plain;
-          reaches = subst R is (stands_reaches old v s.items f.came s.answers call started.plain going started.stands);
-          resumes = subst S is resumes;
+          reaches = stands_reaches old v s.items f.came f.answered s.answers call going started.stands;
+          resumes = resumes;
           read = λ r. started.stands;
-          since = since_start old s.items s.answers f.came v started.stands;
+          since = since_start old s.items s.answers f.came f.answered v (entered call v.state) started.stands;
         })
     begun_anew started going (inr nothing) =
-        let is = plain_dialogue coding call v.state started.plain in
-        let R : Tree → Type 0 = λ t. Reaches coding old s.items f.came v s.answers call t in
-        let reaches = subst R is (stands_reaches old v s.items f.came s.answers call started.plain going started.stands) in
-        let lacks = lacking (At First) started.plain started.plain reaches nothing in
+        let plain = nothing.0 in
+        let is = plain_dialogue coding call v.state plain in
+        let same = plain_entered call v.state plain in
+        let R : Tree → Type 0 = λ t. Reaches coding old s.items f.came f.answered v s.answers call t in
+        let S : State → Type 0 = λ x. Reaches coding old s.items f.came f.answered (record v { state = x }) s.answers call (dialogue coding call v.state) in
+        let D : State → Type 0 = λ x. (rule : ReplyRule) (kept : List ℕ) → Resumes rule kept (dialogue coding call x) → Resumes rule kept (dialogue coding call v.state) in
+        let L : Tree → Type 0 = λ t. LacksRoomFor s.room (standing v (unread v.channel.told) (is_over v.channel.told) []) t in
+        let reaches = stands_reaches old v s.items f.came f.answered s.answers call going started.stands in
+        let lacks = subst L (sym is) (lacking (At First) plain plain (subst R is (subst S same reaches)) nothing.1) in
         inr (record {
-          plain = started.plain;
-          stage_of = started.plain;
-          no_read = says_no_read coding call v.state lacks.line lacks.next started.plain (is ∙ lacks.is);
+          plain = plain;
+          no_read = says_no_read coding call v.state lacks.line lacks.next plain lacks.is;
           reaches = reaches;
-          resumes = λ rule kept r. (let S : Tree → Type 0 = λ t. Resumes rule kept t in subst S is r);
-          since = since_start old s.items s.answers f.came v started.stands;
-          nothing = nothing;
+          resumes = subst D (sym same) (λ rule kept r. r);
+          since = since_start old s.items s.answers f.came f.answered v (entered call v.state) started.stands;
+          nothing = nothing.1;
           lacks = lacks;
         })
 
-    going_on_unheard : Unheard coding old s f.came v call stage → Resumes v.channel.rule v.channel.kept (dialogue coding call v.state) ⊎ HearsNothing (run_with coding (start_of old) call s) s → Resumed old s f.came v call stage ⊎ KeptWaiting old s f.came v call stage
-    going_on_unheard u (inl resumes) = inl (record {
-      plain = u.plain;
-      reaches = u.reaches;
-      resumes = u.resumes v.channel.rule v.channel.kept resumes;
-      read = λ is. let clash : true ≡ false = sym is ∙ u.no_read in cc;
-      since = u.since;
-    })
-    going_on_unheard u (inr nothing) = inr (record {
-      plain = u.plain;
-      stage_of = u.stage_of;
-      no_read = u.no_read;
-      reaches = u.reaches;
-      resumes = u.resumes;
-      since = u.since;
-      nothing = nothing;
-      lacks = lacking stage u.plain u.stage_of u.reaches nothing;
-    })
+    going_on_unheard : Unheard coding old s f.came f.answered v call stage → Resumes v.channel.rule v.channel.kept (dialogue coding call v.state) ⊎ ((negotiates call ≡ false) × HearsNothing (run_with coding (start_of old outcomes) call s) s) → Goes_on old s f.came f.answered v call stage ⊎ Kept old s f.came f.answered v call stage
+    going_on_unheard u (inl resumes) =
+        let P : SessionValue → State → Tree → Type 0 = λ e x t. Resumed old s f.came f.answered v call (begun_at stage) e t in
+        inl (settle call stage v u.stage_of P (record {
+          reaches = u.reaches;
+          resumes = u.resumes v.channel.rule v.channel.kept resumes;
+          read = λ is. let clash : true ≡ false = sym is ∙ u.no_read in cc;
+          since = u.since;
+        }))
+    going_on_unheard u (inr nothing) =
+        let P : SessionValue → State → Tree → Type 0 = λ e x t. KeptWaiting old s f.came f.answered v call (begun_at stage) e x t in
+        inr (settle call stage v u.stage_of P (record {
+          plain = u.plain;
+          no_read = u.no_read;
+          reaches = u.reaches;
+          resumes = u.resumes;
+          since = u.since;
+          nothing = nothing.1;
+          lacks = lacking stage u.plain u.stage_of u.reaches nothing.1;
+        }))
 
-    placed : v.channel.failed ≡ false → Resumed old s f.came v call stage ⊎ KeptWaiting old s f.came v call stage
+    placed : v.channel.failed ≡ false → Goes_on old s f.came f.answered v call stage ⊎ Kept old s f.came f.answered v call stage
     placed going = go f.place
       where
-        go : Place coding old s f.came v (Some call) stage → Resumed old s f.came v call stage ⊎ KeptWaiting old s f.came v call stage
+        go : Place coding old s f.came f.answered v (Some call) stage → Goes_on old s f.came f.answered v call stage ⊎ Kept old s f.came f.answered v call stage
         go (inl started) =
-            let P : Stage → Type 0 = λ x. Resumed old s f.came v call x ⊎ KeptWaiting old s f.came v call x in
-            subst P (sym started.at) (begun_anew started going (agreed started.plain started.unheard going))
-        go (inr (inl u)) = inl (record { plain = u.plain; reaches = u.reaches; resumes = u.resumes; read = u.read; since = u.since })
-        go (inr (inr u)) = going_on_unheard u (agreed u.plain u.unheard going)
+            let P : Stage → Type 0 = λ x. Goes_on old s f.came f.answered v call x ⊎ Kept old s f.came f.answered v call x in
+            subst P (sym started.at) (begun_anew started going (agreed started.unheard going))
+        go (inr (inl u)) =
+            let P : SessionValue → State → Tree → Type 0 = λ e x t. Resumed old s f.came f.answered v call (begun_at stage) e t in
+            inl (settle call stage v u.stage_of P (record { reaches = u.reaches; resumes = u.resumes; read = u.read; since = u.since }))
+        go (inr (inr u)) = going_on_unheard u (agreed u.unheard going)
 
     -- a call that is under way in a session that has failed wasn't polled
-    stands_failed : v.channel.failed ≡ true → Stands coding old s.items f.came v s.answers
+    stands_failed : v.channel.failed ≡ true → Stands coding old s.items f.came f.answered v s.answers
     stands_failed failed = go f.place
       where
-        go : Place coding old s f.came v (Some call) stage → Stands coding old s.items f.came v s.answers
+        go : Place coding old s f.came f.answered v (Some call) stage → Stands coding old s.items f.came f.answered v s.answers
         go (inl started) = started.stands
         go (inr (inl u)) = let clash : true ≡ false = sym failed ∙ u.going in cc
         go (inr (inr u)) = let clash : true ≡ false = sym failed ∙ u.going in cc
 
-  pub poll_follows : (old : SessionValue) (s : Script) (v w : SessionValue) (call : Call) (stage stage' : Stage) (answers : List Answer) (result : Poll Answer) → Follows coding old s v (Some call) stage answers → MayPoll coding (start_of old) (Some call) s → PollsHere coding call stage stage' v w result → PollFollows coding old s v w call stage stage' answers result
-  poll_follows old s v w call stage stage' answers result f may here =
-      elim v.channel.failed as (λ t. v.channel.failed ≡ t → PollFollows coding old s v w call stage stage' answers result) [
+  pub poll_follows : (left : List RequestOutcome) (asked : List Asked) (old : SessionValue) (s : Script) (v w : SessionValue) (call : Call) (stage stage' : Stage) (answers : List Answer) (result : Poll Answer) → w.asked ≡ v.asked ++ asked → Follows coding outcomes (outcomes_of asked ++ left) old s v (Some call) stage answers → MayPoll coding (start_of old outcomes) (Some call) s → PollsHere coding call stage stage' v w result → PollFollows coding outcomes left old s v w call stage stage' answers result
+  poll_follows left asked old s v w call stage stage' answers result grown follows may here =
+      elim v.channel.failed as (λ t. v.channel.failed ≡ t → PollFollows coding outcomes left old s v w call stage stage' answers result) [
         | true ↦ λ failed. refused failed
-        | false ↦ λ going. go result going (here.polls going plain) here.rests (λ waits. here.begun waits plain) here.left_at
+        | false ↦ λ going. go result going (here.polls going) here.rests here.begun here.left_at
       ] refl
     where
-      plain : negotiates call ≡ false
-      plain = plain_of f.place
-        where
-          plain_of : Place coding old s f.came v (Some call) stage → negotiates call ≡ false
-          plain_of (inl started) = started.plain
-          plain_of (inr (inl u)) = u.plain
-          plain_of (inr (inr u)) = u.plain
+      -- what was asked is what is on record
+      known : (one : List Asked) → w.asked ≡ v.asked ++ one → Follows coding outcomes (outcomes_of one ++ left) old s v (Some call) stage answers
+      known one is =
+          let P : List Asked → Type 0 = λ a. Follows coding outcomes (outcomes_of a ++ left) old s v (Some call) stage answers in
+          subst P (same_answered v.asked w.asked asked one grown is) follows
 
-      refused : v.channel.failed ≡ true → PollFollows coding old s v w call stage stage' answers result
+      refused_at : v.channel.failed ≡ true → Follows coding outcomes left old s v (Some call) stage answers → Follows coding outcomes left old (poll_script coding (start_of old outcomes) (Some call) s) v None stage' (answers ++ Fault SessionFailed ∷ [])
+      refused_at failed f = refused_poll left old s v call stage stage' answers f failed (stands_failed left old s v call stage answers f may failed)
+
+      refused : v.channel.failed ≡ true → PollFollows coding outcomes left old s v w call stage stage' answers result
       refused failed =
           let is = here.refused failed in
-          let P : Poll Answer → Type 0 = λ r. PollFollows coding old s v w call stage stage' answers r in
-          let Q : SessionValue → Type 0 = λ x. Follows coding old (poll_script coding (start_of old) (Some call) s) x None stage' (answers ++ Fault SessionFailed ∷ []) in
-          subst P (sym is.0) (inl (subst Q (sym is.1) (refused_poll old s v call stage stage' answers f failed (stands_failed old s v call stage answers f may failed))))
+          let P : Poll Answer → Type 0 = λ r. PollFollows coding outcomes left old s v w call stage stage' answers r in
+          let Q : SessionValue → Type 0 = λ x. Follows coding outcomes left old (poll_script coding (start_of old outcomes) (Some call) s) x None stage' (answers ++ Fault SessionFailed ∷ []) in
+          subst P (sym is.0) (inl (subst Q (sym is.1) (refused_at failed (known [] (ap (λ x. x.asked) is.1 ∙ sym (append-nil v.asked))))))
 
-      carry : (came : List ℕ) (answered : List Asked) → Goes over_memory came answered v w → Carried v w came
-      carry came answered goes = carried v w came answered goes f.sound here.end here.given here.sound
+      carry : (came : List ℕ) (answered : List Asked) → Goes over_memory came answered (entered_at call stage v) w → Carried v w came answered
+      carry came answered goes = carried v w (entered_state call stage v.state) came answered goes follows.sound here.end here.given here.sound
 
-      ready : (answer : Answer) (going : v.channel.failed ≡ false) → (ends : Ends over_memory (remaining coding call v.state stage) answer v w) → Resumed old s f.came v call stage ⊎ KeptWaiting old s f.came v call stage → Follows coding old (poll_script coding (start_of old) (Some call) s) w None stage' (answers ++ answer ∷ [])
-      ready answer going ends (inl from) = completed old s v w (here.asked plain) call stage answers f going from stage' answer ends (carry ends.completes.came ends.completes.answered ends.completes.goes)
-      ready answer going ends (inr from) = absurd (no_answer old s v w (here.asked plain) call stage answers f going from answer ends (carry ends.completes.came ends.completes.answered ends.completes.goes))
-
-      go : (r : Poll Answer) → v.channel.failed ≡ false → PollSteps over_memory (begun_at stage) (remaining coding call v.state stage) (remaining coding call v.state stage') v w r → (r ≡ Pending → is_read call ≡ true → Rests over_memory v w) → (r ≡ Pending → HasBegun over_memory (begun_at stage) (begun_at stage') (remaining coding call v.state stage) v w) → (r ≡ Pending → StageOf call stage') → PollFollows coding old s v w call stage stage' answers r
-      go (Ready answer) going (inl ends) rests begun stage_of = inl (ready answer going ends (placed old s v call stage answers f may going))
-      go (Ready answer) going (inr aborts) rests begun stage_of =
-          let P : Answer → Type 0 = λ a. Aborts over_memory (begun_at stage) (remaining coding call v.state stage) a v w in
-          inr (record { fault = aborts.fault; is = ap Some aborts.is; going = going; aborts = subst P aborts.is aborts; given = here.given; sound = here.sound })
-      go Pending going polls rests begun stage_of = waiting (placed old s v call stage answers f may going)
+      ready_at : (answer : Answer) (going : v.channel.failed ≡ false) → (ends : Ends over_memory (entered_tree coding call stage v.state) answer (entered_at call stage v) w) → Follows coding outcomes (outcomes_of ends.completes.answered ++ left) old s v (Some call) stage answers → Follows coding outcomes left old (poll_script coding (start_of old outcomes) (Some call) s) w None stage' (answers ++ answer ∷ [])
+      ready_at answer going ends f = pick (carry ends.completes.came ends.completes.answered ends.completes.goes) (placed (outcomes_of ends.completes.answered ++ left) old s v call stage answers f may going)
         where
-          c : Carried v w polls.0.moves.leads.came
-          c = carry polls.0.moves.leads.came polls.0.moves.leads.answered polls.0.moves.leads.goes
+          pick : Carried v w ends.completes.came ends.completes.answered → Goes_on old s f.came f.answered v call stage ⊎ Kept old s f.came f.answered v call stage → Follows coding outcomes left old (poll_script coding (start_of old outcomes) (Some call) s) w None stage' (answers ++ answer ∷ [])
+          pick c (inl from) = completed left old s v w call stage answers answer ends f c stage' from
+          pick c (inr from) = absurd (no_answer left old s v w call stage answers answer ends f c from)
 
-          waiting : Resumed old s f.came v call stage ⊎ KeptWaiting old s f.came v call stage → Follows coding old (poll_script coding (start_of old) (Some call) s) w (Some call) stage' answers
-          waiting (inl from) = pending old s v w (here.asked plain) call stage answers f going from stage' polls.0 polls.1 (rests refl) (begun refl) c
-          waiting (inr from) = still_waits old s v w (here.asked plain) call stage answers f going from stage' (stage_of refl) polls.0 polls.1 (begun refl) c
+      ready : (answer : Answer) (going : v.channel.failed ≡ false) → (ends : Ends over_memory (entered_tree coding call stage v.state) answer (entered_at call stage v) w) → Follows coding outcomes left old (poll_script coding (start_of old outcomes) (Some call) s) w None stage' (answers ++ answer ∷ [])
+      ready answer going ends = ready_at answer going ends (known ends.completes.answered (ends.completes.goes.asked tt))
+
+      waiting_at : v.channel.failed ≡ false → StageOf call stage' → (advances : Advances over_memory (entered_tree coding call stage v.state) (remaining coding call (entered_state call stage v.state) stage') (entered_at call stage v) w) → WaitsFor over_memory (remaining coding call (entered_state call stage v.state) stage') w → (is_read call ≡ true → Rests over_memory v w) → HasBegun over_memory (begun_at stage) (begun_at stage') (entered_tree coding call stage v.state) (entered_at call stage v) w → Follows coding outcomes (outcomes_of advances.moves.leads.answered ++ left) old s v (Some call) stage answers → Follows coding outcomes left old (poll_script coding (start_of old outcomes) (Some call) s) w (Some call) stage' answers
+      waiting_at going stage_of advances waits rests begun f = pick (carry advances.moves.leads.came advances.moves.leads.answered advances.moves.leads.goes) (placed (outcomes_of advances.moves.leads.answered ++ left) old s v call stage answers f may going)
+        where
+          pick : Carried v w advances.moves.leads.came advances.moves.leads.answered → Goes_on old s f.came f.answered v call stage ⊎ Kept old s f.came f.answered v call stage → Follows coding outcomes left old (poll_script coding (start_of old outcomes) (Some call) s) w (Some call) stage' answers
+          pick c (inl from) = pending left old s v w call stage answers stage' advances f c going from stage_of waits rests begun
+          pick c (inr from) = still_waits left old s v w call stage answers stage' advances f c going from stage_of waits begun
+
+      go : (r : Poll Answer) → v.channel.failed ≡ false → PollSteps over_memory (begun_at stage) (entered_tree coding call stage v.state) (remaining coding call (entered_state call stage v.state) stage') (entered_at call stage v) w r → (r ≡ Pending → is_read call ≡ true → Rests over_memory v w) → (r ≡ Pending → HasBegun over_memory (begun_at stage) (begun_at stage') (entered_tree coding call stage v.state) (entered_at call stage v) w) → (r ≡ Pending → StageOf call stage') → PollFollows coding outcomes left old s v w call stage stage' answers r
+      go (Ready answer) going (inl ends) rests begun stage_of = inl (ready answer going ends)
+      go (Ready answer) going (inr aborts) rests begun stage_of =
+          let P : Answer → Type 0 = λ a. Aborts over_memory (begun_at stage) (entered_tree coding call stage v.state) a (entered_at call stage v) w in
+          inr (record { fault = aborts.fault; is = ap Some aborts.is; going = going; aborts = subst P aborts.is aborts; given = here.given; sound = here.sound })
+      go Pending going polls rests begun stage_of = waiting_at going (stage_of refl) polls.0 polls.1 (rests refl) (begun refl) (known polls.0.moves.leads.answered (polls.0.moves.leads.goes.asked tt))
+
+  -- the call under way begins where it wasn't polled
+  pub entering_is : (due : List RequestOutcome) (old : SessionValue) (s : Script) (v : SessionValue) (call : Call) (stage : Stage) (answers : List Answer) → (f : Follows coding outcomes due old s v (Some call) stage answers) → entered_at call stage v ≡ entering s.polled call v
+  entering_is due old s v call stage answers f = go f.place
+    where
+      polled : StageOf call stage → s.polled ≡ true → entered_at call stage v ≡ entering s.polled call v
+      polled stage_of is = ap (λ x. record v { state = x }) (settled_state call stage v.state stage_of) ∙ sym (ap (λ b. entering b call v) is)
+
+      go : Place coding old s f.came f.answered v (Some call) stage → entered_at call stage v ≡ entering s.polled call v
+      go (inl started) = ap (λ x. entered_at call x v) started.at ∙ sym (ap (λ b. entering b call v) started.unpolled)
+      go (inr (inl u)) = polled u.stage_of u.polled
+      go (inr (inr u)) = polled u.stage_of u.polled
 
   -- what is left of the call under way
-  pub left_of : (old : SessionValue) (s : Script) (v : SessionValue) (call : Call) (stage : Stage) (answers : List Answer) → (f : Follows coding old s v (Some call) stage answers) → v.channel.failed ≡ false → LeftOf coding old s v call (begun_at stage) (remaining coding call v.state stage)
-  left_of old s v call stage answers f going = record {
+  pub left_of : (due : List RequestOutcome) (old : SessionValue) (s : Script) (v : SessionValue) (call : Call) (stage : Stage) (answers : List Answer) → (f : Follows coding outcomes due old s v (Some call) stage answers) → v.channel.failed ≡ false → LeftOf coding old s v call (begun_at stage) (entered_tree coding call stage v.state)
+  left_of due old s v call stage answers f going = record {
     call_is = f.call_is;
     going = going;
     came = f.came;
     bytes = f.bytes;
-    reaches = reaches f.place;
+    answered = f.answered;
+    asked = f.asked;
+    reaches = let P : SessionValue → Type 0 = λ e. Reaches coding old s.items f.came f.answered e s.answers call (entered_tree coding call stage v.state) in subst P (entering_is due old s v call stage answers f) (reaches f.place);
     since = since f.place;
   }
     where
-      reaches : Place coding old s f.came v (Some call) stage → Reaches coding old s.items f.came v s.answers call (remaining coding call v.state stage)
+      reaches : Place coding old s f.came f.answered v (Some call) stage → Reaches coding old s.items f.came f.answered (entered_at call stage v) s.answers call (entered_tree coding call stage v.state)
       reaches (inl started) =
-          let P : Stage → Type 0 = λ x. Reaches coding old s.items f.came v s.answers call (remaining coding call v.state x) in
-          let R : Tree → Type 0 = λ t. Reaches coding old s.items f.came v s.answers call t in
-          subst P (sym started.at) (subst R (plain_dialogue coding call v.state started.plain) (stands_reaches old v s.items f.came s.answers call started.plain going started.stands))
-      reaches (inr (inl u)) = u.reaches
-      reaches (inr (inr u)) = u.reaches
+          let P : Stage → Type 0 = λ x. Reaches coding old s.items f.came f.answered (entered_at call x v) s.answers call (entered_tree coding call x v.state) in
+          subst P (sym started.at) (stands_reaches old v s.items f.came f.answered s.answers call going started.stands)
+      reaches (inr (inl u)) = let P : SessionValue → State → Tree → Type 0 = λ e x t. Reaches coding old s.items f.came f.answered e s.answers call t in settle call stage v u.stage_of P u.reaches
+      reaches (inr (inr u)) = let P : SessionValue → State → Tree → Type 0 = λ e x t. Reaches coding old s.items f.came f.answered e s.answers call t in settle call stage v u.stage_of P u.reaches
 
-      since : Place coding old s f.came v (Some call) stage → CallHasBegun coding old s f.came v (begun_at stage)
+      of_since : Since coding old s.items s.answers f.came f.answered v (begun_at stage) → CallHasBegun coding old s f.came f.answered v (begun_at stage)
+      of_since since = record { start = since.start; before = since.before; later = since.later; split = since.split; asked_before = since.asked_before; asked_later = since.asked_later; asked_split = since.asked_split; stands = since.stands; has_begun = since.has_begun; not_begun = since.not_begun }
+
+      since : Place coding old s f.came f.answered v (Some call) stage → CallHasBegun coding old s f.came f.answered v (begun_at stage)
       since (inl started) = record {
         start = v;
         before = f.came;
         later = [];
         split = sym (append-nil f.came);
+        asked_before = f.answered;
+        asked_later = [];
+        asked_split = sym (append-nil f.answered);
         stands = started.stands;
         has_begun = λ has. let clash : false ≡ true = sym (ap begun_at started.at) ∙ has in cc;
         not_begun = λ none. (refl, sym (append-nil (untaken v.channel)));
       }
-      since (inr (inl u)) = record { start = u.since.start; before = u.since.before; later = u.since.later; split = u.since.split; stands = u.since.stands; has_begun = u.since.has_begun; not_begun = u.since.not_begun }
-      since (inr (inr u)) = record { start = u.since.start; before = u.since.before; later = u.since.later; split = u.since.split; stands = u.since.stands; has_begun = u.since.has_begun; not_begun = u.since.not_begun }
+      since (inr (inl u)) = of_since u.since
+      since (inr (inr u)) = of_since u.since
+
+-- a poll asks more, or nothing
+pub poll_grows : (coding : Coding) (call : Call) (stage stage' : Stage) (v w : SessionValue) (result : Poll Answer) → PollsHere coding call stage stage' v w result → Grows v w
+poll_grows coding call stage stage' v w result polls_here =
+    elim v.channel.failed as (λ t. v.channel.failed ≡ t → Grows v w) [
+      | true ↦ λ failed. ([], ap (λ x. x.asked) (polls_here.refused failed).1 ∙ sym (append-nil v.asked))
+      | false ↦ λ going. go result (polls_here.polls going)
+    ] refl
+  where
+    after_fails : (place : Tree) (fault : FtpError) (at : SessionValue) → Fails over_memory place fault at w → w.asked ≡ at.asked
+    after_fails place fault at fails = ap (λ x. x.asked) fails.same
+
+    after_lack : (tree : Tree) (came : List ℕ) (fault : FtpError) (at : SessionValue) → LacksMemory over_memory (begun_at stage) tree came fault (entered_at call stage v) at w → w.asked ≡ at.asked
+    after_lack tree came fault at full = pick full.leaves
+      where
+        pick : ((w ≡ at) × (begun_at stage ≡ false) × Untouched over_memory came (entered_at call stage v) at) ⊎ ((w ≡ failed_from at) × ((begun_at stage ≡ true) ⊎ Touched over_memory tree (entered_at call stage v) at)) → w.asked ≡ at.asked
+        pick (inl same) = ap (λ x. x.asked) same.0
+        pick (inr same) = ap (λ x. x.asked) same.0
+
+    go : (r : Poll Answer) → PollSteps over_memory (begun_at stage) (entered_tree coding call stage v.state) (remaining coding call (entered_state call stage v.state) stage') (entered_at call stage v) w r → Grows v w
+    go (Ready answer) (inl ends) = (ends.completes.answered, ends.completes.goes.asked tt)
+    go (Ready answer) (inr aborts) = (aborts.leads.answered, pick aborts.cause ∙ aborts.leads.goes.asked tt)
+      where
+        pick : Fails over_memory aborts.place aborts.fault aborts.at w ⊎ LacksMemory over_memory (begun_at stage) (entered_tree coding call stage v.state) aborts.leads.came aborts.fault (entered_at call stage v) aborts.at w → w.asked ≡ aborts.at.asked
+        pick (inl fails) = after_fails aborts.place aborts.fault aborts.at fails
+        pick (inr none) = after_lack (entered_tree coding call stage v.state) aborts.leads.came aborts.fault aborts.at none
+    go Pending polls = (polls.0.moves.leads.answered, polls.0.moves.leads.goes.asked tt)

@@ -18,12 +18,17 @@ use Rattle.ftp_session.specs.declared.model.Script.{Script}
 use Rattle.ftp_session.specs.State.{SessionValue}
 use Rattle.ftp_session.specs.Coding.{Coding}
 use Rattle.ftp_session.specs.Script.{script, start_of, script_of, after_event, Lawful, IsLawful, MayCancel}
-use Rattle.ftp_session.specs.Promises.{AllRefused}
-use Rattle.ftp_session.specs.Scripted.{ScriptHolds, ScriptAborts, ScriptsHold, IsScripted, Stops, StopsAtFeed}
-use Rattle.ftp_session.specs.Steps.Stages.{begun_at, remaining}
-use Rattle.ftp_session.specs.Steps.Following.{Follows, FailedStays, Happens, AbortsCall, IsFeed, given_answer}
-use Rattle.ftp_session.proofs.Events.{begins}
-use Rattle.ftp_session.proofs.Following.{left_of}
+use Rattle.ftp_control.specs.Asking.{outcomes_of}
+use Rattle.ftp_control.specs.declared.transport.request.Asked.{Asked}
+use Rattle.ftp_control.specs.declared.transport.request.RequestOutcome.{RequestOutcome}
+use Rattle.ftp_session.specs.Link.{over_memory}
+use Rattle.ftp_session.specs.Promises.{Aborts, AllRefused}
+use Rattle.ftp_session.specs.Scripted.{Answered, ScriptHolds, ScriptAborts, ScriptsHold, IsScripted, Stops, StopsAtFeed}
+use Rattle.ftp_session.specs.Steps.Stages.{begun_at}
+use Rattle.ftp_session.specs.Steps.Following.{Grows, entered_tree, Follows, FailedStays, Happens, AbortsCall, IsFeed, given_answer}
+use Rattle.ftp_session.proofs.Carried.{none_answered, outcomes_on, same_answered}
+use Rattle.ftp_session.proofs.Events.{begins, grows_none}
+use Rattle.ftp_session.proofs.Following.{entering_is, left_of}
 
 module _ (coding : Coding) where
   script-snoc : (start : Standing) (s : Script) (events : List Event) (event : Event) → script coding start s (events ++ event ∷ []) ≡ after_event coding start (script coding start s events) event
@@ -38,25 +43,31 @@ module _ (coding : Coding) where
   abbrev pub Happened : ℕ → SessionValue → List Event → SessionValue → Option Call → Stage → List Answer → Type 0
   Happened zero old done v call stage answers = Unit {0}
   Happened (suc depth) old done v call stage answers =
-      (form : ReplyForm) → outcome old.channel.rule form old.channel.kept false ≡ Waits → Lawful coding (start_of old) (script_of old form) done → Follows coding old (script coding (start_of old) (script_of old form) done) v call stage answers ⊎ ScriptAborts (λ after later rest. Happened depth after later v call stage rest) coding old form done v answers
+      Grows old v × ((form : ReplyForm) (outcomes left : List RequestOutcome) → outcome old.channel.rule form old.channel.kept false ≡ Waits → Answered outcomes left old v → Lawful coding (start_of old outcomes) (script_of old form) done → Follows coding outcomes left old (script coding (start_of old outcomes) (script_of old form) done) v call stage answers ⊎ ScriptAborts (λ after later rest. Happened depth after later v call stage rest) coding outcomes old form done v answers)
 
   -- nothing has happened
   pub starts_script : (depth : ℕ) (old : SessionValue) (call : Option Call) (stage : Stage) → call ≡ None → IsGiven old.channel.told → IsSound (Unit {0}) old.channel → Happened depth old [] old call stage []
   starts_script zero old call stage none given sound = tt
-  starts_script (suc depth) old call stage none given sound = λ form waits lawful.
-      let P : Option Call → Type 0 = λ c. Follows coding old (script_of old form) old c stage [] in
-      inl (subst P (sym none) (begins coding old form stage given sound waits))
+  starts_script (suc depth) old call stage none given sound = (
+    grows_none old old refl,
+    λ form outcomes left waits so_far lawful.
+        let P : Option Call → Type 0 = λ c. Follows coding outcomes left old (script_of old form) old c stage [] in
+        let O : List Asked → Type 0 = λ a. outcomes ≡ outcomes_of a ++ left in
+        let all : outcomes ≡ left = subst O (none_answered old.asked so_far.answered so_far.asked) so_far.outcomes_are in
+        inl (subst P (sym none) (begins coding outcomes left old form stage all given sound waits)),
+  )
 
   -- the session stands where its script does
-  script_holds : (old : SessionValue) (form : ReplyForm) (done : List Event) (v : SessionValue) (call : Option Call) (stage : Stage) (answers : List Answer) → Follows coding old (script coding (start_of old) (script_of old form) done) v call stage answers → ScriptHolds coding old form done v answers
-  script_holds old form done v call stage answers f =
-      let s = script coding (start_of old) (script_of old form) done in
+  script_holds : (outcomes left : List RequestOutcome) (old : SessionValue) (form : ReplyForm) (done : List Event) (v : SessionValue) (call : Option Call) (stage : Stage) (answers : List Answer) → Follows coding outcomes left old (script coding (start_of old outcomes) (script_of old form) done) v call stage answers → ScriptHolds coding outcomes old form done v answers
+  script_holds outcomes left old form done v call stage answers f =
+      let s = script coding (start_of old outcomes) (script_of old form) done in
       record {
         at = record {
           answers_are = sym f.answers_are;
           sent = sym f.sent;
           said = f.said;
           untaken = sym f.untaken;
+          asked = sym f.requests;
           seen = sym f.seen;
           waits = f.waits;
           ended = sym f.ended;
@@ -65,6 +76,8 @@ module _ (coding : Coding) where
           state = sym f.state;
           failed = sym f.failed;
         };
+        left = left;
+        answered = record { answered = f.answered; asked = f.asked; outcomes_are = f.outcomes_are };
         came = f.came;
         received = f.received;
         bytes = f.bytes;
@@ -78,27 +91,29 @@ module _ (coding : Coding) where
   refused_more (answer ∷ first) second one two = (one.0, refused_more first second one.1 two)
 
   -- one event more
-  module _ (event : Event) (v w : SessionValue) (call call' : Option Call) (stage stage' : Stage) (result : Option Answer) (stays : FailedStays v w result) (happens : Happens coding v w call call' stage stage' event result) where
+  module _ (event : Event) (v w : SessionValue) (call call' : Option Call) (stage stage' : Stage) (result : Option Answer) (stays : FailedStays v w result) (grows : Grows v w) (happens : Happens coding v w call call' stage stage' event result) where
     -- a call is aborted
-    aborts_at : (depth : ℕ) (old : SessionValue) (form : ReplyForm) (done : List Event) (answers : List Answer) → Follows coding old (script coding (start_of old) (script_of old form) done) v call stage answers → (broke : (under_way : Call) × (call ≡ Some under_way) × AbortsCall coding under_way stage v w result) → call' ≡ None → event ≡ Poll → ScriptAborts (λ after later rest. Happened depth after later w call' stage' rest) coding old form (done ++ event ∷ []) w (answers ++ given_answer result)
-    aborts_at depth old form done answers follows broke none polled =
-        let s = script coding (start_of old) (script_of old form) done in
+    aborts_at : (depth : ℕ) (outcomes left : List RequestOutcome) (old : SessionValue) (form : ReplyForm) (done : List Event) (answers : List Answer) → Follows coding outcomes left old (script coding (start_of old outcomes) (script_of old form) done) v call stage answers → (broke : (under_way : Call) × (call ≡ Some under_way) × AbortsCall coding under_way stage v w result) → call' ≡ None → event ≡ Poll → ScriptAborts (λ after later rest. Happened depth after later w call' stage' rest) coding outcomes old form (done ++ event ∷ []) w (answers ++ given_answer result)
+    aborts_at depth outcomes left old form done answers follows broke none polled =
+        let s = script coding (start_of old outcomes) (script_of old form) done in
         let aborts = broke.2 in
-        let F : Option Call → Type 0 = λ c. Follows coding old s v c stage answers in
+        let F : Option Call → Type 0 = λ c. Follows coding outcomes left old s v c stage answers in
+        let f = subst F broke.1 follows in
+        let A : SessionValue → Type 0 = λ x. Aborts over_memory (begun_at stage) (entered_tree coding broke.0 stage v.state) (Fault aborts.fault) x w in
         record {
           before = done;
           later = [];
           split = ap (λ e. done ++ e ∷ []) polled;
           first = answers;
           middle = v;
-          at = script_holds old form done v call stage answers follows;
+          at = script_holds outcomes left old form done v call stage answers follows;
           call = broke.0;
           begun = begun_at stage;
-          tree = remaining coding broke.0 v.state stage;
-          under_way = left_of coding old s v broke.0 stage answers (subst F broke.1 follows) broke.2.going;
+          tree = entered_tree coding broke.0 stage v.state;
+          under_way = left_of coding outcomes left old s v broke.0 stage answers f broke.2.going;
           fault = aborts.fault;
           after = w;
-          aborts = aborts.aborts;
+          aborts = subst A (entering_is coding outcomes left old s v broke.0 stage answers f) aborts.aborts;
           others = [];
           answers_are = ap (λ r. answers ++ given_answer r) aborts.is;
           goes_on = starts_script depth w call' stage' none aborts.given aborts.sound;
@@ -106,8 +121,8 @@ module _ (coding : Coding) where
         }
 
     -- an event after a call that was aborted
-    goes_after : (depth : ℕ) (old : SessionValue) (form : ReplyForm) (done : List Event) (answers : List Answer) → (broke : ScriptAborts (λ after later rest. Happened depth after later v call stage rest) coding old form done v answers) → Happened depth broke.after (broke.later ++ event ∷ []) w call' stage' (broke.others ++ given_answer result) → ScriptAborts (λ after later rest. Happened depth after later w call' stage' rest) coding old form (done ++ event ∷ []) w (answers ++ given_answer result)
-    goes_after depth old form done answers broke goes_on = record {
+    goes_after : (depth : ℕ) (outcomes : List RequestOutcome) (old : SessionValue) (form : ReplyForm) (done : List Event) (answers : List Answer) → (broke : ScriptAborts (λ after later rest. Happened depth after later v call stage rest) coding outcomes old form done v answers) → Happened depth broke.after (broke.later ++ event ∷ []) w call' stage' (broke.others ++ given_answer result) → ScriptAborts (λ after later rest. Happened depth after later w call' stage' rest) coding outcomes old form (done ++ event ∷ []) w (answers ++ given_answer result)
+    goes_after depth outcomes old form done answers broke goes_on = record {
       before = broke.before;
       later = broke.later ++ event ∷ [];
       split = ap (λ e. e ++ event ∷ []) broke.split ∙ append_assoc broke.before (Poll ∷ broke.later) (event ∷ []);
@@ -127,37 +142,53 @@ module _ (coding : Coding) where
       failed = λ failed. let was = broke.failed failed in let is = stays was.0 in (is.0, refused_more broke.others (given_answer result) was.1 is.2);
     }
 
+    -- what was answered before
+    tied_before : (outcomes left : List RequestOutcome) (old : SessionValue) → Grows old v → Answered outcomes left old w → Answered outcomes (outcomes_of grows.0 ++ left) old v
+    tied_before outcomes left old before so_far =
+        let is : so_far.answered ≡ before.0 ++ grows.0 = same_answered old.asked w.asked so_far.answered (before.0 ++ grows.0) so_far.asked (grows.1 ∙ ap (λ x. x ++ grows.0) before.1 ∙ append_assoc old.asked before.0 grows.0) in
+        record {
+          answered = before.0;
+          asked = before.1;
+          outcomes_are = so_far.outcomes_are ∙ ap (λ a. outcomes_of a ++ left) is ∙ outcomes_on before.0 grows.0 left;
+        }
+
+    grown_more : (old : SessionValue) → Grows old v → Grows old w
+    grown_more old before = (before.0 ++ grows.0, grows.1 ∙ ap (λ x. x ++ grows.0) before.1 ∙ append_assoc old.asked before.0 grows.0)
+
     pub one_more : (depth : ℕ) (old : SessionValue) (done : List Event) (answers : List Answer) → Happened depth old done v call stage answers → Happened depth old (done ++ event ∷ []) w call' stage' (answers ++ given_answer result)
     one_more zero old done answers so_far = tt
-    one_more (suc depth) old done answers so_far = λ form waits lawful.
-        let may = lawful-snoc (start_of old) (script_of old form) done event lawful in
-        go (one_more depth) form may.1 (so_far form waits may.0)
+    one_more (suc depth) old done answers so_far = (
+      grown_more old so_far.0,
+      λ form outcomes left waits answered lawful.
+          let may = lawful-snoc (start_of old outcomes) (script_of old form) done event lawful in
+          go (one_more depth) form outcomes left may.1 (so_far.1 form outcomes (outcomes_of grows.0 ++ left) waits (tied_before outcomes left old so_far.0 answered) may.0),
+    )
       where
-        go : ((later : SessionValue) (done' : List Event) (rest : List Answer) → Happened depth later done' v call stage rest → Happened depth later (done' ++ event ∷ []) w call' stage' (rest ++ given_answer result)) → (form : ReplyForm) → IsLawful coding (start_of old) (script coding (start_of old) (script_of old form) done) event → Follows coding old (script coding (start_of old) (script_of old form) done) v call stage answers ⊎ ScriptAborts (λ after later rest. Happened depth after later v call stage rest) coding old form done v answers → Follows coding old (script coding (start_of old) (script_of old form) (done ++ event ∷ [])) w call' stage' (answers ++ given_answer result) ⊎ ScriptAborts (λ after later rest. Happened depth after later w call' stage' rest) coding old form (done ++ event ∷ []) w (answers ++ given_answer result)
-        go again form may (inl follows) = next (happens old (script coding (start_of old) (script_of old form) done) answers follows may)
+        go : ((later : SessionValue) (done' : List Event) (rest : List Answer) → Happened depth later done' v call stage rest → Happened depth later (done' ++ event ∷ []) w call' stage' (rest ++ given_answer result)) → (form : ReplyForm) (outcomes left : List RequestOutcome) → IsLawful coding (start_of old outcomes) (script coding (start_of old outcomes) (script_of old form) done) event → Follows coding outcomes (outcomes_of grows.0 ++ left) old (script coding (start_of old outcomes) (script_of old form) done) v call stage answers ⊎ ScriptAborts (λ after later rest. Happened depth after later v call stage rest) coding outcomes old form done v answers → Follows coding outcomes left old (script coding (start_of old outcomes) (script_of old form) (done ++ event ∷ [])) w call' stage' (answers ++ given_answer result) ⊎ ScriptAborts (λ after later rest. Happened depth after later w call' stage' rest) coding outcomes old form (done ++ event ∷ []) w (answers ++ given_answer result)
+        go again form outcomes left may (inl follows) = next (happens grows.0 outcomes left old (script coding (start_of old outcomes) (script_of old form) done) answers grows.1 follows may)
           where
-            next : Follows coding old (after_event coding (start_of old) (script coding (start_of old) (script_of old form) done) event) w call' stage' (answers ++ given_answer result) ⊎ (((under_way : Call) × (call ≡ Some under_way) × AbortsCall coding under_way stage v w result) × (call' ≡ None) × (event ≡ Poll)) → Follows coding old (script coding (start_of old) (script_of old form) (done ++ event ∷ [])) w call' stage' (answers ++ given_answer result) ⊎ ScriptAborts (λ after later rest. Happened depth after later w call' stage' rest) coding old form (done ++ event ∷ []) w (answers ++ given_answer result)
+            next : Follows coding outcomes left old (after_event coding (start_of old outcomes) (script coding (start_of old outcomes) (script_of old form) done) event) w call' stage' (answers ++ given_answer result) ⊎ (((under_way : Call) × (call ≡ Some under_way) × AbortsCall coding under_way stage v w result) × (call' ≡ None) × (event ≡ Poll)) → Follows coding outcomes left old (script coding (start_of old outcomes) (script_of old form) (done ++ event ∷ [])) w call' stage' (answers ++ given_answer result) ⊎ ScriptAborts (λ after later rest. Happened depth after later w call' stage' rest) coding outcomes old form (done ++ event ∷ []) w (answers ++ given_answer result)
             next (inl later) =
-                let P : Script → Type 0 = λ s. Follows coding old s w call' stage' (answers ++ given_answer result) in
-                inl (subst P (sym (script-snoc (start_of old) (script_of old form) done event)) later)
-            next (inr broke) = inr (aborts_at depth old form done answers follows broke.0 broke.1 broke.2)
-        go again form may (inr broke) = inr (goes_after depth old form done answers broke (again broke.after broke.later broke.others broke.goes_on))
+                let P : Script → Type 0 = λ s. Follows coding outcomes left old s w call' stage' (answers ++ given_answer result) in
+                inl (subst P (sym (script-snoc (start_of old outcomes) (script_of old form) done event)) later)
+            next (inr broke) = inr (aborts_at depth outcomes (outcomes_of grows.0 ++ left) old form done answers follows broke.0 broke.1 broke.2)
+        go again form outcomes left may (inr broke) = inr (goes_after depth outcomes old form done answers broke (again broke.after broke.later broke.others broke.goes_on))
 
-  pub next_event : (depth : ℕ) (old : SessionValue) (events : List Event) (i : ℕ) (event : Event) (v w : SessionValue) (call call' : Option Call) (stage stage' : Stage) (answers answers' : List Answer) (result : Option Answer) → i < length events → event ≡ get_or events i event → answers' ≡ answers ++ given_answer result → FailedStays v w result → Happens coding v w call call' stage stage' event result → Happened depth old (take i events) v call stage answers → Happened depth old (take (i + 1) events) w call' stage' answers'
-  next_event depth old events i event v w call call' stage stage' answers answers' result inside is pushed stays happens so_far =
+  pub next_event : (depth : ℕ) (old : SessionValue) (events : List Event) (i : ℕ) (event : Event) (v w : SessionValue) (call call' : Option Call) (stage stage' : Stage) (answers answers' : List Answer) (result : Option Answer) → i < length events → event ≡ get_or events i event → answers' ≡ answers ++ given_answer result → FailedStays v w result → Grows v w → Happens coding v w call call' stage stage' event result → Happened depth old (take i events) v call stage answers → Happened depth old (take (i + 1) events) w call' stage' answers'
+  next_event depth old events i event v w call call' stage stage' answers answers' result inside is pushed stays grows happens so_far =
       let done : take (i + 1) events ≡ take i events ++ event ∷ [] = take_more events i event inside ∙ ap (λ e. take i events ++ e ∷ []) (sym is) in
       let P : List Event → Type 0 = λ l. Happened depth old l w call' stage' answers' in
       let Q : List Answer → Type 0 = λ a. Happened depth old (take i events ++ event ∷ []) w call' stage' a in
-      subst P (sym done) (subst Q (sym pushed) (one_more event v w call call' stage stage' result stays happens depth old (take i events) answers so_far))
+      subst P (sym done) (subst Q (sym pushed) (one_more event v w call call' stage stage' result stays grows happens depth old (take i events) answers so_far))
 
   -- what has happened is what the events come to
   pub happened_scripted : (depth : ℕ) (old : SessionValue) (done : List Event) (v : SessionValue) (call : Option Call) (stage : Stage) (answers : List Answer) → Happened depth old done v call stage answers → ScriptsHold depth coding old done v answers
   happened_scripted zero old done v call stage answers so_far = tt
-  happened_scripted (suc depth) old done v call stage answers so_far = λ form waits lawful. go (λ later done' rest. happened_scripted depth later done' v call stage rest) form (so_far form waits lawful)
+  happened_scripted (suc depth) old done v call stage answers so_far = λ form outcomes left waits answered lawful. go (λ later done' rest. happened_scripted depth later done' v call stage rest) form outcomes left (so_far.1 form outcomes left waits answered lawful)
     where
-      go : ((later : SessionValue) (done' : List Event) (rest : List Answer) → Happened depth later done' v call stage rest → ScriptsHold depth coding later done' v rest) → (form : ReplyForm) → Follows coding old (script coding (start_of old) (script_of old form) done) v call stage answers ⊎ ScriptAborts (λ after later rest. Happened depth after later v call stage rest) coding old form done v answers → ScriptHolds coding old form done v answers ⊎ ScriptAborts (λ after later rest. ScriptsHold depth coding after later v rest) coding old form done v answers
-      go again form (inl follows) = inl (script_holds old form done v call stage answers follows)
-      go again form (inr broke) = inr (record {
+      go : ((later : SessionValue) (done' : List Event) (rest : List Answer) → Happened depth later done' v call stage rest → ScriptsHold depth coding later done' v rest) → (form : ReplyForm) (outcomes left : List RequestOutcome) → Follows coding outcomes left old (script coding (start_of old outcomes) (script_of old form) done) v call stage answers ⊎ ScriptAborts (λ after later rest. Happened depth after later v call stage rest) coding outcomes old form done v answers → ScriptHolds coding outcomes old form done v answers ⊎ ScriptAborts (λ after later rest. ScriptsHold depth coding after later v rest) coding outcomes old form done v answers
+      go again form outcomes left (inl follows) = inl (script_holds outcomes left old form done v call stage answers follows)
+      go again form outcomes left (inr broke) = inr (record {
         before = broke.before;
         later = broke.later;
         split = broke.split;

@@ -33,6 +33,7 @@ use Rattle.ftp_session.specs.Dialogue.{Expected, expected_of, Tree, Say, Hear, L
 use Rattle.ftp_session.specs.Promises.{IsFault, HasFault, Aborts, Fails, SaidOrTaken, Touched, Untouched, LacksMemory, Plays, GivesFault, Reads, Rests, begun_by, failed_from}
 use Rattle.ftp_control.specs.Channel.{untaken}
 use Rattle.ftp_session.specs.Run.{Resumes}
+use Rattle.ftp_session.specs.Steps.Following.{StageIn, entered_at, entered_state, entered_tree, is_first, is_first_turn}
 use Rattle.ftp_session.specs.Steps.Stages.{is_later, remaining, awaited, begun_at, StageOf, line_of}
 use Rattle.ftp_session.specs.Steps.Moving.{Moves, Advances, Ends, Steps, PollSteps, Hears, BeginsExchange, Concludes, Made, NothingTouched, NothingYet, Quiet, Still, HasBegun, BeginsHere, Speaks, Takes, Tracks, wants_memory, withheld, after_fault}
 use Rattle.ftp_session.proofs.Moving.{leads_on, moves_on, leaf_ends, refused_line, lacks_memory_first, lacks_memory_at, stays_put, ends_on, aborts_on, said_or_taken_on, untouched, untouched_after}
@@ -445,3 +446,41 @@ polls_fail link begun tree tree' old new (poll.Ready answer) (inl ends) failed =
     go (inr fault) = inr (inl fault)
 polls_fail link begun tree tree' old new (poll.Ready answer) (inr aborts) failed = inr (inl (let P : Answer → Type 0 = IsFault in subst P (sym aborts.is) tt))
 polls_fail link begun tree tree' old new poll.Pending (moved, waits) failed = inl (sym moved.failed ∙ failed)
+
+-- a poll begins where its call begins
+module _ (link : Link) (coding : Coding) (call : Call) (stage first last : Stage) (v e w : SessionValue) (result : Poll Answer) (same : e ≡ entered_at call stage v) (begun : begun_at first ≡ begun_at stage) (tree : remaining coding call e.state first ≡ entered_tree coding call stage v.state) where
+  pub polls_entered : PollSteps link (begun_at first) (remaining coding call e.state first) (remaining coding call e.state last) e w result → PollSteps link (begun_at stage) (entered_tree coding call stage v.state) (remaining coding call (entered_state call stage v.state) last) (entered_at call stage v) w result
+  polls_entered polls =
+      let P : Bool → Tree → SessionValue → Type 0 = λ b t x. PollSteps link b t (remaining coding call x.state last) x w result in
+      let B : Bool → Type 0 = λ b. P b (remaining coding call e.state first) e in
+      let T : Tree → Type 0 = λ t. P (begun_at stage) t e in
+      let V : SessionValue → Type 0 = λ x. P (begun_at stage) (entered_tree coding call stage v.state) x in
+      subst V same (subst T tree (subst B begun polls))
+
+  pub begun_entered : HasBegun link (begun_at first) (begun_at last) (remaining coding call e.state first) e w → HasBegun link (begun_at stage) (begun_at last) (entered_tree coding call stage v.state) (entered_at call stage v) w
+  begun_entered has =
+      let P : Bool → Tree → SessionValue → Type 0 = λ b t x. HasBegun link b (begun_at last) t x w in
+      let B : Bool → Type 0 = λ b. P b (remaining coding call e.state first) e in
+      let T : Tree → Type 0 = λ t. P (begun_at stage) t e in
+      let V : SessionValue → Type 0 = λ x. P (begun_at stage) (entered_tree coding call stage v.state) x in
+      subst V same (subst T tree (subst B begun has))
+
+-- nothing was said or taken where nothing was made of a call
+first_turn : (turn : Turn) → is_first_turn turn ≡ true → turn ≡ First
+first_turn First is = refl
+first_turn Second is = let clash : false ≡ true = is in cc
+first_turn (Passive offset) is = let clash : false ≡ true = is in cc
+first_turn (ExtendedPassive offset) is = let clash : false ≡ true = is in cc
+first_turn (Active address offset) is = let clash : false ≡ true = is in cc
+first_turn (Restart offset) is = let clash : false ≡ true = is in cc
+
+pub is_at_first : (stage : Stage) → is_first stage ≡ true → stage ≡ At First
+is_at_first (At turn) is = ap At (first_turn turn is)
+is_at_first (Saying line a) is = let clash : false ≡ true = is in cc
+is_at_first (Hearing a) is = let clash : false ≡ true = is in cc
+is_at_first (Arming turn offset) is = let clash : false ≡ true = is in cc
+is_at_first (Agreeing way) is = let clash : false ≡ true = is in cc
+
+pub stage_in_later : (call : Call) (stage : Stage) → is_first stage ≡ false → StageIn (Some call) stage → StageOf call stage
+stage_in_later call stage later (inl stage_of) = stage_of
+stage_in_later call stage later (inr first) = let clash : true ≡ false = sym (ap is_first first) ∙ later in cc

@@ -26,6 +26,8 @@ use Rattle.ftp_session.specs.Run.{run, Resumes}
 use Rattle.ftp_session.specs.Promises.{standing}
 use Rattle.ftp_control.specs.Channel.{untaken}
 use Rattle.ftp_control.specs.Saying.{said}
+use Rattle.ftp_control.specs.Asking.{requests_of}
+use Rattle.ftp_control.specs.declared.transport.request.RequestOutcome.{RequestOutcome}
 use Rattle.ftp_session.specs.State.{SessionValue}
 
 -- what came on a connection and wasn't read yet
@@ -36,9 +38,9 @@ unread t = drop (length t.received) t.given.bytes
 abbrev pub is_over : Told → Bool
 is_over t = t.given.closed || t.ended
 
--- where a run begins, on what has come by then
-abbrev pub start_of : SessionValue → Standing
-start_of v = standing v (unread v.channel.told) (is_over v.channel.told) []
+-- where a run begins, on what has come by then; these are the outcomes of its requests
+abbrev pub start_of : SessionValue → List RequestOutcome → Standing
+start_of v outcomes = standing v (unread v.channel.told) (is_over v.channel.told) outcomes
 
 -- a script begins; what an earlier read left was read as a reply of this form
 abbrev pub script_of : SessionValue → ReplyForm → Script
@@ -55,19 +57,21 @@ script_of v form = record {
   sent = v.channel.told.sent;
   unsent = v.channel.unsent;
   untaken = untaken v.channel ++ unread v.channel.told;
+  asked = requests_of v.asked;
   seen = length v.channel.kept;
   form = form;
   state = v.state;
   failed = v.channel.failed;
 }
 
--- the form of the reply that a call first hears
+-- the form of the reply that a row hears
 abbrev pub heard_form : Row → ReplyForm
 heard_form (Exchanges exchange) = (expected_of exchange.hears).form
 heard_form (Arms offset) = Plain
 
+-- the form of the reply that a call first hears; no negotiation hears a list
 abbrev pub first_form : Call → ReplyForm
-first_form call = heard_form (row_of call First)
+first_form call = if negotiates call then Plain else heard_form (row_of call First)
 
 -- what goes out of what was said
 abbrev pub front : Room → List ℕ → List ℕ
@@ -109,6 +113,7 @@ polled_as (Finished answers t) call s = record s {
   sent = front s.room t.said;
   unsent = t.unsent;
   untaken = t.bytes;
+  asked = t.asked;
   seen = seen_in s t.bytes;
   state = t.state;
   failed = t.failed;
@@ -119,6 +124,7 @@ polled_as (Waiting answers wait t) call s = record s {
   said = t.said ++ t.unsent;
   sent = front s.room t.said;
   untaken = t.bytes;
+  asked = t.asked;
   seen = seen_at wait s t.bytes;
   form = form_at wait s;
   state = t.state;
@@ -156,9 +162,10 @@ abbrev pub script : Coding → Standing → Script → List Event → Script
 script coding start s [] = s
 script coding start s (event ∷ events) = script coding start (after_event coding start s event) events
 
--- Lawful lists: no call opens a data connection; a call is dropped before its first Poll, or it is a plain read; and a reply under way is resumed
--- as one of the form that it was read as before, unless it is no whole reply of the call's form. Of a session that has failed, of a call that is refused and of one that waits for room before it
--- hears nothing is asked
+-- Lawful lists: a call is dropped before its first Poll, or it is a plain read; and a reply under way is resumed as one
+-- of the form that it was read as before, unless it is no whole reply of the call's form. Of a session that has failed,
+-- of a call that is refused and of one that opens no data connection and waits for room before it hears, nothing is
+-- asked
 
 abbrev pub MayCancel : Option Call → Bool → Type 0
 MayCancel None polled = Unit {0}
@@ -172,13 +179,13 @@ HearsNothing (Waiting answers wait t) s = heard_at wait s t.bytes ≡ false
 abbrev pub MayPoll : Coding → Standing → Option Call → Script → Type 0
 MayPoll coding start None s = Unit {0}
 MayPoll coding start (Some call) s =
-    s.heard ≡ false → s.failed ≡ false → (first_form call ≡ s.form) ⊎ Resumes start.rule (take s.seen s.untaken) (dialogue coding call s.state) ⊎ HearsNothing (run_with coding start call s) s
+    s.heard ≡ false → s.failed ≡ false → (first_form call ≡ s.form) ⊎ Resumes start.rule (take s.seen s.untaken) (dialogue coding call s.state) ⊎ ((negotiates call ≡ false) × HearsNothing (run_with coding start call s) s)
 
 abbrev pub IsLawful : Coding → Standing → Script → Event → Type 0
 IsLawful coding start s (event.Feed more) = Unit {0}
 IsLawful coding start s event.End = Unit {0}
 IsLawful coding start s (event.Room more) = Unit {0}
-IsLawful coding start s (event.Start call) = negotiates call ≡ false
+IsLawful coding start s (event.Start call) = Unit {0}
 IsLawful coding start s event.Poll = MayPoll coding start s.call s
 IsLawful coding start s event.Cancel = MayCancel s.call s.polled
 IsLawful coding start s event.Leave = Unit {0}

@@ -1,11 +1,14 @@
 -- What a session promises of a list of events: what their script says, until the connection fails or memory runs out.
-use Rattle.std.specs.Prelude.{◌≡◌, ◌⊎◌, ◌<◌, ◌+◌, ℕ, zero, suc, Bool, true, false, Some, List, [], ◌∷◌, ◌++◌, length}
+use Rattle.std.specs.Prelude.{◌≡◌, ◌⊎◌, ◌<◌, ◌+◌, ℕ, zero, suc, Bool, true, false, Some, List, [], ◌∷◌, ◌++◌, length, if◌then◌else◌}
 use Rattle.ftp_base.specs.declared.types.fault.FtpError.{FtpError}
 use Rattle.ftp_control.specs.declared.control.form.ReplyForm.{ReplyForm}
 use Rattle.ftp_control.specs.declared.transport.room.Room.{Room}
 use Rattle.ftp_control.specs.declared.control.outcome.Outcome.TheVariants.{Waits}
 use Rattle.ftp_control.specs.Grammar.{outcome}
 use Rattle.ftp_control.specs.Told.{HasRoomFor}
+use Rattle.ftp_control.specs.Asking.{requests_of, outcomes_of}
+use Rattle.ftp_control.specs.declared.transport.request.Asked.{Asked}
+use Rattle.ftp_control.specs.declared.transport.request.RequestOutcome.{RequestOutcome}
 use Rattle.ftp_control.specs.Reading.{GoesOn}
 use Rattle.ftp_control.specs.Channel.{Channel, untaken}
 use Rattle.ftp_control.specs.Saying.{said}
@@ -20,7 +23,7 @@ use Rattle.ftp_session.specs.Coding.{Coding}
 use Rattle.ftp_session.specs.Dialogue.{Tree}
 use Rattle.ftp_session.specs.Play.{play}
 use Rattle.ftp_session.specs.Run.{run, and_then}
-use Rattle.ftp_session.specs.Promises.{standing, before_all, Aborts, AllRefused}
+use Rattle.ftp_session.specs.Promises.{standing, before_all, begun_by, Aborts, AllRefused}
 use Rattle.ftp_session.specs.Script.{script, script_of, start_of, unread, is_over, Lawful, MayCancel}
 use Rattle.ftp_session.specs.Link.{over_memory}
 
@@ -37,6 +40,7 @@ pub record StandsAt (s : Script) (new : SessionValue) (answers : List Answer) : 
   pub sent : new.channel.told.sent ≡ s.sent
   pub said : SaysFrontOf new.channel s.said
   pub untaken : untaken new.channel ++ unread new.channel.told ≡ s.untaken
+  pub asked : requests_of new.asked ≡ s.asked
   pub seen : length new.channel.kept ≡ s.seen
   pub waits : outcome new.channel.rule s.form new.channel.kept false ≡ Waits
   pub ended : is_over new.channel.told ≡ s.ended
@@ -45,29 +49,37 @@ pub record StandsAt (s : Script) (new : SessionValue) (answers : List Answer) : 
   pub state : new.state ≡ s.state
   pub failed : new.channel.failed ≡ s.failed
 
--- the events come to their script; what was received and what is unread are the bytes that came; nothing fails, and
--- which lines open and end a reply stays
-pub record ScriptHolds (coding : Coding) (old : SessionValue) (form : ReplyForm) (events : List Event) (new : SessionValue) (answers : List Answer) : Type 0 where
-  pub at : StandsAt (script coding (start_of old) (script_of old form) events) new answers
+-- what the transport was asked since, and the outcomes: these are the first of all
+pub record Answered (outcomes left : List RequestOutcome) (old new : SessionValue) : Type 0 where
+  pub answered : List Asked
+  pub asked : new.asked ≡ old.asked ++ answered
+  pub outcomes_are : outcomes ≡ outcomes_of answered ++ left
+
+-- the events come to their script, where these are the outcomes of the transport's requests; what was received and what
+-- is unread are the bytes that came; nothing fails, and which lines open and end a reply stays
+pub record ScriptHolds (coding : Coding) (outcomes : List RequestOutcome) (old : SessionValue) (form : ReplyForm) (events : List Event) (new : SessionValue) (answers : List Answer) : Type 0 where
+  pub at : StandsAt (script coding (start_of old outcomes) (script_of old form) events) new answers
+  pub left : List RequestOutcome
+  pub answered : Answered outcomes left old new
   pub came : List ℕ
   pub received : new.channel.told.received ≡ old.channel.told.received ++ came
-  pub bytes : (script coding (start_of old) (script_of old form) events).bytes ≡ untaken old.channel ++ came ++ unread new.channel.told
+  pub bytes : (script coding (start_of old outcomes) (script_of old form) events).bytes ≡ untaken old.channel ++ came ++ unread new.channel.told
   pub rule : new.channel.rule ≡ old.channel.rule
   pub failures : new.channel.told.failures ≡ old.channel.told.failures
 
 -- the calls that are done come to these answers, and the call under way to what is left of it, from here
-abbrev pub Reaches : Coding → SessionValue → List Call → List ℕ → SessionValue → List Answer → Call → Tree → Type 0
-Reaches coding old items came v answers call tree =
-    (later : List Call) (room : Room) (more : List ℕ) (ended : Bool)
+abbrev pub Reaches : Coding → SessionValue → List Call → List ℕ → List Asked → SessionValue → List Answer → Call → Tree → Type 0
+Reaches coding old items came answered v answers call tree =
+    (later : List Call) (room : Room) (more : List ℕ) (ended : Bool) (outcomes : List RequestOutcome)
     → HasRoomFor room (length v.channel.told.sent) → GoesOn v.channel.ended more ended
-    → run room coding (items ++ call ∷ later) (standing old (came ++ more) ended []) ≡ before_all answers (and_then (play room tree (standing v more ended [])) (λ t. run room coding later t))
+    → run room coding (items ++ call ∷ later) (standing old (came ++ more) ended (outcomes_of answered ++ outcomes)) ≡ before_all answers (and_then (play room tree (standing v more ended outcomes)) (λ t. run room coding later t))
 
 -- the calls that are done come to these answers, and to whatever comes after them from here
-abbrev pub Stands : Coding → SessionValue → List Call → List ℕ → SessionValue → List Answer → Type 0
-Stands coding old items came v answers =
-    (later : List Call) (room : Room) (more : List ℕ) (ended : Bool)
+abbrev pub Stands : Coding → SessionValue → List Call → List ℕ → List Asked → SessionValue → List Answer → Type 0
+Stands coding old items came answered v answers =
+    (later : List Call) (room : Room) (more : List ℕ) (ended : Bool) (outcomes : List RequestOutcome)
     → HasRoomFor room (length v.channel.told.sent) → GoesOn v.channel.ended more ended
-    → run room coding (items ++ later) (standing old (came ++ more) ended []) ≡ before_all answers (run room coding later (standing v more ended []))
+    → run room coding (items ++ later) (standing old (came ++ more) ended (outcomes_of answered ++ outcomes)) ≡ before_all answers (run room coding later (standing v more ended outcomes))
 
 -- something was said since, or a reply was taken: fewer bytes are untaken than were and came
 abbrev pub SaysOrTakes : List ℕ → List ℕ → SessionValue → SessionValue → Type 0
@@ -80,14 +92,21 @@ SaysNothing later start v = (said v.channel ≡ said start.channel) × (untaken 
 
 -- where the calls before it were done; since then something of a call was said, or a reply was taken, exactly if it has
 -- begun
-pub record CallHasBegun (coding : Coding) (old : SessionValue) (s : Script) (came : List ℕ) (v : SessionValue) (begun : Bool) : Type 0 where
+pub record CallHasBegun (coding : Coding) (old : SessionValue) (s : Script) (came : List ℕ) (answered : List Asked) (v : SessionValue) (begun : Bool) : Type 0 where
   pub start : SessionValue
   pub before : List ℕ
   pub later : List ℕ
   pub split : came ≡ before ++ later
-  pub stands : Stands coding old s.items before start s.answers
+  pub asked_before : List Asked
+  pub asked_later : List Asked
+  pub asked_split : answered ≡ asked_before ++ asked_later
+  pub stands : Stands coding old s.items before asked_before start s.answers
   pub has_begun : begun ≡ true → SaysOrTakes before came start v
   pub not_begun : begun ≡ false → SaysNothing later start v
+
+-- a call that wasn't polled begins; one that opens a data connection takes the offset away
+abbrev pub entering : Bool → Call → SessionValue → SessionValue
+entering polled call v = if polled then v else begun_by call v
 
 -- a call was under way, and this is left of its dialogue
 pub record LeftOf (coding : Coding) (old : SessionValue) (s : Script) (v : SessionValue) (call : Call) (begun : Bool) (tree : Tree) : Type 0 where
@@ -95,37 +114,39 @@ pub record LeftOf (coding : Coding) (old : SessionValue) (s : Script) (v : Sessi
   pub going : v.channel.failed ≡ false
   pub came : List ℕ
   pub bytes : s.bytes ≡ untaken old.channel ++ came ++ unread v.channel.told
-  pub reaches : Reaches coding old s.items came v s.answers call tree
-  pub since : CallHasBegun coding old s came v begun
+  pub answered : List Asked
+  pub asked : v.asked ≡ old.asked ++ answered
+  pub reaches : Reaches coding old s.items came answered (entering s.polled call v) s.answers call tree
+  pub since : CallHasBegun coding old s came answered v begun
 
 -- a call was aborted at a Poll, in a session that the events before had come to; the later events find no call under
 -- way, and come to `Later`
-pub record ScriptAborts (Later : SessionValue → List Event → List Answer → Type 0) (coding : Coding) (old : SessionValue) (form : ReplyForm) (events : List Event) (new : SessionValue) (answers : List Answer) : Type 0 where
+pub record ScriptAborts (Later : SessionValue → List Event → List Answer → Type 0) (coding : Coding) (outcomes : List RequestOutcome) (old : SessionValue) (form : ReplyForm) (events : List Event) (new : SessionValue) (answers : List Answer) : Type 0 where
   pub before : List Event
   pub later : List Event
   pub split : events ≡ before ++ Poll ∷ later
   pub first : List Answer
   pub middle : SessionValue
-  pub at : ScriptHolds coding old form before middle first
+  pub at : ScriptHolds coding outcomes old form before middle first
   pub call : Call
   pub begun : Bool
   pub tree : Tree
-  pub under_way : LeftOf coding old (script coding (start_of old) (script_of old form) before) middle call begun tree
+  pub under_way : LeftOf coding old (script coding (start_of old outcomes) (script_of old form) before) middle call begun tree
   pub fault : FtpError
   pub after : SessionValue
-  pub aborts : Aborts over_memory begun tree (Fault fault) middle after
+  pub aborts : Aborts over_memory begun tree (Fault fault) (entering (script coding (start_of old outcomes) (script_of old form) before).polled call middle) after
   pub others : List Answer
   pub answers_are : answers ≡ first ++ Fault fault ∷ others
   pub goes_on : Later after later others
   pub failed : after.channel.failed ≡ true → (new.channel.failed ≡ true) × AllRefused others
 
 -- for every lawful list, from any session, where what an earlier read left of a reply says nothing yet as one
--- of this form: the events come to their script, or a call is aborted and the later ones are such a list again; that is
--- said of so many calls that are aborted
+-- of this form, and the outcomes are those of what the transport was asked: the events come to their script, or a call
+-- is aborted and the later ones are such a list again; that is said of so many calls that are aborted
 abbrev pub ScriptsHold : ℕ → Coding → SessionValue → List Event → SessionValue → List Answer → Type 0
 ScriptsHold zero coding old events new answers = Unit {0}
 ScriptsHold (suc depth) coding old events new answers =
-    (form : ReplyForm) → outcome old.channel.rule form old.channel.kept false ≡ Waits → Lawful coding (start_of old) (script_of old form) events → ScriptHolds coding old form events new answers ⊎ ScriptAborts (λ after later others. ScriptsHold depth coding after later new others) coding old form events new answers
+    (form : ReplyForm) (outcomes left : List RequestOutcome) → outcome old.channel.rule form old.channel.kept false ≡ Waits → Answered outcomes left old new → Lawful coding (start_of old outcomes) (script_of old form) events → ScriptHolds coding outcomes old form events new answers ⊎ ScriptAborts (λ after later others. ScriptsHold depth coding after later new others) coding outcomes old form events new answers
 
 -- that is said of however many
 abbrev pub IsScripted : Coding → SessionValue → List Event → SessionValue → List Answer → Type 0

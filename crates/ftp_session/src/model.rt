@@ -93,6 +93,8 @@ pub struct Script {
     pub unsent: Bytes,
     /// The bytes that are part of no reply.
     pub untaken: Bytes,
+    /// What the transport was asked.
+    pub asked: Items<Request>,
     /// How many of these a Poll has read.
     pub seen: usize,
     /// The form of the reply that it read them as.

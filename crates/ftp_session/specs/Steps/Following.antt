@@ -1,11 +1,14 @@
 -- How a session follows its script between two events.
-use Rattle.std.specs.Prelude.{◌≤◌, ◌+◌, ◌≡◌, ◌⊎◌, ℕ, Bool, true, false, Option, Some, None, List, [], ◌∷◌, ◌++◌, length}
+use Rattle.std.specs.Prelude.{◌≤◌, ◌+◌, ◌≡◌, ◌⊎◌, ℕ, Bool, true, false, Option, Some, None, List, [], ◌∷◌, ◌++◌, length, if◌then◌else◌}
 use Rattle.ftp_control.specs.Saying.{said}
 use Rattle.futures.specs.declared.task.Poll.{Poll}
 use Rattle.futures.specs.declared.task.Poll.TheVariants.{Ready, Pending}
 use Rattle.ftp_base.specs.declared.types.fault.FtpError.{FtpError}
 use Rattle.ftp_base.specs.declared.types.fault.FtpError.TheVariants.{SessionFailed}
 use Rattle.ftp_control.specs.Told.{EndsAsTold}
+use Rattle.ftp_control.specs.Asking.{requests_of, outcomes_of}
+use Rattle.ftp_control.specs.declared.transport.request.Asked.{Asked}
+use Rattle.ftp_control.specs.declared.transport.request.RequestOutcome.{RequestOutcome}
 use Rattle.ftp_control.specs.declared.control.outcome.Outcome.TheVariants.{Waits}
 use Rattle.ftp_control.specs.Grammar.{outcome}
 use Rattle.ftp_control.specs.Memory.{IsGiven}
@@ -15,14 +18,17 @@ use Rattle.ftp_calls.specs.declared.call.Answer.TheVariants.{Fault}
 use Rattle.ftp_calls.specs.declared.call.Call.{Call}
 use Rattle.ftp_calls.specs.declared.call.Event.{Event}
 use Rattle.ftp_calls.specs.declared.call.Event.TheVariants.{Feed, Poll as Polling}
-use Rattle.ftp_calls.specs.declared.exchange.Turn.TheVariants.{First}
+use Rattle.ftp_calls.specs.declared.exchange.Turn.{Turn}
+use Rattle.ftp_calls.specs.declared.exchange.Turn.TheVariants.{First, Second, Passive, ExtendedPassive, Active, Restart}
+use Rattle.ftp_session.specs.declared.session.state.State.{State}
 use Rattle.ftp_session.specs.declared.session.stage.Stage.{Stage}
-use Rattle.ftp_session.specs.declared.session.stage.Stage.TheVariants.{At}
+use Rattle.ftp_session.specs.declared.session.stage.Stage.TheVariants.{At, Saying, Hearing, Arming, Agreeing}
+use Rattle.ftp_session.specs.declared.session.stage.Agreeing.TheVariants.{Negotiating}
 use Rattle.ftp_session.specs.State.{SessionValue}
 use Rattle.ftp_session.specs.Coding.{Coding}
 use Rattle.ftp_calls.specs.Exchanges.{is_read, negotiates}
 use Rattle.ftp_control.specs.declared.control.rule.ReplyRule.{ReplyRule}
-use Rattle.ftp_session.specs.Dialogue.{dialogue}
+use Rattle.ftp_session.specs.Dialogue.{Tree, dialogue, entered}
 use Rattle.ftp_session.specs.Run.{Resumes}
 use Rattle.ftp_session.specs.Scripted.{SaysFrontOf, SaysNothing, SaysOrTakes, Stands, Reaches}
 use Rattle.ftp_session.specs.Promises.{AllRefused, Aborts, HasFault, Rests}
@@ -32,56 +38,95 @@ use Rattle.ftp_session.specs.declared.model.Script.{Script}
 use Rattle.ftp_session.specs.Script.{unread, is_over, start_of, after_event, IsLawful, MayCancel}
 use Rattle.ftp_session.specs.Link.{over_memory}
 
+-- nothing was made of a call yet
+abbrev pub is_first_turn : Turn → Bool
+is_first_turn First = true
+is_first_turn Second = false
+is_first_turn (Passive offset) = false
+is_first_turn (ExtendedPassive offset) = false
+is_first_turn (Active address offset) = false
+is_first_turn (Restart offset) = false
+
+abbrev pub is_first : Stage → Bool
+is_first (At turn) = is_first_turn turn
+is_first (Saying line a) = false
+is_first (Hearing a) = false
+is_first (Arming turn offset) = false
+is_first (Agreeing agreeing) = false
+
+-- where a call begins: one that opens a data connection takes the offset with it
+abbrev pub first_stage : Call → State → Stage
+first_stage call state = if negotiates call then Agreeing (Negotiating state.settings.restart_offset) else At First
+
+-- where a poll of a call begins
+abbrev pub entered_stage : Call → Stage → State → Stage
+entered_stage call stage state = if is_first stage then first_stage call state else stage
+
+abbrev pub entered_state : Call → Stage → State → State
+entered_state call stage state = if is_first stage then entered call state else state
+
+abbrev pub entered_at : Call → Stage → SessionValue → SessionValue
+entered_at call stage v = record v { state = entered_state call stage v.state }
+
+abbrev pub entered_tree : Coding → Call → Stage → State → Tree
+entered_tree coding call stage state = if is_first stage then dialogue coding call state else remaining coding call state stage
+
 -- since the calls before it were done, no less of a call is said and taken than was; where it has begun, more is
-pub record Since (coding : Coding) (old : SessionValue) (items : List Call) (answers : List Answer) (came : List ℕ) (v : SessionValue) (begun : Bool) : Type 0 where
+pub record Since (coding : Coding) (old : SessionValue) (items : List Call) (answers : List Answer) (came : List ℕ) (answered : List Asked) (v : SessionValue) (begun : Bool) : Type 0 where
   pub start : SessionValue
   pub before : List ℕ
   pub later : List ℕ
   pub split : came ≡ before ++ later
-  pub stands : Stands coding old items before start answers
+  pub asked_before : List Asked
+  pub asked_later : List Asked
+  pub asked_split : answered ≡ asked_before ++ asked_later
+  pub stands : Stands coding old items before asked_before start answers
   pub said : length (said start.channel) ≤ length (said v.channel)
   pub taken : length before + length (untaken v.channel) ≤ length came + length (untaken start.channel)
   pub has_begun : begun ≡ true → SaysOrTakes before came start v
   pub not_begun : begun ≡ false → SaysNothing later start v
 
 -- a call that was polled; of a plain read no trace is left where it is dropped
-pub record UnderWay (coding : Coding) (old : SessionValue) (s : Script) (came : List ℕ) (v : SessionValue) (call : Call) (stage : Stage) : Type 0 where
-  pub plain : negotiates call ≡ false
+pub record UnderWay (coding : Coding) (old : SessionValue) (s : Script) (came : List ℕ) (answered : List Asked) (v : SessionValue) (call : Call) (stage : Stage) : Type 0 where
+  pub stage_of : StageOf call stage
   pub polled : s.polled ≡ true
   pub going : v.channel.failed ≡ false
-  pub reaches : Reaches coding old s.items came v s.answers call (remaining coding call v.state stage)
+  pub reaches : Reaches coding old s.items came answered v s.answers call (remaining coding call v.state stage)
   pub resumes : Resumes v.channel.rule v.channel.kept (remaining coding call v.state stage)
-  pub read : is_read call ≡ true → Stands coding old s.items came v s.answers
-  pub since : Since coding old s.items s.answers came v (begun_at stage)
+  pub read : is_read call ≡ true → Stands coding old s.items came answered v s.answers
+  pub since : Since coding old s.items s.answers came answered v (begun_at stage)
 
 -- a call that was polled and has waited for room since, before it hears: its first line still goes out
-pub record Unheard (coding : Coding) (old : SessionValue) (s : Script) (came : List ℕ) (v : SessionValue) (call : Call) (stage : Stage) : Type 0 where
+pub record Unheard (coding : Coding) (old : SessionValue) (s : Script) (came : List ℕ) (answered : List Asked) (v : SessionValue) (call : Call) (stage : Stage) : Type 0 where
   pub plain : negotiates call ≡ false
   pub stage_of : StageOf call stage
   pub polled : s.polled ≡ true
   pub unheard : s.heard ≡ false
   pub going : v.channel.failed ≡ false
   pub no_read : is_read call ≡ false
-  pub reaches : Reaches coding old s.items came v s.answers call (remaining coding call v.state stage)
+  pub reaches : Reaches coding old s.items came answered v s.answers call (remaining coding call v.state stage)
   pub resumes : (rule : ReplyRule) (kept : List ℕ) → Resumes rule kept (dialogue coding call v.state) → Resumes rule kept (remaining coding call v.state stage)
-  pub since : Since coding old s.items s.answers came v (begun_at stage)
+  pub since : Since coding old s.items s.answers came answered v (begun_at stage)
 
 -- a call that wasn't polled
-pub record Started (coding : Coding) (old : SessionValue) (s : Script) (came : List ℕ) (v : SessionValue) (call : Call) (stage : Stage) : Type 0 where
-  pub plain : negotiates call ≡ false
+pub record Started (coding : Coding) (old : SessionValue) (s : Script) (came : List ℕ) (answered : List Asked) (v : SessionValue) (call : Call) (stage : Stage) : Type 0 where
   pub at : stage ≡ At First
   pub unpolled : s.polled ≡ false
   pub unheard : s.heard ≡ false
-  pub stands : Stands coding old s.items came v s.answers
+  pub stands : Stands coding old s.items came answered v s.answers
 
-abbrev pub Place : Coding → SessionValue → Script → List ℕ → SessionValue → Option Call → Stage → Type 0
-Place coding old s came v None stage = Stands coding old s.items came v s.answers
-Place coding old s came v (Some call) stage = Started coding old s came v call stage ⊎ UnderWay coding old s came v call stage ⊎ Unheard coding old s came v call stage
+abbrev pub Place : Coding → SessionValue → Script → List ℕ → List Asked → SessionValue → Option Call → Stage → Type 0
+Place coding old s came answered v None stage = Stands coding old s.items came answered v s.answers
+Place coding old s came answered v (Some call) stage = Started coding old s came answered v call stage ⊎ UnderWay coding old s came answered v call stage ⊎ Unheard coding old s came answered v call stage
 
--- the session follows the script
-pub record Follows (coding : Coding) (old : SessionValue) (s : Script) (v : SessionValue) (call : Option Call) (stage : Stage) (answers : List Answer) : Type 0 where
+-- the session follows the script; of all outcomes these are left
+pub record Follows (coding : Coding) (outcomes left : List RequestOutcome) (old : SessionValue) (s : Script) (v : SessionValue) (call : Option Call) (stage : Stage) (answers : List Answer) : Type 0 where
   pub came : List ℕ
-  pub place : Place coding old s came v call stage
+  pub answered : List Asked
+  pub asked : v.asked ≡ old.asked ++ answered
+  pub outcomes_are : outcomes ≡ outcomes_of answered ++ left
+  pub requests : s.asked ≡ requests_of v.asked
+  pub place : Place coding old s came answered v call stage
   pub rule : v.channel.rule ≡ old.channel.rule
   pub failures : v.channel.told.failures ≡ old.channel.told.failures
   pub given : IsGiven v.channel.told
@@ -123,10 +168,9 @@ polled_answer Pending = []
 -- what a poll over memory does, and what holds then
 pub record PollsHere (coding : Coding) (call : Call) (stage stage' : Stage) (v w : SessionValue) (result : Poll Answer) : Type 0 where
   pub refused : v.channel.failed ≡ true → (result ≡ Ready (Fault SessionFailed)) × (w ≡ v)
-  pub polls : v.channel.failed ≡ false → negotiates call ≡ false → PollSteps over_memory (begun_at stage) (remaining coding call v.state stage) (remaining coding call v.state stage') v w result
+  pub polls : v.channel.failed ≡ false → PollSteps over_memory (begun_at stage) (entered_tree coding call stage v.state) (remaining coding call (entered_state call stage v.state) stage') (entered_at call stage v) w result
   pub rests : result ≡ Pending → is_read call ≡ true → Rests over_memory v w
-  pub begun : result ≡ Pending → negotiates call ≡ false → HasBegun over_memory (begun_at stage) (begun_at stage') (remaining coding call v.state stage) v w
-  pub asked : negotiates call ≡ false → w.asked ≡ v.asked
+  pub begun : result ≡ Pending → HasBegun over_memory (begun_at stage) (begun_at stage') (entered_tree coding call stage v.state) (entered_at call stage v) w
   pub fails : w.channel.failed ≡ true → (v.channel.failed ≡ true) ⊎ HasFault (polled_answer result)
   pub left_at : result ≡ Pending → StageOf call stage'
   pub end : EndsAsTold v.channel.ended w.channel.ended v.channel.told
@@ -138,7 +182,7 @@ pub record AbortsCall (coding : Coding) (call : Call) (stage : Stage) (v w : Ses
   pub fault : FtpError
   pub is : result ≡ Some (Fault fault)
   pub going : v.channel.failed ≡ false
-  pub aborts : Aborts over_memory (begun_at stage) (remaining coding call v.state stage) (Fault fault) v w
+  pub aborts : Aborts over_memory (begun_at stage) (entered_tree coding call stage v.state) (Fault fault) (entered_at call stage v) w
   pub given : IsGiven w.channel.told
   pub sound : IsSound (Unit {0}) w.channel
 
@@ -151,7 +195,11 @@ pub record IsFeed (event : Event) : Type 0 where
   pub bytes : List ℕ
   pub is : event ≡ Feed bytes
 
+-- the record of what the transport was asked grows
+abbrev pub Grows : SessionValue → SessionValue → Type 0
+Grows v w = (asked : List Asked) × (w.asked ≡ v.asked ++ asked)
+
 -- an event of a script: the session follows it, or the call under way is aborted
 abbrev pub Happens : Coding → SessionValue → SessionValue → Option Call → Option Call → Stage → Stage → Event → Option Answer → Type 0
 Happens coding v w call call' stage stage' event result =
-    (old : SessionValue) (s : Script) (answers : List Answer) → Follows coding old s v call stage answers → IsLawful coding (start_of old) s event → Follows coding old (after_event coding (start_of old) s event) w call' stage' (answers ++ given_answer result) ⊎ (((under_way : Call) × (call ≡ Some under_way) × AbortsCall coding under_way stage v w result) × (call' ≡ None) × (event ≡ Polling))
+    (asked : List Asked) (outcomes left : List RequestOutcome) (old : SessionValue) (s : Script) (answers : List Answer) → w.asked ≡ v.asked ++ asked → Follows coding outcomes (outcomes_of asked ++ left) old s v call stage answers → IsLawful coding (start_of old outcomes) s event → Follows coding outcomes left old (after_event coding (start_of old outcomes) s event) w call' stage' (answers ++ given_answer result) ⊎ (((under_way : Call) × (call ≡ Some under_way) × AbortsCall coding under_way stage v w result) × (call' ≡ None) × (event ≡ Polling))

@@ -11,7 +11,7 @@ ghost use Rattle.ftp_session.specs.Dialogue.{Tree, armed, dialogue};
 ghost use Rattle.ftp_calls.specs.Exchanges.{is_read, negotiates};
 ghost use Rattle.ftp_session.specs.Link.{asking};
 ghost use Rattle.ftp_session.specs.Promises.{HasFault, Rests, begun_by};
-ghost use Rattle.ftp_session.specs.Steps.Following.{StageIn, polled_answer};
+ghost use Rattle.ftp_session.specs.Steps.Following.{StageIn, entered_at, entered_stage, entered_state, entered_tree, first_stage, is_first, polled_answer};
 ghost use Rattle.ftp_session.specs.Steps.Moving.{BeginsExchange, Concludes, HasBegun, Made, PollSteps, Quiet, Steps, Tracks, after_fault, wants_memory};
 ghost use Rattle.ftp_session.specs.Steps.Stages.{MayAnswer, PollAnswers, StageAfter, StageOf, StepAnswers, begun_at, nodes_left, remaining};
 
@@ -332,7 +332,7 @@ impl<Tr: Network> Machine<Tr> {
         ensures state { self.new ≡ begun_by call.now self.old }
         ensures stage { StageOf call.now result }
         ensures begun { begun_at result ≡ false }
-        ensures plain { negotiates call.now ≡ false → (self.new ≡ self.old) × (result ≡ Stage.At Turn.First) }
+        ensures at { result ≡ first_stage call.now self.old.state }
         ensures enters { (coding : Coding) →
             remaining coding call.now self.new.state result ≡ dialogue coding call.now self.old.state }
     {
@@ -348,10 +348,13 @@ impl<Tr: Network> Machine<Tr> {
     fn begin_call(&mut self, call: &Call, stage: &mut Stage)
         requires stage { StageIn (Some call.now) stage.old }
         ensures stage { StageOf call.now stage.new }
-        ensures channel { self.new.channel ≡ self.old.channel }
-        ensures same { negotiates call.now ≡ false → (self.new ≡ self.old) × (stage.new ≡ stage.old) }
+        ensures entered { self.new ≡ entered_at call.now stage.old self.old }
+        ensures at { stage.new ≡ entered_stage call.now stage.old self.old.state }
+        ensures begun { begun_at stage.new ≡ begun_at stage.old }
+        ensures enters { (coding : Coding) →
+            remaining coding call.now self.new.state stage.new ≡ entered_tree coding call.now stage.old self.old.state }
     {
-        if negotiates(call) && is_first(stage) {
+        if is_first(stage) {
             let first = self.enter(call);
             go_to(stage, first);
         }
@@ -374,19 +377,19 @@ impl<Tr: Network> Machine<Tr> {
         ensures stage { result ≡ poll.Pending → StageOf call.now stage.new }
         ensures refused { self.old.channel.failed ≡ true →
             (result ≡ poll.Ready (Answer.Fault FtpError.SessionFailed)) × (self.new ≡ self.old) }
-        ensures polls { self.old.channel.failed ≡ false → negotiates call.now ≡ false →
+        ensures polls { self.old.channel.failed ≡ false →
             let coding = coding_of E.decoded E.encoded encoding.now in
             PollSteps (asking Tr.Conn.tells Tr.Conn.read_faults Tr.Conn.write_faults Tr.Conn.end_faults A.may_wait) (begun_at stage.old)
-            (remaining coding call.now self.old.state stage.old)
-            (remaining coding call.now self.old.state stage.new) self.old self.new result }
+            (entered_tree coding call.now stage.old self.old.state)
+            (remaining coding call.now (entered_state call.now stage.old self.old.state) stage.new)
+            (entered_at call.now stage.old self.old) self.new result }
         ensures rests { result ≡ poll.Pending → is_read call.now ≡ true →
             Rests (asking Tr.Conn.tells Tr.Conn.read_faults Tr.Conn.write_faults Tr.Conn.end_faults A.may_wait) self.old self.new }
-        ensures begun { result ≡ poll.Pending → negotiates call.now ≡ false →
+        ensures begun { result ≡ poll.Pending →
             let coding = coding_of E.decoded E.encoded encoding.now in
             HasBegun (asking Tr.Conn.tells Tr.Conn.read_faults Tr.Conn.write_faults Tr.Conn.end_faults A.may_wait) (begun_at stage.old) (begun_at stage.new)
-            (remaining coding call.now self.old.state stage.old) self.old self.new }
+            (entered_tree coding call.now stage.old self.old.state) (entered_at call.now stage.old self.old) self.new }
         ensures fails { self.new.channel.failed ≡ true → (self.old.channel.failed ≡ true) ⊎ HasFault (polled_answer result) }
-        ensures asked { negotiates call.now ≡ false → self.new.asked ≡ self.old.asked }
         ensures end { Tr.Conn.tells → Tr.Conn.may_wait →
             EndsAsTold self.old.channel.ended self.new.channel.ended self.old.channel.told }
     {
@@ -439,7 +442,7 @@ fn wants_memory(fault: &FtpError) -> bool
 
 /// Whether nothing was made of a call yet.
 fn is_first(stage: &Stage) -> bool
-    ensures { result ≡ false → stage.now ≡ Stage.At Turn.First → ⊥ }
+    ensures { result ≡ is_first stage.now }
 {
     match stage {
         Stage::At(turn) => matches!(turn, Turn::First),

@@ -48,6 +48,7 @@ fn first_script(alloc: Global) -> Script {
         sent: Bytes::new(alloc),
         unsent: Bytes::new(alloc),
         untaken: Bytes::new(alloc),
+        asked: Items::from_vec(Vec::new(alloc)),
         seen: 0,
         form: ReplyForm::Plain,
         state: State::new(),

@@ -28,7 +28,7 @@ loop-event-preserved g c =
       fails = fails_more c.args.self.now c.loop-event.self c.happen.new.self c.loop-event.answers.items (given_answer c.in_ok-answer.answer) c.note.new.answers.items noted.items held.fails c.in_ok-answer.ensures.fails;
       count = omega (arith, longer, held.count, at_most_one coding c.in_ok-answer.answer);
       room = omega (arith, held.room, noted.room);
-      so_far = λ depth. next_event coding depth c.args.self.now c.args.events.now c.loop-event.event-index c.event-item.result c.loop-event.self c.happen.new.self _ _ c.loop-event.stage c.happen.new.stage c.loop-event.answers.items c.note.new.answers.items c.in_ok-answer.answer c.loop-event-test.true c.event-item.is noted.items c.in_ok-answer.ensures.failed c.in_ok-answer.ensures.happens (held.so_far depth);
+      so_far = λ depth. next_event coding depth c.args.self.now c.args.events.now c.loop-event.event-index c.event-item.result c.loop-event.self c.happen.new.self _ _ c.loop-event.stage c.happen.new.stage c.loop-event.answers.items c.note.new.answers.items c.in_ok-answer.answer c.loop-event-test.true c.event-item.is noted.items c.in_ok-answer.ensures.failed c.in_ok-answer.ensures.grows c.in_ok-answer.ensures.happens (held.so_far depth);
     }
 
 pub returns-clause-scripted : goal.returns-clause-scripted
