@@ -208,6 +208,10 @@ module _ (coding : Coding) where
         failed = broke.failed;
       })
 
+  -- what the transport was asked by then
+  pub has_grown : (old : SessionValue) (done : List Event) (v : SessionValue) (call : Option Call) (stage : Stage) (answers : List Answer) → ((depth : ℕ) → Happened depth old done v call stage answers) → Grows old v
+  has_grown old done v call stage answers so_far = (so_far (suc zero)).0
+
   -- no event is left
   pub all_events : (old : SessionValue) (events : List Event) (i : ℕ) (v : SessionValue) (call : Option Call) (stage : Stage) (answers : List Answer) → length events ≤ i → ((depth : ℕ) → Happened depth old (take i events) v call stage answers) → IsScripted coding old events v answers
   all_events old events i v call stage answers past so_far = λ depth.

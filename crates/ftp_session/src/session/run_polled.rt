@@ -43,6 +43,7 @@ impl<K: Drop, E: Encoding, B: Drop> Session<MemoryTransport, K, E, B> {
         ensures memory { IfErr result (λ fault. fault ≡ FtpError.OutOfMemory) }
         ensures stops { OnErr result (Stops (chosen E.decoded E.encoded self.old.encoding.0)
             self.old.machine events.now self.new.machine) }
+        ensures grows { Grows self.old.machine self.new.machine }
         ensures fails { IfOk result (λ answers.
             FailsWith self.old.machine self.new.machine answers.items) }
         ensures sound { Sound (Unit {0}) self.new.machine.channel
@@ -68,6 +69,7 @@ impl Machine<MemoryTransport> {
         ensures scripted { IfOk result (λ answers.
             IsScripted (coding_of E.decoded E.encoded encoding.now) self.old events.now self.new
             answers.items) }
+        ensures grows { Grows self.old self.new }
         ensures fails { IfOk result (λ answers. FailsWith self.old self.new answers.items) }
         ensures memory { IfErr result (λ fault. fault ≡ FtpError.OutOfMemory) }
         ensures stops { OnErr result (Stops (coding_of E.decoded E.encoded encoding.now) self.old

@@ -1,8 +1,10 @@
-use Rattle.std.proofs.Common.{inl, length, length-append, option_map, None, refl, ap, ◌∙◌, arith}
+use Rattle.std.proofs.Common.{inl, length, length-append, option_map, None, refl, ap, sym, subst, ◌∙◌, arith}
 use Rattle.ftp_session.specs.Coding.{Coding, coding_of}
-use Rattle.ftp_session.specs.Steps.Following.{given_answer}
+use Rattle.ftp_session.specs.State.{SessionValue}
+use Rattle.ftp_session.specs.Steps.Following.{Grows, given_answer}
+use Rattle.ftp_session.proofs.Events.{grows_none}
 use Rattle.ftp_session.proofs.Running.{fails_more}
-use Rattle.ftp_session.proofs.Scripts.{starts_script, next_event, all_events, stops_at, on_err, at_most_one}
+use Rattle.ftp_session.proofs.Scripts.{starts_script, next_event, all_events, has_grown, stops_at, on_err, at_most_one}
 use Rattle.ftp_session.proofs.session.run_polled.Machine+MemoryTransport.let_happen.Goals as goal
 
 pub loop-event-init : goal.loop-event-init
@@ -40,3 +42,18 @@ returns-in_err-answer-clause-stops g c =
     let coding : Coding = coding_of g.E.Encoding.decoded g.E.Encoding.encoded c.args.encoding.now in
     let stopped = rw c.in_err-answer.was at c.happen.ensures.unchanged in
     on_err coding _ _ c.from_residual-in_err-answer.result _ (stops_at coding c.args.self.now c.args.events.now c.loop-event.event-index c.event-item.result c.loop-event.self c.happen.new.self (option_map (λ c'. c'.now) c.loop-event.under_way) c.loop-event.stage c.loop-event.answers.items c.loop-event-test.true c.event-item.is stopped.0 stopped.1 c.loop-event.invariant.so_far)
+
+pub returns-clause-grows : goal.returns-clause-grows
+returns-clause-grows g c =
+    let coding : Coding = coding_of g.E.Encoding.decoded g.E.Encoding.encoded c.args.encoding.now in
+    has_grown coding c.args.self.now _ c.loop-event.self _ c.loop-event.stage c.loop-event.answers.items c.loop-event.invariant.so_far
+
+pub returns-in_err-answer-clause-grows : goal.returns-in_err-answer-clause-grows
+returns-in_err-answer-clause-grows g c =
+    let coding : Coding = coding_of g.E.Encoding.decoded g.E.Encoding.encoded c.args.encoding.now in
+    let stopped = rw c.in_err-answer.was at c.happen.ensures.unchanged in
+    let P : SessionValue → Type 0 = λ x. Grows c.args.self.now x in
+    subst P (sym stopped.0) (has_grown coding c.args.self.now _ c.loop-event.self _ c.loop-event.stage c.loop-event.answers.items c.loop-event.invariant.so_far)
+
+pub returns-in_err-answers-clause-grows : goal.returns-in_err-answers-clause-grows
+returns-in_err-answers-clause-grows g c = grows_none c.args.self.now c.args.self.now refl
