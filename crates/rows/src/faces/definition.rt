@@ -8,7 +8,7 @@ use crate::requests::lines_of;
 use crate::transcript::Standing;
 use ftp_base::types::{Bytes, Items};
 use ftp_control::control::{ReplyForm, ReplyRule};
-use ftp_control::transport::{RequestOutcome, Room};
+use ftp_control::transport::Room;
 use ftp_session::model::{self, Played, Ran, Script, Wait};
 use ftp_session::session::{Answer, Call, Event, State};
 use row_text::RowError;
@@ -34,8 +34,8 @@ fn first(alloc: Global, input: &[u8], play: &Play) -> Result<model::Standing, Al
 }
 
 /// A script that begins: nothing came, and nothing was said.
-fn first_script(alloc: Global, play: &Play) -> Result<Script, AllocError> {
-    Ok(Script {
+fn first_script(alloc: Global) -> Script {
+    Script {
         items: Items::from_vec(Vec::new(alloc)),
         answers: Items::from_vec(Vec::new(alloc)),
         call: None,
@@ -51,9 +51,9 @@ fn first_script(alloc: Global, play: &Play) -> Result<Script, AllocError> {
         asked: Items::from_vec(Vec::new(alloc)),
         seen: 0,
         form: ReplyForm::Plain,
-        state: play.setup.state()?,
+        state: State::new(),
         failed: false,
-    })
+    }
 }
 
 /// The encoding of a row: UTF-8 where it names none.
@@ -61,48 +61,26 @@ fn encoding_of(play: &Play) -> Named {
     play.encoding.unwrap_or(Named::Utf8)
 }
 
-/// Where a run of these calls ends.
+/// Where a run of these calls ends. It is played again for each request, with one outcome more.
 pub fn ran(alloc: Global, calls: &[Call], play: &Play) -> Result<Standing, RowError> {
     if let (Some(dial), Some((_greet, others))) = (&play.dial, calls.split_first()) {
         return dialled(alloc, dial, others, play, first(alloc, &play.input, play)?);
     }
-    let outcomes = outcomes_of(alloc, calls, play)?;
-    match played(alloc, calls, play, &outcomes)? {
-        Ran::Finished(answers, here) | Ran::Waiting(answers, _, here) => {
-            let asked = lines_of(alloc, here.asked.as_slice(), &outcomes)?;
-            stands(alloc, asked, answers, here, play.input.len())
-        }
-    }
-}
-
-/// What the requests of these calls come to. They are played again for each request, with one outcome more.
-fn outcomes_of(
-    alloc: Global,
-    calls: &[Call],
-    play: &Play,
-) -> Result<Vec<RequestOutcome>, RowError> {
     let mut outcomes = Vec::new(alloc);
     for _ in 0..u64::MAX {
-        match played(alloc, calls, play, &outcomes)? {
+        let mut begun = first(alloc, &play.input, play)?;
+        begun.outcomes = Items::from_vec(Vec::from_slice(alloc, &outcomes)?);
+        match run(alloc, Room::Any, &encoding_of(play), calls, begun)? {
             Ran::Waiting(_, Wait::Outcome, here) => {
                 outcomes = play.setup.outcomes(alloc, here.asked.as_slice())?;
             }
-            Ran::Finished(..) | Ran::Waiting(..) => return Ok(outcomes),
+            Ran::Finished(answers, here) | Ran::Waiting(answers, _, here) => {
+                let asked = lines_of(alloc, here.asked.as_slice(), &outcomes)?;
+                return stands(alloc, asked, answers, here, play.input.len());
+            }
         }
     }
     Err(RowError::NotUnderstood)
-}
-
-/// What these calls come to, where their requests come to these outcomes.
-fn played(
-    alloc: Global,
-    calls: &[Call],
-    play: &Play,
-    outcomes: &[RequestOutcome],
-) -> Result<Ran, AllocError> {
-    let mut begun = first(alloc, &play.input, play)?;
-    begun.outcomes = Items::from_vec(Vec::from_slice(alloc, outcomes)?);
-    run(alloc, Room::Any, &encoding_of(play), calls, begun)
 }
 
 /// Where a session comes to that connects first, and then makes these calls. Without a connection it makes none.
@@ -172,32 +150,20 @@ pub fn welcome(alloc: Global, state: &State) -> Result<Option<String>, AllocErro
     }
 }
 
-/// Where these events lead to. They happen again for each request that the row's calls don't make.
+/// Where these events lead to.
 pub fn scripted(alloc: Global, events: &[Event], play: &Play) -> Result<Standing, RowError> {
-    let mut outcomes = outcomes_of(alloc, &play.calls, play)?;
-    for _ in 0..u64::MAX {
-        let mut begun = first(alloc, b"", play)?;
-        begun.outcomes = Items::from_vec(Vec::from_slice(alloc, &outcomes)?);
-        let here = first_script(alloc, play)?;
-        let script = run_polled(alloc, &encoding_of(play), &begun, here, events)?;
-        if script.asked.as_slice().len() <= outcomes.len() {
-            return stands_in(alloc, &script, &outcomes);
-        }
-        outcomes = play.setup.outcomes(alloc, script.asked.as_slice())?;
-    }
-    Err(RowError::NotUnderstood)
+    let encoding = encoding_of(play);
+    let first = first(alloc, b"", play)?;
+    let script = run_polled(alloc, &encoding, &first, first_script(alloc), events)?;
+    stands_in(alloc, &script)
 }
 
-/// Where a session stands after this script, whose requests came to these outcomes.
-fn stands_in(
-    alloc: Global,
-    script: &Script,
-    outcomes: &[RequestOutcome],
-) -> Result<Standing, RowError> {
+/// Where a session stands after this script.
+fn stands_in(alloc: Global, script: &Script) -> Result<Standing, RowError> {
     let answers = texts_of(alloc, script.answers.as_slice())?;
     let welcome = welcome(alloc, &script.state)?;
     Ok(Standing {
-        asked: lines_of(alloc, script.asked.as_slice(), outcomes)?,
+        asked: Vec::new(alloc),
         sent: Vec::from_slice(alloc, script.sent.as_slice())?,
         answers,
         taken: script.bytes.len().saturating_sub(script.untaken.len()),
