@@ -110,7 +110,7 @@ impl Face {
 
     /// Whether a row can be played on it: the blocking client has no method that reads a reply alone, neither it nor
     /// the session has one that opens a data connection, a run is made on a connection, and the definition of polled
-    /// runs knows no outcome of a request.
+    /// runs is not given the outcomes of requests yet.
     pub fn plays(self, play: &Play) -> bool {
         match self {
             Face::Definition => true,
