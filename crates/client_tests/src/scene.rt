@@ -98,6 +98,5 @@ fn write_request(text: &mut String, request: &Request) -> Result<(), AllocError>
             let seconds = deadline.as_secs();
             write!(text, "accept in {seconds} ")
         }
-        Request::LocalAddress | Request::PeerAddress => text.push_str("ends "),
     }
 }

@@ -1,13 +1,12 @@
 -- Lemmas on what a poll leaves of a connection: which bytes came, what is read of them, and the room.
 use Rattle.std.proofs.Common.{◌≡◌, ℕ, ◌+◌, ◌<◌, ◌≤◌, Bool, true, false, cond, ◌||◌, eqb, List, [], ◌∷◌, ◌++◌, length, drop, inl, inr, ◌⊎◌, refl, ap, sym, ◌∙◌, subst, append_assoc, append-nil, length-append, arith, eq-eqb}
 use Rattle.std.proofs.lemmas.Bool.{lt-leb, eqb-true}
-use Rattle.std.proofs.lemmas.List.{append_cancel_left, take_all}
+use Rattle.std.proofs.lemmas.List.{take_all}
 use Rattle.std.proofs.Math.Seq.{drop-append_seam, take-append_seam}
 use Rattle.ftp_control.specs.declared.transport.room.Room.{Room}
 use Rattle.ftp_control.specs.declared.transport.room.Room.TheVariants.{Any, UpTo}
-use Rattle.ftp_control.specs.declared.transport.request.Asked.{Asked}
-use Rattle.ftp_control.specs.Asking.{outcomes_of}
-use Rattle.ftp_control.proofs.Asking.{outcomes-append}
+use Rattle.ftp_session.specs.Deals.{Deal, Deals, outcomes_of}
+use Rattle.ftp_session.proofs.Deals.{outcomes-append}
 use Rattle.ftp_control.specs.declared.transport.request.RequestOutcome.{RequestOutcome}
 use Rattle.ftp_control.specs.Told.{Told, HasRoomFor, HasNoRoom, EndsAsTold}
 use Rattle.ftp_control.specs.Memory.{IsGiven}
@@ -71,15 +70,8 @@ same_over t u same grows told =
 
 -- what was asked
 
-pub outcomes_on : (a b : List Asked) (later : List RequestOutcome) → outcomes_of (a ++ b) ++ later ≡ outcomes_of a ++ (outcomes_of b ++ later)
+pub outcomes_on : (a b : List Deal) (later : List RequestOutcome) → outcomes_of (a ++ b) ++ later ≡ outcomes_of a ++ (outcomes_of b ++ later)
 outcomes_on a b later = ap (λ l. l ++ later) (outcomes-append a b) ∙ append_assoc (outcomes_of a) (outcomes_of b) later
-
--- what is on record tells what was asked since
-pub same_answered : (asked all one two : List Asked) → all ≡ asked ++ one → all ≡ asked ++ two → one ≡ two
-same_answered asked all one two first second = append_cancel_left asked one two (sym first ∙ second)
-
-pub none_answered : (asked answered : List Asked) → asked ≡ asked ++ answered → answered ≡ []
-none_answered asked answered is = same_answered asked asked answered [] is (sym (append-nil asked))
 
 -- What is read
 
@@ -126,8 +118,8 @@ full_room (UpTo most) sent unsent line fit full some =
     (lt-leb _ _ (omega (arith, count, positive unsent some, fit, full)), rw (same, append_assoc sent unsent line) (take-append_seam sent (unsent ++ line)))
 
 -- what a poll leaves of a connection
-pub record Carried (v w : SessionValue) (came : List ℕ) (asked : List Asked) : Type 0 where
-  pub grown : w.asked ≡ v.asked ++ asked
+pub record Carried (v w : SessionValue) (came : List ℕ) (asked : List Deal) : Type 0 where
+  pub deals : Deals asked v.net w.net
   pub rule : w.channel.rule ≡ v.channel.rule
   pub received : w.channel.told.received ≡ v.channel.told.received ++ came
   pub failures : w.channel.told.failures ≡ v.channel.told.failures
@@ -137,9 +129,9 @@ pub record Carried (v w : SessionValue) (came : List ℕ) (asked : List Asked) :
   pub has : IsGiven w.channel.told
   pub sound : IsSound (Unit {0}) w.channel
 
-pub carried : (v w : SessionValue) (state : State) (came : List ℕ) (answered : List Asked) → Goes over_memory came answered (record v { state = state }) w → IsSound (Unit {0}) v.channel → EndsAsTold v.channel.ended w.channel.ended v.channel.told → IsGiven w.channel.told → IsSound (Unit {0}) w.channel → Carried v w came answered
+pub carried : (v w : SessionValue) (state : State) (came : List ℕ) (answered : List Deal) → Goes over_memory came answered (record v { state = state }) w → IsSound (Unit {0}) v.channel → EndsAsTold v.channel.ended w.channel.ended v.channel.told → IsGiven w.channel.told → IsSound (Unit {0}) w.channel → Carried v w came answered
 carried v w state came answered goes sound end given sound' = record {
-  grown = goes.asked tt;
+  deals = goes.deals tt;
   rule = goes.rule;
   received = goes.received tt;
   failures = (goes.failures tt).failures;
@@ -155,7 +147,7 @@ carried v w state came answered goes sound end given sound' = record {
     go (inr e) = inr e
 
 pub carried_none : (v : SessionValue) → IsGiven v.channel.told → IsSound (Unit {0}) v.channel → Carried v v [] []
-carried_none v given sound = record { grown = sym (append-nil v.asked); rule = refl; received = sym (append-nil v.channel.told.received); failures = refl; split = refl; given = refl; over = refl; has = given; sound = sound }
+carried_none v given sound = record { deals = refl; rule = refl; received = sym (append-nil v.channel.told.received); failures = refl; split = refl; given = refl; over = refl; has = given; sound = sound }
 
 -- what went out and is unsent begins what is said with the next line
 pub line_front : (c : Channel) (line : List ℕ) → (c.unsent ≡ [] → ⊥) → SaysFrontOf c ((c.told.sent ++ c.unsent ++ line) ++ [])

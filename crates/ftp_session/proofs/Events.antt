@@ -5,7 +5,6 @@ use Rattle.std.proofs.Math.Seq.{drop-append_seam}
 use Rattle.ftp_control.specs.Told.{Told, Given}
 use Rattle.ftp_control.specs.Memory.{IsGiven, fed, closed_memory, widened, more_room}
 use Rattle.ftp_control.specs.declared.control.outcome.Outcome.TheVariants.{Waits}
-use Rattle.ftp_control.specs.declared.transport.request.Asked.{Asked}
 use Rattle.ftp_control.specs.Grammar.{outcome}
 use Rattle.ftp_control.specs.Channel.{Channel, IsSound, untaken}
 use Rattle.ftp_calls.specs.declared.call.Answer.{Answer}
@@ -14,7 +13,7 @@ use Rattle.ftp_calls.specs.declared.call.Event.{Event}
 use Rattle.ftp_calls.specs.declared.call.Event.TheVariants as event
 use Rattle.ftp_session.specs.declared.session.stage.Stage.{Stage}
 use Rattle.futures.specs.declared.task.Poll.TheVariants.{Ready, Pending}
-use Rattle.ftp_control.specs.Asking.{requests_of, outcomes_of}
+use Rattle.ftp_session.specs.Deals.{Deal, Net, outcomes_of}
 use Rattle.ftp_control.specs.declared.transport.request.RequestOutcome.{RequestOutcome}
 use Rattle.ftp_session.specs.declared.session.state.State.{State}
 use Rattle.ftp_session.specs.declared.model.Script.{Script}
@@ -26,14 +25,14 @@ use Rattle.ftp_session.specs.Promises.{HasFault, FailsWith, before_all, standing
 use Rattle.ftp_control.specs.Saying.{said}
 use Rattle.ftp_session.specs.Scripted.{Stands, Reaches}
 use Rattle.ftp_session.specs.Run.{run, and_then}
-use Rattle.ftp_session.specs.Play.{play}
+use Rattle.ftp_session.specs.Play.{finally, play}
 use Rattle.ftp_session.specs.Dialogue.{Tree}
 use Rattle.ftp_session.specs.declared.model.Standing.{Standing}
 use Rattle.futures.specs.declared.task.Poll.{Poll}
 use Rattle.ftp_session.specs.Steps.Stages.{remaining}
 use Rattle.ftp_session.proofs.Transitions.{given_by}
-use Rattle.ftp_session.proofs.Carried.{none_answered, unread_is}
-use Rattle.ftp_session.proofs.Following.{poll_follows}
+use Rattle.ftp_session.proofs.Carried.{unread_is}
+use Rattle.ftp_session.proofs.Following.{PollFollows}
 
 module _ (coding : Coding) (outcomes left : List RequestOutcome) where
   -- what is given to a connection
@@ -41,7 +40,7 @@ module _ (coding : Coding) (outcomes left : List RequestOutcome) where
   with_given v given = record v { channel = record v.channel { told = record v.channel.told { given = given } } }
 
   -- a place doesn't change with what is given, nor with what is fed of a script
-  place_given : (old : SessionValue) (s t : Script) (came : List ℕ) (answered : List Asked) (v : SessionValue) (given : Given) (call : Option Call) (stage : Stage) → given.local ≡ v.channel.told.given.local → given.peer ≡ v.channel.told.given.peer → t.items ≡ s.items → t.answers ≡ s.answers → t.polled ≡ s.polled → t.heard ≡ s.heard → Place coding old s came answered v call stage → Place coding old t came answered (with_given v given) call stage
+  place_given : (old : SessionValue) (s t : Script) (came : List ℕ) (answered : List Deal) (v : SessionValue) (given : Given) (call : Option Call) (stage : Stage) → given.local ≡ v.channel.told.given.local → given.peer ≡ v.channel.told.given.peer → t.items ≡ s.items → t.answers ≡ s.answers → t.polled ≡ s.polled → t.heard ≡ s.heard → Place coding old s came answered v call stage → Place coding old t came answered (with_given v given) call stage
   place_given old s t came answered v given call stage local peer items answers polled heard place =
       let same : Place coding old s came answered (with_given v given) call stage = go call stage place in
       let P : List Call → List Answer → Bool → Bool → Type 0 = λ i a p h. Place coding old (record s { items = i; answers = a; polled = p; heard = h }) came answered (with_given v given) call stage in
@@ -61,7 +60,7 @@ module _ (coding : Coding) (outcomes left : List RequestOutcome) where
       stands_given stands = λ later room more ended outcomes fit on. stands later room more ended outcomes fit on ∙ ap (λ x. before_all s.answers (run room coding later x)) (same_standing more ended outcomes)
 
       reaches_given : (call : Call) (tree : Tree) → Reaches coding old s.items came answered v s.answers call tree → Reaches coding old s.items came answered (with_given v given) s.answers call tree
-      reaches_given call tree reaches = λ later room more ended outcomes fit on. reaches later room more ended outcomes fit on ∙ ap (λ x. before_all s.answers (and_then (play room tree x) (λ t. run room coding later t))) (same_standing more ended outcomes)
+      reaches_given call tree reaches = λ later room more ended outcomes fit on. reaches later room more ended outcomes fit on ∙ ap (λ x. before_all s.answers (and_then (finally (play room tree x)) (λ t. run room coding later t))) (same_standing more ended outcomes)
 
       go : (call : Option Call) (stage : Stage) → Place coding old s came answered v call stage → Place coding old s came answered (with_given v given) call stage
       go None stage place = stands_given place
@@ -92,9 +91,9 @@ module _ (coding : Coding) (outcomes left : List RequestOutcome) where
         record {
           came = f.came;
           answered = f.answered;
-          asked = f.asked;
+          deals = f.deals;
           outcomes_are = f.outcomes_are;
-          requests = f.requests;
+          dealings = f.dealings;
           place = place_given old s (record s { bytes = s.bytes ++ more; untaken = s.untaken ++ more }) f.came f.answered v given call stage (ap (λ g. g.local) is) (ap (λ g. g.peer) is) refl refl refl refl f.place;
           rule = f.rule;
           failures = f.failures;
@@ -138,9 +137,9 @@ module _ (coding : Coding) (outcomes left : List RequestOutcome) where
         let ended : IsGiven (with_given v given).channel.told → IsSound (Unit {0}) (with_given v given).channel → Follows coding outcomes left old after (with_given v given) call stage answers = λ has sound. record {
           came = f.came;
           answered = f.answered;
-          asked = f.asked;
+          deals = f.deals;
           outcomes_are = f.outcomes_are;
-          requests = f.requests;
+          dealings = f.dealings;
           place = place_given old s after f.came f.answered v given call stage refl refl refl refl refl refl f.place;
           rule = f.rule;
           failures = f.failures;
@@ -172,9 +171,9 @@ module _ (coding : Coding) (outcomes left : List RequestOutcome) where
         let wide : IsGiven (with_given v given).channel.told → IsSound (Unit {0}) (with_given v given).channel → Follows coding outcomes left old after (with_given v given) call stage answers = λ has sound. record {
           came = f.came;
           answered = f.answered;
-          asked = f.asked;
+          deals = f.deals;
           outcomes_are = f.outcomes_are;
-          requests = f.requests;
+          dealings = f.dealings;
           place = place_given old s after f.came f.answered v given call stage refl refl refl refl refl refl f.place;
           rule = f.rule;
           failures = f.failures;
@@ -209,9 +208,9 @@ module _ (coding : Coding) (outcomes left : List RequestOutcome) where
       (record {
         came = f.came;
         answered = f.answered;
-        asked = f.asked;
+        deals = f.deals;
         outcomes_are = f.outcomes_are;
-        requests = f.requests;
+        dealings = f.dealings;
         place = inl (record { at = refl; unpolled = refl; unheard = refl; stands = f.place });
         rule = f.rule;
         failures = f.failures;
@@ -243,9 +242,9 @@ module _ (coding : Coding) (outcomes left : List RequestOutcome) where
   cancels old s v call stage stage' answers f dropped = record {
     came = f.came;
     answered = f.answered;
-    asked = f.asked;
+    deals = f.deals;
     outcomes_are = f.outcomes_are;
-    requests = f.requests;
+    dealings = f.dealings;
     place = go call stage f.place (let P : Option Call → Type 0 = λ c. MayCancel c s.polled in subst P f.call_is dropped);
     rule = f.rule;
     failures = f.failures;
@@ -280,9 +279,9 @@ module _ (coding : Coding) (outcomes left : List RequestOutcome) where
   begins v form stage all given sound waits = record {
     came = [];
     answered = [];
-    asked = sym (append-nil v.asked);
+    deals = refl;
     outcomes_are = all;
-    requests = refl;
+    dealings = refl;
     place = λ later room more ended outcomes' fit on. refl;
     rule = refl;
     failures = refl;
@@ -304,37 +303,35 @@ module _ (coding : Coding) (outcomes left : List RequestOutcome) where
     answers_are = refl;
   }
 
-  -- an event that asks nothing
-  pub still_asked : (asked : List Asked) (old : SessionValue) (s : Script) (v w : SessionValue) (call : Option Call) (stage : Stage) (answers : List Answer) → w.asked ≡ v.asked → w.asked ≡ v.asked ++ asked → Follows coding outcomes (outcomes_of asked ++ left) old s v call stage answers → Follows coding outcomes left old s v call stage answers
-  still_asked asked old s v w call stage answers same grown f =
-      let P : List Asked → Type 0 = λ a. Follows coding outcomes (outcomes_of a ++ left) old s v call stage answers in
-      subst P (none_answered v.asked asked (sym same ∙ grown)) f
-
   -- a poll where no call is under way
-  pub polled_none : (asked : List Asked) (old : SessionValue) (s : Script) (v : SessionValue) (under_way : Option Call) (stage : Stage) (answers : List Answer) → under_way ≡ None → v.asked ≡ v.asked ++ asked → Follows coding outcomes (outcomes_of asked ++ left) old s v under_way stage answers → Follows coding outcomes left old (poll_script coding (start_of old outcomes) s.call s) v under_way stage (answers ++ [])
-  polled_none asked old s v under_way stage answers none grown f =
+  pub polled_none : (old : SessionValue) (s : Script) (v : SessionValue) (under_way : Option Call) (stage : Stage) (answers : List Answer) → under_way ≡ None → Follows coding outcomes left old s v under_way stage answers → Follows coding outcomes left old (poll_script coding (start_of old outcomes) s.call s) v under_way stage (answers ++ [])
+  polled_none old s v under_way stage answers none f =
       let S : Option Call → Type 0 = λ c. Follows coding outcomes left old (poll_script coding (start_of old outcomes) c s) v under_way stage (answers ++ []) in
       let A : List Answer → Type 0 = λ a. Follows coding outcomes left old s v under_way stage a in
-      subst S (sym (f.call_is ∙ none)) (subst A (sym (append-nil answers)) (still_asked asked old s v v under_way stage answers refl grown f))
+      subst S (sym (f.call_is ∙ none)) (subst A (sym (append-nil answers)) f)
 
   -- a poll of the call under way
-  pub polled_ready : (asked : List Asked) (old : SessionValue) (s : Script) (v w : SessionValue) (under_way : Option Call) (call : Call) (stage stage' : Stage) (answers : List Answer) (answer : Answer) → under_way ≡ Some call → w.asked ≡ v.asked ++ asked → Follows coding outcomes (outcomes_of asked ++ left) old s v under_way stage answers → MayPoll coding (start_of old outcomes) s.call s → PollsHere coding call stage stage' v w (Ready answer) → Follows coding outcomes left old (poll_script coding (start_of old outcomes) s.call s) w None stage' (answers ++ answer ∷ []) ⊎ AbortsCall coding call stage v w (Some answer)
-  polled_ready asked old s v w under_way call stage stage' answers answer is grown f may here =
-      let F : Option Call → Type 0 = λ c. Follows coding outcomes (outcomes_of asked ++ left) old s v c stage answers in
-      let M : Option Call → Type 0 = λ c. MayPoll coding (start_of old outcomes) c s in
-      let R : Option Call → Type 0 = λ c. Follows coding outcomes left old (poll_script coding (start_of old outcomes) c s) w None stage' (answers ++ answer ∷ []) ⊎ AbortsCall coding call stage v w (Some answer) in
-      let named : s.call ≡ Some call = f.call_is ∙ is in
-      subst R (sym named) (poll_follows coding outcomes left asked old s v w call stage stage' answers (Ready answer) grown (subst F is f) (subst M named may) here)
+  module _ (due : List RequestOutcome) (old : SessionValue) (s : Script) (v w : SessionValue) (under_way : Option Call) (call : Call) (stage stage' : Stage) (answers : List Answer) (is : under_way ≡ Some call) (f : Follows coding outcomes due old s v under_way stage answers) (may : MayPoll coding (start_of old outcomes) s.call s) where
+    named : s.call ≡ Some call
+    named = f.call_is ∙ is
 
-  pub polled_pending : (asked : List Asked) (old : SessionValue) (s : Script) (v w : SessionValue) (under_way : Option Call) (call : Call) (stage stage' : Stage) (answers : List Answer) → under_way ≡ Some call → w.asked ≡ v.asked ++ asked → Follows coding outcomes (outcomes_of asked ++ left) old s v under_way stage answers → MayPoll coding (start_of old outcomes) s.call s → PollsHere coding call stage stage' v w Pending → Follows coding outcomes left old (poll_script coding (start_of old outcomes) s.call s) w under_way stage' (answers ++ [])
-  polled_pending asked old s v w under_way call stage stage' answers is grown f may here =
-      let F : Option Call → Type 0 = λ c. Follows coding outcomes (outcomes_of asked ++ left) old s v c stage answers in
-      let M : Option Call → Type 0 = λ c. MayPoll coding (start_of old outcomes) c s in
-      let R : Option Call → Type 0 = λ c. Follows coding outcomes left old (poll_script coding (start_of old outcomes) c s) w under_way stage' (answers ++ []) in
-      let U : Option Call → Type 0 = λ c. Follows coding outcomes left old (poll_script coding (start_of old outcomes) (Some call) s) w c stage' (answers ++ []) in
-      let A : List Answer → Type 0 = λ a. Follows coding outcomes left old (poll_script coding (start_of old outcomes) (Some call) s) w (Some call) stage' a in
-      let named : s.call ≡ Some call = f.call_is ∙ is in
-      subst R (sym named) (subst U (sym is) (subst A (sym (append-nil answers)) (poll_follows coding outcomes left asked old s v w call stage stage' answers Pending grown (subst F is f) (subst M named may) here)))
+    follows_call : Follows coding outcomes due old s v (Some call) stage answers
+    follows_call = let F : Option Call → Type 0 = λ c. Follows coding outcomes due old s v c stage answers in subst F is f
+
+    may_call : MayPoll coding (start_of old outcomes) (Some call) s
+    may_call = let M : Option Call → Type 0 = λ c. MayPoll coding (start_of old outcomes) c s in subst M named may
+
+    pub polled_ready : (answer : Answer) → (Follows coding outcomes due old s v (Some call) stage answers → MayPoll coding (start_of old outcomes) (Some call) s → PollFollows coding outcomes left old s v w call stage stage' answers (Ready answer)) → Follows coding outcomes left old (poll_script coding (start_of old outcomes) s.call s) w None stage' (answers ++ answer ∷ []) ⊎ AbortsCall coding call stage v w (Some answer)
+    polled_ready answer polls =
+        let R : Option Call → Type 0 = λ c. Follows coding outcomes left old (poll_script coding (start_of old outcomes) c s) w None stage' (answers ++ answer ∷ []) ⊎ AbortsCall coding call stage v w (Some answer) in
+        subst R (sym named) (polls follows_call may_call)
+
+    pub polled_pending : (Follows coding outcomes due old s v (Some call) stage answers → MayPoll coding (start_of old outcomes) (Some call) s → PollFollows coding outcomes left old s v w call stage stage' answers Pending) → Follows coding outcomes left old (poll_script coding (start_of old outcomes) s.call s) w under_way stage' (answers ++ [])
+    polled_pending polls =
+        let R : Option Call → Type 0 = λ c. Follows coding outcomes left old (poll_script coding (start_of old outcomes) c s) w under_way stage' (answers ++ []) in
+        let U : Option Call → Type 0 = λ c. Follows coding outcomes left old (poll_script coding (start_of old outcomes) (Some call) s) w c stage' (answers ++ []) in
+        let A : List Answer → Type 0 = λ a. Follows coding outcomes left old (poll_script coding (start_of old outcomes) (Some call) s) w (Some call) stage' a in
+        subst R (sym named) (subst U (sym is) (subst A (sym (append-nil answers)) (polls follows_call may_call)))
 
   -- a call that is aborted by a poll is under way no more
   pub at_poll : (F : Type 0) (v w : SessionValue) (result : Option Answer) (under_way : Call) (stage : Stage) (call call' : Option Call) → call ≡ Some under_way → call' ≡ None → F ⊎ AbortsCall coding under_way stage v w result → F ⊎ (((c : Call) × (call ≡ Some c) × AbortsCall coding c stage v w result) × (call' ≡ None) × (event.Poll ≡ event.Poll))
@@ -374,12 +371,12 @@ pub still_fails : (v w : SessionValue) → w.channel.failed ≡ v.channel.failed
 still_fails v w same = λ failed. inl (sym same ∙ failed)
 
 -- what happens to the channel alone
-pub through : (F : Channel → Channel) (v w : SessionValue) (a b : Channel) (state : State) (asked : List Asked) → record { channel = a; state = state; asked = asked } ≡ v → w ≡ record { channel = b; state = state; asked = asked } → b ≡ F a → w ≡ record v { channel = F v.channel }
-through F v w a b state asked before after is =
+pub through : (F : Channel → Channel) (v w : SessionValue) (a b : Channel) (state : State) (net : Net) → record { channel = a; state = state; net = net } ≡ v → w ≡ record { channel = b; state = state; net = net } → b ≡ F a → w ≡ record v { channel = F v.channel }
+through F v w a b state net before after is =
     let P : SessionValue → Type 0 = λ x. w ≡ record x { channel = F x.channel } in
-    let Q : Channel → SessionValue = λ c. record { channel = c; state = state; asked = asked } in
+    let Q : Channel → SessionValue = λ c. record { channel = c; state = state; net = net } in
     subst P before (after ∙ ap Q is)
 
--- nothing is asked
-pub grows_none : (v w : SessionValue) → w.asked ≡ v.asked → Grows v w
-grows_none v w same = ([], same ∙ sym (append-nil v.asked))
+-- nothing happens beside the control connection
+pub grows_none : (v : SessionValue) → Grows v v
+grows_none v = ([], refl)

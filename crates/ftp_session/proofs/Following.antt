@@ -15,17 +15,16 @@ use Rattle.ftp_base.specs.Wire.{wire}
 use Rattle.ftp_control.specs.declared.control.rule.ReplyRule.{ReplyRule}
 use Rattle.ftp_control.specs.declared.transport.room.Room.{Room}
 use Rattle.ftp_control.specs.declared.transport.room.Room.TheVariants.{Any, UpTo}
-use Rattle.ftp_control.specs.declared.transport.request.Asked.{Asked}
 use Rattle.ftp_control.specs.declared.transport.request.RequestOutcome.{RequestOutcome}
 use Rattle.ftp_control.specs.declared.transport.request.RequestOutcome.TheVariants as asked
 use Rattle.ftp_control.specs.declared.control.form.ReplyForm.TheVariants.{Plain}
-use Rattle.ftp_control.specs.Asking.{requests_of, outcomes_of}
+use Rattle.ftp_session.specs.Deals.{Deal, Deals, Net, dealings_of, outcomes_of}
 use Rattle.ftp_base.specs.declared.types.mode.Mode.{Mode}
 use Rattle.ftp_base.specs.declared.types.mode.Mode.TheVariants as mode
 use Rattle.std.specs.declared.net.socket_addr.SocketAddr.{SocketAddr}
 use Rattle.ftp_control.specs.Told.{HasRoomFor, HasNoRoom, IsDry, IsFull}
 use Rattle.ftp_control.specs.Reading.{GoesOn}
-use Rattle.ftp_control.specs.Channel.{untaken}
+use Rattle.ftp_control.specs.Channel.{IsSound, untaken}
 use Rattle.ftp_control.specs.Saying.{said}
 use Rattle.ftp_control.specs.declared.control.outcome.Outcome.TheVariants.{Waits}
 use Rattle.ftp_control.specs.Grammar.{outcome}
@@ -44,7 +43,7 @@ use Rattle.ftp_session.specs.declared.model.Played.TheVariants as played
 use Rattle.ftp_session.specs.declared.model.Ran.{Ran}
 use Rattle.ftp_session.specs.declared.model.Ran.TheVariants.{Finished, Waiting}
 use Rattle.ftp_session.specs.declared.model.Script.{Script}
-use Rattle.ftp_session.specs.State.{SessionValue}
+use Rattle.ftp_session.specs.State.{SessionValue, let_go}
 use Rattle.ftp_session.specs.Coding.{Coding}
 use Rattle.ftp_calls.specs.declared.exchange.Exchange.{Exchange}
 use Rattle.ftp_calls.specs.declared.exchange.Row.{Row}
@@ -53,21 +52,22 @@ use Rattle.ftp_calls.specs.Exchanges.{negotiates, is_read, row_of}
 use Rattle.std.specs.Net.Socket.{socket_port}
 use Rattle.ftp_session.specs.Sound.{cannot_open}
 use Rattle.ftp_session.specs.Dialogue.{agreeing, armed, at_port, entered, from_turn, negotiating, negotiating_unless, on_address, Expected, expected_of, Tree, Say, Hear, saying, awaiting, doing, later, dialogue}
-use Rattle.ftp_session.specs.Play.{play, fits, heard_then}
+use Rattle.ftp_session.specs.Play.{ended, finally, play, fits, heard_then}
 use Rattle.ftp_session.specs.declared.model.Played.{Played}
 use Rattle.ftp_session.specs.Run.{run, before, and_then, Resumes, Silent}
 use Rattle.ftp_session.specs.Promises.{begun_by, failed_from, standing, before_all, However, Fails, LacksMemory, Touched, Untouched, Goes, Leads, Rests, Aborts}
 use Rattle.ftp_session.specs.Script.{unread, is_over, start_of, front, seen_at, form_at, first_form, heard_form, polled_as, run_with, poll_script, HearsNothing, MayCancel, MayPoll}
 use Rattle.ftp_session.specs.Scripted.{SaysFrontOf, SaysNothing, Stands, SaysOrTakes, CallHasBegun, Reaches, LeftOf, entering}
 use Rattle.ftp_session.specs.Steps.Stages.{StageOf, remaining, begun_at}
-use Rattle.ftp_session.specs.Steps.Moving.{BeginsHere, HasBegun, HasGoneOut, NothingTouched, Speaks, StillSays, Keeps, Shrinks, Calm, Advances, Ends, PollSteps, WaitsFor, WaitsToSay}
-use Rattle.ftp_session.specs.Steps.Following.{Grows, entered_at, entered_state, entered_tree, Since, Started, UnderWay, Unheard, Place, Follows, PollsHere, AbortsCall}
-use Rattle.ftp_session.proofs.Moving.{goes_after, fitted, play-Say}
+use Rattle.ftp_session.specs.Steps.Moving.{BeginsHere, HasBegun, HasGoneOut, NothingTouched, Speaks, StillSays, Keeps, Shrinks, Calm, Advances, PollsTo, WaitsFor, WaitsToSay}
+use Rattle.ftp_session.specs.Steps.Following.{entered_at, entered_state, entered_tree, Since, Started, UnderWay, Unheard, Place, Follows, PollsHere, AbortsCall}
+use Rattle.ftp_session.proofs.Deals.{deals-append, deals_none, drops, drops_deal, outcomes-append}
+use Rattle.ftp_session.proofs.Moving.{Finishes, finishes, goes_after, fitted, play-Say}
 use Rattle.ftp_session.proofs.Hearing.{play-Hear}
 use Rattle.ftp_session.proofs.Unheard.{LacksRoomFor, lacks_room, plain_dialogue, plain_entered, says_no_read}
 use Rattle.ftp_session.proofs.Running.{run-nil, run-cons, before_all-snoc, before_all-Finished, before_all-Waiting, refuses_on}
 use Rattle.ftp_session.specs.Link.{over_memory}
-use Rattle.ftp_session.proofs.Carried.{front_fits, outcomes_on, over_at_end, same_answered, seen_kept, waits_kept, full_room, Carried, carried, carried_none, line_front, all_said}
+use Rattle.ftp_session.proofs.Carried.{front_fits, outcomes_on, over_at_end, seen_kept, waits_kept, full_room, Carried, carried, carried_none, line_front, all_said}
 
 -- what a poll comes to
 abbrev pub PollFollows : Coding → List RequestOutcome → List RequestOutcome → SessionValue → Script → SessionValue → SessionValue → Call → Stage → Stage → List Answer → Poll Answer → Type 0
@@ -79,20 +79,20 @@ module _ (coding : Coding) (outcomes : List RequestOutcome) where
   -- Runs
 
   -- the next call under way
-  stands_reaches : (old v : SessionValue) (items : List Call) (came : List ℕ) (answered : List Asked) (answers : List Answer) (call : Call) → v.channel.failed ≡ false → Stands coding old items came answered v answers → Reaches coding old items came answered (begun_by call v) answers call (dialogue coding call v.state)
+  stands_reaches : (old v : SessionValue) (items : List Call) (came : List ℕ) (answered : List Deal) (answers : List Answer) (call : Call) → v.channel.failed ≡ false → Stands coding old items came answered v answers → Reaches coding old items came answered (begun_by call v) answers call (dialogue coding call v.state)
   stands_reaches old v items came answered answers call going stands = λ later room more ended outcomes' fit on.
       let s : Standing = standing v more ended outcomes' in
       let next : Standing → Ran = λ t. run room coding later t in
-      let here : Played = play room (dialogue coding call v.state) (standing (begun_by call v) more ended outcomes') in
+      let here : Played = finally (play room (dialogue coding call v.state) (standing (begun_by call v) more ended outcomes')) in
       let P : Bool → Type 0 = λ failed. cond failed (played.Done (Fault SessionFailed) s) here ≡ here in
       stands (call ∷ later) room more ended outcomes' fit on
       ∙ ap (before_all answers) (run-cons coding room call later s ∙ ap (λ p. and_then p next) (subst P (sym going) refl))
 
-  module _ (old v w : SessionValue) (items : List Call) (came : List ℕ) (answered : List Asked) (answers : List Answer) (call : Call) where
+  module _ (old v w : SessionValue) (items : List Call) (came : List ℕ) (answered : List Deal) (answers : List Answer) (call : Call) where
     -- the call has its answer
-    reaches_stands : (tree : Tree) (answer : Answer) → Reaches coding old items came answered v answers call tree → (ends : Ends over_memory tree answer v w) → Resumes v.channel.rule v.channel.kept tree → Stands coding old (items ++ call ∷ []) (came ++ ends.completes.came) (answered ++ ends.completes.answered) w (answers ++ answer ∷ [])
+    reaches_stands : (tree : Tree) (answer : Answer) → Reaches coding old items came answered v answers call tree → (ends : Finishes over_memory tree answer v w) → Resumes v.channel.rule v.channel.kept tree → Stands coding old (items ++ call ∷ []) (came ++ ends.came) (answered ++ ends.answered) w (answers ++ answer ∷ [])
     reaches_stands tree answer reaches ends resumes = λ later room more ended outcomes' fit on.
-        let done = ends.completes in
+        let done = ends in
         let next : Standing → Ran = λ t. run room coding later t in
         let first = reaches later room (done.came ++ more) ended (outcomes_of done.answered ++ outcomes') (fitted room _ _ (done.goes.sent tt) fit) (goes_after v.channel.ended done.came more w.channel.ended ended done.goes.over on) in
         rw (append_assoc items (call ∷ []) later, append_assoc came done.came more, outcomes_on answered done.answered outcomes')
@@ -106,10 +106,10 @@ module _ (coding : Coding) (outcomes : List RequestOutcome) where
         let next : Standing → Ran = λ t. run room coding later t in
         let first = reaches later room (leads.came ++ more) ended (outcomes_of leads.answered ++ outcomes') (fitted room _ _ (leads.goes.sent tt) fit) (goes_after v.channel.ended leads.came more w.channel.ended ended leads.goes.over on) in
         rw (append_assoc came leads.came more, outcomes_on answered leads.answered outcomes')
-        (first ∙ ap (λ p. before_all answers (and_then p next)) (plays room more ended outcomes' fit on))
+        (first ∙ ap (λ p. before_all answers (and_then (finally p) next)) (plays room more ended outcomes' fit on))
 
   -- the session has failed
-  stands_refused : (old v : SessionValue) (items : List Call) (came : List ℕ) (answered : List Asked) (answers : List Answer) (call : Call) → v.channel.failed ≡ true → Stands coding old items came answered v answers → Stands coding old (items ++ call ∷ []) (came ++ []) (answered ++ []) v (answers ++ Fault SessionFailed ∷ [])
+  stands_refused : (old v : SessionValue) (items : List Call) (came : List ℕ) (answered : List Deal) (answers : List Answer) (call : Call) → v.channel.failed ≡ true → Stands coding old items came answered v answers → Stands coding old (items ++ call ∷ []) (came ++ []) (answered ++ []) v (answers ++ Fault SessionFailed ∷ [])
   stands_refused old v items came answered answers call failed stands = λ later room more ended outcomes' fit on.
       rw (append_assoc items (call ∷ []) later, append-nil came, append-nil answered)
       (stands (call ∷ later) room more ended outcomes' fit on
@@ -117,11 +117,17 @@ module _ (coding : Coding) (outcomes : List RequestOutcome) where
       ∙ sym (before_all-snoc answers (Fault SessionFailed) (run room coding later (standing v more ended outcomes'))))
 
   -- a plain read that waits leaves no trace
-  stands_rests : (old v w : SessionValue) (items : List Call) (came : List ℕ) (answered : List Asked) (answers : List Answer) → Stands coding old items came answered v answers → (rests : Rests over_memory v w) → Stands coding old items (came ++ rests.came) (answered ++ []) w answers
+  stands_rests : (old v w : SessionValue) (items : List Call) (came : List ℕ) (answered : List Deal) (answers : List Answer) → Stands coding old items came answered v answers → (rests : Rests over_memory v w) → Stands coding old items (came ++ rests.came) (answered ++ []) w answers
   stands_rests old v w items came answered answers stands rests = λ later room more ended outcomes' fit on.
       let first = stands later room (rests.came ++ more) ended outcomes' (fitted room _ _ (rests.goes.sent tt) fit) (goes_after v.channel.ended rests.came more w.channel.ended ended rests.goes.over on) in
       rw (append_assoc came rests.came more, append-nil answered)
       (first ∙ ap (λ s. before_all answers (run room coding later s)) (rests.stays tt more ended outcomes'))
+
+  -- a run depends on the outcomes alone
+  stands_same : (old v : SessionValue) (items : List Call) (came : List ℕ) (one two : List Deal) (answers : List Answer) → outcomes_of one ≡ outcomes_of two → Stands coding old items came one v answers → Stands coding old items came two v answers
+  stands_same old v items came one two answers same stands = λ later room more ended outcomes' fit on.
+      let R : List RequestOutcome → Ran = λ o. run room coding (items ++ later) (standing old (came ++ more) ended (o ++ outcomes')) in
+      ap R (sym same) ∙ stands later room more ended outcomes' fit on
 
   -- a reply that says nothing yet as one of a call's form is resumed by the call
   module _ (rule : ReplyRule) (kept : List ℕ) (call : Call) where
@@ -188,7 +194,7 @@ module _ (coding : Coding) (outcomes : List RequestOutcome) where
   settled_tree call (Agreeing way) state stage_of = refl
 
   -- what was fed, seen from after a poll
-  module _ (left : List RequestOutcome) (asked : List Asked) (old : SessionValue) (s : Script) (v w : SessionValue) (call : Call) (stage : Stage) (answers : List Answer) (f : Follows coding outcomes (outcomes_of asked ++ left) old s v (Some call) stage answers) (came : List ℕ) (c : Carried v w came asked) where
+  module _ (left : List RequestOutcome) (asked : List Deal) (old : SessionValue) (s : Script) (v w : SessionValue) (call : Call) (stage : Stage) (answers : List Answer) (f : Follows coding outcomes (outcomes_of asked ++ left) old s v (Some call) stage answers) (came : List ℕ) (c : Carried v w came asked) where
     fed_bytes : s.bytes ≡ untaken old.channel ++ (f.came ++ came) ++ unread w.channel.told
     fed_bytes =
         f.bytes
@@ -205,8 +211,8 @@ module _ (coding : Coding) (outcomes : List RequestOutcome) where
     all_received : w.channel.told.received ≡ old.channel.told.received ++ (f.came ++ came)
     all_received = c.received ∙ ap (λ x. x ++ came) f.received ∙ append_assoc old.channel.told.received f.came came
 
-    all_asked : w.asked ≡ old.asked ++ (f.answered ++ asked)
-    all_asked = c.grown ∙ ap (λ x. x ++ asked) f.asked ∙ append_assoc old.asked f.answered asked
+    all_deals : Deals (f.answered ++ asked) old.net w.net
+    all_deals = deals-append f.answered asked old.net v.net w.net f.deals c.deals
 
     all_outcomes : outcomes ≡ outcomes_of (f.answered ++ asked) ++ left
     all_outcomes = f.outcomes_are ∙ sym (outcomes_on f.answered asked left)
@@ -239,9 +245,9 @@ module _ (coding : Coding) (outcomes : List RequestOutcome) where
         let follows : Follows coding outcomes left old after w None stage' (answers ++ answer ∷ []) = record {
           came = f.came ++ came;
           answered = f.answered ++ asked;
-          asked = all_asked;
+          deals = all_deals;
           outcomes_are = all_outcomes;
-          requests = refl;
+          dealings = refl;
           place = stands;
           rule = c.rule ∙ f.rule;
           failures = c.failures ∙ f.failures;
@@ -270,7 +276,7 @@ module _ (coding : Coding) (outcomes : List RequestOutcome) where
         let next : Standing → Ran = λ u. run s.room coding [] u in
         from_start (s.items ++ call ∷ [])
         ∙ reaches [] s.room (unread w.channel.told) (is_over w.channel.told) left fits_here going_on
-        ∙ ap (λ p. before_all s.answers (and_then p next)) waits
+        ∙ ap (λ p. before_all s.answers (and_then (finally p) next)) waits
         ∙ before_all-Waiting s.answers [] wait t
         ∙ ap (λ a. Waiting a wait t) (append-nil s.answers)
 
@@ -284,13 +290,13 @@ module _ (coding : Coding) (outcomes : List RequestOutcome) where
         next : Standing → Ran
         next = λ u. run s.room coding [] u
 
-        ran : run_with coding (start_of old outcomes) call s ≡ before_all s.answers (and_then (play s.room (remaining coding call state stage') here) next)
+        ran : run_with coding (start_of old outcomes) call s ≡ before_all s.answers (and_then (finally (play s.room (remaining coding call state stage') here)) next)
         ran = from_start (s.items ++ call ∷ []) ∙ reaches [] s.room (unread w.channel.told) (is_over w.channel.told) left fits_here going_on
 
-        go : (p : Played) → play s.room (remaining coding call state stage') here ≡ p → Nothing (before_all s.answers (and_then p next)) → LacksRoomFor s.room here (remaining coding call state stage')
+        go : (p : Played) → play s.room (remaining coding call state stage') here ≡ p → Nothing (before_all s.answers (and_then (finally p) next)) → LacksRoomFor s.room here (remaining coding call state stage')
         go (played.Done answer u) is none =
-            let all : before_all s.answers (before answer (run s.room coding [] u)) ≡ Finished (s.answers ++ answer ∷ []) u =
-            ap (λ r. before_all s.answers (before answer r)) (run-nil coding s.room u) ∙ before_all-Finished s.answers (answer ∷ []) u in
+            let all : before_all s.answers (before answer (run s.room coding [] (ended u))) ≡ Finished (s.answers ++ answer ∷ []) (ended u) =
+            ap (λ r. before_all s.answers (before answer r)) (run-nil coding s.room (ended u)) ∙ before_all-Finished s.answers (answer ∷ []) (ended u) in
             absurd (subst Nothing all none)
         go (played.Pending wait u) is none =
             lacks_room coding s.room s here bytes wait u (subst Nothing (before_all-Waiting s.answers [] wait u) none) call state stage' plain stage_of is
@@ -310,16 +316,16 @@ module _ (coding : Coding) (outcomes : List RequestOutcome) where
             cc
 
     -- the call waits
-    wait_on : (tree : Tree) (stage' : Stage) (wait : Wait) (t : Standing) → Reaches coding old s.items (f.came ++ came) (f.answered ++ asked) w s.answers call tree → play s.room tree here ≡ played.Pending wait t → front s.room t.said ≡ w.channel.told.sent → SaysFrontOf w.channel (t.said ++ t.unsent) → t.bytes ≡ untaken w.channel ++ unread w.channel.told → seen_at wait s t.bytes ≡ length w.channel.kept → outcome w.channel.rule (form_at wait s) w.channel.kept false ≡ Waits → t.state ≡ w.state → t.failed ≡ w.channel.failed → t.asked ≡ requests_of w.asked → (MayCancel (Some call) true → s.unsent ≡ w.channel.unsent) → Place coding old (polled_as (Waiting s.answers wait t) call s) (f.came ++ came) (f.answered ++ asked) w (Some call) stage' → Follows coding outcomes left old (poll_script coding (start_of old outcomes) (Some call) s) w (Some call) stage' answers
-    wait_on tree stage' wait t reaches waits sent begins bytes seen says_nothing state failed requests unsent place =
+    wait_on : (tree : Tree) (stage' : Stage) (wait : Wait) (t : Standing) → Reaches coding old s.items (f.came ++ came) (f.answered ++ asked) w s.answers call tree → play s.room tree here ≡ played.Pending wait t → front s.room t.said ≡ w.channel.told.sent → SaysFrontOf w.channel (t.said ++ t.unsent) → t.bytes ≡ untaken w.channel ++ unread w.channel.told → seen_at wait s t.bytes ≡ length w.channel.kept → outcome w.channel.rule (form_at wait s) w.channel.kept false ≡ Waits → t.state ≡ w.state → t.failed ≡ w.channel.failed → t.dealings ≡ dealings_of w.net → (MayCancel (Some call) true → s.unsent ≡ w.channel.unsent) → Place coding old (polled_as (Waiting s.answers wait t) call s) (f.came ++ came) (f.answered ++ asked) w (Some call) stage' → Follows coding outcomes left old (poll_script coding (start_of old outcomes) (Some call) s) w (Some call) stage' answers
+    wait_on tree stage' wait t reaches waits sent begins bytes seen says_nothing state failed dealings unsent place =
         let ran = waits_ran tree wait t reaches waits in
         let Q : Ran → Type 0 = λ r. Follows coding outcomes left old (polled_as r call s) w (Some call) stage' answers in
         let follows : Follows coding outcomes left old (polled_as (Waiting s.answers wait t) call s) w (Some call) stage' answers = record {
           came = f.came ++ came;
           answered = f.answered ++ asked;
-          asked = all_asked;
+          deals = all_deals;
           outcomes_are = all_outcomes;
-          requests = requests;
+          dealings = dealings;
           place = place;
           rule = c.rule ∙ f.rule;
           failures = c.failures ∙ f.failures;
@@ -369,7 +375,7 @@ module _ (coding : Coding) (outcomes : List RequestOutcome) where
         play-Hear s.room codes next here ∙ ap (λ h. heard_then h codes here (λ heard u. play s.room (next heard) u)) more
 
   -- how a call goes on since the calls before it were done
-  since_start : (old : SessionValue) (items : List Call) (answers : List Answer) (came : List ℕ) (answered : List Asked) (v : SessionValue) (state : State) → Stands coding old items came answered v answers → Since coding old items answers came answered (record v { state = state }) false
+  since_start : (old : SessionValue) (items : List Call) (answers : List Answer) (came : List ℕ) (answered : List Deal) (v : SessionValue) (state : State) → Stands coding old items came answered v answers → Since coding old items answers came answered (record v { state = state }) false
   since_start old items answers came answered v state stands = record {
     start = v;
     before = came;
@@ -385,7 +391,7 @@ module _ (coding : Coding) (outcomes : List RequestOutcome) where
     not_begun = λ none. (refl, sym (append-nil (untaken v.channel)));
   }
 
-  since_on : (old : SessionValue) (items : List Call) (answers : List Answer) (came : List ℕ) (asked : List Asked) (v w : SessionValue) (begun begun' : Bool) (tree : Tree) (since : Since coding old items answers came asked v begun) → Speaks tree ⊎ Resumes v.channel.rule v.channel.kept tree → (more : List ℕ) (answered : List Asked) → Goes over_memory more answered v w → HasBegun over_memory begun begun' tree v w → Since coding old items answers (came ++ more) (asked ++ answered) w begun'
+  since_on : (old : SessionValue) (items : List Call) (answers : List Answer) (came : List ℕ) (asked : List Deal) (v w : SessionValue) (begun begun' : Bool) (tree : Tree) (since : Since coding old items answers came asked v begun) → Speaks tree ⊎ Resumes v.channel.rule v.channel.kept tree → (more : List ℕ) (answered : List Deal) → Goes over_memory more answered v w → HasBegun over_memory begun begun' tree v w → Since coding old items answers (came ++ more) (asked ++ answered) w begun'
   since_on old items answers came asked v w begun begun' tree since resumes more answered goes here = record {
     start = since.start;
     before = since.before;
@@ -428,14 +434,14 @@ module _ (coding : Coding) (outcomes : List RequestOutcome) where
       subst R (sym (settled_tree call stage v.state stage_of)) (subst Q (sym (settled_state call stage v.state stage_of)) holds)
 
   -- where a poll begins
-  pub record Resumed (old : SessionValue) (s : Script) (came : List ℕ) (asked : List Asked) (v : SessionValue) (call : Call) (begun : Bool) (e : SessionValue) (tree : Tree) : Type 0 where
+  pub record Resumed (old : SessionValue) (s : Script) (came : List ℕ) (asked : List Deal) (v : SessionValue) (call : Call) (begun : Bool) (e : SessionValue) (tree : Tree) : Type 0 where
     pub reaches : Reaches coding old s.items came asked e s.answers call tree
     pub resumes : Resumes v.channel.rule v.channel.kept tree
     pub read : is_read call ≡ true → Stands coding old s.items came asked v s.answers
     pub since : Since coding old s.items s.answers came asked e begun
 
   -- where a poll begins that waits for room and hears nothing
-  pub record KeptWaiting (old : SessionValue) (s : Script) (came : List ℕ) (asked : List Asked) (v : SessionValue) (call : Call) (begun : Bool) (e : SessionValue) (state : State) (tree : Tree) : Type 0 where
+  pub record KeptWaiting (old : SessionValue) (s : Script) (came : List ℕ) (asked : List Deal) (v : SessionValue) (call : Call) (begun : Bool) (e : SessionValue) (state : State) (tree : Tree) : Type 0 where
     pub plain : negotiates call ≡ false
     pub no_read : is_read call ≡ false
     pub reaches : Reaches coding old s.items came asked e s.answers call tree
@@ -445,11 +451,11 @@ module _ (coding : Coding) (outcomes : List RequestOutcome) where
     pub lacks : LacksRoomFor s.room (standing v (unread v.channel.told) (is_over v.channel.told) []) tree
 
   -- where the poll of a call at this stage begins
-  abbrev Goes_on : SessionValue → Script → List ℕ → List Asked → SessionValue → Call → Stage → Type 0
+  abbrev Goes_on : SessionValue → Script → List ℕ → List Deal → SessionValue → Call → Stage → Type 0
   Goes_on old s came asked v call stage =
       Resumed old s came asked v call (begun_at stage) (entered_at call stage v) (entered_tree coding call stage v.state)
 
-  abbrev Kept : SessionValue → Script → List ℕ → List Asked → SessionValue → Call → Stage → Type 0
+  abbrev Kept : SessionValue → Script → List ℕ → List Deal → SessionValue → Call → Stage → Type 0
   Kept old s came asked v call stage =
       KeptWaiting old s came asked v call (begun_at stage) (entered_at call stage v) (entered_state call stage v.state) (entered_tree coding call stage v.state)
 
@@ -522,7 +528,7 @@ module _ (coding : Coding) (outcomes : List RequestOutcome) where
         came' : List ℕ
         came' = f.came ++ advances.moves.leads.came
 
-        asked' : List Asked
+        asked' : List Deal
         asked' = f.answered ++ advances.moves.leads.answered
 
         before : Tree
@@ -542,10 +548,10 @@ module _ (coding : Coding) (outcomes : List RequestOutcome) where
             let rest = rests is in
             let goes = advances.moves.leads.goes in
             let came : rest.came ≡ advances.moves.leads.came = append_cancel_left v.channel.told.received rest.came advances.moves.leads.came (sym (rest.goes.received tt) ∙ goes.received tt) in
-            let none : [] ≡ advances.moves.leads.answered = same_answered v.asked w.asked [] advances.moves.leads.answered (rest.goes.asked tt) (goes.asked tt) in
+            let none : outcomes_of advances.moves.leads.answered ≡ [] = deals_none advances.moves.leads.answered v.net w.net (goes.deals tt) (ap (λ n. n.asked) (rest.goes.deals tt)) in
+            let same : outcomes_of (f.answered ++ []) ≡ outcomes_of asked' = outcomes-append f.answered [] ∙ ap (λ o. outcomes_of f.answered ++ o) (sym none) ∙ sym (outcomes-append f.answered advances.moves.leads.answered) in
             let P : List ℕ → Type 0 = λ x. Stands coding old s.items (f.came ++ x) asked' w s.answers in
-            let A : List Asked → Type 0 = λ a. Stands coding old s.items (f.came ++ rest.came) (f.answered ++ a) w s.answers in
-            subst P came (subst A none (stands_rests old v w s.items f.came f.answered s.answers (from.read is) rest))
+            subst P came (stands_same old w s.items (f.came ++ rest.came) (f.answered ++ []) asked' s.answers same (stands_rests old v w s.items f.came f.answered s.answers (from.read is) rest))
 
         unsent' : MayCancel (Some call) true → s.unsent ≡ w.channel.unsent
         unsent' (inl new) = let clash : true ≡ false = new in cc
@@ -578,15 +584,15 @@ module _ (coding : Coding) (outcomes : List RequestOutcome) where
             let b : Wait = wait.Bytes hears.codes.form in
             wait_on left asked old s v w call stage answers f moves.leads.came c (Hear hears.codes hears.next) stage' b t (subst P hears.is reaches') stuck sent (all_said w.channel) refl seen resumed refl refl refl unsent' (inr (inl (under_way t b)))
 
-  module _ (left : List RequestOutcome) (old : SessionValue) (s : Script) (v w : SessionValue) (call : Call) (stage : Stage) (answers : List Answer) (answer : Answer) (ends : Ends over_memory (entered_tree coding call stage v.state) answer (entered_at call stage v) w) (f : Follows coding outcomes (outcomes_of ends.completes.answered ++ left) old s v (Some call) stage answers) (c : Carried v w ends.completes.came ends.completes.answered) where
+  module _ (left : List RequestOutcome) (old : SessionValue) (s : Script) (v w : SessionValue) (call : Call) (stage : Stage) (answers : List Answer) (answer : Answer) (ends : Finishes over_memory (entered_tree coding call stage v.state) answer (entered_at call stage v) w) (f : Follows coding outcomes (outcomes_of ends.answered ++ left) old s v (Some call) stage answers) (c : Carried v w ends.came ends.answered) where
     -- a call that is kept waiting has no answer yet
     no_answer : Kept old s f.came f.answered v call stage → ⊥
-    no_answer from = never_gone left ends.completes.answered old s v w call stage answers f ends.completes.came c from.lacks.line from.lacks.full (ends.gone from.lacks.line from.lacks.next from.lacks.is tt)
+    no_answer from = never_gone left ends.answered old s v w call stage answers f ends.came c from.lacks.line from.lacks.full (ends.gone from.lacks.line from.lacks.next from.lacks.is tt)
 
     -- a poll that completes the call
     completed : (stage' : Stage) → Goes_on old s f.came f.answered v call stage → Follows coding outcomes left old (poll_script coding (start_of old outcomes) (Some call) s) w None stage' (answers ++ answer ∷ [])
     completed stage' from =
-        finish left ends.completes.answered old s v w call stage answers f ends.completes.came c (Silent (entered_tree coding call stage v.state)) stage' answer
+        finish left ends.answered old s v w call stage answers f ends.came c (Silent (entered_tree coding call stage v.state)) stage' answer
         (reaches_stands old (entered_at call stage v) w s.items f.came f.answered s.answers call (entered_tree coding call stage v.state) answer from.reaches ends from.resumes)
         ends.shrinks ends.keeps
 
@@ -620,7 +626,7 @@ module _ (coding : Coding) (outcomes : List RequestOutcome) where
     lacking : (stage' : Stage) → negotiates call ≡ false → StageOf call stage' → Reaches coding old s.items f.came f.answered v s.answers call (remaining coding call v.state stage') → HearsNothing (run_with coding (start_of old outcomes) call s) s → LacksRoomFor s.room (standing v (unread v.channel.told) (is_over v.channel.told) []) (remaining coding call v.state stage')
     lacking stage' plain stage_of reaches nothing =
         let P : List ℕ → Type 0 = λ x. Reaches coding old s.items x (f.answered ++ []) v s.answers call (remaining coding call v.state stage') in
-        let A : List Asked → Type 0 = λ a. Reaches coding old s.items f.came a v s.answers call (remaining coding call v.state stage') in
+        let A : List Deal → Type 0 = λ a. Reaches coding old s.items f.came a v s.answers call (remaining coding call v.state stage') in
         let lacks = unheard_lacks due [] old s v v call stage answers f [] (carried_none v f.given f.sound) v.state stage' plain stage_of (subst P (sym (append-nil f.came)) (subst A (sym (append-nil f.answered)) reaches)) nothing (sym f.untaken) in
         record { line = lacks.line; next = lacks.next; is = lacks.is; full = lacks.full }
 
@@ -694,55 +700,36 @@ module _ (coding : Coding) (outcomes : List RequestOutcome) where
         go (inr (inl u)) = let clash : true ≡ false = sym failed ∙ u.going in cc
         go (inr (inr u)) = let clash : true ≡ false = sym failed ∙ u.going in cc
 
-  pub poll_follows : (left : List RequestOutcome) (asked : List Asked) (old : SessionValue) (s : Script) (v w : SessionValue) (call : Call) (stage stage' : Stage) (answers : List Answer) (result : Poll Answer) → w.asked ≡ v.asked ++ asked → Follows coding outcomes (outcomes_of asked ++ left) old s v (Some call) stage answers → MayPoll coding (start_of old outcomes) (Some call) s → PollsHere coding call stage stage' v w result → PollFollows coding outcomes left old s v w call stage stage' answers result
-  poll_follows left asked old s v w call stage stage' answers result grown follows may here =
-      elim v.channel.failed as (λ t. v.channel.failed ≡ t → PollFollows coding outcomes left old s v w call stage stage' answers result) [
-        | true ↦ λ failed. refused failed
-        | false ↦ λ going. go result going (here.polls going) here.rests here.begun here.left_at
-      ] refl
+  -- where a poll ends
+  carry : (came : List ℕ) (answered : List Deal) (v w : SessionValue) (call : Call) (stage stage' : Stage) (result : Poll Answer) → IsSound (Unit {0}) v.channel → PollsHere coding call stage stage' v w result → Goes over_memory came answered (entered_at call stage v) w → Carried v w came answered
+  carry came answered v w call stage stage' result sound here goes = carried v w (entered_state call stage v.state) came answered goes sound here.end here.given here.sound
+
+  -- a poll of a session that has failed
+  pub poll_refused : (left : List RequestOutcome) (old : SessionValue) (s : Script) (v w : SessionValue) (call : Call) (stage stage' : Stage) (answers : List Answer) (result : Poll Answer) → Follows coding outcomes left old s v (Some call) stage answers → MayPoll coding (start_of old outcomes) (Some call) s → v.channel.failed ≡ true → PollsHere coding call stage stage' v w result → PollFollows coding outcomes left old s v w call stage stage' answers result
+  poll_refused left old s v w call stage stage' answers result f may failed here =
+      let is = here.refused failed in
+      let P : Poll Answer → Type 0 = λ r. PollFollows coding outcomes left old s v w call stage stage' answers r in
+      let Q : SessionValue → Type 0 = λ x. Follows coding outcomes left old (poll_script coding (start_of old outcomes) (Some call) s) x None stage' (answers ++ Fault SessionFailed ∷ []) in
+      let stays = refused_poll left old s v call stage stage' answers f failed (stands_failed left old s v call stage answers f may failed) in
+      subst P (sym is.0) (inl (subst Q (sym is.1) stays))
+
+  -- a poll that completes its call
+  pub poll_ready : (left : List RequestOutcome) (old : SessionValue) (s : Script) (v w : SessionValue) (call : Call) (stage stage' : Stage) (answers : List Answer) (answer : Answer) → v.channel.failed ≡ false → (ends : Finishes over_memory (entered_tree coding call stage v.state) answer (entered_at call stage v) w) → Follows coding outcomes (outcomes_of ends.answered ++ left) old s v (Some call) stage answers → MayPoll coding (start_of old outcomes) (Some call) s → PollsHere coding call stage stage' v w (Ready answer) → Follows coding outcomes left old (poll_script coding (start_of old outcomes) (Some call) s) w None stage' (answers ++ answer ∷ [])
+  poll_ready left old s v w call stage stage' answers answer going ends f may here =
+      pick (carry ends.came ends.answered v w call stage stage' (Ready answer) f.sound here ends.goes) (placed (outcomes_of ends.answered ++ left) old s v call stage answers f may going)
     where
-      -- what was asked is what is on record
-      known : (one : List Asked) → w.asked ≡ v.asked ++ one → Follows coding outcomes (outcomes_of one ++ left) old s v (Some call) stage answers
-      known one is =
-          let P : List Asked → Type 0 = λ a. Follows coding outcomes (outcomes_of a ++ left) old s v (Some call) stage answers in
-          subst P (same_answered v.asked w.asked asked one grown is) follows
+      pick : Carried v w ends.came ends.answered → Goes_on old s f.came f.answered v call stage ⊎ Kept old s f.came f.answered v call stage → Follows coding outcomes left old (poll_script coding (start_of old outcomes) (Some call) s) w None stage' (answers ++ answer ∷ [])
+      pick c (inl from) = completed left old s v w call stage answers answer ends f c stage' from
+      pick c (inr from) = absurd (no_answer left old s v w call stage answers answer ends f c from)
 
-      refused_at : v.channel.failed ≡ true → Follows coding outcomes left old s v (Some call) stage answers → Follows coding outcomes left old (poll_script coding (start_of old outcomes) (Some call) s) v None stage' (answers ++ Fault SessionFailed ∷ [])
-      refused_at failed f = refused_poll left old s v call stage stage' answers f failed (stands_failed left old s v call stage answers f may failed)
-
-      refused : v.channel.failed ≡ true → PollFollows coding outcomes left old s v w call stage stage' answers result
-      refused failed =
-          let is = here.refused failed in
-          let P : Poll Answer → Type 0 = λ r. PollFollows coding outcomes left old s v w call stage stage' answers r in
-          let Q : SessionValue → Type 0 = λ x. Follows coding outcomes left old (poll_script coding (start_of old outcomes) (Some call) s) x None stage' (answers ++ Fault SessionFailed ∷ []) in
-          subst P (sym is.0) (inl (subst Q (sym is.1) (refused_at failed (known [] (ap (λ x. x.asked) is.1 ∙ sym (append-nil v.asked))))))
-
-      carry : (came : List ℕ) (answered : List Asked) → Goes over_memory came answered (entered_at call stage v) w → Carried v w came answered
-      carry came answered goes = carried v w (entered_state call stage v.state) came answered goes follows.sound here.end here.given here.sound
-
-      ready_at : (answer : Answer) (going : v.channel.failed ≡ false) → (ends : Ends over_memory (entered_tree coding call stage v.state) answer (entered_at call stage v) w) → Follows coding outcomes (outcomes_of ends.completes.answered ++ left) old s v (Some call) stage answers → Follows coding outcomes left old (poll_script coding (start_of old outcomes) (Some call) s) w None stage' (answers ++ answer ∷ [])
-      ready_at answer going ends f = pick (carry ends.completes.came ends.completes.answered ends.completes.goes) (placed (outcomes_of ends.completes.answered ++ left) old s v call stage answers f may going)
-        where
-          pick : Carried v w ends.completes.came ends.completes.answered → Goes_on old s f.came f.answered v call stage ⊎ Kept old s f.came f.answered v call stage → Follows coding outcomes left old (poll_script coding (start_of old outcomes) (Some call) s) w None stage' (answers ++ answer ∷ [])
-          pick c (inl from) = completed left old s v w call stage answers answer ends f c stage' from
-          pick c (inr from) = absurd (no_answer left old s v w call stage answers answer ends f c from)
-
-      ready : (answer : Answer) (going : v.channel.failed ≡ false) → (ends : Ends over_memory (entered_tree coding call stage v.state) answer (entered_at call stage v) w) → Follows coding outcomes left old (poll_script coding (start_of old outcomes) (Some call) s) w None stage' (answers ++ answer ∷ [])
-      ready answer going ends = ready_at answer going ends (known ends.completes.answered (ends.completes.goes.asked tt))
-
-      waiting_at : v.channel.failed ≡ false → StageOf call stage' → (advances : Advances over_memory (entered_tree coding call stage v.state) (remaining coding call (entered_state call stage v.state) stage') (entered_at call stage v) w) → WaitsFor over_memory (remaining coding call (entered_state call stage v.state) stage') w → (is_read call ≡ true → Rests over_memory v w) → HasBegun over_memory (begun_at stage) (begun_at stage') (entered_tree coding call stage v.state) (entered_at call stage v) w → Follows coding outcomes (outcomes_of advances.moves.leads.answered ++ left) old s v (Some call) stage answers → Follows coding outcomes left old (poll_script coding (start_of old outcomes) (Some call) s) w (Some call) stage' answers
-      waiting_at going stage_of advances waits rests begun f = pick (carry advances.moves.leads.came advances.moves.leads.answered advances.moves.leads.goes) (placed (outcomes_of advances.moves.leads.answered ++ left) old s v call stage answers f may going)
-        where
-          pick : Carried v w advances.moves.leads.came advances.moves.leads.answered → Goes_on old s f.came f.answered v call stage ⊎ Kept old s f.came f.answered v call stage → Follows coding outcomes left old (poll_script coding (start_of old outcomes) (Some call) s) w (Some call) stage' answers
-          pick c (inl from) = pending left old s v w call stage answers stage' advances f c going from stage_of waits rests begun
-          pick c (inr from) = still_waits left old s v w call stage answers stage' advances f c going from stage_of waits begun
-
-      go : (r : Poll Answer) → v.channel.failed ≡ false → PollSteps over_memory (begun_at stage) (entered_tree coding call stage v.state) (remaining coding call (entered_state call stage v.state) stage') (entered_at call stage v) w r → (r ≡ Pending → is_read call ≡ true → Rests over_memory v w) → (r ≡ Pending → HasBegun over_memory (begun_at stage) (begun_at stage') (entered_tree coding call stage v.state) (entered_at call stage v) w) → (r ≡ Pending → StageOf call stage') → PollFollows coding outcomes left old s v w call stage stage' answers r
-      go (Ready answer) going (inl ends) rests begun stage_of = inl (ready answer going ends)
-      go (Ready answer) going (inr aborts) rests begun stage_of =
-          let P : Answer → Type 0 = λ a. Aborts over_memory (begun_at stage) (entered_tree coding call stage v.state) a (entered_at call stage v) w in
-          inr (record { fault = aborts.fault; is = ap Some aborts.is; going = going; aborts = subst P aborts.is aborts; given = here.given; sound = here.sound })
-      go Pending going polls rests begun stage_of = waiting_at going (stage_of refl) polls.0 polls.1 (rests refl) (begun refl) (known polls.0.moves.leads.answered (polls.0.moves.leads.goes.asked tt))
+  -- a poll that waits
+  pub poll_waits : (left : List RequestOutcome) (old : SessionValue) (s : Script) (v w : SessionValue) (call : Call) (stage stage' : Stage) (answers : List Answer) → v.channel.failed ≡ false → (advances : Advances over_memory (entered_tree coding call stage v.state) (remaining coding call (entered_state call stage v.state) stage') (entered_at call stage v) w) → WaitsFor over_memory (remaining coding call (entered_state call stage v.state) stage') w → Follows coding outcomes (outcomes_of advances.moves.leads.answered ++ left) old s v (Some call) stage answers → MayPoll coding (start_of old outcomes) (Some call) s → PollsHere coding call stage stage' v w Pending → Follows coding outcomes left old (poll_script coding (start_of old outcomes) (Some call) s) w (Some call) stage' answers
+  poll_waits left old s v w call stage stage' answers going advances waits f may here =
+      pick (carry advances.moves.leads.came advances.moves.leads.answered v w call stage stage' Pending f.sound here advances.moves.leads.goes) (placed (outcomes_of advances.moves.leads.answered ++ left) old s v call stage answers f may going)
+    where
+      pick : Carried v w advances.moves.leads.came advances.moves.leads.answered → Goes_on old s f.came f.answered v call stage ⊎ Kept old s f.came f.answered v call stage → Follows coding outcomes left old (poll_script coding (start_of old outcomes) (Some call) s) w (Some call) stage' answers
+      pick c (inl from) = pending left old s v w call stage answers stage' advances f c going from (here.left_at refl) waits (here.rests refl) (here.begun refl)
+      pick c (inr from) = still_waits left old s v w call stage answers stage' advances f c going from (here.left_at refl) waits (here.begun refl)
 
   -- the call under way begins where it wasn't polled
   pub entering_is : (due : List RequestOutcome) (old : SessionValue) (s : Script) (v : SessionValue) (call : Call) (stage : Stage) (answers : List Answer) → (f : Follows coding outcomes due old s v (Some call) stage answers) → entered_at call stage v ≡ entering s.polled call v
@@ -764,7 +751,7 @@ module _ (coding : Coding) (outcomes : List RequestOutcome) where
     came = f.came;
     bytes = f.bytes;
     answered = f.answered;
-    asked = f.asked;
+    deals = f.deals;
     reaches = let P : SessionValue → Type 0 = λ e. Reaches coding old s.items f.came f.answered e s.answers call (entered_tree coding call stage v.state) in subst P (entering_is due old s v call stage answers f) (reaches f.place);
     since = since f.place;
   }
@@ -795,29 +782,50 @@ module _ (coding : Coding) (outcomes : List RequestOutcome) where
       since (inr (inl u)) = of_since u.since
       since (inr (inr u)) = of_since u.since
 
--- a poll asks more, or nothing
-pub poll_grows : (coding : Coding) (call : Call) (stage stage' : Stage) (v w : SessionValue) (result : Poll Answer) → PollsHere coding call stage stage' v w result → Grows v w
-poll_grows coding call stage stage' v w result polls_here =
-    elim v.channel.failed as (λ t. v.channel.failed ≡ t → Grows v w) [
-      | true ↦ λ failed. ([], ap (λ x. x.asked) (polls_here.refused failed).1 ∙ sym (append-nil v.asked))
-      | false ↦ λ going. go result (polls_here.polls going)
+-- what a poll makes of a script, with what happened beside the control connection
+abbrev pub PollHappens : Coding → Call → Stage → Stage → SessionValue → SessionValue → Poll Answer → Type 0
+PollHappens coding call stage stage' v w result =
+    (answered : List Deal) × Deals answered v.net w.net × ((outcomes left : List RequestOutcome) (old : SessionValue) (s : Script) (answers : List Answer) → Follows coding outcomes (outcomes_of answered ++ left) old s v (Some call) stage answers → MayPoll coding (start_of old outcomes) (Some call) s → PollFollows coding outcomes left old s v w call stage stage' answers result)
+
+-- what an aborted call left beside the control connection
+aborted_deals : (begun : Bool) (tree : Tree) (answer : Answer) (v w : SessionValue) (aborts : Aborts over_memory begun tree answer v w) → Deals aborts.leads.answered v.net w.net
+aborted_deals begun tree answer v w aborts =
+    let P : Net → Type 0 = λ n. Deals aborts.leads.answered v.net n in
+    subst P (sym (go aborts.cause)) (aborts.leads.goes.deals tt)
+  where
+    lost : ((w ≡ aborts.at) × (begun ≡ false) × Untouched over_memory aborts.leads.came v aborts.at) ⊎ ((w ≡ failed_from aborts.at) × ((begun ≡ true) ⊎ Touched over_memory tree v aborts.at)) → w.net ≡ aborts.at.net
+    lost (inl same) = ap (λ x. x.net) same.0
+    lost (inr same) = ap (λ x. x.net) same.0
+
+    go : Fails over_memory aborts.place aborts.fault aborts.at w ⊎ LacksMemory over_memory begun tree aborts.leads.came aborts.fault v aborts.at w → w.net ≡ aborts.at.net
+    go (inl fails) = ap (λ x. x.net) fails.same
+    go (inr none) = lost none.leaves
+
+pub poll_happens : (coding : Coding) (call : Call) (stage stage' : Stage) (v w : SessionValue) (result : Poll Answer) → PollsHere coding call stage stage' v w result → PollHappens coding call stage stage' v w result
+poll_happens coding call stage stage' v w result here =
+    elim v.channel.failed as (λ t. v.channel.failed ≡ t → PollHappens coding call stage stage' v w result) [
+      | true ↦ λ failed. ([], ap (λ x. x.net) (here.refused failed).1, λ outcomes left old s answers f may. poll_refused coding outcomes left old s v w call stage stage' answers result f may failed here)
+      | false ↦ λ going. go result here going (here.polls going)
     ] refl
   where
-    after_fails : (place : Tree) (fault : FtpError) (at : SessionValue) → Fails over_memory place fault at w → w.asked ≡ at.asked
-    after_fails place fault at fails = ap (λ x. x.asked) fails.same
+    tree : Tree
+    tree = entered_tree coding call stage v.state
 
-    after_lack : (tree : Tree) (came : List ℕ) (fault : FtpError) (at : SessionValue) → LacksMemory over_memory (begun_at stage) tree came fault (entered_at call stage v) at w → w.asked ≡ at.asked
-    after_lack tree came fault at full = pick full.leaves
-      where
-        pick : ((w ≡ at) × (begun_at stage ≡ false) × Untouched over_memory came (entered_at call stage v) at) ⊎ ((w ≡ failed_from at) × ((begun_at stage ≡ true) ⊎ Touched over_memory tree (entered_at call stage v) at)) → w.asked ≡ at.asked
-        pick (inl same) = ap (λ x. x.asked) same.0
-        pick (inr same) = ap (λ x. x.asked) same.0
-
-    go : (r : Poll Answer) → PollSteps over_memory (begun_at stage) (entered_tree coding call stage v.state) (remaining coding call (entered_state call stage v.state) stage') (entered_at call stage v) w r → Grows v w
-    go (Ready answer) (inl ends) = (ends.completes.answered, ends.completes.goes.asked tt)
-    go (Ready answer) (inr aborts) = (aborts.leads.answered, pick aborts.cause ∙ aborts.leads.goes.asked tt)
-      where
-        pick : Fails over_memory aborts.place aborts.fault aborts.at w ⊎ LacksMemory over_memory (begun_at stage) (entered_tree coding call stage v.state) aborts.leads.came aborts.fault (entered_at call stage v) aborts.at w → w.asked ≡ aborts.at.asked
-        pick (inl fails) = after_fails aborts.place aborts.fault aborts.at fails
-        pick (inr none) = after_lack (entered_tree coding call stage v.state) aborts.leads.came aborts.fault aborts.at none
-    go Pending polls = (polls.0.moves.leads.answered, polls.0.moves.leads.goes.asked tt)
+    go : (r : Poll Answer) → PollsHere coding call stage stage' v w r → v.channel.failed ≡ false → PollsTo over_memory (begun_at stage) tree (remaining coding call (entered_state call stage v.state) stage') (entered_at call stage v) w r → PollHappens coding call stage stage' v w r
+    go (Ready answer) here going (last, inl ends, lets_go) =
+        let F : SessionValue → Type 0 = λ x. Finishes over_memory tree answer (entered_at call stage v) x in
+        let done : Finishes over_memory tree answer (entered_at call stage v) w = subst F (sym lets_go) (finishes over_memory tree answer (entered_at call stage v) last ends) in
+        (done.answered, done.goes.deals tt, λ outcomes left old s answers f may. inl (poll_ready coding outcomes left old s v w call stage stage' answers answer going done f may here))
+    go (Ready answer) here going (last, inr aborts, lets_go) =
+        let P : Answer → Type 0 = λ a. Aborts over_memory (begun_at stage) tree a (entered_at call stage v) last in
+        let D : SessionValue → Type 0 = λ x. Deals (aborts.leads.answered ++ drops last.state.counts.owed) v.net x.net in
+        let deals = deals-append aborts.leads.answered (drops last.state.counts.owed) v.net last.net (let_go last).net (aborted_deals (begun_at stage) tree answer (entered_at call stage v) last aborts) (drops_deal last.state.counts.owed last.net) in
+        (
+          aborts.leads.answered ++ drops last.state.counts.owed,
+          subst D (sym lets_go) deals,
+          λ outcomes left old s answers f may. inr (record { fault = aborts.fault; is = ap Some aborts.is; going = going; last = last; aborts = subst P aborts.is aborts; lets_go = lets_go; given = here.given; sound = here.sound }),
+        )
+    go Pending here going (last, polls, same) =
+        let A : SessionValue → Type 0 = λ x. Advances over_memory tree (remaining coding call (entered_state call stage v.state) stage') (entered_at call stage v) x × WaitsFor over_memory (remaining coding call (entered_state call stage v.state) stage') x in
+        let made = subst A (sym same) polls in
+        (made.0.moves.leads.answered, made.0.moves.leads.goes.deals tt, λ outcomes left old s answers f may. poll_waits coding outcomes left old s v w call stage stage' answers going made.0 made.1 f may here)

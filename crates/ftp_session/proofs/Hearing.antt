@@ -11,7 +11,6 @@ use Rattle.ftp_base.specs.declared.types.fault.FtpError.TheVariants as fault
 use Rattle.ftp_base.specs.declared.types.fault.ConnectionError.TheVariants as connection
 use Rattle.ftp_control.specs.declared.transport.room.Room.{Room}
 use Rattle.ftp_control.specs.declared.transport.request.RequestOutcome.{RequestOutcome}
-use Rattle.ftp_control.specs.declared.transport.request.Asked.{Asked}
 use Rattle.ftp_control.specs.declared.control.rule.ReplyRule.{ReplyRule}
 use Rattle.ftp_control.specs.declared.control.broken.Broken.{Broken}
 use Rattle.ftp_control.specs.declared.control.broken.Broken.TheVariants.{Connection, OutOfMemory}
@@ -26,6 +25,7 @@ use Rattle.ftp_control.specs.Answer.{AnswersRead, answer_of, expected_reply, is_
 use Rattle.ftp_session.specs.declared.session.state.State.{State}
 use Rattle.ftp_session.specs.declared.model.Standing.{Standing}
 use Rattle.ftp_session.specs.declared.model.Played.{Played}
+use Rattle.ftp_session.specs.Deals.{Net}
 use Rattle.ftp_session.specs.State.{SessionValue}
 use Rattle.ftp_session.specs.Dialogue.{Expected, Tree, Say, Hear, Look, Ask, Leaf}
 use Rattle.ftp_session.specs.Play.{play, heard_then}
@@ -60,12 +60,12 @@ tells_input Ended came ended t u told = told
 tells_input Waits came ended t u told = told.0
 
 -- a session that hasn't failed, and what a read leaves of it
-module _ (link : Link) (state : State) (asked : List Asked) (t : Told) (kept ahead unsent : List ℕ) (first : Bool) (rule : ReplyRule) (codes : Expected) (next : Result Response FtpError → Tree) (kept' ahead' : List ℕ) (ended : Bool) where
+module _ (link : Link) (state : State) (net : Net) (t : Told) (kept ahead unsent : List ℕ) (first : Bool) (rule : ReplyRule) (codes : Expected) (next : Result Response FtpError → Tree) (kept' ahead' : List ℕ) (ended : Bool) where
   abbrev old : SessionValue
-  old = record { channel = record { told = t; kept = kept; ahead = ahead; unsent = unsent; ended = first; failed = false; rule = rule }; state = state; asked = asked }
+  old = record { channel = record { told = t; kept = kept; ahead = ahead; unsent = unsent; ended = first; failed = false; rule = rule }; state = state; net = net }
 
   abbrev new : Told → Bool → SessionValue
-  new u failed = record { channel = record { told = u; kept = kept'; ahead = ahead'; unsent = unsent; ended = ended; failed = failed; rule = rule }; state = state; asked = asked }
+  new u failed = record { channel = record { told = u; kept = kept'; ahead = ahead'; unsent = unsent; ended = ended; failed = failed; rule = rule }; state = state; net = net }
 
   goes : (u : Told) (failed : Bool) (came : List ℕ) → (link.tells → IsGiven t → IsGiven u) → GoesOn first came ended → length (kept' ++ ahead') ≤ length (kept ++ ahead) + length came → (link.tells → (u.received ≡ t.received ++ came) × (u.given ≡ t.given) × NoneFailed t u × (u.sent ≡ t.sent)) → Goes link came [] old (new u failed)
   goes u failed came was over fewer told = record {
@@ -77,7 +77,7 @@ module _ (link : Link) (state : State) (asked : List Asked) (t : Told) (kept ahe
     said = λ h. omega (arith, ap length (ap (λ s. s ++ unsent) (told h).3));
     untaken = fewer;
     at_hand = was;
-    asked = λ h. sym (append-nil asked);
+    deals = λ h. refl;
     rule = refl;
   }
 
@@ -232,15 +232,15 @@ module _ (link : Link) (state : State) (asked : List Asked) (t : Told) (kept ahe
   hears u (Err OutOfMemory) may was reads = inr (lacks_memory u reads.came reads.over was reads.leaves reads.told)
 
 -- a reply is heard
-pub reply_heard : (link : Link) (state : State) (asked : List Asked) (a b : Channel) (codes : Expected) (answer : Poll (Result Response FtpError)) → a.failed ≡ false → AnswersRead link.tells link.reads codes.form codes.statuses a b answer → (next : Result Response FtpError → Tree) → Hears link codes next (record { channel = a; state = state; asked = asked }) (record { channel = b; state = state; asked = asked }) answer
-reply_heard link state asked a b codes answer going read next =
+pub reply_heard : (link : Link) (state : State) (net : Net) (a b : Channel) (codes : Expected) (answer : Poll (Result Response FtpError)) → a.failed ≡ false → AnswersRead link.tells link.reads codes.form codes.statuses a b answer → (next : Result Response FtpError → Tree) → Hears link codes next (record { channel = a; state = state; net = net }) (record { channel = b; state = state; net = net }) answer
+reply_heard link state net a b codes answer going read next =
     let result = read.result in
-    let V : Channel → SessionValue = λ c. record { channel = c; state = state; asked = asked } in
+    let V : Channel → SessionValue = λ c. record { channel = c; state = state; net = net } in
     let P : Poll (Result Response FtpError) → Type 0 = λ x. Hears link codes next (V a) (V b) x in
     let Q : Channel → Type 0 = λ c. ReadsReply link.tells codes.form a c result → Hears link codes next (V a) (V c) (answer_of codes.statuses result) in
     let N : Bool → Channel = λ f. record a { told = b.told; kept = b.kept; ahead = b.ahead; ended = b.ended; failed = f || fails_by result } in
     let S : Bool → Type 0 = λ f. ReadsReply link.tells codes.form (record a { failed = f }) (N f) result → Hears link codes next (V (record a { failed = f })) (V (N f)) (answer_of codes.statuses result) in
     subst P (sym read.is)
     (subst Q (sym read.reads.same)
-    (subst S (sym going) (hears link state asked a.told a.kept a.ahead a.unsent a.ended a.rule codes next b.kept b.ahead b.ended b.told result read.fault read.given))
+    (subst S (sym going) (hears link state net a.told a.kept a.ahead a.unsent a.ended a.rule codes next b.kept b.ahead b.ended b.told result read.fault read.given))
     read.reads)

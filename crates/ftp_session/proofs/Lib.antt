@@ -1,6 +1,7 @@
 pub mod Agreeing
 pub mod Carried
 pub mod Connecting
+pub mod Deals
 pub mod Events
 pub mod Following
 pub mod Hearing

@@ -8,9 +8,8 @@ use Rattle.ftp_base.specs.declared.types.fault.ConnectionError.{ConnectionError 
 use Rattle.ftp_control.specs.declared.transport.room.Room.{Room}
 use Rattle.ftp_control.specs.declared.transport.room.Room.TheVariants.{Any, UpTo}
 use Rattle.ftp_control.specs.declared.transport.request.RequestOutcome.{RequestOutcome}
-use Rattle.ftp_control.specs.declared.transport.request.Asked.{Asked}
-use Rattle.ftp_control.specs.Asking.{outcomes_of}
-use Rattle.ftp_control.proofs.Asking.{outcomes-append}
+use Rattle.ftp_session.specs.Deals.{Deal, Net, outcomes_of}
+use Rattle.ftp_session.proofs.Deals.{deals-append, drops, drops_deal, drops_none, outcomes-append, traffic_kept}
 use Rattle.futures.specs.declared.task.Poll.{Poll}
 use Rattle.futures.specs.declared.task.Poll.TheVariants as poll
 use Rattle.ftp_control.specs.Memory.{IsGiven}
@@ -24,10 +23,10 @@ use Rattle.ftp_calls.specs.declared.call.Answer.TheVariants.{Fault}
 use Rattle.ftp_session.specs.declared.session.stage.Step.TheVariants.{Next, Pending, Done}
 use Rattle.ftp_session.specs.declared.model.Standing.{Standing}
 use Rattle.ftp_session.specs.declared.model.Played.TheVariants as played
-use Rattle.ftp_session.specs.State.{SessionValue}
+use Rattle.ftp_session.specs.State.{SessionValue, let_go}
 use Rattle.ftp_session.specs.Dialogue.{Tree, Say, Hear, Look, Ask, Leaf}
-use Rattle.ftp_session.specs.Play.{play, fits, said_then}
-use Rattle.ftp_session.specs.Run.{Silent}
+use Rattle.ftp_session.specs.Play.{ended, finally, play, fits, said_then}
+use Rattle.ftp_session.specs.Run.{Resumes, Silent}
 use Rattle.ftp_session.specs.Promises.{IsFault, However, SaidOrTaken, standing, Rests, Goes, Leads, Fails, Touched, Untouched, LacksMemory, Aborts, failed_from}
 use Rattle.ftp_session.specs.Steps.Moving.{NothingTouched, StillSays, HasGoneOut, Keeps, Shrinks, Calm, Moves, Advances, Ends, WaitsFor, Steps, TakesLine, after_line, step_of}
 use Rattle.ftp_session.specs.Link.{Link}
@@ -64,7 +63,7 @@ nothing_goes link v = record {
   said = λ h. omega arith;
   untaken = omega arith;
   at_hand = λ h is. is;
-  asked = λ h. sym (append-nil v.asked);
+  deals = λ h. refl;
   rule = refl;
 }
 
@@ -108,12 +107,12 @@ line_in (Leaf answer state) = []
 
 -- A line is said
 
-module _ (link : Link) (state : State) (asked : List Asked) (a : Channel) (told : Told) (unsent : List ℕ) (failed : Bool) where
+module _ (link : Link) (state : State) (net : Net) (a : Channel) (told : Told) (unsent : List ℕ) (failed : Bool) where
   abbrev before : SessionValue
-  before = record { channel = a; state = state; asked = asked }
+  before = record { channel = a; state = state; net = net }
 
   abbrev after : SessionValue
-  after = record { channel = record a { told = told; unsent = unsent; failed = failed }; state = state; asked = asked }
+  after = record { channel = record a { told = told; unsent = unsent; failed = failed }; state = state; net = net }
 
   -- what a line leaves as it was
   said_goes : (link.tells → told ≡ record a.told { sent = told.sent; failures = told.failures; last_fault = told.last_fault }) → (link.tells → NoneFailed a.told told) → (link.tells → length a.told.sent ≤ length told.sent) → (link.tells → length (a.told.sent ++ a.unsent) ≤ length (told.sent ++ unsent)) → Goes link [] [] before after
@@ -126,7 +125,7 @@ module _ (link : Link) (state : State) (asked : List Asked) (a : Channel) (told 
     said = grows;
     untaken = omega arith;
     at_hand = λ h is. (let P : Told → Type 0 = IsGiven in subst P (sym (nothing h)) (record { ahead = is.ahead; front = is.front; over = is.over }));
-    asked = λ h. sym (append-nil asked);
+    deals = λ h. refl;
     rule = refl;
   }
 
@@ -207,16 +206,16 @@ module _ (link : Link) (state : State) (asked : List Asked) (a : Channel) (told 
     )
 
 -- the connection failed
-said_aborts : (link : Link) (state : State) (asked : List Asked) (a : Channel) (told : Told) (unsent : List ℕ) (failed : Bool) (line line' : Option (List ℕ)) (begun : Bool) (next : Tree) (fault : FtpError) → a.failed ≡ false → SaysLine link.tells link.writes a (record a { told = told; unsent = unsent; failed = failed }) line line' (poll.Ready (Err fault)) → Aborts link begun (Say (Ok (due line)) next) (Fault fault) (record { channel = a; state = state; asked = asked }) (record { channel = record a { told = told; unsent = unsent; failed = failed }; state = state; asked = asked })
-said_aborts link state asked a told unsent failed line line' begun next fault going says =
+said_aborts : (link : Link) (state : State) (net : Net) (a : Channel) (told : Told) (unsent : List ℕ) (failed : Bool) (line line' : Option (List ℕ)) (begun : Bool) (next : Tree) (fault : FtpError) → a.failed ≡ false → SaysLine link.tells link.writes a (record a { told = told; unsent = unsent; failed = failed }) line line' (poll.Ready (Err fault)) → Aborts link begun (Say (Ok (due line)) next) (Fault fault) (record { channel = a; state = state; net = net }) (record { channel = record a { told = told; unsent = unsent; failed = failed }; state = state; net = net })
+said_aborts link state net a told unsent failed line line' begun next fault going says =
     let now : Told = record told { failures = a.told.failures; last_fault = a.told.last_fault } in
-    let at : SessionValue = record { channel = record a { told = now; unsent = unsent }; state = state; asked = asked } in
-    let P : Bool → SessionValue = λ f. record { channel = record a { told = told; unsent = unsent; failed = f }; state = state; asked = asked } in
+    let at : SessionValue = record { channel = record a { told = now; unsent = unsent }; state = state; net = net } in
+    let P : Bool → SessionValue = λ f. record { channel = record a { told = told; unsent = unsent; failed = f }; state = state; net = net } in
     record {
       place = Say (Ok (due line')) next;
       at = at;
-      leads = said_part link state asked a now unsent a.failed line line' next refl says.said
-          (said_goes link state asked a now unsent a.failed (λ h. let F : Told → Told = λ t. record t { failures = a.told.failures; last_fault = a.told.last_fault } in ap F (says.hears_nothing h)) (λ h. record { failures = refl; last_fault = refl }) says.sends (λ h. said_grows link state asked a now unsent a.failed line line' says.whole (says.said h)));
+      leads = said_part link state net a now unsent a.failed line line' next refl says.said
+          (said_goes link state net a now unsent a.failed (λ h. let F : Told → Told = λ t. record t { failures = a.told.failures; last_fault = a.told.last_fault } in ap F (says.hears_nothing h)) (λ h. record { failures = refl; last_fault = refl }) says.sends (λ h. said_grows link state net a now unsent a.failed line line' says.whole (says.said h)));
       state = refl;
       going = going;
       fault = fault;
@@ -231,8 +230,8 @@ said_aborts link state asked a told unsent failed line line' begun next fault go
     }
 
 -- a line that was taken to go out was said
-pub line_taken : (link : Link) (state : State) (asked : List Asked) (a b : Channel) (line line' : Option (List ℕ)) (answer : Poll (Result (Unit {0}) FtpError)) → SaysLine link.tells link.writes a b line line' answer → TakesLine link line line' (record { channel = a; state = state; asked = asked }) (record { channel = b; state = state; asked = asked }) (step_of answer)
-line_taken link state asked a b line line' answer says = record {
+pub line_taken : (link : Link) (state : State) (net : Net) (a b : Channel) (line line' : Option (List ℕ)) (answer : Poll (Result (Unit {0}) FtpError)) → SaysLine link.tells link.writes a b line line' answer → TakesLine link line line' (record { channel = a; state = state; net = net }) (record { channel = b; state = state; net = net }) (step_of answer)
+line_taken link state net a b line line' answer says = record {
   whole = says.whole;
   gone = gone answer says.leaves;
   stays = λ same h. ([], ap (λ t. t.received) (says.hears_nothing h) ∙ sym (append-nil a.told.received), append_cancel_right (said b) (said a) (due line) (ap (λ l. said b ++ due l) (sym same) ∙ says.said h), (let F : Channel → List ℕ = untaken in ap F says.same ∙ sym (append-nil (untaken a))));
@@ -249,30 +248,30 @@ line_taken link state asked a b line line' answer says = record {
     begins (inr (inl same)) is = inl (sym same ∙ is)
     begins (inr (inr some)) is = inr (λ h. omega (arith, some, ap length (says.said h), length-append (said b) (due line'), length-append (said a) (due line), ap length (ap due is)))
 
-said_step : (link : Link) (state : State) (asked : List Asked) (a : Channel) (told : Told) (unsent : List ℕ) (failed : Bool) (line line' : Option (List ℕ)) (begun : Bool) (next : Tree) → a.failed ≡ false → (answer : Poll (Result (Unit {0}) FtpError)) → SaysLine link.tells link.writes a (record a { told = told; unsent = unsent; failed = failed }) line line' answer → Steps link begun (Say (Ok (due line)) next) (after_line (step_of answer) line' next) (record { channel = a; state = state; asked = asked }) (record { channel = record a { told = told; unsent = unsent; failed = failed }; state = state; asked = asked }) (step_of answer)
-said_step link state asked a told unsent failed line line' begun next going (poll.Ready (Ok done)) says = said_whole link state asked a told unsent failed line line' next says
-said_step link state asked a told unsent failed line line' begun next going (poll.Ready (Err fault)) says = inr (said_aborts link state asked a told unsent failed line line' begun next fault going says)
-said_step link state asked a told unsent failed line line' begun next going poll.Pending says = said_waits link state asked a told unsent failed line line' next says
+said_step : (link : Link) (state : State) (net : Net) (a : Channel) (told : Told) (unsent : List ℕ) (failed : Bool) (line line' : Option (List ℕ)) (begun : Bool) (next : Tree) → a.failed ≡ false → (answer : Poll (Result (Unit {0}) FtpError)) → SaysLine link.tells link.writes a (record a { told = told; unsent = unsent; failed = failed }) line line' answer → Steps link begun (Say (Ok (due line)) next) (after_line (step_of answer) line' next) (record { channel = a; state = state; net = net }) (record { channel = record a { told = told; unsent = unsent; failed = failed }; state = state; net = net }) (step_of answer)
+said_step link state net a told unsent failed line line' begun next going (poll.Ready (Ok done)) says = said_whole link state net a told unsent failed line line' next says
+said_step link state net a told unsent failed line line' begun next going (poll.Ready (Err fault)) says = inr (said_aborts link state net a told unsent failed line line' begun next fault going says)
+said_step link state net a told unsent failed line line' begun next going poll.Pending says = said_waits link state net a told unsent failed line line' next says
 
 -- a line is said
-pub line_said : (link : Link) (state : State) (asked : List Asked) (a b : Channel) (line line' : Option (List ℕ)) (answer : Poll (Result (Unit {0}) FtpError)) → a.failed ≡ false → SaysLine link.tells link.writes a b line line' answer → (begun : Bool) (next : Tree) → Steps link begun (Say (Ok (due line)) next) (after_line (step_of answer) line' next) (record { channel = a; state = state; asked = asked }) (record { channel = b; state = state; asked = asked }) (step_of answer)
-line_said link state asked a b line line' answer going says begun next =
-    let P : Channel → Type 0 = λ c. SaysLine link.tells link.writes a c line line' answer → Steps link begun (Say (Ok (due line)) next) (after_line (step_of answer) line' next) (record { channel = a; state = state; asked = asked }) (record { channel = c; state = state; asked = asked }) (step_of answer) in
-    subst P (sym says.same) (said_step link state asked a b.told b.unsent b.failed line line' begun next going answer) says
+pub line_said : (link : Link) (state : State) (net : Net) (a b : Channel) (line line' : Option (List ℕ)) (answer : Poll (Result (Unit {0}) FtpError)) → a.failed ≡ false → SaysLine link.tells link.writes a b line line' answer → (begun : Bool) (next : Tree) → Steps link begun (Say (Ok (due line)) next) (after_line (step_of answer) line' next) (record { channel = a; state = state; net = net }) (record { channel = b; state = state; net = net }) (step_of answer)
+line_said link state net a b line line' answer going says begun next =
+    let P : Channel → Type 0 = λ c. SaysLine link.tells link.writes a c line line' answer → Steps link begun (Say (Ok (due line)) next) (after_line (step_of answer) line' next) (record { channel = a; state = state; net = net }) (record { channel = c; state = state; net = net }) (step_of answer) in
+    subst P (sym says.same) (said_step link state net a b.told b.unsent b.failed line line' begun next going answer) says
 
 -- A dialogue ends
 
 -- a leaf was reached, and only the state changes
-pub leaf_ends : (link : Link) (tree : Tree) (answer : Answer) (old mid new : SessionValue) → Moves link tree (Leaf answer new.state) old mid → (mid.channel.failed ≡ true → (old.channel.failed ≡ true) ⊎ IsFault answer) → new.channel ≡ mid.channel → new.asked ≡ mid.asked → Ends link tree answer old new
-leaf_ends link tree answer old mid new moves fails channel asked =
-    let F : Channel → List Asked → SessionValue = λ c a. record { channel = c; state = new.state; asked = a } in
-    let same : new ≡ record mid { state = new.state } = ap (λ c. F c new.asked) channel ∙ ap (λ a. F mid.channel a) asked in
+pub leaf_ends : (link : Link) (tree : Tree) (answer : Answer) (old mid new : SessionValue) → Moves link tree (Leaf answer new.state) old mid → (mid.channel.failed ≡ true → (old.channel.failed ≡ true) ⊎ IsFault answer) → new.channel ≡ mid.channel → new.net ≡ mid.net → Ends link tree answer old new
+leaf_ends link tree answer old mid new moves fails channel net =
+    let F : Channel → Net → SessionValue = λ c n. record { channel = c; state = new.state; net = n } in
+    let same : new ≡ record mid { state = new.state } = ap (λ c. F c new.net) channel ∙ ap (λ n. F mid.channel n) net in
     let P : SessionValue → Type 0 = λ v. Ends link tree answer old v in
     subst P (sym same) (record {
       completes = record {
         came = moves.leads.came;
         answered = moves.leads.answered;
-        goes = record { over = moves.leads.goes.over; received = moves.leads.goes.received; given = moves.leads.goes.given; failures = moves.leads.goes.failures; sent = moves.leads.goes.sent; said = moves.leads.goes.said; untaken = moves.leads.goes.untaken; at_hand = moves.leads.goes.at_hand; asked = moves.leads.goes.asked; rule = moves.leads.goes.rule };
+        goes = record { over = moves.leads.goes.over; received = moves.leads.goes.received; given = moves.leads.goes.given; failures = moves.leads.goes.failures; sent = moves.leads.goes.sent; said = moves.leads.goes.said; untaken = moves.leads.goes.untaken; at_hand = moves.leads.goes.at_hand; deals = moves.leads.goes.deals; rule = moves.leads.goes.rule };
         plays = λ h resumes room more ended outcomes fit on.
             moves.leads.plays h resumes room more ended outcomes fit on ∙ play-Leaf room answer new.state (standing mid more ended outcomes);
       };
@@ -336,7 +335,7 @@ lacks_memory_at link begun tree tree' old mid begins moves going = record {
 -- One after another
 
 -- bytes that came after others
-pub joined_goes : (link : Link) (one two : List ℕ) (asked more : List Asked) (a b c : SessionValue) → Goes link one asked a b → Goes link two more b c → Goes link (one ++ two) (asked ++ more) a c
+pub joined_goes : (link : Link) (one two : List ℕ) (asked more : List Deal) (a b c : SessionValue) → Goes link one asked a b → Goes link two more b c → Goes link (one ++ two) (asked ++ more) a c
 joined_goes link one two asked more a b c first second = record {
   over = record {
     nothing = λ e. rw (first.over.nothing e) (second.over.nothing (first.over.over e));
@@ -349,7 +348,7 @@ joined_goes link one two asked more a b c first second = record {
   said = λ h. omega (arith, first.said h, second.said h);
   untaken = omega (arith, first.untaken, second.untaken, length-append one two);
   at_hand = λ h is. second.at_hand h (first.at_hand h is);
-  asked = λ h. second.asked h ∙ ap (λ r. r ++ more) (first.asked h) ∙ append_assoc a.asked asked more;
+  deals = λ h. deals-append asked more a.net b.net c.net (first.deals h) (second.deals h);
   rule = second.rule ∙ first.rule;
 }
 
@@ -395,16 +394,16 @@ rests_untouched link old new rests = λ h.
     (rests.came, rests.goes.received h, sym (ap (λ s. s.said ++ s.unsent) same), whole)
 
 -- what was said or taken stays so
-pub said_or_taken_on : (link : Link) (a b c : SessionValue) (came : List ℕ) (answered : List Asked) → Goes link came answered b c → link.tells → SaidOrTaken a b → SaidOrTaken a c
+pub said_or_taken_on : (link : Link) (a b c : SessionValue) (came : List ℕ) (answered : List Deal) → Goes link came answered b c → link.tells → SaidOrTaken a b → SaidOrTaken a c
 said_or_taken_on link a b c came answered goes h (inl more) = inl (omega (arith, more, goes.said h))
 said_or_taken_on link a b c came answered goes h (inr fewer) = inr (omega (arith, fewer, goes.untaken, ap length (goes.received h), length-append b.channel.told.received came))
 
-touched_on : (link : Link) (tree : Tree) (a b c : SessionValue) (came : List ℕ) (answered : List Asked) → Goes link came answered b c → Touched link tree a b → Touched link tree a c
+touched_on : (link : Link) (tree : Tree) (a b c : SessionValue) (came : List ℕ) (answered : List Deal) → Goes link came answered b c → Touched link tree a b → Touched link tree a c
 touched_on link tree a b c came answered goes here = λ h resumes. said_or_taken_on link a b c came answered goes h (here h resumes)
 
 module _ (link : Link) (tree tree' : Tree) (a b c : SessionValue) (first : Moves link tree tree' a b) where
   -- the first part of two
-  pub first_plays : (two : List ℕ) (asked : List Asked) → Goes link two asked b c → link.tells → However a first.leads.came first.leads.answered b (λ room s t. play room tree s ≡ play room tree' t) → (room : Room) (more : List ℕ) (ended : Bool) (outcomes : List RequestOutcome) → HasRoomFor room (length c.channel.told.sent) → GoesOn c.channel.ended more ended → play room tree (standing a ((first.leads.came ++ two) ++ more) ended (outcomes_of (first.leads.answered ++ asked) ++ outcomes)) ≡ play room tree' (standing b (two ++ more) ended (outcomes_of asked ++ outcomes))
+  pub first_plays : (two : List ℕ) (asked : List Deal) → Goes link two asked b c → link.tells → However a first.leads.came first.leads.answered b (λ room s t. play room tree s ≡ play room tree' t) → (room : Room) (more : List ℕ) (ended : Bool) (outcomes : List RequestOutcome) → HasRoomFor room (length c.channel.told.sent) → GoesOn c.channel.ended more ended → play room tree (standing a ((first.leads.came ++ two) ++ more) ended (outcomes_of (first.leads.answered ++ asked) ++ outcomes)) ≡ play room tree' (standing b (two ++ more) ended (outcomes_of asked ++ outcomes))
   first_plays two asked goes h plays room more ended outcomes fit on =
       rw (append_assoc first.leads.came two more, outcomes-append first.leads.answered asked, append_assoc (outcomes_of first.leads.answered) (outcomes_of asked) outcomes)
       (plays room (two ++ more) ended (outcomes_of asked ++ outcomes) (fitted room _ _ (goes.sent h) fit) (goes_after b.channel.ended two more c.channel.ended ended goes.over on))
@@ -511,3 +510,69 @@ module _ (link : Link) (tree tree' : Tree) (a b c : SessionValue) (first : Moves
           begins : (begun ≡ true) ⊎ Touched link tree a b → (begun ≡ true) ⊎ Touched link tree a second.at
           begins (inl before) = inl before
           begins (inr here) = inr (touched_on link tree a b second.at second.leads.came second.leads.answered second.leads.goes here)
+
+unfoldable pub advances_on : (link : Link) (tree tree' last : Tree) (a b c : SessionValue) → Advances link tree tree' a b → Advances link tree' last b c → Advances link tree last a c
+advances_on link tree tree' last a b c first second = record {
+  moves = moves_on link tree tree' a b c first.moves last second.moves;
+  failed = second.failed ∙ first.failed;
+}
+
+-- A call that has its answer lets go of what it doesn't need
+
+-- a tree comes to its answer, and what isn't needed is let go
+pub record Finishes (link : Link) (tree : Tree) (answer : Answer) (old new : SessionValue) : Type 0 where
+  pub came : List ℕ
+  pub answered : List Deal
+  pub goes : Goes link came answered old new
+  pub plays : link.tells → Resumes old.channel.rule old.channel.kept tree → However old came answered new (λ room s t. finally (play room tree s) ≡ played.Done answer t)
+  pub fails : new.channel.failed ≡ true → (old.channel.failed ≡ true) ⊎ IsFault answer
+  pub keeps : Keeps (Silent tree) came old new
+  pub calm : Keeps (Calm tree) came old new
+  pub shrinks : Shrinks came old new
+  pub gone : (line : List ℕ) (next : Tree) → tree ≡ Say (Ok line) next → link.tells → HasGoneOut line old new
+
+-- what is let go is let go where a run stands
+pub ended_standing : (v : SessionValue) (more : List ℕ) (over : Bool) (outcomes : List RequestOutcome) → ended (standing v more over outcomes) ≡ standing (let_go v) more over outcomes
+ended_standing v more over outcomes =
+    let s : Standing = standing v more over outcomes in
+    ap (λ d. record s { dealings = record s.dealings { data_conn = d } }) (sym (traffic_kept v.state.counts.owed v.net.data_conn))
+
+pub letting_goes : (link : Link) (v : SessionValue) → Goes link [] (drops v.state.counts.owed) v (let_go v)
+letting_goes link v = record {
+  over = record { nothing = λ e. refl; over = λ e. e };
+  received = λ h. sym (append-nil v.channel.told.received);
+  given = λ h. refl;
+  failures = λ h. record { failures = refl; last_fault = refl };
+  sent = λ h. omega arith;
+  said = λ h. omega arith;
+  untaken = omega arith;
+  at_hand = λ h is. is;
+  deals = λ h. drops_deal v.state.counts.owed v.net;
+  rule = refl;
+}
+
+pub goes_letting : (link : Link) (came : List ℕ) (answered : List Deal) (old last : SessionValue) → Goes link came answered old last → Goes link came (answered ++ drops last.state.counts.owed) old (let_go last)
+goes_letting link came answered old last goes =
+    let P : List ℕ → Type 0 = λ c. Goes link c (answered ++ drops last.state.counts.owed) old (let_go last) in
+    subst P (append-nil came) (joined_goes link came [] answered (drops last.state.counts.owed) old last (let_go last) goes (letting_goes link last))
+
+pub finishes : (link : Link) (tree : Tree) (answer : Answer) (old last : SessionValue) → Ends link tree answer old last → Finishes link tree answer old (let_go last)
+finishes link tree answer old last ends =
+    let done = ends.completes in
+    let dropped : List Deal = drops last.state.counts.owed in
+    record {
+      came = done.came;
+      answered = done.answered ++ dropped;
+      goes = goes_letting link done.came done.answered old last done.goes;
+      plays = λ h resumes room more over outcomes fit on.
+          let same : outcomes_of (done.answered ++ dropped) ++ outcomes ≡ outcomes_of done.answered ++ outcomes =
+          ap (λ o. o ++ outcomes) (outcomes-append done.answered dropped ∙ ap (λ o. outcomes_of done.answered ++ o) (drops_none last.state.counts.owed) ∙ append-nil (outcomes_of done.answered)) in
+          ap (λ o. finally (play room tree (standing old (done.came ++ more) over o))) same
+          ∙ ap finally (done.plays h resumes room more over outcomes fit on)
+          ∙ ap (played.Done answer) (ended_standing last more over outcomes);
+      fails = ends.fails;
+      keeps = ends.keeps;
+      calm = ends.calm;
+      shrinks = ends.shrinks;
+      gone = ends.gone;
+    }

@@ -6,12 +6,10 @@ use Rattle.std.specs.declared.net.socket_addr.SocketAddr.{SocketAddr}
 use Rattle.ftp_base.specs.declared.types.fault.FtpError.{FtpError}
 use Rattle.ftp_base.specs.declared.types.fault.FtpError.TheVariants.{ConnectionError, OutOfMemory}
 use Rattle.ftp_base.specs.declared.types.fault.ConnectionError.TheVariants.{Io, NoAddress, TimedOut}
-use Rattle.ftp_control.proofs.Asking.{requests-append}
-use Rattle.ftp_control.specs.Asking.{requests_of, recorded}
+use Rattle.std.specs.declared.time.Duration.{Duration}
 use Rattle.ftp_control.specs.Channel.{Channel, untaken}
 use Rattle.ftp_control.specs.Memory.{IsGiven}
 use Rattle.ftp_control.specs.Told.{Told, AddressTells, HasFailed}
-use Rattle.ftp_control.specs.declared.transport.request.Asked.{Asked}
 use Rattle.ftp_control.specs.declared.transport.request.Request.{Request}
 use Rattle.ftp_control.specs.declared.transport.request.RequestOutcome.{RequestOutcome}
 use Rattle.ftp_control.specs.declared.transport.room.Room.{Room}
@@ -42,14 +40,18 @@ use Rattle.ftp_control.specs.declared.transport.request.Request.TheVariants.{Acc
 use Rattle.ftp_control.specs.declared.transport.request.RequestOutcome.TheVariants.{Done as Made, Address, Refused}
 use Rattle.ftp_session.specs.Dialogue.{End, Here, There, Tree, Say, Look, Ask, Leaf, accepting, admitting, agreeing, connecting_to, doing, from_turn, last_turn, later, lets_in, negotiating, negotiating_unless, on_address, on_connection, restart_turn, strangers, with_transfer}
 use Rattle.ftp_session.specs.Link.{Link}
-use Rattle.ftp_session.specs.Play.{play, address_at}
+use Rattle.ftp_session.specs.Deals.{Deal, Deals, DealIs, Dropped, Net, Requested, dealings_of, dealt}
+use Rattle.ftp_session.specs.declared.model.Played.{Played}
+use Rattle.ftp_session.specs.declared.model.Traffic.{Traffic}
+use Rattle.ftp_session.proofs.Deals.{dealings_dealt}
+use Rattle.ftp_session.specs.Play.{asked_then, play, address_at}
 use Rattle.ftp_session.specs.Promises.{standing, Goes, Aborts, Untouched, failed_from}
 use Rattle.ftp_session.specs.State.{SessionValue}
-use Rattle.ftp_session.specs.Steps.Moving.{Accepts, Concludes, ConnectsTo, Ends, LooksUp, Meets, MeetsIf, Moves, NothingTouched, Speaks, Still, TurnsAway, Walks}
+use Rattle.ftp_session.specs.Steps.Moving.{dropped, Accepts, Concludes, ConnectsTo, Ends, LooksUp, Meets, MeetsIf, Moves, NothingTouched, Speaks, Still, TurnsAway, Walks}
 use Rattle.ftp_session.specs.Steps.Stages.{GoesOnTo, MayAnswer, StageOf, StepAnswers, TurnOf, is_later, begun_at, first_by, has_asked, nodes_from, nodes_left, nodes_of, remaining, way_of}
-use Rattle.ftp_session.proofs.Moving.{leaf_ends, lacks_memory_at, nothing_leads, nothing_shrinks, stays_put}
+use Rattle.ftp_session.proofs.Moving.{advances_on, leads_on, moves_on, leaf_ends, lacks_memory_at, nothing_leads, nothing_shrinks, stays_put}
 
-pub play-Ask : (room : Room) (request : Request) (next : RequestOutcome → Tree) (outcome : RequestOutcome) (outcomes : List RequestOutcome) (s : Standing) → play room (Ask request next) (record s { outcomes = outcome ∷ outcomes }) ≡ play room (next outcome) (record s { asked = s.asked ++ request ∷ []; outcomes = outcomes })
+pub play-Ask : (room : Room) (request : Request) (next : RequestOutcome → Tree) (outcome : RequestOutcome) (outcomes : List RequestOutcome) (s : Standing) → play room (Ask request next) (record s { outcomes = outcome ∷ outcomes }) ≡ play room (next outcome) (record s { dealings = dealt request outcome s.dealings; outcomes = outcomes })
 unfolding play
 play-Ask room request next outcome outcomes s = refl
 
@@ -57,14 +59,26 @@ pub play-Look : (room : Room) (end : End) (next : SocketAddr → Tree) (s : Stan
 unfolding play
 play-Look room end next s = refl
 
--- The transport was asked
+-- nothing was said or read in two steps
+pub still_on : (link : Link) (tree tree' last : Tree) (a b c : SessionValue) → Still link tree tree' a b → Still link tree' last b c → Still link tree last a c
+unfolding advances_on moves_on leads_on
+still_on link tree tree' last a b c first second = record {
+  advances = advances_on link tree tree' last a b c first.advances second.advances;
+  none = ap (λ l. l ++ second.advances.moves.leads.came) first.none ∙ second.none;
+  untouched = record {
+    said = λ h. second.untouched.said h ∙ first.untouched.said h;
+    untaken = second.untouched.untaken ∙ append-nil (untaken b.channel) ∙ first.untouched.untaken;
+  };
+}
 
-module _ (link : Link) (old : SessionValue) (asked' : List Asked) where
+-- What stands beside the control connection has changed
+
+module _ (link : Link) (old : SessionValue) (net' : Net) where
   abbrev after : SessionValue
-  after = record old { asked = asked' }
+  after = record old { net = net' }
 
-  asked_goes : (answered : List Asked) → (link.tells → asked' ≡ old.asked ++ answered) → Goes link [] answered old after
-  asked_goes answered tie = record {
+  beside_goes : (answered : List Deal) → (link.tells → Deals answered old.net net') → Goes link [] answered old after
+  beside_goes answered deals = record {
     over = record { nothing = λ e. refl; over = λ e. e };
     received = λ h. sym (append-nil old.channel.told.received);
     given = λ h. refl;
@@ -73,50 +87,49 @@ module _ (link : Link) (old : SessionValue) (asked' : List Asked) where
     said = λ h. omega arith;
     untaken = omega arith;
     at_hand = λ h is. is;
-    asked = tie;
+    deals = deals;
     rule = refl;
   }
 
   nothing_said : Untouched link [] old after
   nothing_said = record { said = λ h. refl; untaken = sym (append-nil (untaken old.channel)) }
 
-  pub asked_still : (request : Request) (outcome : RequestOutcome) → (link.tells → asked' ≡ recorded request outcome old.asked) → (next : RequestOutcome → Tree) → Still link (Ask request next) (next outcome) old after
-  asked_still request outcome tie next =
-      let one : Asked = record { request = request; outcome = outcome } in
-      record {
-        advances = record {
-          moves = record {
-            leads = record {
-              came = [];
-              answered = one ∷ [];
-              goes = asked_goes (one ∷ []) tie;
-              plays = λ h resumes room more ended outcomes fit on.
-                  let s : Standing = standing old more ended outcomes in
-                  play-Ask room request next outcome outcomes s
-                  ∙ ap (λ l. play room (next outcome) (record s { asked = l })) (sym (requests-append old.asked (one ∷ [])) ∙ ap requests_of (sym (tie h)));
-            };
-            state = refl;
-            resumes = λ r. r outcome;
-            keeps = λ silent. inr (refl, refl, refl, (outcome, silent));
-            calm = λ calm. inr (refl, refl, refl, tt);
-            shrinks = nothing_shrinks (length old.channel.ahead);
-            says = λ line next' is. let clash : Ask request next ≡ Say (Ok line) next' = is in cc;
-          };
-          failed = refl;
+  -- the transport was asked
+  pub asked_still : (request : Request) (outcome : RequestOutcome) → (link.tells → DealIs (Requested request outcome) old.net net') → (next : RequestOutcome → Tree) → Still link (Ask request next) (next outcome) old after
+  asked_still request outcome tie next = record {
+    advances = record {
+      moves = record {
+        leads = record {
+          came = [];
+          answered = Requested request outcome ∷ [];
+          goes = beside_goes (Requested request outcome ∷ []) (λ h. (net', tie h, refl));
+          plays = λ h resumes room more ended outcomes fit on.
+              let s : Standing = standing old more ended outcomes in
+              play-Ask room request next outcome outcomes s
+              ∙ ap (λ d. play room (next outcome) (record s { dealings = d })) (sym (dealings_dealt request outcome old.net net' (tie h)));
         };
-        none = refl;
-        untouched = nothing_said;
-      }
+        state = refl;
+        resumes = λ r. r outcome;
+        keeps = λ silent. inr (refl, refl, refl, (outcome, silent));
+        calm = λ calm. inr (refl, refl, refl, tt);
+        shrinks = nothing_shrinks (length old.channel.ahead);
+        says = λ line next' is. let clash : Ask request next ≡ Say (Ok line) next' = is in cc;
+      };
+      failed = refl;
+    };
+    none = refl;
+    untouched = nothing_said;
+  }
 
   -- a request that waits, or found no memory, isn't on record
-  pub unasked_still : (link.tells → asked' ≡ old.asked) → (tree : Tree) → Still link tree tree old after
+  pub unasked_still : (link.tells → net' ≡ old.net) → (tree : Tree) → Still link tree tree old after
   unasked_still tie tree = record {
     advances = record {
       moves = record {
         leads = record {
           came = [];
           answered = [];
-          goes = asked_goes [] (λ h. tie h ∙ sym (append-nil old.asked));
+          goes = beside_goes [] tie;
           plays = λ h resumes. same h;
         };
         state = refl;
@@ -135,23 +148,59 @@ module _ (link : Link) (old : SessionValue) (asked' : List Asked) where
       same : link.tells → (room : Room) (more : List ℕ) (ended : Bool) (outcomes : List RequestOutcome) → Rattle.ftp_control.specs.Told.HasRoomFor room (length after.channel.told.sent) → Rattle.ftp_control.specs.Reading.GoesOn after.channel.ended more ended → play room tree (standing old more ended outcomes) ≡ play room tree (standing after more ended outcomes)
       same h room more ended outcomes fit on =
           let s : Standing = standing old more ended outcomes in
-          ap (λ l. play room tree (record s { asked = l })) (ap requests_of (sym (tie h)))
+          ap (λ d. play room tree (record s { dealings = d })) (ap dealings_of (sym (tie h)))
 
 -- the same of a session that is known by an equation
-pub asked_through : (link : Link) (request : Request) (outcome : RequestOutcome) (view old : SessionValue) (asked' : List Asked) → view ≡ old → (link.tells → asked' ≡ recorded request outcome view.asked) → (next : RequestOutcome → Tree) → Still link (Ask request next) (next outcome) old (record view { asked = asked' })
-asked_through link request outcome view old asked' is tie next =
-    let P : SessionValue → Type 0 = λ v. Still link (Ask request next) (next outcome) v (record view { asked = asked' }) in
-    subst P is (asked_still link view asked' request outcome tie next)
+pub asked_through : (link : Link) (request : Request) (outcome : RequestOutcome) (view old : SessionValue) (net' : Net) → view ≡ old → (link.tells → DealIs (Requested request outcome) view.net net') → (next : RequestOutcome → Tree) → Still link (Ask request next) (next outcome) old (record view { net = net' })
+asked_through link request outcome view old net' is tie next =
+    let P : SessionValue → Type 0 = λ v. Still link (Ask request next) (next outcome) v (record view { net = net' }) in
+    subst P is (asked_still link view net' request outcome tie next)
 
-pub accepted_through : (link : Link) (outcome : RequestOutcome) (view old : SessionValue) (asked' : List Asked) → view ≡ old → (link.tells → asked' ≡ recorded (Accept view.state.settings.active_deadline) outcome view.asked) → (next : RequestOutcome → Tree) → Still link (Ask (Accept old.state.settings.active_deadline) next) (next outcome) old (record view { asked = asked' })
-accepted_through link outcome view old asked' is tie next =
-    let P : SessionValue → Type 0 = λ v. Still link (Ask (Accept v.state.settings.active_deadline) next) (next outcome) v (record view { asked = asked' }) in
-    subst P is (asked_still link view asked' (Accept view.state.settings.active_deadline) outcome tie next)
+pub accepted_through : (link : Link) (outcome : RequestOutcome) (view old : SessionValue) (net' : Net) → view ≡ old → (link.tells → DealIs (Requested (Accept view.state.settings.active_deadline) outcome) view.net net') → (next : RequestOutcome → Tree) → Still link (Ask (Accept old.state.settings.active_deadline) next) (next outcome) old (record view { net = net' })
+accepted_through link outcome view old net' is tie next =
+    let P : SessionValue → Type 0 = λ v. Still link (Ask (Accept v.state.settings.active_deadline) next) (next outcome) v (record view { net = net' }) in
+    subst P is (asked_still link view net' (Accept view.state.settings.active_deadline) outcome tie next)
 
-pub unasked_through : (link : Link) (view old : SessionValue) (asked' : List Asked) → view ≡ old → (link.tells → asked' ≡ view.asked) → (tree : Tree) → Still link tree tree old (record view { asked = asked' })
-unasked_through link view old asked' is tie tree =
-    let P : SessionValue → Type 0 = λ v. Still link tree tree v (record view { asked = asked' }) in
-    subst P is (unasked_still link view asked' tie tree)
+pub unasked_through : (link : Link) (view old : SessionValue) (net' : Net) → view ≡ old → (link.tells → net' ≡ view.net) → (tree : Tree) → Still link tree tree old (record view { net = net' })
+unasked_through link view old net' is tie tree =
+    let P : SessionValue → Type 0 = λ v. Still link tree tree v (record view { net = net' }) in
+    subst P is (unasked_still link view net' tie tree)
+
+-- a peer that is asked for takes the place of the data connection, whichever it is
+play-Accept : (room : Room) (deadline : Duration) (next : RequestOutcome → Tree) (conn : Option Traffic) (s : Standing) → play room (Ask (Accept deadline) next) s ≡ play room (Ask (Accept deadline) next) (record s { dealings = record s.dealings { data_conn = conn } })
+unfolding play
+play-Accept room deadline next conn s =
+    let k : RequestOutcome → Standing → Played = λ answer t. play room (next answer) t in
+    elim s.outcomes as (λ o. asked_then o (Accept deadline) s k ≡ asked_then o (Accept deadline) (record s { dealings = record s.dealings { data_conn = conn } }) k) [
+      | [] ↦ refl
+      | Made ∷ outcomes ↦ refl
+      | Address from ∷ outcomes ↦ refl
+      | Refused fault ∷ outcomes ↦ refl
+    ]
+
+-- a stranger's connection is let go before another peer is asked for
+pub dropped_still : (link : Link) (deadline : Duration) (next : RequestOutcome → Tree) (v : SessionValue) → Still link (Ask (Accept deadline) next) (Ask (Accept deadline) next) v (dropped v)
+dropped_still link deadline next v = record {
+  advances = record {
+    moves = record {
+      leads = record {
+        came = [];
+        answered = Dropped ∷ [];
+        goes = beside_goes link v (record v.net { data_conn = None }) (Dropped ∷ []) (λ h. (record v.net { data_conn = None }, refl, refl));
+        plays = λ h resumes room more ended outcomes fit on. play-Accept room deadline next None (standing v more ended outcomes);
+      };
+      state = refl;
+      resumes = λ r. r;
+      keeps = λ silent. inr (refl, refl, refl, silent);
+      calm = λ calm. inr (refl, refl, refl, tt);
+      shrinks = nothing_shrinks (length v.channel.ahead);
+      says = λ line next' is. let clash : Ask (Accept deadline) next ≡ Say (Ok line) next' = is in cc;
+    };
+    failed = refl;
+  };
+  none = refl;
+  untouched = nothing_said link v (record v.net { data_conn = None });
+}
 
 -- An address was looked up
 
@@ -178,7 +227,7 @@ module _ (link : Link) (old : SessionValue) (told' : Told) where
             said = λ h. omega (arith, ap length (ap (λ t. t.sent ++ old.channel.unsent) (tie h).1));
             untaken = omega arith;
             at_hand = λ h is. (let P : Told → Type 0 = IsGiven in subst P (sym (tie h).1) is);
-            asked = λ h. sym (append-nil old.asked);
+            deals = λ h. refl;
             rule = refl;
           };
           plays = λ h resumes room more ended outcomes fit on.
@@ -434,7 +483,7 @@ concludes_on coding call a reply stage' old new (Done last) same accepts on =
     inl (record {
       leaf = accepts.1 (later coding call a.turn) ∙ none old.state ∙ ap (λ s. Leaf Unit s) (sym accepts.0) ∙ ap (λ x. Leaf x new.state) (sym on.1);
       channel = ap (λ v. v.channel) same;
-      asked = ap (λ v. v.asked) same;
+      net = ap (λ v. v.net) same;
     })
 
 pub connects_walks : (link : Link) (coding : Coding) (call : Call) (turn : Turn) (address : SocketAddr) (outcome : RequestOutcome) (stage' : Stage) (old mid : SessionValue) (result : Step) → negotiates call ≡ true → ((next : RequestOutcome → Tree) → Still link (Ask (Connect address None) next) (next outcome) old mid) → ConnectsTo call turn outcome stage' result → Walks link coding call (Agreeing (Asking turn (Connection address))) stage' old mid result
@@ -485,21 +534,25 @@ module _ (link : Link) (answer : Answer) (peer from : SocketAddr) (left : ℕ) (
       subst P (sym same) (leaf_ends link waiting answer old mid (record mid { state = with_transfer mid.state }) (subst T (ap L (sym moves.state)) moves) (λ f. inl (sym here.advances.failed ∙ f)) refl refl)
 
   -- it is turned away
-  pub turns_away : (coding : Coding) (call : Call) (turn : Turn) (stage' : Stage) (result : Step) → negotiates call ≡ true → MayAnswer call answer → lets_in old.state peer from ≡ false → Knocks → TurnsAway turn peer left answer stage' result → Walks link coding call (Agreeing (Asking turn (Accepting peer left answer))) stage' old mid result
-  turns_away coding call turn stage' Next opens may is still away =
+  pub turns_away : (coding : Coding) (call : Call) (turn : Turn) (stage' : Stage) (new : SessionValue) (result : Step) → negotiates call ≡ true → MayAnswer call answer → lets_in old.state peer from ≡ false → Knocks → TurnsAway turn peer left answer stage' mid new result → Walks link coding call (Agreeing (Asking turn (Accepting peer left answer))) stage' old new result
+  turns_away coding call turn stage' new Next opens may is still away =
       let way : Way = Asking turn (Accepting peer left answer) in
       let next : Stage = Agreeing (Asking turn (Accepting peer away.0 answer)) in
       let T : ℕ → Type 0 = λ n. Still link waiting (others_of answer peer n old.state) old mid in
       let S : Tree → Type 0 = Speaks in
-      let P : Stage → Type 0 = λ s. Walks link coding call (Agreeing way) s old mid Next in
-      subst P (sym away.2) (walks_on link coding call way opens next old mid (subst T away.1 (knocked false is still)) refl (λ s. absurd (subst S (accepting_is answer peer left old.state) s)) (omega (arith, away.1)) (opens, may))
-  turns_away coding call turn stage' Pending opens may is still away = absurd away
-  turns_away coding call turn stage' (Done last) opens may is still away =
+      let P : Stage → Type 0 = λ s. Walks link coding call (Agreeing way) s old (dropped mid) Next in
+      let V : SessionValue → Type 0 = λ v. Walks link coding call (Agreeing way) stage' old v Next in
+      let D : Tree → Type 0 = λ t. Still link t t mid (dropped mid) in
+      let again : Still link (accepting answer peer away.0 old.state) (accepting answer peer away.0 old.state) mid (dropped mid) = subst D (sym (accepting_is answer peer away.0 old.state)) (dropped_still link old.state.settings.active_deadline (knocks answer peer away.0 old.state) mid) in
+      subst V (sym away.3) (subst P (sym away.2) (walks_on link coding call way opens next old (dropped mid) (still_on link waiting (accepting answer peer away.0 old.state) (accepting answer peer away.0 old.state) old mid (dropped mid) (subst T away.1 (knocked false is still)) again) refl (λ s. absurd (subst S (accepting_is answer peer left old.state) s)) (omega (arith, away.1)) (opens, may)))
+  turns_away coding call turn stage' new Pending opens may is still away = absurd away
+  turns_away coding call turn stage' new (Done last) opens may is still away =
       let way : Way = Asking turn (Accepting peer left answer) in
       let fault : FtpError = ConnectionError TimedOut in
       let T : ℕ → Type 0 = λ n. Still link waiting (others_of answer peer n old.state) old mid in
       let P : Answer → Type 0 = λ a. Walks link coding call (Agreeing way) stage' old mid (Done a) in
-      subst P (sym away.1) (walks_end link coding call way opens stage' (Fault fault) old mid (inl (still_ends link waiting fault old mid (subst T away.0 (knocked false is still)))) (First, inr tt, tt))
+      let V : SessionValue → Type 0 = λ v. Walks link coding call (Agreeing way) stage' old v (Done last) in
+      subst V (sym away.2) (subst P (sym away.1) (walks_end link coding call way opens stage' (Fault fault) old mid (inl (still_ends link waiting fault old mid (subst T away.0 (knocked false is still)))) (First, inr tt, tt)))
 
   -- it waits for a peer
   pub waits_for_peer : (coding : Coding) (call : Call) (turn : Turn) → negotiates call ≡ true → MayAnswer call answer → ((tree : Tree) → Still link tree tree old mid) → link.asks_wait → Walks link coding call (Agreeing (Asking turn (Accepting peer left answer))) (Agreeing (Asking turn (Accepting peer left answer))) old mid Pending
@@ -524,9 +577,7 @@ meets_walks link coding call turn peer left answer (Address from) stage' old mid
     go true is (done, same) =
         let P : Step → Type 0 = λ r. Walks link coding call (Agreeing (Asking turn (Accepting peer left answer))) stage' old new r in
         subst P (sym done) (walks_end link coding call (Asking turn (Accepting peer left answer)) opens stage' answer old new (inl (lets_in_ends link answer peer from left old mid new is (still (knocks answer peer left old.state)) same)) may)
-    go false is (same, away) =
-        let V : SessionValue → Type 0 = λ v. Walks link coding call (Agreeing (Asking turn (Accepting peer left answer))) stage' old v result in
-        subst V (sym same) (turns_away link answer peer from left old mid coding call turn stage' result opens may is (still (knocks answer peer left old.state)) away)
+    go false is away = turns_away link answer peer from left old mid coding call turn stage' new result opens may is (still (knocks answer peer left old.state)) away
 meets_walks link coding call turn peer left answer (Refused fault) stage' old mid new result opens may still (same, is) =
     let way : Way = Asking turn (Accepting peer left answer) in
     let V : SessionValue → Type 0 = λ v. Walks link coding call (Agreeing way) stage' old v result in

@@ -5,8 +5,8 @@ use Rattle.std.proofs.Common.{◌≡◌, ℕ, ◌+◌, ◌<◌, ◌≤◌, drop,
 use Rattle.ftp_base.specs.declared.types.fault.FtpError.TheVariants.{SessionFailed}
 use Rattle.ftp_control.specs.declared.control.rule.ReplyRule.{ReplyRule}
 use Rattle.ftp_control.specs.declared.transport.room.Room.{Room}
-use Rattle.ftp_control.specs.Asking.{outcomes_of}
-use Rattle.ftp_control.proofs.Asking.{outcomes-append}
+use Rattle.ftp_session.specs.Deals.{Deal, outcomes_of}
+use Rattle.ftp_session.proofs.Deals.{outcomes-append}
 use Rattle.ftp_session.specs.declared.session.state.State.{State}
 use Rattle.ftp_calls.specs.declared.call.Answer.{Answer}
 use Rattle.ftp_calls.specs.declared.call.Answer.TheVariants.{Fault}
@@ -16,17 +16,16 @@ use Rattle.ftp_session.specs.declared.model.Played.TheVariants.{Done}
 use Rattle.ftp_session.specs.declared.model.Wait.{Wait}
 use Rattle.ftp_session.specs.declared.model.Ran.{Ran}
 use Rattle.ftp_session.specs.declared.model.Ran.TheVariants.{Finished, Waiting}
-use Rattle.ftp_session.specs.State.{SessionValue}
+use Rattle.ftp_session.specs.State.{SessionValue, let_go}
 use Rattle.ftp_session.specs.Coding.{Coding}
 use Rattle.ftp_session.specs.Dialogue.{dialogue, entered}
-use Rattle.ftp_control.specs.declared.transport.request.Asked.{Asked}
-use Rattle.ftp_session.specs.Play.{play, play_call}
+use Rattle.ftp_session.specs.Play.{finally, play, play_call}
 use Rattle.ftp_session.specs.Run.{run, before, and_then, OneView, Silent}
-use Rattle.ftp_session.specs.Promises.{begun_by, Goes, FailsWith, HasFault, IsFault, standing, before_all, Completes, Agrees, AllRefused, Makes, RanTo, RunsTo, RunAborts, Runs, Aborts, Plays, Wired, IsSuccess, IsRefused, IsPlayed}
+use Rattle.ftp_session.specs.Promises.{begun_by, Goes, FailsWith, HasFault, IsFault, standing, before_all, Completes, Agrees, AllRefused, Makes, RanTo, RunsTo, RunAborts, Runs, Aborts, Plays, Wired, IsSuccess, IsRefused, IsPlayed, IsWithheld}
 use Rattle.ftp_session.specs.Steps.Moving.{Keeps, Ends, Made}
 use Rattle.ftp_session.proofs.Hearing.{nothing_resumes}
 use Rattle.ftp_session.proofs.Wired.{wired}
-use Rattle.ftp_session.proofs.Moving.{nothing_goes, joined_goes, goes_after, fitted}
+use Rattle.ftp_session.proofs.Moving.{Finishes, finishes, nothing_goes, joined_goes, goes_after, fitted}
 use Rattle.ftp_session.specs.Link.{Link}
 
 module _ (coding : Coding) where
@@ -77,8 +76,8 @@ fails_more old v w first second all is before here =
     go (inr fault) = inr (fault_after first second fault)
 
 -- what goes on from where a call begins goes on from before it
-pub goes_from : (link : Link) (came : List ℕ) (answered : List Asked) (call : Call) (old new : SessionValue) → Goes link came answered (begun_by call old) new → Goes link came answered old new
-goes_from link came answered call old new goes = record { over = goes.over; received = goes.received; given = goes.given; failures = goes.failures; sent = goes.sent; said = goes.said; untaken = goes.untaken; at_hand = goes.at_hand; asked = goes.asked; rule = goes.rule }
+pub goes_from : (link : Link) (came : List ℕ) (answered : List Deal) (call : Call) (old new : SessionValue) → Goes link came answered (begun_by call old) new → Goes link came answered old new
+goes_from link came answered call old new goes = record { over = goes.over; received = goes.received; given = goes.given; failures = goes.failures; sent = goes.sent; said = goes.said; untaken = goes.untaken; at_hand = goes.at_hand; deals = goes.deals; rule = goes.rule }
 
 keeps_from : (P : Type 0) (came : List ℕ) (call : Call) (old new : SessionValue) → Keeps P came (begun_by call old) new → Keeps P came old new
 keeps_from P came call old new keeps = keeps
@@ -92,20 +91,20 @@ made_plays link coding call old new answer (inl refused) = record {
 }
 made_plays link coding call old new answer (inr made) = record {
   wired = λ success. words success made.plays;
-  made = inr (record { going = made.going; plays = go made.plays });
-  fails = λ failed. fails made.plays failed;
+  made = inr (inl (record { going = made.going; last = made.last; plays = go made.plays; lets_go = made.lets_go }));
+  fails = λ failed. fails made.plays (sym (ap (λ v. v.channel.failed) made.lets_go) ∙ failed);
 }
   where
-    go : Ends link (dialogue coding call old.state) answer (begun_by call old) new ⊎ Aborts link false (dialogue coding call old.state) answer (begun_by call old) new → Completes link (dialogue coding call old.state) answer (begun_by call old) new ⊎ Aborts link false (dialogue coding call old.state) answer (begun_by call old) new
+    go : Ends link (dialogue coding call old.state) answer (begun_by call old) made.last ⊎ Aborts link false (dialogue coding call old.state) answer (begun_by call old) made.last → Completes link (dialogue coding call old.state) answer (begun_by call old) made.last ⊎ Aborts link false (dialogue coding call old.state) answer (begun_by call old) made.last
     go (inl ends) = inl ends.completes
     go (inr aborts) = inr aborts
 
-    fails : Ends link (dialogue coding call old.state) answer (begun_by call old) new ⊎ Aborts link false (dialogue coding call old.state) answer (begun_by call old) new → new.channel.failed ≡ true → (old.channel.failed ≡ true) ⊎ IsFault answer
+    fails : Ends link (dialogue coding call old.state) answer (begun_by call old) made.last ⊎ Aborts link false (dialogue coding call old.state) answer (begun_by call old) made.last → made.last.channel.failed ≡ true → (old.channel.failed ≡ true) ⊎ IsFault answer
     fails (inl ends) failed = ends.fails failed
     fails (inr aborts) failed = let P : Answer → Type 0 = IsFault in inr (subst P (sym aborts.is) tt)
 
-    words : IsSuccess answer → Ends link (dialogue coding call old.state) answer (begun_by call old) new ⊎ Aborts link false (dialogue coding call old.state) answer (begun_by call old) new → Wired link coding call old new
-    words success (inl ends) = wired link coding call old new answer ends.completes success
+    words : IsSuccess answer → Ends link (dialogue coding call old.state) answer (begun_by call old) made.last ⊎ Aborts link false (dialogue coding call old.state) answer (begun_by call old) made.last → Wired link coding call old new
+    words success (inl ends) = wired link coding call old made.last new made.lets_go answer ends.completes success
     words success (inr aborts) = let P : Answer → Type 0 = IsSuccess in absurd (subst P aborts.is success)
 
 module _ (coding : Coding) where
@@ -115,16 +114,16 @@ module _ (coding : Coding) where
   nothing_views rule (call ∷ calls) = λ state. (nothing_resumes rule (dialogue coding call state), λ silent. nothing_views rule calls)
 
   -- a call that is played goes on with the later ones
-  pub plays_on : (room : Room) (call : Call) (later : List Call) (s t : Standing) (answer : Answer) → s.failed ≡ false → play room (dialogue coding call s.state) (record s { state = entered call s.state }) ≡ Done answer t → run room coding (call ∷ later) s ≡ before answer (run room coding later t)
+  pub plays_on : (room : Room) (call : Call) (later : List Call) (s t : Standing) (answer : Answer) → s.failed ≡ false → finally (play room (dialogue coding call s.state) (record s { state = entered call s.state })) ≡ Done answer t → run room coding (call ∷ later) s ≡ before answer (run room coding later t)
   plays_on room call later s t answer going is =
       let next : Standing → Ran = λ u. run room coding later u in
-      let P : Bool → Type 0 = λ failed. cond failed (Done (Fault SessionFailed) s) (play room (dialogue coding call s.state) (record s { state = entered call s.state })) ≡ Done answer t in
+      let P : Bool → Type 0 = λ failed. cond failed (Done (Fault SessionFailed) s) (finally (play room (dialogue coding call s.state) (record s { state = entered call s.state }))) ≡ Done answer t in
       run-cons coding room call later s ∙ ap (λ p. and_then p next) (subst P (sym going) is)
 
   pub refuses_on : (room : Room) (call : Call) (later : List Call) (s : Standing) → s.failed ≡ true → run room coding (call ∷ later) s ≡ before (Fault SessionFailed) (run room coding later s)
   refuses_on room call later s failed =
       let next : Standing → Ran = λ u. run room coding later u in
-      let P : Bool → Type 0 = λ f. cond f (Done (Fault SessionFailed) s) (play room (dialogue coding call s.state) (record s { state = entered call s.state })) ≡ Done (Fault SessionFailed) s in
+      let P : Bool → Type 0 = λ f. cond f (Done (Fault SessionFailed) s) (finally (play room (dialogue coding call s.state) (record s { state = entered call s.state }))) ≡ Done (Fault SessionFailed) s in
       run-cons coding room call later s ∙ ap (λ p. and_then p next) (subst P (sym failed) refl)
 
   -- the view of the calls after one that is done
@@ -164,10 +163,10 @@ module _ (link : Link) (coding : Coding) (calls later : List Call) (call : Call)
   counts_more done one is = length-append answers (one ∷ []) ∙ ap (λ n. n + 1) is ∙ sym (length-append done (call ∷ []))
 
   -- the next call is done
-  completes_next : mid.channel.failed ≡ false → Ends link (dialogue coding call mid.state) answer (begun_by call mid) new → Reached link coding calls later old new (answers ++ answer ∷ [])
+  completes_next : mid.channel.failed ≡ false → Finishes link (dialogue coding call mid.state) answer (begun_by call mid) new → Reached link coding calls later old new (answers ++ answer ∷ [])
   completes_next going ends =
       let ran = reached.ran in
-      let done = ends.completes in
+      let done = ends in
       record {
         ran = record {
           done = ran.done ++ call ∷ [];
@@ -211,8 +210,8 @@ module _ (link : Link) (coding : Coding) (calls later : List Call) (call : Call)
         agrees = λ agrees going. let clash : true ≡ false = sym refused.failed ∙ going in cc;
       }))
 
-  aborts_next : mid.channel.failed ≡ false → Aborts link false (dialogue coding call mid.state) answer (begun_by call mid) new → RunAborts link coding calls later old new (answers ++ answer ∷ [])
-  aborts_next going aborts = record {
+  aborts_next : (last : SessionValue) → new ≡ let_go last → mid.channel.failed ≡ false → Aborts link false (dialogue coding call mid.state) answer (begun_by call mid) last → RunAborts link coding calls later old new (answers ++ answer ∷ [])
+  aborts_next last lets_go going aborts = record {
     first = answers;
     call = call;
     made = [];
@@ -220,8 +219,10 @@ module _ (link : Link) (coding : Coding) (calls later : List Call) (call : Call)
     ran = reached.ran;
     going = going;
     fault = aborts.fault;
+    last = last;
+    aborts = let P : Answer → Type 0 = λ a. Aborts link false (dialogue coding call mid.state) a (begun_by call mid) last in subst P aborts.is aborts;
     after = new;
-    aborts = let P : Answer → Type 0 = λ a. Aborts link false (dialogue coding call mid.state) a (begun_by call mid) new in subst P aborts.is aborts;
+    lets_go = lets_go;
     later = [];
     answers_are = ap (λ a. answers ++ a ∷ []) aborts.is;
     makes = (refl, refl);
@@ -232,9 +233,9 @@ module _ (link : Link) (coding : Coding) (calls later : List Call) (call : Call)
   next_answer (inl refused) = inl (refuses_next refused)
   next_answer (inr made) = go made.plays
     where
-      go : Ends link (dialogue coding call mid.state) answer (begun_by call mid) new ⊎ Aborts link false (dialogue coding call mid.state) answer (begun_by call mid) new → RunsSoFar link coding calls later old new (answers ++ answer ∷ [])
-      go (inl ends) = inl (completes_next made.going ends)
-      go (inr aborts) = inr (aborts_next made.going aborts)
+      go : Ends link (dialogue coding call mid.state) answer (begun_by call mid) made.last ⊎ Aborts link false (dialogue coding call mid.state) answer (begun_by call mid) made.last → RunsSoFar link coding calls later old new (answers ++ answer ∷ [])
+      go (inl ends) = inl (let P : SessionValue → Type 0 = λ v. Finishes link (dialogue coding call mid.state) answer (begun_by call mid) v in completes_next made.going (subst P (sym made.lets_go) (finishes link (dialogue coding call mid.state) answer (begun_by call mid) made.last ends)))
+      go (inr aborts) = inr (aborts_next made.last made.lets_go made.going aborts)
 
 all_snoc : (first : List Answer) (answer : Answer) → AllRefused first → answer ≡ Fault SessionFailed → AllRefused (first ++ answer ∷ [])
 all_snoc [] answer all is = (is, tt)
@@ -258,18 +259,23 @@ aborted_more link coding calls to_make call old mid new answers answer broke pla
   ran = let P : List Call → Type 0 = λ l. RanTo link coding calls (broke.call ∷ l) old broke.middle broke.first in subst P (sym (append_assoc broke.made (call ∷ []) to_make)) broke.ran;
   going = broke.going;
   fault = broke.fault;
-  after = broke.after;
+  last = broke.last;
   aborts = broke.aborts;
+  after = broke.after;
+  lets_go = broke.lets_go;
   later = broke.later ++ answer ∷ [];
   answers_are = ap (λ a. a ++ answer ∷ []) broke.answers_are ∙ append_assoc broke.first (Fault broke.fault ∷ broke.later) (answer ∷ []);
   makes = makes_more link coding broke.made call broke.after mid new broke.later answer broke.makes plays;
   failed = λ failed. go plays.made failed (broke.failed failed);
 }
   where
-    go : IsRefused mid new answer ⊎ IsPlayed link coding call mid new answer → broke.after.channel.failed ≡ true → (mid ≡ broke.after) × AllRefused broke.later → (new ≡ broke.after) × AllRefused (broke.later ++ answer ∷ [])
+    go : IsRefused mid new answer ⊎ IsPlayed link coding call mid new answer ⊎ IsWithheld mid new answer → broke.after.channel.failed ≡ true → (mid ≡ broke.after) × AllRefused broke.later → (new ≡ broke.after) × AllRefused (broke.later ++ answer ∷ [])
     go (inl refused) failed so_far = (refused.unchanged ∙ so_far.0, all_snoc broke.later answer so_far.1 refused.is)
-    go (inr played) failed so_far =
+    go (inr (inl played)) failed so_far =
         let clash : true ≡ false = sym failed ∙ sym (ap (λ v. v.channel.failed) so_far.0) ∙ played.going in
+        cc
+    go (inr (inr none)) failed so_far =
+        let clash : true ≡ false = sym failed ∙ sym (ap (λ v. v.channel.failed) so_far.0) ∙ none.going in
         cc
 
 -- what is made of a call fails the session only where the call fails

@@ -18,16 +18,16 @@ use Rattle.ftp_session.specs.declared.model.Script.{Script}
 use Rattle.ftp_session.specs.State.{SessionValue}
 use Rattle.ftp_session.specs.Coding.{Coding}
 use Rattle.ftp_session.specs.Script.{script, start_of, script_of, after_event, Lawful, IsLawful, MayCancel}
-use Rattle.ftp_control.specs.Asking.{outcomes_of}
-use Rattle.ftp_control.specs.declared.transport.request.Asked.{Asked}
+use Rattle.ftp_session.specs.Deals.{Deal, Deals, outcomes_of}
+use Rattle.ftp_session.proofs.Deals.{deals-append}
 use Rattle.ftp_control.specs.declared.transport.request.RequestOutcome.{RequestOutcome}
 use Rattle.ftp_session.specs.Link.{over_memory}
 use Rattle.ftp_session.specs.Promises.{Aborts, AllRefused}
-use Rattle.ftp_session.specs.Scripted.{Answered, ScriptHolds, ScriptAborts, ScriptsHold, IsScripted, Stops, StopsAtFeed}
+use Rattle.ftp_session.specs.Scripted.{ScriptHolds, ScriptAborts, ScriptsHold, IsScripted, Stops, StopsAtFeed}
 use Rattle.ftp_session.specs.Steps.Stages.{begun_at}
 use Rattle.ftp_session.specs.Steps.Following.{Grows, entered_tree, Follows, FailedStays, Happens, AbortsCall, IsFeed, given_answer}
-use Rattle.ftp_session.proofs.Carried.{none_answered, outcomes_on, same_answered}
-use Rattle.ftp_session.proofs.Events.{begins, grows_none}
+use Rattle.ftp_session.proofs.Carried.{outcomes_on}
+use Rattle.ftp_session.proofs.Events.{begins}
 use Rattle.ftp_session.proofs.Following.{entering_is, left_of}
 
 module _ (coding : Coding) where
@@ -43,18 +43,17 @@ module _ (coding : Coding) where
   abbrev pub Happened : ℕ → SessionValue → List Event → SessionValue → Option Call → Stage → List Answer → Type 0
   Happened zero old done v call stage answers = Unit {0}
   Happened (suc depth) old done v call stage answers =
-      Grows old v × ((form : ReplyForm) (outcomes left : List RequestOutcome) → outcome old.channel.rule form old.channel.kept false ≡ Waits → Answered outcomes left old v → Lawful coding (start_of old outcomes) (script_of old form) done → Follows coding outcomes left old (script coding (start_of old outcomes) (script_of old form) done) v call stage answers ⊎ ScriptAborts (λ after later rest. Happened depth after later v call stage rest) coding outcomes old form done v answers)
+      (answered : List Deal) × Deals answered old.net v.net × ((form : ReplyForm) (left : List RequestOutcome) → outcome old.channel.rule form old.channel.kept false ≡ Waits → Lawful coding (start_of old (outcomes_of answered ++ left)) (script_of old form) done → Follows coding (outcomes_of answered ++ left) left old (script coding (start_of old (outcomes_of answered ++ left)) (script_of old form) done) v call stage answers ⊎ ScriptAborts (λ after later rest. Happened depth after later v call stage rest) coding (outcomes_of answered ++ left) old form done v answers)
 
   -- nothing has happened
   pub starts_script : (depth : ℕ) (old : SessionValue) (call : Option Call) (stage : Stage) → call ≡ None → IsGiven old.channel.told → IsSound (Unit {0}) old.channel → Happened depth old [] old call stage []
   starts_script zero old call stage none given sound = tt
   starts_script (suc depth) old call stage none given sound = (
-    grows_none old old refl,
-    λ form outcomes left waits so_far lawful.
-        let P : Option Call → Type 0 = λ c. Follows coding outcomes left old (script_of old form) old c stage [] in
-        let O : List Asked → Type 0 = λ a. outcomes ≡ outcomes_of a ++ left in
-        let all : outcomes ≡ left = subst O (none_answered old.asked so_far.answered so_far.asked) so_far.outcomes_are in
-        inl (subst P (sym none) (begins coding outcomes left old form stage all given sound waits)),
+    [],
+    refl,
+    λ form left waits lawful.
+        let P : Option Call → Type 0 = λ c. Follows coding left left old (script_of old form) old c stage [] in
+        inl (subst P (sym none) (begins coding left left old form stage refl given sound waits)),
   )
 
   -- the session stands where its script does
@@ -67,7 +66,7 @@ module _ (coding : Coding) where
           sent = sym f.sent;
           said = f.said;
           untaken = sym f.untaken;
-          asked = sym f.requests;
+          dealings = sym f.dealings;
           seen = sym f.seen;
           waits = f.waits;
           ended = sym f.ended;
@@ -77,7 +76,7 @@ module _ (coding : Coding) where
           failed = sym f.failed;
         };
         left = left;
-        answered = record { answered = f.answered; asked = f.asked; outcomes_are = f.outcomes_are };
+        answered = record { answered = f.answered; deals = f.deals; outcomes_are = f.outcomes_are };
         came = f.came;
         received = f.received;
         bytes = f.bytes;
@@ -91,7 +90,7 @@ module _ (coding : Coding) where
   refused_more (answer ∷ first) second one two = (one.0, refused_more first second one.1 two)
 
   -- one event more
-  module _ (event : Event) (v w : SessionValue) (call call' : Option Call) (stage stage' : Stage) (result : Option Answer) (stays : FailedStays v w result) (grows : Grows v w) (happens : Happens coding v w call call' stage stage' event result) where
+  module _ (event : Event) (v w : SessionValue) (call call' : Option Call) (stage stage' : Stage) (result : Option Answer) (stays : FailedStays v w result) (happens : Happens coding v w call call' stage stage' event result) where
     -- a call is aborted
     aborts_at : (depth : ℕ) (outcomes left : List RequestOutcome) (old : SessionValue) (form : ReplyForm) (done : List Event) (answers : List Answer) → Follows coding outcomes left old (script coding (start_of old outcomes) (script_of old form) done) v call stage answers → (broke : (under_way : Call) × (call ≡ Some under_way) × AbortsCall coding under_way stage v w result) → call' ≡ None → event ≡ Poll → ScriptAborts (λ after later rest. Happened depth after later w call' stage' rest) coding outcomes old form (done ++ event ∷ []) w (answers ++ given_answer result)
     aborts_at depth outcomes left old form done answers follows broke none polled =
@@ -99,7 +98,7 @@ module _ (coding : Coding) where
         let aborts = broke.2 in
         let F : Option Call → Type 0 = λ c. Follows coding outcomes left old s v c stage answers in
         let f = subst F broke.1 follows in
-        let A : SessionValue → Type 0 = λ x. Aborts over_memory (begun_at stage) (entered_tree coding broke.0 stage v.state) (Fault aborts.fault) x w in
+        let A : SessionValue → Type 0 = λ x. Aborts over_memory (begun_at stage) (entered_tree coding broke.0 stage v.state) (Fault aborts.fault) x aborts.last in
         record {
           before = done;
           later = [];
@@ -112,8 +111,10 @@ module _ (coding : Coding) where
           tree = entered_tree coding broke.0 stage v.state;
           under_way = left_of coding outcomes left old s v broke.0 stage answers f broke.2.going;
           fault = aborts.fault;
-          after = w;
+          last = aborts.last;
           aborts = subst A (entering_is coding outcomes left old s v broke.0 stage answers f) aborts.aborts;
+          after = w;
+          lets_go = aborts.lets_go;
           others = [];
           answers_are = ap (λ r. answers ++ given_answer r) aborts.is;
           goes_on = starts_script depth w call' stage' none aborts.given aborts.sound;
@@ -134,57 +135,51 @@ module _ (coding : Coding) where
       tree = broke.tree;
       under_way = broke.under_way;
       fault = broke.fault;
-      after = broke.after;
+      last = broke.last;
       aborts = broke.aborts;
+      after = broke.after;
+      lets_go = broke.lets_go;
       others = broke.others ++ given_answer result;
       answers_are = ap (λ a. a ++ given_answer result) broke.answers_are ∙ append_assoc broke.first (Fault broke.fault ∷ broke.others) (given_answer result);
       goes_on = goes_on;
       failed = λ failed. let was = broke.failed failed in let is = stays was.0 in (is.0, refused_more broke.others (given_answer result) was.1 is.2);
     }
 
-    -- what was answered before
-    tied_before : (outcomes left : List RequestOutcome) (old : SessionValue) → Grows old v → Answered outcomes left old w → Answered outcomes (outcomes_of grows.0 ++ left) old v
-    tied_before outcomes left old before so_far =
-        let is : so_far.answered ≡ before.0 ++ grows.0 = same_answered old.asked w.asked so_far.answered (before.0 ++ grows.0) so_far.asked (grows.1 ∙ ap (λ x. x ++ grows.0) before.1 ∙ append_assoc old.asked before.0 grows.0) in
-        record {
-          answered = before.0;
-          asked = before.1;
-          outcomes_are = so_far.outcomes_are ∙ ap (λ a. outcomes_of a ++ left) is ∙ outcomes_on before.0 grows.0 left;
-        }
-
-    grown_more : (old : SessionValue) → Grows old v → Grows old w
-    grown_more old before = (before.0 ++ grows.0, grows.1 ∙ ap (λ x. x ++ grows.0) before.1 ∙ append_assoc old.asked before.0 grows.0)
-
     pub one_more : (depth : ℕ) (old : SessionValue) (done : List Event) (answers : List Answer) → Happened depth old done v call stage answers → Happened depth old (done ++ event ∷ []) w call' stage' (answers ++ given_answer result)
     one_more zero old done answers so_far = tt
     one_more (suc depth) old done answers so_far = (
-      grown_more old so_far.0,
-      λ form outcomes left waits answered lawful.
-          let may = lawful-snoc (start_of old outcomes) (script_of old form) done event lawful in
-          go (one_more depth) form outcomes left may.1 (so_far.1 form outcomes (outcomes_of grows.0 ++ left) waits (tied_before outcomes left old so_far.0 answered) may.0),
+      so_far.0 ++ happens.0,
+      deals-append so_far.0 happens.0 old.net v.net w.net so_far.1 happens.1,
+      λ form left waits lawful.
+          let all : outcomes_of (so_far.0 ++ happens.0) ++ left ≡ outcomes_of so_far.0 ++ (outcomes_of happens.0 ++ left) = outcomes_on so_far.0 happens.0 left in
+          let L : List RequestOutcome → Type 0 = λ o. Lawful coding (start_of old o) (script_of old form) (done ++ event ∷ []) in
+          let R : List RequestOutcome → Type 0 = λ o. Follows coding o left old (script coding (start_of old o) (script_of old form) (done ++ event ∷ [])) w call' stage' (answers ++ given_answer result) ⊎ ScriptAborts (λ after later rest. Happened depth after later w call' stage' rest) coding o old form (done ++ event ∷ []) w (answers ++ given_answer result) in
+          let outcomes : List RequestOutcome = outcomes_of so_far.0 ++ (outcomes_of happens.0 ++ left) in
+          let may = lawful-snoc (start_of old outcomes) (script_of old form) done event (subst L all lawful) in
+          subst R (sym all) (go (one_more depth) form outcomes left may.1 (so_far.2 form (outcomes_of happens.0 ++ left) waits may.0)),
     )
       where
-        go : ((later : SessionValue) (done' : List Event) (rest : List Answer) → Happened depth later done' v call stage rest → Happened depth later (done' ++ event ∷ []) w call' stage' (rest ++ given_answer result)) → (form : ReplyForm) (outcomes left : List RequestOutcome) → IsLawful coding (start_of old outcomes) (script coding (start_of old outcomes) (script_of old form) done) event → Follows coding outcomes (outcomes_of grows.0 ++ left) old (script coding (start_of old outcomes) (script_of old form) done) v call stage answers ⊎ ScriptAborts (λ after later rest. Happened depth after later v call stage rest) coding outcomes old form done v answers → Follows coding outcomes left old (script coding (start_of old outcomes) (script_of old form) (done ++ event ∷ [])) w call' stage' (answers ++ given_answer result) ⊎ ScriptAborts (λ after later rest. Happened depth after later w call' stage' rest) coding outcomes old form (done ++ event ∷ []) w (answers ++ given_answer result)
-        go again form outcomes left may (inl follows) = next (happens grows.0 outcomes left old (script coding (start_of old outcomes) (script_of old form) done) answers grows.1 follows may)
+        go : ((later : SessionValue) (done' : List Event) (rest : List Answer) → Happened depth later done' v call stage rest → Happened depth later (done' ++ event ∷ []) w call' stage' (rest ++ given_answer result)) → (form : ReplyForm) (outcomes left : List RequestOutcome) → IsLawful coding (start_of old outcomes) (script coding (start_of old outcomes) (script_of old form) done) event → Follows coding outcomes (outcomes_of happens.0 ++ left) old (script coding (start_of old outcomes) (script_of old form) done) v call stage answers ⊎ ScriptAborts (λ after later rest. Happened depth after later v call stage rest) coding outcomes old form done v answers → Follows coding outcomes left old (script coding (start_of old outcomes) (script_of old form) (done ++ event ∷ [])) w call' stage' (answers ++ given_answer result) ⊎ ScriptAborts (λ after later rest. Happened depth after later w call' stage' rest) coding outcomes old form (done ++ event ∷ []) w (answers ++ given_answer result)
+        go again form outcomes left may (inl follows) = next (happens.2 outcomes left old (script coding (start_of old outcomes) (script_of old form) done) answers follows may)
           where
             next : Follows coding outcomes left old (after_event coding (start_of old outcomes) (script coding (start_of old outcomes) (script_of old form) done) event) w call' stage' (answers ++ given_answer result) ⊎ (((under_way : Call) × (call ≡ Some under_way) × AbortsCall coding under_way stage v w result) × (call' ≡ None) × (event ≡ Poll)) → Follows coding outcomes left old (script coding (start_of old outcomes) (script_of old form) (done ++ event ∷ [])) w call' stage' (answers ++ given_answer result) ⊎ ScriptAborts (λ after later rest. Happened depth after later w call' stage' rest) coding outcomes old form (done ++ event ∷ []) w (answers ++ given_answer result)
             next (inl later) =
                 let P : Script → Type 0 = λ s. Follows coding outcomes left old s w call' stage' (answers ++ given_answer result) in
                 inl (subst P (sym (script-snoc (start_of old outcomes) (script_of old form) done event)) later)
-            next (inr broke) = inr (aborts_at depth outcomes (outcomes_of grows.0 ++ left) old form done answers follows broke.0 broke.1 broke.2)
+            next (inr broke) = inr (aborts_at depth outcomes (outcomes_of happens.0 ++ left) old form done answers follows broke.0 broke.1 broke.2)
         go again form outcomes left may (inr broke) = inr (goes_after depth outcomes old form done answers broke (again broke.after broke.later broke.others broke.goes_on))
 
-  pub next_event : (depth : ℕ) (old : SessionValue) (events : List Event) (i : ℕ) (event : Event) (v w : SessionValue) (call call' : Option Call) (stage stage' : Stage) (answers answers' : List Answer) (result : Option Answer) → i < length events → event ≡ get_or events i event → answers' ≡ answers ++ given_answer result → FailedStays v w result → Grows v w → Happens coding v w call call' stage stage' event result → Happened depth old (take i events) v call stage answers → Happened depth old (take (i + 1) events) w call' stage' answers'
-  next_event depth old events i event v w call call' stage stage' answers answers' result inside is pushed stays grows happens so_far =
+  pub next_event : (depth : ℕ) (old : SessionValue) (events : List Event) (i : ℕ) (event : Event) (v w : SessionValue) (call call' : Option Call) (stage stage' : Stage) (answers answers' : List Answer) (result : Option Answer) → i < length events → event ≡ get_or events i event → answers' ≡ answers ++ given_answer result → FailedStays v w result → Happens coding v w call call' stage stage' event result → Happened depth old (take i events) v call stage answers → Happened depth old (take (i + 1) events) w call' stage' answers'
+  next_event depth old events i event v w call call' stage stage' answers answers' result inside is pushed stays happens so_far =
       let done : take (i + 1) events ≡ take i events ++ event ∷ [] = take_more events i event inside ∙ ap (λ e. take i events ++ e ∷ []) (sym is) in
       let P : List Event → Type 0 = λ l. Happened depth old l w call' stage' answers' in
       let Q : List Answer → Type 0 = λ a. Happened depth old (take i events ++ event ∷ []) w call' stage' a in
-      subst P (sym done) (subst Q (sym pushed) (one_more event v w call call' stage stage' result stays grows happens depth old (take i events) answers so_far))
+      subst P (sym done) (subst Q (sym pushed) (one_more event v w call call' stage stage' result stays happens depth old (take i events) answers so_far))
 
   -- what has happened is what the events come to
   pub happened_scripted : (depth : ℕ) (old : SessionValue) (done : List Event) (v : SessionValue) (call : Option Call) (stage : Stage) (answers : List Answer) → Happened depth old done v call stage answers → ScriptsHold depth coding old done v answers
   happened_scripted zero old done v call stage answers so_far = tt
-  happened_scripted (suc depth) old done v call stage answers so_far = λ form outcomes left waits answered lawful. go (λ later done' rest. happened_scripted depth later done' v call stage rest) form outcomes left (so_far.1 form outcomes left waits answered lawful)
+  happened_scripted (suc depth) old done v call stage answers so_far = (so_far.0, so_far.1, λ form left waits lawful. go (λ later done' rest. happened_scripted depth later done' v call stage rest) form (outcomes_of so_far.0 ++ left) left (so_far.2 form left waits lawful))
     where
       go : ((later : SessionValue) (done' : List Event) (rest : List Answer) → Happened depth later done' v call stage rest → ScriptsHold depth coding later done' v rest) → (form : ReplyForm) (outcomes left : List RequestOutcome) → Follows coding outcomes left old (script coding (start_of old outcomes) (script_of old form) done) v call stage answers ⊎ ScriptAborts (λ after later rest. Happened depth after later v call stage rest) coding outcomes old form done v answers → ScriptHolds coding outcomes old form done v answers ⊎ ScriptAborts (λ after later rest. ScriptsHold depth coding after later v rest) coding outcomes old form done v answers
       go again form outcomes left (inl follows) = inl (script_holds outcomes left old form done v call stage answers follows)
@@ -200,17 +195,19 @@ module _ (coding : Coding) where
         tree = broke.tree;
         under_way = broke.under_way;
         fault = broke.fault;
-        after = broke.after;
+        last = broke.last;
         aborts = broke.aborts;
+        after = broke.after;
+        lets_go = broke.lets_go;
         others = broke.others;
         answers_are = broke.answers_are;
         goes_on = again broke.after broke.later broke.others broke.goes_on;
         failed = broke.failed;
       })
 
-  -- what the transport was asked by then
+  -- what happened beside the control connection by then
   pub has_grown : (old : SessionValue) (done : List Event) (v : SessionValue) (call : Option Call) (stage : Stage) (answers : List Answer) → ((depth : ℕ) → Happened depth old done v call stage answers) → Grows old v
-  has_grown old done v call stage answers so_far = (so_far (suc zero)).0
+  has_grown old done v call stage answers so_far = ((so_far (suc zero)).0, (so_far (suc zero)).1)
 
   -- no event is left
   pub all_events : (old : SessionValue) (events : List Event) (i : ℕ) (v : SessionValue) (call : Option Call) (stage : Stage) (answers : List Answer) → length events ≤ i → ((depth : ℕ) → Happened depth old (take i events) v call stage answers) → IsScripted coding old events v answers

@@ -22,7 +22,7 @@ use Rattle.ftp_session.specs.declared.session.stage.Stage.{Stage}
 use Rattle.ftp_session.specs.declared.session.stage.Stage.TheVariants.{At, Saying, Hearing, Arming, Agreeing}
 use Rattle.ftp_session.specs.declared.session.stage.Step.{Step}
 use Rattle.ftp_session.specs.declared.session.stage.Step.TheVariants.{Next, Pending, Done}
-use Rattle.ftp_session.specs.State.{SessionValue}
+use Rattle.ftp_session.specs.State.{SessionValue, let_go}
 use Rattle.ftp_session.specs.Coding.{Coding}
 use Rattle.ftp_calls.specs.declared.exchange.Row.{Row}
 use Rattle.ftp_calls.specs.declared.exchange.Row.TheVariants.{Exchanges, Arms}
@@ -36,8 +36,8 @@ use Rattle.ftp_session.specs.Run.{Resumes}
 use Rattle.ftp_session.specs.Steps.Following.{StageIn, entered_at, entered_state, entered_tree, is_first, is_first_turn}
 use Rattle.ftp_session.specs.Steps.Stages.{is_later, remaining, awaited, begun_at, StageOf, line_of}
 use Rattle.ftp_session.specs.Steps.Moving.{Moves, Advances, Ends, Steps, PollSteps, Hears, BeginsExchange, Concludes, Made, NothingTouched, NothingYet, Quiet, Still, HasBegun, BeginsHere, Speaks, Takes, Tracks, wants_memory, withheld, after_fault}
-use Rattle.ftp_session.proofs.Moving.{leads_on, moves_on, leaf_ends, refused_line, lacks_memory_first, lacks_memory_at, stays_put, ends_on, aborts_on, said_or_taken_on, untouched, untouched_after}
-use Rattle.ftp_session.proofs.Negotiation.{unchanged_still}
+use Rattle.ftp_session.proofs.Moving.{advances_on, leads_on, moves_on, leaf_ends, refused_line, lacks_memory_first, lacks_memory_at, stays_put, ends_on, aborts_on, said_or_taken_on, untouched, untouched_after}
+use Rattle.ftp_session.proofs.Negotiation.{still_on, unchanged_still}
 use Rattle.ftp_session.specs.Link.{Link}
 
 -- An exchange begins
@@ -83,12 +83,6 @@ exchange_begins link coding call turn stage' old new (Done answer) going refused
     let R : Answer → Type 0 = P (after_fault (is_later turn) refused.fault old) in
     subst Q (sym refused.leaves) (subst R (sym refused.is) (refused_ends link coding call turn refused.fault old going refused.cause))
 
-pub advances_on : (link : Link) (tree tree' last : Tree) (a b c : SessionValue) → Advances link tree tree' a b → Advances link tree' last b c → Advances link tree last a c
-advances_on link tree tree' last a b c first second = record {
-  moves = moves_on link tree tree' a b c first.moves last second.moves;
-  failed = second.failed ∙ first.failed;
-}
-
 pub exchange_is_quiet : (link : Link) (coding : Coding) (call : Call) (turn : Turn) (stage' : Stage) (old new : SessionValue) (step : Step) → BeginsExchange coding call turn stage' old new step → Quiet link coding call (At turn) stage' old new step
 exchange_is_quiet link coding call turn stage' old new Next begins = λ begun.
     let is : remaining coding call old.state stage' ≡ from_turn coding call turn old.state = begins.1.same old.state in
@@ -121,7 +115,7 @@ concludes link coding call a reply stage' old mid new Pending going heard takes 
 concludes link coding call a reply stage' old mid new (Done answer) going heard takes (inl ends) =
     let leaf : accepted coding a.ending old.state reply (later coding call a.turn) ≡ Leaf answer new.state = ap (λ s. accepted coding a.ending s reply (later coding call a.turn)) (sym heard.moves.state) ∙ ends.leaf in
     let T : Tree → Type 0 = λ t. Moves link (awaited coding call old.state a) t old mid in
-    inl (leaf_ends link (awaited coding call old.state a) answer old mid new (subst T leaf heard.moves) (λ f. inl (sym heard.failed ∙ f)) ends.channel ends.asked)
+    inl (leaf_ends link (awaited coding call old.state a) answer old mid new (subst T leaf heard.moves) (λ f. inl (sym heard.failed ∙ f)) ends.channel ends.net)
 concludes link coding call a reply stage' old mid new (Done answer) going heard takes (inr lacks) =
     let A : Answer → Type 0 = λ x. Aborts link a.begun (awaited coding call old.state a) x old new in
     let V : SessionValue → Type 0 = λ v. Aborts link a.begun (awaited coding call old.state a) (Fault OutOfMemory) old v in
@@ -185,7 +179,7 @@ pub record SoFar (link : Link) (coding : Coding) (call : Call) (stage stage' : S
   pub quiet : begun_at stage' ≡ false → NothingYet link coding call stage stage' old new
   pub stage_of : StageOf call stage'
   pub begun : HasBegun link (begun_at stage) (begun_at stage') (remaining coding call old.state stage) old new
-  pub asked : negotiates call ≡ false → new.asked ≡ old.asked
+  pub net : negotiates call ≡ false → new.net ≡ old.net
 
 pub nothing_so_far : (link : Link) (coding : Coding) (call : Call) (stage : Stage) (v : SessionValue) → StageOf call stage → SoFar link coding call stage stage v v
 nothing_so_far link coding call stage v stage_of =
@@ -195,20 +189,8 @@ nothing_so_far link coding call stage v stage_of =
       quiet = λ begun. record { still = unchanged_still link tree tree v v refl refl; begun = begun; speaks = λ speaks. speaks; read = λ read. refl };
       stage_of = stage_of;
       begun = (λ has. inl has, λ none. (none, untouched link v));
-      asked = λ none. refl;
+      net = λ none. refl;
     }
-
--- nothing was said or read in two steps
-still_on : (link : Link) (tree tree' last : Tree) (a b c : SessionValue) → Still link tree tree' a b → Still link tree' last b c → Still link tree last a c
-unfolding advances_on moves_on leads_on
-still_on link tree tree' last a b c first second = record {
-  advances = advances_on link tree tree' last a b c first.advances second.advances;
-  none = ap (λ l. l ++ second.advances.moves.leads.came) first.none ∙ second.none;
-  untouched = record {
-    said = λ h. second.untouched.said h ∙ first.untouched.said h;
-    untaken = second.untouched.untaken ∙ append-nil (untaken b.channel) ∙ first.untouched.untaken;
-  };
-}
 
 -- what was said or taken after nothing was
 back_to : (link : Link) {tree tree' : Tree} (a b c : SessionValue) → Still link tree tree' a b → link.tells → SaidOrTaken b c → SaidOrTaken a c
@@ -315,8 +297,8 @@ module _ (link : Link) (coding : Coding) (call : Call) (stage stage' : Stage) (a
       go false none (inr here) = inr (from_here (so_far.quiet none) here)
 
   -- one step more
-  pub next_step : (stage'' : Stage) (c : SessionValue) → Steps link (begun_at stage') (remaining coding call b.state stage') (remaining coding call b.state stage'') b c Next → Quiet link coding call stage' stage'' b c Next → HasBegun link (begun_at stage') (begun_at stage'') (remaining coding call b.state stage') b c → StageOf call stage'' → (negotiates call ≡ false → c.asked ≡ b.asked) → SoFar link coding call stage stage'' a c
-  next_step stage'' c steps quiet begun stage_of asked = record {
+  pub next_step : (stage'' : Stage) (c : SessionValue) → Steps link (begun_at stage') (remaining coding call b.state stage') (remaining coding call b.state stage'') b c Next → Quiet link coding call stage' stage'' b c Next → HasBegun link (begun_at stage') (begun_at stage'') (remaining coding call b.state stage') b c → StageOf call stage'' → (negotiates call ≡ false → c.net ≡ b.net) → SoFar link coding call stage stage'' a c
+  next_step stage'' c steps quiet begun stage_of net = record {
     moved = advances_on link (remaining coding call a.state stage) (remaining coding call a.state stage') (remaining coding call a.state stage'') a b c so_far.moved (steps_from link coding (begun_at stage') call a.state b.state stage' stage'' b c Next so_far.moved.moves.state steps);
     quiet = λ begun.
         let second = quiet begun in
@@ -332,7 +314,7 @@ module _ (link : Link) (coding : Coding) (call : Call) (stage stage' : Stage) (a
         };
     stage_of = stage_of;
     begun = begun_on stage'' c steps.moves begun;
-    asked = λ none. asked none ∙ so_far.asked none;
+    net = λ none. net none ∙ so_far.net none;
   }
 
   -- the last step
@@ -370,13 +352,13 @@ module _ (link : Link) (coding : Coding) (call : Call) (stage stage' : Stage) (a
       subst P ((so_far.quiet (read_is_quiet call stage' so_far.stage_of read)).read read) rests
 
 -- a call that was entered is made
-pub made_by : (link : Link) (coding : Coding) (call : Call) (stage stage' : Stage) (old entered new : SessionValue) (answer : Answer) → old.channel.failed ≡ false → entered ≡ begun_by call old → remaining coding call entered.state stage ≡ dialogue coding call old.state → begun_at stage ≡ false → PollSteps link (begun_at stage) (remaining coding call entered.state stage) (remaining coding call entered.state stage') entered new (poll.Ready answer) → Made link coding call old new answer
-made_by link coding call stage stage' old entered new answer going same tree begun polls =
-    let T : Tree → Bool → SessionValue → Type 0 = λ t b v. Ends link t answer v new ⊎ Aborts link b t answer v new in
+pub made_by : (link : Link) (coding : Coding) (call : Call) (stage stage' : Stage) (old entered last new : SessionValue) (answer : Answer) → old.channel.failed ≡ false → entered ≡ begun_by call old → remaining coding call entered.state stage ≡ dialogue coding call old.state → begun_at stage ≡ false → PollSteps link (begun_at stage) (remaining coding call entered.state stage) (remaining coding call entered.state stage') entered last (poll.Ready answer) → new ≡ let_go last → Made link coding call old new answer
+made_by link coding call stage stage' old entered last new answer going same tree begun polls lets_go =
+    let T : Tree → Bool → SessionValue → Type 0 = λ t b v. Ends link t answer v last ⊎ Aborts link b t answer v last in
     let P : SessionValue → Type 0 = λ v. T (dialogue coding call old.state) false v in
     let Q : Bool → Type 0 = λ b. T (dialogue coding call old.state) b entered in
     let R : Tree → Type 0 = λ t. T t (begun_at stage) entered in
-    inr (record { going = going; plays = subst P same (subst Q begun (subst R tree polls)) })
+    inr (record { going = going; last = last; plays = subst P same (subst Q begun (subst R tree polls)); lets_go = lets_go })
 
 -- a call that opens no data connection begins where it is
 pub begun_plain : (call : Call) (v : SessionValue) → negotiates call ≡ false → begun_by call v ≡ v
@@ -385,11 +367,11 @@ begun_plain call v plain =
     ap F plain
 
 -- a call whose arguments found no memory
-pub withheld_plays : (link : Link) (coding : Coding) (call : Call) (v : SessionValue) → begun_by call v ≡ v → Plays link coding call v v (Fault (withheld v))
-withheld_plays link coding call v same =
+pub withheld_plays : (link : Link) (coding : Coding) (call : Call) (v : SessionValue) → Plays link coding call v v (Fault (withheld v))
+withheld_plays link coding call v =
     elim v.channel.failed as (λ b. v.channel.failed ≡ b → Plays link coding call v v (Fault (cond b SessionFailed OutOfMemory))) [
       | true ↦ λ failed. record { wired = λ success. absurd success; made = inl (record { failed = failed; is = refl; unchanged = refl }); fails = λ f. inl f }
-      | false ↦ λ going. record { wired = λ success. absurd success; made = inr (record { going = going; plays = inr (let P : SessionValue → Type 0 = λ x. Aborts link false (dialogue coding call v.state) (Fault OutOfMemory) x v in subst P (sym same) (lacks_memory_first link (dialogue coding call v.state) v going)) }); fails = λ f. inl f }
+      | false ↦ λ going. record { wired = λ success. absurd success; made = inr (inr (record { going = going; is = refl; unchanged = refl })); fails = λ f. inl f }
     ] refl
 
 -- what is made of a call whose arguments were copied
@@ -464,6 +446,16 @@ module _ (link : Link) (coding : Coding) (call : Call) (stage first last : Stage
       let T : Tree → Type 0 = λ t. P (begun_at stage) t e in
       let V : SessionValue → Type 0 = λ x. P (begun_at stage) (entered_tree coding call stage v.state) x in
       subst V same (subst T tree (subst B begun has))
+
+-- a plain read changes nothing where it begins
+pub rests_entered : (link : Link) (call : Call) (stage : Stage) (v e w : SessionValue) → is_read call ≡ true → e ≡ entered_at call stage v → Rests link e w → Rests link v w
+rests_entered link call stage v e w read same rests =
+    let plain : negotiates call ≡ false = elim (negotiates call) as (λ b. negotiates call ≡ b → b ≡ false) [ true ↦ λ opens. let clash : true ≡ false = sym read ∙ read_opens_none call opens in cc | false ↦ λ none. refl ] refl in
+    let E : Bool → SessionValue = λ b. record v { state = cond b (cond (negotiates call) (armed 0 v.state) v.state) v.state } in
+    let N : Bool → SessionValue = λ n. record v { state = cond (is_first stage) (cond n (armed 0 v.state) v.state) v.state } in
+    let here : E (is_first stage) ≡ v = ap N plain ∙ elim (is_first stage) as (λ b. record v { state = cond b v.state v.state } ≡ v) [ true ↦ refl | false ↦ refl ] in
+    let P : SessionValue → Type 0 = λ x. Rests link x w in
+    subst P (same ∙ here) rests
 
 -- nothing was said or taken where nothing was made of a call
 first_turn : (turn : Turn) → is_first_turn turn ≡ true → turn ≡ First

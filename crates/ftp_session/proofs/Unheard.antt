@@ -44,6 +44,7 @@ use Rattle.ftp_session.specs.declared.model.Played.TheVariants.{Done, Pending}
 use Rattle.ftp_session.specs.declared.model.Script.{Script}
 use Rattle.ftp_session.specs.Coding.{Coding}
 use Rattle.ftp_session.specs.Dialogue.{Expected, expected_of, Tree, Say, Hear, Look, Ask, Leaf, saying, awaiting, armed, doing, exchanging, concluded, entered, from_turn, later, negotiating, dialogue}
+use Rattle.ftp_session.specs.Deals.{dealt}
 use Rattle.ftp_session.specs.Play.{play, address_at, fits, heard_then, taken, asked_then}
 use Rattle.ftp_session.specs.Script.{heard_in, heard_at}
 use Rattle.ftp_session.specs.Steps.Stages.{StageOf, remaining}
@@ -160,7 +161,7 @@ play_shrinks room (Ask request next) s how t is =
     let k : RequestOutcome → Standing → Played = λ answer u. play room (next answer) u in
     elim s.outcomes as (λ o. asked_then o request s k ≡ Pending how t → length t.bytes ≤ length s.bytes) [
       | [] ↦ λ e. omega (arith, ap length (ap bytes_in e))
-      | outcome ∷ outcomes ↦ λ e. play_shrinks room (next outcome) (record s { asked = s.asked ++ request ∷ []; outcomes = outcomes }) how t e
+      | outcome ∷ outcomes ↦ λ e. play_shrinks room (next outcome) (record s { dealings = dealt request outcome s.dealings; outcomes = outcomes }) how t e
     ] is
 play_shrinks room (Leaf answer state) s how t is = let clash : Done answer (record s { state = state }) ≡ Pending how t = is in cc
 

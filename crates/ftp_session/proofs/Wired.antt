@@ -10,7 +10,7 @@ use Rattle.ftp_base.specs.declared.types.fault.FtpError.TheVariants as fault
 use Rattle.ftp_base.specs.declared.types.fault.ConnectionError.{ConnectionError as Cause}
 use Rattle.ftp_base.specs.declared.types.fault.ConnectionError.TheVariants as connection
 use Rattle.ftp_control.specs.declared.transport.room.Room.TheVariants.{Any}
-use Rattle.ftp_control.specs.Asking.{outcomes_of}
+use Rattle.ftp_session.specs.Deals.{outcomes_of}
 use Rattle.ftp_control.specs.declared.transport.request.RequestOutcome.{RequestOutcome}
 use Rattle.ftp_control.specs.declared.control.outcome.Outcome.{Outcome}
 use Rattle.ftp_control.specs.declared.control.outcome.Outcome.TheVariants.{Whole, Bad, TooLarge, Ended, Waits}
@@ -27,7 +27,7 @@ use Rattle.ftp_calls.specs.declared.exchange.Exchange.{Exchange}
 use Rattle.ftp_session.specs.declared.model.Standing.{Standing}
 use Rattle.ftp_session.specs.declared.model.Played.{Played}
 use Rattle.ftp_session.specs.declared.model.Played.TheVariants.{Done}
-use Rattle.ftp_session.specs.State.{SessionValue}
+use Rattle.ftp_session.specs.State.{SessionValue, let_go}
 use Rattle.ftp_session.specs.Coding.{Coding}
 use Rattle.ftp_calls.specs.declared.exchange.Row.{Row}
 use Rattle.ftp_calls.specs.declared.exchange.Row.TheVariants.{Exchanges, Arms}
@@ -233,18 +233,20 @@ begun_succeeds coding call s t state =
     }
 
 -- the calls of a session
-pub wired : (link : Link) (coding : Coding) (call : Call) (old new : SessionValue) (answer : Answer) → Completes link (dialogue coding call old.state) answer (begun_by call old) new → IsSuccess answer → Wired link coding call old new
-wired link coding call old new answer done success = record {
+pub wired : (link : Link) (coding : Coding) (call : Call) (old last new : SessionValue) → new ≡ let_go last → (answer : Answer) → Completes link (dialogue coding call old.state) answer (begun_by call old) last → IsSuccess answer → Wired link coding call old new
+wired link coding call old last new lets_go answer done success = record {
+  last = last;
+  lets_go = lets_go;
   came = done.came;
   answered = done.answered;
   goes = done.goes;
   succeeds = λ h resumes.
-      let ended = new.channel.ended in
+      let ended = last.channel.ended in
       let played = done.plays h resumes Any [] ended [] tt (record { nothing = λ e. refl; over = λ e. e }) in
       let F : List ℕ → Standing = λ c. standing (begun_by call old) c ended (outcomes_of done.answered ++ []) in
       let G : List RequestOutcome → Standing = λ o. standing (begun_by call old) done.came ended o in
       let same : standing (begun_by call old) (done.came ++ []) ended (outcomes_of done.answered ++ []) ≡ standing (begun_by call old) done.came ended (outcomes_of done.answered) = ap F (append-nil done.came) ∙ ap G (append-nil (outcomes_of done.answered)) in
-      let P : Standing → Type 0 = λ s. play Any (dialogue coding call old.state) s ≡ Done answer (standing new [] ended []) in
-      begun_succeeds coding call (standing old done.came ended (outcomes_of done.answered)) (standing new [] ended []) (entered call old.state)
-      (call_succeeds coding call answer (standing (begun_by call old) done.came ended (outcomes_of done.answered)) (standing new [] ended []) old.state success (subst P same played));
+      let P : Standing → Type 0 = λ s. play Any (dialogue coding call old.state) s ≡ Done answer (standing last [] ended []) in
+      begun_succeeds coding call (standing old done.came ended (outcomes_of done.answered)) (standing last [] ended []) (entered call old.state)
+      (call_succeeds coding call answer (standing (begun_by call old) done.came ended (outcomes_of done.answered)) (standing last [] ended []) old.state success (subst P same played));
 }

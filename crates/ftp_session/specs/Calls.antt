@@ -7,7 +7,7 @@ use Rattle.ftp_base.specs.Features.{Entries}
 use Rattle.ftp_base.specs.declared.types.reply.Response.{Response}
 use Rattle.ftp_base.specs.declared.types.fault.FtpError.{FtpError}
 use Rattle.ftp_control.specs.Told.{Told, begun}
-use Rattle.ftp_control.specs.declared.transport.request.Asked.{Asked}
+use Rattle.ftp_session.specs.Deals.{Net}
 use Rattle.ftp_control.specs.Channel.{IsIdle}
 use Rattle.ftp_calls.specs.declared.call.Answer.{Answer}
 use Rattle.ftp_calls.specs.declared.call.Answer.TheVariants.{Unit as Done, Reply, Fault}
@@ -48,20 +48,20 @@ abbrev pub features_answer : Result Entries FtpError → Answer
 features_answer (Ok features) = answers.Features features
 features_answer (Err fault) = Fault fault
 
--- a session begins on a connection that told this, over a transport that was asked this: nothing is read or sent,
--- and what came and wasn't read is still to come
-pub record Begins (tells : Type 0) (before : Told) (answered : List Asked) (new : SessionValue) : Type 0 where
+-- a session begins on a connection that told this, and this stands beside it: nothing is read or sent, and what came
+-- and wasn't read is still to come
+pub record Begins (tells : Type 0) (before : Told) (beside : Net) (new : SessionValue) : Type 0 where
   pub idle : IsIdle new.channel
   pub told : tells → new.channel.told ≡ begun before
   pub first : IsFirst new.state
-  pub asked : new.asked ≡ answered
+  pub net : new.net ≡ beside
 
 -- a session begins and makes the greeting's dialogue
-pub record Connects (link : Link) (coding : Coding) (told : Told) (asked : List Asked) (new : SessionValue) (result : Result (Unit {0}) FtpError) : Type 0 where
+pub record Connects (link : Link) (coding : Coding) (told : Told) (beside : Net) (new : SessionValue) (result : Result (Unit {0}) FtpError) : Type 0 where
   pub old : SessionValue
-  pub begins : Begins link.tells told asked old
+  pub begins : Begins link.tells told beside old
   pub greets : Plays link coding Greet old new (unit_answer result)
 
 -- no session is connected, and this is why
-abbrev pub FailsToConnect : Link → Coding → Told → List Asked → FtpError → Type 0
-FailsToConnect link coding told asked fault = (new : SessionValue) × Connects link coding told asked new (Err fault)
+abbrev pub FailsToConnect : Link → Coding → Told → Net → FtpError → Type 0
+FailsToConnect link coding told beside fault = (new : SessionValue) × Connects link coding told beside new (Err fault)

@@ -20,6 +20,8 @@ use Rattle.ftp_session.specs.declared.session.state.State.{State}
 use Rattle.ftp_session.specs.declared.model.Standing.{Standing}
 use Rattle.ftp_session.specs.Calls.{Connects}
 use Rattle.ftp_session.specs.Coding.{Coding}
+use Rattle.ftp_session.specs.Deals.{dealt, first_net}
+use Rattle.ftp_session.specs.declared.model.Dealings.{Dealings}
 use Rattle.ftp_session.specs.Dialogue.{Tree, Ask, Leaf, dialogue}
 use Rattle.ftp_session.specs.Link.{Link}
 use Rattle.ftp_session.specs.Play.{play}
@@ -42,12 +44,17 @@ connecting coding (request ∷ requests) fault state =
 abbrev pub connects_within : Duration → SocketAddr → List Request
 connects_within limit address = if as_nanos limit == 0 then [] else connects_to (Some limit) (address ∷ [])
 
+-- what requests make of what stands beside the control connection
+abbrev pub dealt_in_turn : List Asked → Dealings → Dealings
+dealt_in_turn [] d = d
+dealt_in_turn (one ∷ more) d = dealt_in_turn more (dealt one.request one.outcome d)
+
 -- these requests were made and came to these outcomes; whatever else is known, a dialogue comes with them to what is
 -- left of it
 pub record AsksAll (tree left : State → Tree) (asked asked' : List Asked) : Type 0 where
   pub answered : List Asked
   pub asked_are : asked' ≡ asked ++ answered
-  pub plays : (state : State) (room : Room) (s : Standing) → play room (tree state) (record s { outcomes = outcomes_of answered ++ s.outcomes }) ≡ play room (left state) (record s { asked = s.asked ++ requests_of answered })
+  pub plays : (state : State) (room : Room) (s : Standing) → play room (tree state) (record s { outcomes = outcomes_of answered ++ s.outcomes }) ≡ play room (left state) (record s { dealings = dealt_in_turn answered s.dealings })
 
 -- a transport that was handed these outcomes, and was asked this before, made a connection of this record; the requests
 -- before it were refused
@@ -61,7 +68,7 @@ pub record ConnectsBy (link : Link) (coding : Coding) (refuses : List Supply →
   pub told : Told
   pub asked_by : List Asked
   pub connected : IsConnected link coding refuses requests fault ready asked asked_by told
-  pub connects : Connects link coding told asked_by new result
+  pub connects : Connects link coding told (first_net asked_by connected.unused) new result
 
 -- each request was refused, and the last fault is the answer
 pub record NoneConnects (link : Link) (coding : Coding) (refuses : List Supply → ConnectionError → Type 0) (requests : List Request) (fault : ConnectionError) (ready : List Supply) (asked : List Asked) (answer : FtpError) : Type 0 where

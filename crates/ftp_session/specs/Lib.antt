@@ -1,6 +1,7 @@
 pub mod Calls
 pub mod Coding
 pub mod Connecting
+pub mod Deals
 pub mod Dialogue
 pub mod Link
 pub mod Play

@@ -22,6 +22,7 @@ use Rattle.ftp_session.specs.declared.model.Wait.TheVariants.{Room, Bytes, Outco
 use Rattle.ftp_session.specs.declared.model.Played.{Played}
 use Rattle.ftp_session.specs.declared.model.Played.TheVariants.{Done, Pending}
 use Rattle.ftp_session.specs.Coding.{Coding}
+use Rattle.ftp_session.specs.Deals.{dealing, dealt, kept_for}
 use Rattle.ftp_session.specs.Dialogue.{Tree, Expected, End, Here, There, Say, Hear, Look, Ask, Leaf, dialogue, entered}
 
 -- so much is within the room
@@ -54,9 +55,9 @@ heard_then Waits codes s next = Pending (Bytes codes.form) s
 
 -- the next outcome that is known is the request's
 abbrev pub asked_then : List RequestOutcome → Request → Standing → (RequestOutcome → Standing → Played) → Played
-asked_then [] request s next = Pending Asking (record s { asked = s.asked ++ request ∷ [] })
+asked_then [] request s next = Pending Asking (record s { dealings = dealing request s.dealings })
 asked_then (outcome ∷ outcomes) request s next =
-    next outcome (record s { asked = s.asked ++ request ∷ []; outcomes = outcomes })
+    next outcome (record s { dealings = dealt request outcome s.dealings; outcomes = outcomes })
 
 -- the address of an end of the control connection
 abbrev pub address_at : End → Standing → SocketAddr
@@ -73,8 +74,16 @@ play room (Look end next) s = play room (next (address_at end s)) s
 play room (Ask request next) s = asked_then s.outcomes request s (λ answer t. play room (next answer) t)
 play room (Leaf answer state) s = Done answer (record s { state = state })
 
+-- a call is done: a data connection that carries no transfer is let go
+abbrev pub ended : Standing → Standing
+ended s = record s { dealings = record s.dealings { data_conn = kept_for s.state.counts.owed s.dealings.data_conn } }
+
+abbrev pub finally : Played → Played
+finally (Done answer s) = Done answer (ended s)
+finally (Pending wait s) = Pending wait s
+
 -- what a call comes to; once the session has failed it says and hears nothing
 abbrev pub play_call : Rooms → Coding → Call → Standing → Played
 play_call room coding call s =
     if s.failed then Done (Fault fault.SessionFailed) s
-    else play room (dialogue coding call s.state) (record s { state = entered call s.state })
+    else finally (play room (dialogue coding call s.state) (record s { state = entered call s.state }))

@@ -17,8 +17,6 @@ use Rattle.ftp_base.specs.declared.types.fault.FtpError.TheVariants.{ConnectionE
 use Rattle.ftp_base.specs.declared.types.fault.ConnectionError.TheVariants.{Io}
 use Rattle.ftp_control.specs.declared.transport.room.Room.{Room}
 use Rattle.ftp_control.specs.declared.transport.request.RequestOutcome.{RequestOutcome}
-use Rattle.ftp_control.specs.declared.transport.request.Asked.{Asked}
-use Rattle.ftp_control.specs.Asking.{requests_of, outcomes_of}
 use Rattle.ftp_control.specs.Told.{Told, HasRoomFor, HasFailed, NoneFailed}
 use Rattle.ftp_control.specs.Memory.{IsGiven}
 use Rattle.ftp_control.specs.Reading.{GoesOn as GoesBeyond}
@@ -38,8 +36,9 @@ use Rattle.ftp_session.specs.declared.model.Standing.{Standing}
 use Rattle.ftp_session.specs.declared.model.Played.TheVariants as played
 use Rattle.ftp_session.specs.declared.model.Ran.{Ran}
 use Rattle.ftp_session.specs.declared.model.Ran.TheVariants.{Finished}
-use Rattle.ftp_session.specs.State.{SessionValue}
+use Rattle.ftp_session.specs.State.{SessionValue, let_go}
 use Rattle.ftp_session.specs.Coding.{Coding}
+use Rattle.ftp_session.specs.Deals.{Deal, Deals, dealings_of, outcomes_of}
 use Rattle.ftp_calls.specs.Exchanges.{row_of, negotiates}
 use Rattle.ftp_session.specs.Dialogue.{Expected, expected_of, Tree, Say, Hear, Look, Ask, Leaf, dialogue, entered}
 use Rattle.ftp_session.specs.Play.{play}
@@ -142,7 +141,7 @@ standing v more ended outcomes = record {
   unsent = v.channel.unsent;
   local = v.channel.told.given.local;
   peer = v.channel.told.given.peer;
-  asked = requests_of v.asked;
+  dealings = dealings_of v.net;
   bytes = untaken v.channel ++ more;
   ended = ended;
   outcomes = outcomes;
@@ -150,7 +149,7 @@ standing v more ended outcomes = record {
 
 -- whatever still comes, and whatever room there is, this holds of where a run stood in a session and where it
 -- stands now, where these bytes came between and these requests were answered
-abbrev pub However : SessionValue → List ℕ → List Asked → SessionValue → (Room → Standing → Standing → Type 0) → Type 0
+abbrev pub However : SessionValue → List ℕ → List Deal → SessionValue → (Room → Standing → Standing → Type 0) → Type 0
 However old came answered new Holds =
     (room : Room) (more : List ℕ) (ended : Bool) (outcomes : List RequestOutcome)
     → HasRoomFor room (length new.channel.told.sent) → GoesBeyond new.channel.ended more ended
@@ -158,7 +157,7 @@ However old came answered new Holds =
 
 -- these bytes came, these requests were answered, other bytes may have gone out, and no call failed; what was said
 -- stays said, no more is untaken than was and came, and what is received was at hand, if it was before
-pub record Goes (link : Link) (came : List ℕ) (answered : List Asked) (old new : SessionValue) : Type 0 where
+pub record Goes (link : Link) (came : List ℕ) (answered : List Deal) (old new : SessionValue) : Type 0 where
   pub over : GoesBeyond old.channel.ended came new.channel.ended
   pub received : link.tells → new.channel.told.received ≡ old.channel.told.received ++ came
   pub given : link.tells → new.channel.told.given ≡ old.channel.told.given
@@ -167,20 +166,20 @@ pub record Goes (link : Link) (came : List ℕ) (answered : List Asked) (old new
   pub said : link.tells → length (said old.channel) ≤ length (said new.channel)
   pub untaken : length (untaken new.channel) ≤ length (untaken old.channel) + length came
   pub at_hand : link.tells → IsGiven old.channel.told → IsGiven new.channel.told
-  pub asked : link.tells → new.asked ≡ old.asked ++ answered
+  pub deals : link.tells → Deals answered old.net new.net
   pub rule : new.channel.rule ≡ old.channel.rule
 
 -- one tree is left of another
 pub record Leads (link : Link) (tree tree' : Tree) (old new : SessionValue) : Type 0 where
   pub came : List ℕ
-  pub answered : List Asked
+  pub answered : List Deal
   pub goes : Goes link came answered old new
   pub plays : link.tells → Resumes old.channel.rule old.channel.kept tree → However old came answered new (λ room s t. play room tree s ≡ play room tree' t)
 
 -- a tree comes to its answer
 pub record Completes (link : Link) (tree : Tree) (answer : Answer) (old new : SessionValue) : Type 0 where
   pub came : List ℕ
-  pub answered : List Asked
+  pub answered : List Deal
   pub goes : Goes link came answered old new
   pub plays : link.tells → Resumes old.channel.rule old.channel.kept tree → However old came answered new (λ room s t. play room tree s ≡ played.Done answer t)
 
@@ -255,18 +254,28 @@ begun_by call v = record v { state = entered call v.state }
 
 pub record IsPlayed (link : Link) (coding : Coding) (call : Call) (old new : SessionValue) (answer : Answer) : Type 0 where
   pub going : old.channel.failed ≡ false
-  pub plays : Completes link (dialogue coding call old.state) answer (begun_by call old) new ⊎ Aborts link false (dialogue coding call old.state) answer (begun_by call old) new
+  pub last : SessionValue
+  pub plays : Completes link (dialogue coding call old.state) answer (begun_by call old) last ⊎ Aborts link false (dialogue coding call old.state) answer (begun_by call old) last
+  pub lets_go : new ≡ let_go last
+
+-- its arguments found no memory, and nothing happened
+pub record IsWithheld (old new : SessionValue) (answer : Answer) : Type 0 where
+  pub going : old.channel.failed ≡ false
+  pub is : answer ≡ Fault OutOfMemory
+  pub unchanged : new ≡ old
 
 -- what a call that succeeded did on the wire comes first: these lines were said, these replies were consumed
 pub record Wired (link : Link) (coding : Coding) (call : Call) (old new : SessionValue) : Type 0 where
+  pub last : SessionValue
+  pub lets_go : new ≡ let_go last
   pub came : List ℕ
-  pub answered : List Asked
-  pub goes : Goes link came answered (begun_by call old) new
-  pub succeeds : link.tells → Resumes old.channel.rule old.channel.kept (dialogue coding call old.state) → Succeeds coding call (standing old came new.channel.ended (outcomes_of answered)) (standing new [] new.channel.ended [])
+  pub answered : List Deal
+  pub goes : Goes link came answered (begun_by call old) last
+  pub succeeds : link.tells → Resumes old.channel.rule old.channel.kept (dialogue coding call old.state) → Succeeds coding call (standing old came last.channel.ended (outcomes_of answered)) (standing last [] last.channel.ended [])
 
 pub record Plays (link : Link) (coding : Coding) (call : Call) (old new : SessionValue) (answer : Answer) : Type 0 where
   pub wired : IsSuccess answer → Wired link coding call old new
-  pub made : IsRefused old new answer ⊎ IsPlayed link coding call old new answer
+  pub made : IsRefused old new answer ⊎ IsPlayed link coding call old new answer ⊎ IsWithheld old new answer
   pub fails : new.channel.failed ≡ true → (old.channel.failed ≡ true) ⊎ IsFault answer
 
 -- a read that waits leaves a run where it stood: what came is untaken, and nothing else happened
@@ -305,14 +314,14 @@ pub record RanTo (link : Link) (coding : Coding) (calls to_make : List Call) (ol
   pub split : calls ≡ done ++ to_make
   pub count : length answers ≡ length done
   pub came : List ℕ
-  pub answered : List Asked
+  pub answered : List Deal
   pub goes : Goes link came answered old new
   pub runs : link.tells → Agrees coding old calls → However old came answered new (λ room s t. run room coding calls s ≡ before_all answers (run room coding to_make t))
 
 -- a run that came to its end: these are the answers, and here it stands, whatever else the server sends
 pub record RunsTo (link : Link) (coding : Coding) (calls : List Call) (old new : SessionValue) (answers : List Answer) : Type 0 where
   pub came : List ℕ
-  pub answered : List Asked
+  pub answered : List Deal
   pub goes : Goes link came answered old new
   pub runs : link.tells → Agrees coding old calls → However old came answered new (λ room s t. run room coding calls s ≡ Finished answers t)
 
@@ -347,8 +356,10 @@ pub record RunAborts (link : Link) (coding : Coding) (calls to_make : List Call)
   pub ran : RanTo link coding calls (call ∷ made ++ to_make) old middle first
   pub going : middle.channel.failed ≡ false
   pub fault : FtpError
+  pub last : SessionValue
+  pub aborts : Aborts link false (dialogue coding call middle.state) (Fault fault) (begun_by call middle) last
   pub after : SessionValue
-  pub aborts : Aborts link false (dialogue coding call middle.state) (Fault fault) (begun_by call middle) after
+  pub lets_go : after ≡ let_go last
   pub later : List Answer
   pub answers_are : answers ≡ first ++ Fault fault ∷ later
   pub makes : Makes link coding made after new later

@@ -26,7 +26,7 @@ use Rattle.ftp_session.specs.Run.{run, Resumes}
 use Rattle.ftp_session.specs.Promises.{standing}
 use Rattle.ftp_control.specs.Channel.{untaken}
 use Rattle.ftp_control.specs.Saying.{said}
-use Rattle.ftp_control.specs.Asking.{requests_of}
+use Rattle.ftp_session.specs.Deals.{dealings_of}
 use Rattle.ftp_control.specs.declared.transport.request.RequestOutcome.{RequestOutcome}
 use Rattle.ftp_session.specs.State.{SessionValue}
 
@@ -57,7 +57,7 @@ script_of v form = record {
   sent = v.channel.told.sent;
   unsent = v.channel.unsent;
   untaken = untaken v.channel ++ unread v.channel.told;
-  asked = requests_of v.asked;
+  dealings = dealings_of v.net;
   seen = length v.channel.kept;
   form = form;
   state = v.state;
@@ -113,7 +113,7 @@ polled_as (Finished answers t) call s = record s {
   sent = front s.room t.said;
   unsent = t.unsent;
   untaken = t.bytes;
-  asked = t.asked;
+  dealings = t.dealings;
   seen = seen_in s t.bytes;
   state = t.state;
   failed = t.failed;
@@ -124,7 +124,7 @@ polled_as (Waiting answers wait t) call s = record s {
   said = t.said ++ t.unsent;
   sent = front s.room t.said;
   untaken = t.bytes;
-  asked = t.asked;
+  dealings = t.dealings;
   seen = seen_at wait s t.bytes;
   form = form_at wait s;
   state = t.state;

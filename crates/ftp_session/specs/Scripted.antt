@@ -6,8 +6,7 @@ use Rattle.ftp_control.specs.declared.transport.room.Room.{Room}
 use Rattle.ftp_control.specs.declared.control.outcome.Outcome.TheVariants.{Waits}
 use Rattle.ftp_control.specs.Grammar.{outcome}
 use Rattle.ftp_control.specs.Told.{HasRoomFor}
-use Rattle.ftp_control.specs.Asking.{requests_of, outcomes_of}
-use Rattle.ftp_control.specs.declared.transport.request.Asked.{Asked}
+use Rattle.ftp_session.specs.Deals.{Deal, Deals, dealings_of, outcomes_of}
 use Rattle.ftp_control.specs.declared.transport.request.RequestOutcome.{RequestOutcome}
 use Rattle.ftp_control.specs.Reading.{GoesOn}
 use Rattle.ftp_control.specs.Channel.{Channel, untaken}
@@ -18,10 +17,10 @@ use Rattle.ftp_calls.specs.declared.call.Call.{Call}
 use Rattle.ftp_calls.specs.declared.call.Event.{Event}
 use Rattle.ftp_calls.specs.declared.call.Event.TheVariants.{Feed, Poll}
 use Rattle.ftp_session.specs.declared.model.Script.{Script}
-use Rattle.ftp_session.specs.State.{SessionValue}
+use Rattle.ftp_session.specs.State.{SessionValue, let_go}
 use Rattle.ftp_session.specs.Coding.{Coding}
 use Rattle.ftp_session.specs.Dialogue.{Tree}
-use Rattle.ftp_session.specs.Play.{play}
+use Rattle.ftp_session.specs.Play.{play, finally}
 use Rattle.ftp_session.specs.Run.{run, and_then}
 use Rattle.ftp_session.specs.Promises.{standing, before_all, begun_by, Aborts, AllRefused}
 use Rattle.ftp_session.specs.Script.{script, script_of, start_of, unread, is_over, Lawful, MayCancel}
@@ -40,7 +39,7 @@ pub record StandsAt (s : Script) (new : SessionValue) (answers : List Answer) : 
   pub sent : new.channel.told.sent ≡ s.sent
   pub said : SaysFrontOf new.channel s.said
   pub untaken : untaken new.channel ++ unread new.channel.told ≡ s.untaken
-  pub asked : requests_of new.asked ≡ s.asked
+  pub dealings : dealings_of new.net ≡ s.dealings
   pub seen : length new.channel.kept ≡ s.seen
   pub waits : outcome new.channel.rule s.form new.channel.kept false ≡ Waits
   pub ended : is_over new.channel.told ≡ s.ended
@@ -49,10 +48,10 @@ pub record StandsAt (s : Script) (new : SessionValue) (answers : List Answer) : 
   pub state : new.state ≡ s.state
   pub failed : new.channel.failed ≡ s.failed
 
--- what the transport was asked since, and the outcomes: these are the first of all
+-- what happened beside the control connection since, with these outcomes first of all
 pub record Answered (outcomes left : List RequestOutcome) (old new : SessionValue) : Type 0 where
-  pub answered : List Asked
-  pub asked : new.asked ≡ old.asked ++ answered
+  pub answered : List Deal
+  pub deals : Deals answered old.net new.net
   pub outcomes_are : outcomes ≡ outcomes_of answered ++ left
 
 -- the events come to their script, where these are the outcomes of the transport's requests; what was received and what
@@ -68,14 +67,14 @@ pub record ScriptHolds (coding : Coding) (outcomes : List RequestOutcome) (old :
   pub failures : new.channel.told.failures ≡ old.channel.told.failures
 
 -- the calls that are done come to these answers, and the call under way to what is left of it, from here
-abbrev pub Reaches : Coding → SessionValue → List Call → List ℕ → List Asked → SessionValue → List Answer → Call → Tree → Type 0
+abbrev pub Reaches : Coding → SessionValue → List Call → List ℕ → List Deal → SessionValue → List Answer → Call → Tree → Type 0
 Reaches coding old items came answered v answers call tree =
     (later : List Call) (room : Room) (more : List ℕ) (ended : Bool) (outcomes : List RequestOutcome)
     → HasRoomFor room (length v.channel.told.sent) → GoesOn v.channel.ended more ended
-    → run room coding (items ++ call ∷ later) (standing old (came ++ more) ended (outcomes_of answered ++ outcomes)) ≡ before_all answers (and_then (play room tree (standing v more ended outcomes)) (λ t. run room coding later t))
+    → run room coding (items ++ call ∷ later) (standing old (came ++ more) ended (outcomes_of answered ++ outcomes)) ≡ before_all answers (and_then (finally (play room tree (standing v more ended outcomes))) (λ t. run room coding later t))
 
 -- the calls that are done come to these answers, and to whatever comes after them from here
-abbrev pub Stands : Coding → SessionValue → List Call → List ℕ → List Asked → SessionValue → List Answer → Type 0
+abbrev pub Stands : Coding → SessionValue → List Call → List ℕ → List Deal → SessionValue → List Answer → Type 0
 Stands coding old items came answered v answers =
     (later : List Call) (room : Room) (more : List ℕ) (ended : Bool) (outcomes : List RequestOutcome)
     → HasRoomFor room (length v.channel.told.sent) → GoesOn v.channel.ended more ended
@@ -92,13 +91,13 @@ SaysNothing later start v = (said v.channel ≡ said start.channel) × (untaken 
 
 -- where the calls before it were done; since then something of a call was said, or a reply was taken, exactly if it has
 -- begun
-pub record CallHasBegun (coding : Coding) (old : SessionValue) (s : Script) (came : List ℕ) (answered : List Asked) (v : SessionValue) (begun : Bool) : Type 0 where
+pub record CallHasBegun (coding : Coding) (old : SessionValue) (s : Script) (came : List ℕ) (answered : List Deal) (v : SessionValue) (begun : Bool) : Type 0 where
   pub start : SessionValue
   pub before : List ℕ
   pub later : List ℕ
   pub split : came ≡ before ++ later
-  pub asked_before : List Asked
-  pub asked_later : List Asked
+  pub asked_before : List Deal
+  pub asked_later : List Deal
   pub asked_split : answered ≡ asked_before ++ asked_later
   pub stands : Stands coding old s.items before asked_before start s.answers
   pub has_begun : begun ≡ true → SaysOrTakes before came start v
@@ -114,8 +113,8 @@ pub record LeftOf (coding : Coding) (old : SessionValue) (s : Script) (v : Sessi
   pub going : v.channel.failed ≡ false
   pub came : List ℕ
   pub bytes : s.bytes ≡ untaken old.channel ++ came ++ unread v.channel.told
-  pub answered : List Asked
-  pub asked : v.asked ≡ old.asked ++ answered
+  pub answered : List Deal
+  pub deals : Deals answered old.net v.net
   pub reaches : Reaches coding old s.items came answered (entering s.polled call v) s.answers call tree
   pub since : CallHasBegun coding old s came answered v begun
 
@@ -133,20 +132,23 @@ pub record ScriptAborts (Later : SessionValue → List Event → List Answer →
   pub tree : Tree
   pub under_way : LeftOf coding old (script coding (start_of old outcomes) (script_of old form) before) middle call begun tree
   pub fault : FtpError
+  pub last : SessionValue
+  pub aborts : Aborts over_memory begun tree (Fault fault) (entering (script coding (start_of old outcomes) (script_of old form) before).polled call middle) last
   pub after : SessionValue
-  pub aborts : Aborts over_memory begun tree (Fault fault) (entering (script coding (start_of old outcomes) (script_of old form) before).polled call middle) after
+  pub lets_go : after ≡ let_go last
   pub others : List Answer
   pub answers_are : answers ≡ first ++ Fault fault ∷ others
   pub goes_on : Later after later others
   pub failed : after.channel.failed ≡ true → (new.channel.failed ≡ true) × AllRefused others
 
--- for every lawful list, from any session, where what an earlier read left of a reply says nothing yet as one
--- of this form, and the outcomes are those of what the transport was asked: the events come to their script, or a call
--- is aborted and the later ones are such a list again; that is said of so many calls that are aborted
+-- what happened beside the control connection is told; with these outcomes, whatever others come after them, and for
+-- every lawful list, where what an earlier read left of a reply says nothing yet as one of this form: the events come to
+-- their script, or a call is aborted and the later ones are such a list again; that is said of so many calls that are
+-- aborted
 abbrev pub ScriptsHold : ℕ → Coding → SessionValue → List Event → SessionValue → List Answer → Type 0
 ScriptsHold zero coding old events new answers = Unit {0}
 ScriptsHold (suc depth) coding old events new answers =
-    (form : ReplyForm) (outcomes left : List RequestOutcome) → outcome old.channel.rule form old.channel.kept false ≡ Waits → Answered outcomes left old new → Lawful coding (start_of old outcomes) (script_of old form) events → ScriptHolds coding outcomes old form events new answers ⊎ ScriptAborts (λ after later others. ScriptsHold depth coding after later new others) coding outcomes old form events new answers
+    (answered : List Deal) × Deals answered old.net new.net × ((form : ReplyForm) (left : List RequestOutcome) → outcome old.channel.rule form old.channel.kept false ≡ Waits → Lawful coding (start_of old (outcomes_of answered ++ left)) (script_of old form) events → ScriptHolds coding (outcomes_of answered ++ left) old form events new answers ⊎ ScriptAborts (λ after later others. ScriptsHold depth coding after later new others) coding (outcomes_of answered ++ left) old form events new answers)
 
 -- that is said of however many
 abbrev pub IsScripted : Coding → SessionValue → List Event → SessionValue → List Answer → Type 0

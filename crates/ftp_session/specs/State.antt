@@ -8,13 +8,13 @@ use Rattle.ftp_control.specs.Channel.{Channel}
 use Rattle.ftp_session.specs.Sound.{no_transfers}
 use Rattle.ftp_session.specs.declared.session.state.State.{State}
 use Rattle.ftp_session.specs.declared.session.state.Settings.{Settings}
-use Rattle.ftp_control.specs.declared.transport.request.Asked.{Asked}
+use Rattle.ftp_session.specs.Deals.{Net, kept_for}
 
--- its control channel, what it keeps beside it, and what its transport was asked, with the outcomes, in order
+-- its control channel, what it keeps beside it, and what stands beside the control connection
 pub record SessionValue : Type 0 where
   pub channel : Channel
   pub state : State
-  pub asked : List Asked
+  pub net : Net
 
 -- a session begins
 pub record IsFirst (state : State) : Type 0 where
@@ -39,3 +39,7 @@ greeted_again decode v = record v { state = record v.state { welcome = welcomed_
 -- what a session was told to do has changed so, and nothing else has
 abbrev pub with_settings : (Settings → Settings) → SessionValue → SessionValue
 with_settings change v = record v { state = record v.state { settings = change v.state.settings } }
+
+-- a call is done: a data connection that carries no transfer is let go
+abbrev pub let_go : SessionValue → SessionValue
+let_go v = record v { net = record v.net { data_conn = kept_for v.state.counts.owed v.net.data_conn } }

@@ -10,6 +10,24 @@ use ftp_control::control::{ReplyForm, ReplyRule};
 use ftp_control::transport::{Request, RequestOutcome, Room};
 use std::net::SocketAddr;
 
+/// What went over a data connection.
+#[derive(Clone, Drop)]
+pub struct Traffic {
+    /// The bytes that were read from it.
+    pub received: Bytes,
+    /// The bytes that were written to it.
+    pub sent: Bytes,
+}
+
+/// What stands beside the control connection.
+#[derive(Clone, Drop)]
+pub struct Dealings {
+    /// What the transport was asked, in order.
+    pub asked: Items<Request>,
+    /// What went over the data connection, from the moment that it was made.
+    pub data_conn: Option<Traffic>,
+}
+
 /// Where a run stands.
 #[derive(Clone, Drop)]
 pub struct Standing {
@@ -27,8 +45,8 @@ pub struct Standing {
     pub local: SocketAddr,
     /// The address of its peer.
     pub peer: SocketAddr,
-    /// What the transport was asked.
-    pub asked: Items<Request>,
+    /// What stands beside the control connection.
+    pub dealings: Dealings,
     /// The bytes that are part of no reply yet.
     pub bytes: Bytes,
     /// Whether no others come.
@@ -93,8 +111,8 @@ pub struct Script {
     pub unsent: Bytes,
     /// The bytes that are part of no reply.
     pub untaken: Bytes,
-    /// What the transport was asked.
-    pub asked: Items<Request>,
+    /// What stands beside the control connection.
+    pub dealings: Dealings,
     /// How many of these a Poll has read.
     pub seen: usize,
     /// The form of the reply that it read them as.

@@ -40,7 +40,7 @@ fn add_line(
         (Request::Accept(_), RequestOutcome::Address(from)) => {
             lines.push(format!(in alloc; "P: {from}")?)?;
         }
-        (Request::Accept(_) | Request::LocalAddress | Request::PeerAddress, _) => {}
+        (Request::Accept(_), _) => {}
     }
     Ok(())
 }

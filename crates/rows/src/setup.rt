@@ -138,8 +138,6 @@ impl Setup {
                 address.set_port(self.port);
                 (RequestOutcome::Address(address), false)
             }
-            (Request::LocalAddress, _) => (RequestOutcome::Address(self.local), false),
-            (Request::PeerAddress, _) => (RequestOutcome::Address(self.peer), false),
         }
     }
 }

@@ -1,11 +1,12 @@
 //! A request to the transport, on all outcomes at once.
 
-ghost use Rattle.std.specs.Prelude.{IfOk};
+ghost use Rattle.std.specs.Prelude.{◌≡◌, IfOk};
+ghost use Rattle.ftp_session.specs.Deals.{data_after, data_meanwhile, dealing, dealt, no_traffic};
 ghost use Rattle.session_plain.specs.Progress.{AsksFor};
 
-use ftp_base::types::Items;
+use ftp_base::types::{Bytes, Items};
 use ftp_control::transport::{Request, RequestOutcome};
-use ftp_session::model::Standing;
+use ftp_session::model::{Dealings, Standing, Traffic};
 use std::alloc::{AllocError, Global};
 use std::mem;
 
@@ -26,14 +27,95 @@ pub(crate) fn asked(
 ) -> Result<Came, AllocError>
     ensures { IfOk result (λ came. AsksFor request standing came) }
 {
-    let mut all = mem::replace(&mut standing.asked, Items::from_vec(Vec::new(alloc))).into_vec();
-    all.push(request)?;
-    standing.asked = Items::from_vec(all);
+    let before = mem::replace(&mut standing.dealings, no_dealings(alloc));
     let Some((outcome, others)) = standing.outcomes.as_slice().split_first() else {
+        standing.dealings = dealing(request, before)?;
         return Ok(Came::Unknown(standing));
     };
     let outcome = *outcome;
     let others = Vec::from_slice(alloc, others)?;
     standing.outcomes = Items::from_vec(others);
+    standing.dealings = dealt(alloc, request, outcome, before)?;
     Ok(Came::Known(outcome, standing))
+}
+
+/// Nothing was asked, and there is no data connection.
+fn no_dealings(alloc: Global) -> Dealings {
+    Dealings {
+        asked: Items::from_vec(Vec::new(alloc)),
+        data_conn: None,
+    }
+}
+
+/// What a request makes of what stands beside the control connection.
+fn dealt(
+    alloc: Global,
+    request: Request,
+    outcome: RequestOutcome,
+    before: Dealings,
+) -> Result<Dealings, AllocError>
+    ensures { IfOk result (λ after. after ≡ dealt request outcome before) }
+{
+    let Dealings { asked, data_conn } = before;
+    let mut asked = asked.into_vec();
+    asked.push(request)?;
+    Ok(Dealings {
+        asked: Items::from_vec(asked),
+        data_conn: data_after(alloc, request, outcome, data_conn),
+    })
+}
+
+/// What a request that isn't answered makes of it.
+fn dealing(request: Request, before: Dealings) -> Result<Dealings, AllocError>
+    ensures { IfOk result (λ after. after ≡ dealing request before) }
+{
+    let Dealings { asked, data_conn } = before;
+    let mut asked = asked.into_vec();
+    asked.push(request)?;
+    Ok(Dealings {
+        asked: Items::from_vec(asked),
+        data_conn: data_meanwhile(request, data_conn),
+    })
+}
+
+/// The data connection after a request.
+fn data_after(
+    alloc: Global,
+    request: Request,
+    outcome: RequestOutcome,
+    conn: Option<Traffic>,
+) -> Option<Traffic>
+    ensures { result ≡ data_after request outcome conn }
+{
+    match request {
+        Request::Connect(_address, _limit) => match outcome {
+            RequestOutcome::Done => Some(no_traffic(alloc)),
+            RequestOutcome::Address(_) | RequestOutcome::Refused(_) => conn,
+        },
+        Request::Listen(_address) => conn,
+        Request::Accept(_deadline) => match outcome {
+            RequestOutcome::Address(_) => Some(no_traffic(alloc)),
+            RequestOutcome::Done | RequestOutcome::Refused(_) => None,
+        },
+    }
+}
+
+/// The data connection while a request isn't answered.
+fn data_meanwhile(request: Request, conn: Option<Traffic>) -> Option<Traffic>
+    ensures { result ≡ data_meanwhile request conn }
+{
+    match request {
+        Request::Connect(..) | Request::Listen(_) => conn,
+        Request::Accept(_deadline) => None,
+    }
+}
+
+/// Nothing was read or written.
+fn no_traffic(alloc: Global) -> Traffic
+    ensures { result ≡ no_traffic }
+{
+    Traffic {
+        received: Bytes::from_vec(Vec::new(alloc)),
+        sent: Bytes::from_vec(Vec::new(alloc)),
+    }
 }

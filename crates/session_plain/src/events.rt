@@ -167,7 +167,7 @@ fn finish(
       sent = front here.old.room there.said;
       unsent = there.unsent;
       untaken = there.bytes;
-      asked = there.asked;
+      dealings = there.dealings;
       seen = seen_in here.old there.bytes;
       state = there.state;
       failed = there.failed;
@@ -183,7 +183,7 @@ fn finish(
     here.unsent = there.unsent;
     here.seen = seen_in(here, there.bytes.len());
     here.untaken = there.bytes;
-    here.asked = there.asked;
+    here.dealings = there.dealings;
     here.state = there.state;
     here.failed = there.failed;
     Ok(())
@@ -197,7 +197,7 @@ fn suspend(here: &mut Script, wait: Wait, there: Standing) -> Result<(), AllocEr
       said = there.said ++ there.unsent;
       sent = front here.old.room there.said;
       untaken = there.bytes;
-      asked = there.asked;
+      dealings = there.dealings;
       seen = seen_at wait here.old there.bytes;
       form = form_at wait here.old;
       state = there.state;
@@ -219,7 +219,7 @@ fn suspend(here: &mut Script, wait: Wait, there: Standing) -> Result<(), AllocEr
     here.said = joined(&there.said, &there.unsent)?;
     here.sent = front(here.room, there.said);
     here.untaken = there.bytes;
-    here.asked = there.asked;
+    here.dealings = there.dealings;
     here.state = there.state;
     here.failed = there.failed;
     Ok(())

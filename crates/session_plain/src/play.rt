@@ -3,7 +3,7 @@
 ghost use Rattle.std.specs.Prelude.{◌≡◌, IfOk};
 ghost use Rattle.ftp_session.specs.Coding.{coding_of};
 ghost use Rattle.ftp_session.specs.Dialogue.{dialogue, entered};
-ghost use Rattle.ftp_session.specs.Play.{play, play_call};
+ghost use Rattle.ftp_session.specs.Play.{ended, finally, play, play_call};
 
 use crate::exchange::armed;
 use crate::negotiation::negotiating;
@@ -13,7 +13,7 @@ use ftp_base::types::FtpError;
 use ftp_calls::exchange::{Turn, negotiates};
 use ftp_control::transport::Room;
 use ftp_session::model::{Played, Standing};
-use ftp_session::session::{Answer, Call};
+use ftp_session::session::{Answer, Call, Owed};
 use std::alloc::{AllocError, Global};
 
 /// What a call comes to; once the session has failed it says and hears nothing.
@@ -31,7 +31,29 @@ pub fn play_call<E: Encoding>(
         let fault = Answer::Fault(FtpError::SessionFailed);
         return Ok(Played::Done(fault, standing));
     }
-    play_dialogue(alloc, room, encoding, call, standing)
+    Ok(finally(play_dialogue(
+        alloc, room, encoding, call, standing,
+    )?))
+}
+
+/// A call that has its answer lets a data connection go that carries no transfer.
+fn finally(played: Played) -> Played
+    ensures { result ≡ finally played }
+{
+    match played {
+        Played::Done(answer, standing) => Played::Done(answer, ended(standing)),
+        Played::Pending(wait, standing) => Played::Pending(wait, standing),
+    }
+}
+
+/// A data connection that carries no transfer is let go.
+fn ended(mut standing: Standing) -> Standing
+    ensures { result ≡ ended standing }
+{
+    if matches!(standing.state.counts.owed(), Owed::Nothing) {
+        standing.dealings.data_conn = None;
+    }
+    standing
 }
 
 /// What the dialogue of a call comes to. One that opens a data connection takes the offset away.

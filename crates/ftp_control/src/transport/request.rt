@@ -10,10 +10,6 @@ use std::time::Duration;
 /// What a transport is asked for.
 #[derive(Clone, Copy, Debug)]
 pub enum Request {
-    /// The address of the control connection at this end.
-    LocalAddress,
-    /// The address of the control connection's peer.
-    PeerAddress,
     /// A connection to this address, within this time where there is a limit.
     Connect(SocketAddr, Option<Duration>),
     /// A listener on this address.

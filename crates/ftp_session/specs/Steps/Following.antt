@@ -6,8 +6,7 @@ use Rattle.futures.specs.declared.task.Poll.TheVariants.{Ready, Pending}
 use Rattle.ftp_base.specs.declared.types.fault.FtpError.{FtpError}
 use Rattle.ftp_base.specs.declared.types.fault.FtpError.TheVariants.{SessionFailed}
 use Rattle.ftp_control.specs.Told.{EndsAsTold}
-use Rattle.ftp_control.specs.Asking.{requests_of, outcomes_of}
-use Rattle.ftp_control.specs.declared.transport.request.Asked.{Asked}
+use Rattle.ftp_session.specs.Deals.{Deal, Deals, dealings_of, outcomes_of}
 use Rattle.ftp_control.specs.declared.transport.request.RequestOutcome.{RequestOutcome}
 use Rattle.ftp_control.specs.declared.control.outcome.Outcome.TheVariants.{Waits}
 use Rattle.ftp_control.specs.Grammar.{outcome}
@@ -24,7 +23,7 @@ use Rattle.ftp_session.specs.declared.session.state.State.{State}
 use Rattle.ftp_session.specs.declared.session.stage.Stage.{Stage}
 use Rattle.ftp_session.specs.declared.session.stage.Stage.TheVariants.{At, Saying, Hearing, Arming, Agreeing}
 use Rattle.ftp_session.specs.declared.session.stage.Agreeing.TheVariants.{Negotiating}
-use Rattle.ftp_session.specs.State.{SessionValue}
+use Rattle.ftp_session.specs.State.{SessionValue, let_go}
 use Rattle.ftp_session.specs.Coding.{Coding}
 use Rattle.ftp_calls.specs.Exchanges.{is_read, negotiates}
 use Rattle.ftp_control.specs.declared.control.rule.ReplyRule.{ReplyRule}
@@ -33,7 +32,7 @@ use Rattle.ftp_session.specs.Run.{Resumes}
 use Rattle.ftp_session.specs.Scripted.{SaysFrontOf, SaysNothing, SaysOrTakes, Stands, Reaches}
 use Rattle.ftp_session.specs.Promises.{AllRefused, Aborts, HasFault, Rests}
 use Rattle.ftp_session.specs.Steps.Stages.{remaining, begun_at, StageOf}
-use Rattle.ftp_session.specs.Steps.Moving.{HasBegun, PollSteps}
+use Rattle.ftp_session.specs.Steps.Moving.{HasBegun, PollsTo}
 use Rattle.ftp_session.specs.declared.model.Script.{Script}
 use Rattle.ftp_session.specs.Script.{unread, is_over, start_of, after_event, IsLawful, MayCancel}
 use Rattle.ftp_session.specs.Link.{over_memory}
@@ -72,13 +71,13 @@ abbrev pub entered_tree : Coding → Call → Stage → State → Tree
 entered_tree coding call stage state = if is_first stage then dialogue coding call state else remaining coding call state stage
 
 -- since the calls before it were done, no less of a call is said and taken than was; where it has begun, more is
-pub record Since (coding : Coding) (old : SessionValue) (items : List Call) (answers : List Answer) (came : List ℕ) (answered : List Asked) (v : SessionValue) (begun : Bool) : Type 0 where
+pub record Since (coding : Coding) (old : SessionValue) (items : List Call) (answers : List Answer) (came : List ℕ) (answered : List Deal) (v : SessionValue) (begun : Bool) : Type 0 where
   pub start : SessionValue
   pub before : List ℕ
   pub later : List ℕ
   pub split : came ≡ before ++ later
-  pub asked_before : List Asked
-  pub asked_later : List Asked
+  pub asked_before : List Deal
+  pub asked_later : List Deal
   pub asked_split : answered ≡ asked_before ++ asked_later
   pub stands : Stands coding old items before asked_before start answers
   pub said : length (said start.channel) ≤ length (said v.channel)
@@ -87,7 +86,7 @@ pub record Since (coding : Coding) (old : SessionValue) (items : List Call) (ans
   pub not_begun : begun ≡ false → SaysNothing later start v
 
 -- a call that was polled; of a plain read no trace is left where it is dropped
-pub record UnderWay (coding : Coding) (old : SessionValue) (s : Script) (came : List ℕ) (answered : List Asked) (v : SessionValue) (call : Call) (stage : Stage) : Type 0 where
+pub record UnderWay (coding : Coding) (old : SessionValue) (s : Script) (came : List ℕ) (answered : List Deal) (v : SessionValue) (call : Call) (stage : Stage) : Type 0 where
   pub stage_of : StageOf call stage
   pub polled : s.polled ≡ true
   pub going : v.channel.failed ≡ false
@@ -97,7 +96,7 @@ pub record UnderWay (coding : Coding) (old : SessionValue) (s : Script) (came : 
   pub since : Since coding old s.items s.answers came answered v (begun_at stage)
 
 -- a call that was polled and has waited for room since, before it hears: its first line still goes out
-pub record Unheard (coding : Coding) (old : SessionValue) (s : Script) (came : List ℕ) (answered : List Asked) (v : SessionValue) (call : Call) (stage : Stage) : Type 0 where
+pub record Unheard (coding : Coding) (old : SessionValue) (s : Script) (came : List ℕ) (answered : List Deal) (v : SessionValue) (call : Call) (stage : Stage) : Type 0 where
   pub plain : negotiates call ≡ false
   pub stage_of : StageOf call stage
   pub polled : s.polled ≡ true
@@ -109,23 +108,23 @@ pub record Unheard (coding : Coding) (old : SessionValue) (s : Script) (came : L
   pub since : Since coding old s.items s.answers came answered v (begun_at stage)
 
 -- a call that wasn't polled
-pub record Started (coding : Coding) (old : SessionValue) (s : Script) (came : List ℕ) (answered : List Asked) (v : SessionValue) (call : Call) (stage : Stage) : Type 0 where
+pub record Started (coding : Coding) (old : SessionValue) (s : Script) (came : List ℕ) (answered : List Deal) (v : SessionValue) (call : Call) (stage : Stage) : Type 0 where
   pub at : stage ≡ At First
   pub unpolled : s.polled ≡ false
   pub unheard : s.heard ≡ false
   pub stands : Stands coding old s.items came answered v s.answers
 
-abbrev pub Place : Coding → SessionValue → Script → List ℕ → List Asked → SessionValue → Option Call → Stage → Type 0
+abbrev pub Place : Coding → SessionValue → Script → List ℕ → List Deal → SessionValue → Option Call → Stage → Type 0
 Place coding old s came answered v None stage = Stands coding old s.items came answered v s.answers
 Place coding old s came answered v (Some call) stage = Started coding old s came answered v call stage ⊎ UnderWay coding old s came answered v call stage ⊎ Unheard coding old s came answered v call stage
 
 -- the session follows the script; of all outcomes these are left
 pub record Follows (coding : Coding) (outcomes left : List RequestOutcome) (old : SessionValue) (s : Script) (v : SessionValue) (call : Option Call) (stage : Stage) (answers : List Answer) : Type 0 where
   pub came : List ℕ
-  pub answered : List Asked
-  pub asked : v.asked ≡ old.asked ++ answered
+  pub answered : List Deal
+  pub deals : Deals answered old.net v.net
   pub outcomes_are : outcomes ≡ outcomes_of answered ++ left
-  pub requests : s.asked ≡ requests_of v.asked
+  pub dealings : s.dealings ≡ dealings_of v.net
   pub place : Place coding old s came answered v call stage
   pub rule : v.channel.rule ≡ old.channel.rule
   pub failures : v.channel.told.failures ≡ old.channel.told.failures
@@ -168,7 +167,7 @@ polled_answer Pending = []
 -- what a poll over memory does, and what holds then
 pub record PollsHere (coding : Coding) (call : Call) (stage stage' : Stage) (v w : SessionValue) (result : Poll Answer) : Type 0 where
   pub refused : v.channel.failed ≡ true → (result ≡ Ready (Fault SessionFailed)) × (w ≡ v)
-  pub polls : v.channel.failed ≡ false → PollSteps over_memory (begun_at stage) (entered_tree coding call stage v.state) (remaining coding call (entered_state call stage v.state) stage') (entered_at call stage v) w result
+  pub polls : v.channel.failed ≡ false → PollsTo over_memory (begun_at stage) (entered_tree coding call stage v.state) (remaining coding call (entered_state call stage v.state) stage') (entered_at call stage v) w result
   pub rests : result ≡ Pending → is_read call ≡ true → Rests over_memory v w
   pub begun : result ≡ Pending → HasBegun over_memory (begun_at stage) (begun_at stage') (entered_tree coding call stage v.state) (entered_at call stage v) w
   pub fails : w.channel.failed ≡ true → (v.channel.failed ≡ true) ⊎ HasFault (polled_answer result)
@@ -182,7 +181,9 @@ pub record AbortsCall (coding : Coding) (call : Call) (stage : Stage) (v w : Ses
   pub fault : FtpError
   pub is : result ≡ Some (Fault fault)
   pub going : v.channel.failed ≡ false
-  pub aborts : Aborts over_memory (begun_at stage) (entered_tree coding call stage v.state) (Fault fault) (entered_at call stage v) w
+  pub last : SessionValue
+  pub aborts : Aborts over_memory (begun_at stage) (entered_tree coding call stage v.state) (Fault fault) (entered_at call stage v) last
+  pub lets_go : w ≡ let_go last
   pub given : IsGiven w.channel.told
   pub sound : IsSound (Unit {0}) w.channel
 
@@ -195,11 +196,11 @@ pub record IsFeed (event : Event) : Type 0 where
   pub bytes : List ℕ
   pub is : event ≡ Feed bytes
 
--- the record of what the transport was asked grows
+-- what happened beside the control connection
 abbrev pub Grows : SessionValue → SessionValue → Type 0
-Grows v w = (asked : List Asked) × (w.asked ≡ v.asked ++ asked)
+Grows v w = (answered : List Deal) × Deals answered v.net w.net
 
 -- an event of a script: the session follows it, or the call under way is aborted
 abbrev pub Happens : Coding → SessionValue → SessionValue → Option Call → Option Call → Stage → Stage → Event → Option Answer → Type 0
 Happens coding v w call call' stage stage' event result =
-    (asked : List Asked) (outcomes left : List RequestOutcome) (old : SessionValue) (s : Script) (answers : List Answer) → w.asked ≡ v.asked ++ asked → Follows coding outcomes (outcomes_of asked ++ left) old s v call stage answers → IsLawful coding (start_of old outcomes) s event → Follows coding outcomes left old (after_event coding (start_of old outcomes) s event) w call' stage' (answers ++ given_answer result) ⊎ (((under_way : Call) × (call ≡ Some under_way) × AbortsCall coding under_way stage v w result) × (call' ≡ None) × (event ≡ Polling))
+    (answered : List Deal) × Deals answered v.net w.net × ((outcomes left : List RequestOutcome) (old : SessionValue) (s : Script) (answers : List Answer) → Follows coding outcomes (outcomes_of answered ++ left) old s v call stage answers → IsLawful coding (start_of old outcomes) s event → Follows coding outcomes left old (after_event coding (start_of old outcomes) s event) w call' stage' (answers ++ given_answer result) ⊎ (((under_way : Call) × (call ≡ Some under_way) × AbortsCall coding under_way stage v w result) × (call' ≡ None) × (event ≡ Polling)))

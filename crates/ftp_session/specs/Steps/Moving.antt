@@ -8,7 +8,6 @@ use Rattle.ftp_base.specs.declared.types.fault.FtpError.{FtpError}
 use Rattle.ftp_base.specs.declared.types.fault.FtpError.TheVariants.{ConnectionError, SecureError, UnexpectedResponse, BadResponse, InvalidAddress, DataConnectionAlreadyOpen, OutOfMemory, SessionFailed}
 use Rattle.ftp_control.specs.Told.{IsDry, IsFull}
 use Rattle.ftp_control.specs.declared.control.rule.ReplyRule.{ReplyRule}
-use Rattle.ftp_control.specs.declared.transport.request.Asked.{Asked}
 use Rattle.ftp_control.specs.declared.transport.request.Request.{Request}
 use Rattle.ftp_control.specs.declared.transport.request.RequestOutcome.{RequestOutcome}
 use Rattle.ftp_control.specs.declared.transport.request.RequestOutcome.TheVariants as outcomes
@@ -35,8 +34,9 @@ use Rattle.ftp_session.specs.declared.session.stage.Stage.TheVariants.{Agreeing}
 use Rattle.ftp_session.specs.declared.session.stage.Agreeing.TheVariants.{Asking as Asks}
 use Rattle.ftp_session.specs.declared.session.stage.Step.{Step}
 use Rattle.ftp_session.specs.declared.session.stage.Step.TheVariants.{Next, Pending, Done}
-use Rattle.ftp_session.specs.State.{SessionValue}
+use Rattle.ftp_session.specs.State.{SessionValue, let_go}
 use Rattle.ftp_session.specs.Coding.{Coding}
+use Rattle.ftp_session.specs.Deals.{Deal}
 use Rattle.ftp_calls.specs.declared.exchange.Turn.{Turn}
 use Rattle.ftp_control.specs.Refusal.{IsRefusalOf}
 use Rattle.ftp_calls.specs.Exchanges.{is_read, row_of, says_of, Kind, Nothing, kind_of}
@@ -72,7 +72,7 @@ Speaks (Ask request next) = ⊥
 Speaks (Leaf answer state) = ⊥
 
 -- the line that was said first still goes out, and that is all: what is kept of a reply doesn't matter yet
-pub record StillSays (link : Link) (tree tree' : Tree) (came : List ℕ) (answered : List Asked) (line : List ℕ) (old new : SessionValue) : Type 0 where
+pub record StillSays (link : Link) (tree tree' : Tree) (came : List ℕ) (answered : List Deal) (line : List ℕ) (old new : SessionValue) : Type 0 where
   pub rest : List ℕ
   pub next : Tree
   pub is : tree' ≡ Say (Ok rest) next
@@ -85,7 +85,7 @@ abbrev pub HasGoneOut : List ℕ → SessionValue → SessionValue → Type 0
 HasGoneOut line old new = length (said old.channel) + length line ≤ length new.channel.told.sent
 
 -- the line that a tree says first still goes out, or has gone out
-abbrev pub SaysFirst : Link → Tree → Tree → List ℕ → List Asked → SessionValue → SessionValue → Type 0
+abbrev pub SaysFirst : Link → Tree → Tree → List ℕ → List Deal → SessionValue → SessionValue → Type 0
 SaysFirst link tree tree' came answered old new =
     (line : List ℕ) (next : Tree) → tree ≡ Say (Ok line) next → link.tells → StillSays link tree tree' came answered line old new ⊎ HasGoneOut line old new
 
@@ -149,6 +149,14 @@ Steps link begun tree tree' old new (Done answer) = Ends link tree answer old ne
 abbrev pub PollSteps : Link → Bool → Tree → Tree → SessionValue → SessionValue → Poll Answer → Type 0
 PollSteps link begun tree tree' old new (poll.Ready answer) = Ends link tree answer old new ⊎ Aborts link begun tree answer old new
 PollSteps link begun tree tree' old new poll.Pending = Advances link tree tree' old new × WaitsFor link tree' new
+
+-- a call that has its answer lets go of what it doesn't need
+abbrev pub after_poll : Poll Answer → SessionValue → SessionValue
+after_poll (poll.Ready answer) v = let_go v
+after_poll poll.Pending v = v
+
+abbrev pub PollsTo : Link → Bool → Tree → Tree → SessionValue → SessionValue → Poll Answer → Type 0
+PollsTo link begun tree tree' old new result = (last : SessionValue) × PollSteps link begun tree tree' old last result × (new ≡ after_poll result last)
 
 -- the result of sending a line
 abbrev pub step_of : Poll (Result (Unit {0}) FtpError) → Step
@@ -308,7 +316,7 @@ AnswersAs ending (accepts.Done answer) = AnswersKind (kind_of ending) answer
 pub record EndsWith (coding : Coding) (call : Call) (a : Awaits) (reply : Response) (old new : SessionValue) (answer : Answer) : Type 0 where
   pub leaf : accepted coding a.ending old.state reply (later coding call a.turn) ≡ Leaf answer new.state
   pub channel : new.channel ≡ old.channel
-  pub asked : new.asked ≡ old.asked
+  pub net : new.net ≡ old.net
 
 abbrev pub Concludes : Coding → Call → Awaits → Response → Stage → SessionValue → SessionValue → Step → Type 0
 Concludes coding call a reply stage old new Next = (new ≡ old) × (accepted coding a.ending old.state reply (later coding call a.turn) ≡ remaining coding call old.state stage)
@@ -318,7 +326,9 @@ Concludes coding call a reply stage old new (Done answer) = EndsWith coding call
 -- a call, whole, with how much is kept afterwards
 pub record IsMade (link : Link) (coding : Coding) (call : Call) (old new : SessionValue) (answer : Answer) : Type 0 where
   pub going : old.channel.failed ≡ false
-  pub plays : Ends link (dialogue coding call old.state) answer (begun_by call old) new ⊎ Aborts link false (dialogue coding call old.state) answer (begun_by call old) new
+  pub last : SessionValue
+  pub plays : Ends link (dialogue coding call old.state) answer (begun_by call old) last ⊎ Aborts link false (dialogue coding call old.state) answer (begun_by call old) last
+  pub lets_go : new ≡ let_go last
 
 abbrev pub Made : Link → Coding → Call → SessionValue → SessionValue → Answer → Type 0
 Made link coding call old new answer = IsRefused old new answer ⊎ IsMade link coding call old new answer
@@ -328,10 +338,13 @@ abbrev pub withheld : SessionValue → FtpError
 withheld v = if v.channel.failed then SessionFailed else OutOfMemory
 
 -- a stranger was dropped: another may come, or the one after so many was as good as the deadline
-abbrev pub TurnsAway : Turn → SocketAddr → ℕ → Answer → Stage → Step → Type 0
-TurnsAway turn peer left answer stage Next = (rest : ℕ) × (left ≡ suc rest) × (stage ≡ Agreeing (Asks turn (Accepting peer rest answer)))
-TurnsAway turn peer left answer stage Pending = ⊥
-TurnsAway turn peer left answer stage (Done last) = (left ≡ zero) × (last ≡ Fault (ConnectionError TimedOut))
+abbrev pub dropped : SessionValue → SessionValue
+dropped v = record v { net = record v.net { data_conn = None } }
+
+abbrev pub TurnsAway : Turn → SocketAddr → ℕ → Answer → Stage → SessionValue → SessionValue → Step → Type 0
+TurnsAway turn peer left answer stage old new Next = (rest : ℕ) × (left ≡ suc rest) × (stage ≡ Agreeing (Asks turn (Accepting peer rest answer))) × (new ≡ dropped old)
+TurnsAway turn peer left answer stage old new Pending = ⊥
+TurnsAway turn peer left answer stage old new (Done last) = (left ≡ zero) × (last ≡ Fault (ConnectionError TimedOut)) × (new ≡ old)
 
 -- a connection was made, and the next turn begins; or it was refused
 abbrev pub ConnectsTo : Call → Turn → RequestOutcome → Stage → Step → Type 0
@@ -342,7 +355,7 @@ ConnectsTo call turn (outcomes.Refused fault) stage result = result ≡ Done (Fa
 -- a peer came: one that is let in opens the transfer, another is dropped; or none came
 abbrev pub MeetsIf : Bool → Turn → SocketAddr → ℕ → Answer → Stage → SessionValue → SessionValue → Step → Type 0
 MeetsIf true turn peer left answer stage old new result = (result ≡ Done answer) × (new ≡ record old { state = with_transfer old.state })
-MeetsIf false turn peer left answer stage old new result = (new ≡ old) × TurnsAway turn peer left answer stage result
+MeetsIf false turn peer left answer stage old new result = TurnsAway turn peer left answer stage old new result
 
 abbrev pub Meets : RequestOutcome → Turn → SocketAddr → ℕ → Answer → Stage → SessionValue → SessionValue → Step → Type 0
 Meets (outcomes.Address from) turn peer left answer stage old new result = MeetsIf (lets_in old.state peer from) turn peer left answer stage old new result

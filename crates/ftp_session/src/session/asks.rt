@@ -5,7 +5,7 @@
 
 ghost use Rattle.std.specs.Prelude.{◌≡◌, None};
 ghost use Rattle.futures.specs.declared.task.Poll.TheVariants as poll;
-ghost use Rattle.ftp_control.specs.Asking.{Asks as Records, done, done_at};
+ghost use Rattle.ftp_control.specs.Asking.{Asks as Records, Supplies, comes_as, connects_as, done, done_at};
 ghost use Rattle.ftp_control.specs.declared.transport.request.Request.TheVariants.{Accept, Connect, Listen};
 
 use ftp_control::transport::{Accepted, Connected, Listening, Network, PollTransport};
@@ -31,7 +31,9 @@ pub(crate) trait Asks<Tr: Network, W> {
     ) -> Poll<Connected<Tr::Conn>>
         ensures waits { may_ask → result ≡ poll.Pending → may_wait }
         ensures asks { may_ask → Tr.Conn.tells → Records (Connect address None) done result
-            (Tr.asked transport.old) (Tr.asked transport.new) };
+            (Tr.asked transport.old) (Tr.asked transport.new) }
+        ensures supplies { may_ask → Tr.Conn.tells → Supplies (connects_as Tr.Conn.told) Tr.refuses
+            result (Tr.ready transport.old) (Tr.ready transport.new) };
 
     /// Asks for a listener on this address.
     fn listen(
@@ -42,7 +44,8 @@ pub(crate) trait Asks<Tr: Network, W> {
     ) -> Poll<Listening<Tr::Listener>>
         ensures waits { may_ask → result ≡ poll.Pending → may_wait }
         ensures asks { may_ask → Tr.Conn.tells → Records (Listen address) done_at result
-            (Tr.asked transport.old) (Tr.asked transport.new) };
+            (Tr.asked transport.old) (Tr.asked transport.new) }
+        ensures ready { may_ask → Tr.ready transport.new ≡ Tr.ready transport.old };
 
     /// Asks for a peer's connection.
     fn accept(
@@ -54,7 +57,9 @@ pub(crate) trait Asks<Tr: Network, W> {
     ) -> Poll<Accepted<Tr::Conn>>
         ensures waits { may_ask → result ≡ poll.Pending → may_wait }
         ensures asks { may_ask → Tr.Conn.tells → Records (Accept deadline) done_at result
-            (Tr.asked transport.old) (Tr.asked transport.new) };
+            (Tr.asked transport.old) (Tr.asked transport.new) }
+        ensures supplies { may_ask → Tr.Conn.tells → Supplies (comes_as Tr.Conn.told)
+            Tr.accept_refuses result (Tr.ready transport.old) (Tr.ready transport.new) };
 }
 
 /// Asks by a runtime.

@@ -8,6 +8,7 @@ ghost use Rattle.std.specs.Prelude.{◌≡◌, IsOk, IfOk, MatchResult, Ok, IfEr
 ghost use Rattle.ftp_control.specs.Channel.{IsSound, untaken};
 ghost use Rattle.ftp_session.specs.Calls.{Begins, Connects, FailsToConnect};
 ghost use Rattle.ftp_session.specs.Coding.{chosen};
+ghost use Rattle.ftp_session.specs.Deals.{first_net};
 ghost use Rattle.ftp_session.specs.Link.{link};
 ghost use Rattle.ftp_session.specs.Sound.{SoundCounts};
 ghost use Rattle.ftp_session.specs.State.{greeted_again};
@@ -47,7 +48,8 @@ impl<Tr: Network, K: Drop, E: Encoding, B: Drop> Session<Tr, K, E, B> {
     pub fn new(alloc: Global, transport: Tr, conn: Tr::Conn) -> FtpResult<Session<Tr, K, E, B>>
         ensures succeeds { IsOk result }
         ensures begins { IfOk result (λ session.
-            Begins Tr.Conn.tells (Tr.Conn.told conn) (Tr.asked transport) session.machine) }
+            Begins Tr.Conn.tells (Tr.Conn.told conn)
+            (first_net (Tr.asked transport) (Tr.ready transport)) session.machine) }
         ensures sound { IfOk result (λ session. IsSound Tr.Conn.tells session.machine.channel) }
         ensures encoding { IfOk result (λ session. session.encoding.0 ≡ None) }
     {
@@ -73,9 +75,9 @@ impl<Tr: Network, K: Drop, E: Encoding, B: Drop> Session<Tr, K, E, B> {
         ensures encoding { IfOk result (λ session. session.encoding.0 ≡ None) }
         ensures connects { MatchResult result
             (λ session. Connects (link Tr.Conn.tells Tr.Conn.blocking_read_faults Tr.Conn.blocking_write_faults Tr.Conn.end_faults) (chosen E.decoded E.encoded None) (Tr.Conn.told conn)
-            (Tr.asked transport) session.machine (Ok tt))
+            (first_net (Tr.asked transport) (Tr.ready transport)) session.machine (Ok tt))
             (λ fault. FailsToConnect (link Tr.Conn.tells Tr.Conn.blocking_read_faults Tr.Conn.blocking_write_faults Tr.Conn.end_faults) (chosen E.decoded E.encoded None) (Tr.Conn.told conn)
-            (Tr.asked transport) fault) }
+            (first_net (Tr.asked transport) (Tr.ready transport)) fault) }
     {
         let mut session = Session::new(alloc, transport, conn)?;
         match session.greet(alloc) {
@@ -104,7 +106,8 @@ impl<Tr: Network, K: Drop, E: Encoding, B: Drop> Session<Tr, K, E, B> {
 
     /// The transport.
     pub fn transport(&self) -> &Tr
-        ensures { Tr.asked result.now ≡ self.now.machine.asked }
+        ensures asked { Tr.asked result.now ≡ self.now.machine.net.asked }
+        ensures ready { Tr.ready result.now ≡ self.now.machine.net.ready }
     {
         &self.machine.transport
     }

@@ -20,7 +20,7 @@ use super::stage::{Agreeing, Asking, Stage, Step, go_on, go_to};
 use super::{Answer, Call};
 use ftp_base::types::{ConnectionError, FtpError, Mode};
 use ftp_calls::exchange::Turn;
-use ftp_control::transport::{Network, PollConn, RequestOutcome};
+use ftp_control::transport::{Network, PollConn, RequestOutcome, Tells};
 use futures::task::Poll;
 use std::alloc::AllocError;
 use std::io::ErrorKind;
@@ -317,13 +317,33 @@ impl<Tr: Network> Machine<Tr> {
                     self.state.counts.open();
                     Step::Done(answer)
                 } else {
-                    self.data = None;
-                    turn_away(turn, peer, left, answer, stage)
+                    self.turn_away(turn, peer, left, answer, stage)
                 }
             }
             RequestOutcome::Refused(fault) => refused(fault),
             RequestOutcome::Done => refused(ConnectionError::NoAddress),
         }
+    }
+
+    /// A stranger is dropped: another may come, or too many have.
+    fn turn_away(
+        &mut self,
+        turn: Turn,
+        peer: SocketAddr,
+        left: u64,
+        answer: Answer,
+        stage: &mut Stage,
+    ) -> Step
+        ensures end { self.new.channel.ended ≡ self.old.channel.ended }
+        ensures turned { TurnsAway turn peer left answer stage.new self.old self.new result }
+    {
+        if left == 0 {
+            return refused(ConnectionError::TimedOut);
+        }
+        self.data_conn = None;
+        let asking = Asking::Accepting(peer, left - 1, answer);
+        go_to(stage, Stage::Agreeing(Agreeing::Asking(turn, asking)));
+        Step::Next
     }
 
     /// The address of this end of the control connection.
@@ -370,8 +390,9 @@ impl<Tr: Network> Machine<Tr> {
         ensures asks { AsksFor (asking Tr.Conn.tells Tr.Conn.read_faults Tr.Conn.write_faults Tr.Conn.end_faults A.may_wait) (Connect address None) self.old self.new result }
     {
         match asker.connect(&mut self.transport, w, address) {
-            Poll::Ready(Ok(Ok(conn))) => {
-                self.data = Some(conn);
+            Poll::Ready(Ok(Ok(mut conn))) => {
+                conn.begin();
+                self.data_conn = Some(conn);
                 Poll::Ready(Ok(RequestOutcome::Done))
             }
             Poll::Ready(Ok(Err(fault))) => Poll::Ready(Ok(RequestOutcome::Refused(fault))),
@@ -422,11 +443,15 @@ impl<Tr: Network> Machine<Tr> {
         };
         let deadline = self.state.settings.active_deadline;
         match asker.accept(&mut self.transport, w, listener, deadline) {
-            Poll::Ready(Ok(Ok((conn, from)))) => {
-                self.data = Some(conn);
+            Poll::Ready(Ok(Ok((mut conn, from)))) => {
+                conn.begin();
+                self.data_conn = Some(conn);
                 Poll::Ready(Ok(RequestOutcome::Address(from)))
             }
-            Poll::Ready(Ok(Err(fault))) => Poll::Ready(Ok(RequestOutcome::Refused(fault))),
+            Poll::Ready(Ok(Err(fault))) => {
+                self.data_conn = None;
+                Poll::Ready(Ok(RequestOutcome::Refused(fault)))
+            }
             Poll::Ready(Err(full)) => Poll::Ready(Err(full)),
             Poll::Pending => Poll::Pending,
         }
@@ -469,20 +494,6 @@ fn refused(fault: ConnectionError) -> Step
     ensures { result ≡ Step.Done (Answer.Fault (FtpError.ConnectionError fault)) }
 {
     Step::Done(Answer::Fault(FtpError::ConnectionError(fault)))
-}
-
-/// A stranger was dropped: another may come, or too many have.
-fn turn_away(turn: Turn, peer: SocketAddr, left: u64, answer: Answer, stage: &mut Stage) -> Step
-    ensures turned { TurnsAway turn peer left answer stage.new result }
-{
-    if left == 0 {
-        return refused(ConnectionError::TimedOut);
-    }
-    go_to(
-        stage,
-        Stage::Agreeing(Agreeing::Asking(turn, Asking::Accepting(peer, left - 1, answer))),
-    );
-    Step::Next
 }
 
 /// An address with another port.

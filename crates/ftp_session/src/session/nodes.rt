@@ -41,7 +41,7 @@ impl<Tr: Network> Machine<Tr> {
         Tr::Conn: PollConn<W>,
         requires { self.old.channel.failed ≡ false }
         ensures waits { result ≡ Step.Pending → Tr.Conn.may_wait }
-        ensures asked { self.new.asked ≡ self.old.asked }
+        ensures net { self.new.net ≡ self.old.net }
         ensures answer { (answer : Answer) → result ≡ Step.Done answer →
             (fault : Faults) × (answer ≡ Answer.Fault fault) }
         ensures end { Tr.Conn.tells → Tr.Conn.may_wait →
@@ -65,7 +65,7 @@ impl<Tr: Network> Machine<Tr> {
         Tr::Conn: PollConn<W>,
         requires { self.old.channel.failed ≡ false }
         ensures waits { result ≡ poll.Pending → Tr.Conn.may_wait }
-        ensures asked { self.new.asked ≡ self.old.asked }
+        ensures net { self.new.net ≡ self.old.net }
         ensures end { Tr.Conn.tells → Tr.Conn.may_wait →
             EndsAsTold self.old.channel.ended self.new.channel.ended self.old.channel.told }
         ensures hears { (next : Result Heard Faults → Tree) →
@@ -87,7 +87,7 @@ impl<Tr: Network> Machine<Tr> {
         Tr::Conn: PollConn<W>,
         requires { self.old.channel.failed ≡ false }
         ensures waits { result ≡ poll.Pending → Tr.Conn.may_wait }
-        ensures asked { self.new.asked ≡ self.old.asked }
+        ensures net { self.new.net ≡ self.old.net }
         ensures end { Tr.Conn.tells → Tr.Conn.may_wait →
             EndsAsTold self.old.channel.ended self.new.channel.ended self.old.channel.told }
         ensures hears { (next : Result Heard Faults → Tree) →
@@ -109,7 +109,7 @@ impl<Tr: Network> Machine<Tr> {
         Tr::Conn: PollConn<W>,
         requires { self.old.channel.failed ≡ false }
         ensures waits { result ≡ poll.Pending → Tr.Conn.may_wait }
-        ensures asked { self.new.asked ≡ self.old.asked }
+        ensures net { self.new.net ≡ self.old.net }
         ensures end { Tr.Conn.tells → Tr.Conn.may_wait →
             EndsAsTold self.old.channel.ended self.new.channel.ended self.old.channel.told }
         ensures hears { (next : Result Heard Faults → Tree) →

@@ -98,7 +98,6 @@ impl Machine<MemoryTransport> {
         ensures unchanged { OnErr result ((self.new ≡ self.old) × IsFeed event.now) }
         ensures stage { StageIn (option_map (λ c. c.now) under_way.new) stage.new }
         ensures failed { IfOk result (λ answer. FailedStays self.old self.new answer) }
-        ensures grows { IfOk result (λ answer. Grows self.old self.new) }
         ensures fails { IfOk result (λ answer. FailsWith self.old self.new (given_answer answer)) }
         ensures happens { IfOk result (λ answer.
             Happens (coding_of E.decoded E.encoded encoding.now) self.old self.new
@@ -129,7 +128,6 @@ impl Machine<MemoryTransport> {
         requires { StageIn (option_map (λ c. c.now) under_way.old) stage.old }
         ensures stage { StageIn (option_map (λ c. c.now) under_way.new) stage.new }
         ensures failed { FailedStays self.old self.new result }
-        ensures grows { Grows self.old self.new }
         ensures fails { FailsWith self.old self.new (given_answer result) }
         ensures happens { Happens (coding_of E.decoded E.encoded encoding.now) self.old self.new
             (option_map (λ c. c.now) under_way.old) (option_map (λ c. c.now) under_way.new)

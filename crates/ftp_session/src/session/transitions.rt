@@ -12,14 +12,13 @@ ghost use Rattle.ftp_calls.specs.Exchanges.{is_read, negotiates};
 ghost use Rattle.ftp_session.specs.Link.{asking};
 ghost use Rattle.ftp_session.specs.Promises.{HasFault, Rests, begun_by};
 ghost use Rattle.ftp_session.specs.Steps.Following.{StageIn, entered_at, entered_stage, entered_state, entered_tree, first_stage, is_first, polled_answer};
-ghost use Rattle.ftp_session.specs.Steps.Moving.{BeginsExchange, Concludes, HasBegun, Made, PollSteps, Quiet, Steps, Tracks, after_fault, wants_memory};
+ghost use Rattle.ftp_session.specs.Steps.Moving.{BeginsExchange, Concludes, HasBegun, Made, PollSteps, PollsTo, Quiet, Steps, Tracks, after_fault, wants_memory};
 ghost use Rattle.ftp_session.specs.Steps.Stages.{MayAnswer, PollAnswers, StageAfter, StageOf, StepAnswers, begun_at, nodes_left, remaining};
 
 use super::asks::Asks;
 use super::machine::Machine;
 use super::nodes::{Accepted, accept};
 use super::stage::{Agreeing, Awaits, Stage, Step, begin, go_on, go_to, is_later};
-use super::state::{Counts, Owed};
 use super::{Answer, Call};
 use ftp_base::encoding::Encoding;
 use ftp_base::types::{FtpError, Response};
@@ -48,7 +47,7 @@ impl<Tr: Network> Machine<Tr> {
         requires may { negotiates call.now ≡ true → A.may_ask }
         ensures stage { StageAfter call.now stage.new result }
         ensures waits { result ≡ Step.Pending → Tr.Conn.may_wait ⊎ A.may_wait }
-        ensures asked { negotiates call.now ≡ false → self.new.asked ≡ self.old.asked }
+        ensures net { negotiates call.now ≡ false → self.new.net ≡ self.old.net }
         ensures end { Tr.Conn.tells → Tr.Conn.may_wait →
             EndsAsTold self.old.channel.ended self.new.channel.ended self.old.channel.told }
         ensures answers { StepAnswers call.now result }
@@ -97,7 +96,7 @@ impl<Tr: Network> Machine<Tr> {
         requires going { self.old.channel.failed ≡ false }
         requires stage { StageOf call.now (Stage.At turn) }
         ensures stage { StageAfter call.now stage.new result }
-        ensures asked { self.new.asked ≡ self.old.asked }
+        ensures net { self.new.net ≡ self.old.net }
         ensures end { self.new.channel.ended ≡ self.old.channel.ended }
         ensures answers { StepAnswers call.now result }
         ensures fewer { result ≡ Step.Next → nodes_left stage.new < nodes_left (Stage.At turn) }
@@ -131,7 +130,7 @@ impl<Tr: Network> Machine<Tr> {
         ensures stage { (call : Call) →
             StageOf call (Stage.Saying line awaits) → StageAfter call stage.new result }
         ensures waits { result ≡ Step.Pending → Tr.Conn.may_wait ⊎ A.may_wait }
-        ensures asked { self.new.asked ≡ self.old.asked }
+        ensures net { self.new.net ≡ self.old.net }
         ensures end { Tr.Conn.tells → Tr.Conn.may_wait →
             EndsAsTold self.old.channel.ended self.new.channel.ended self.old.channel.told }
         ensures answers { (call : Call) → StepAnswers call result }
@@ -174,7 +173,7 @@ impl<Tr: Network> Machine<Tr> {
         requires stage { StageOf call.now (Stage.Hearing awaits) }
         ensures stage { StageAfter call.now stage.new result }
         ensures waits { result ≡ Step.Pending → Tr.Conn.may_wait ⊎ A.may_wait }
-        ensures asked { self.new.asked ≡ self.old.asked }
+        ensures net { self.new.net ≡ self.old.net }
         ensures end { Tr.Conn.tells → Tr.Conn.may_wait →
             EndsAsTold self.old.channel.ended self.new.channel.ended self.old.channel.told }
         ensures answers { StepAnswers call.now result }
@@ -218,7 +217,7 @@ impl<Tr: Network> Machine<Tr> {
         requires stage { StageOf call.now (Stage.Hearing awaits) }
         ensures stage { StageAfter call.now stage.new result }
         ensures moves { result ≡ Step.Pending → ⊥ }
-        ensures asked { self.new.asked ≡ self.old.asked }
+        ensures net { self.new.net ≡ self.old.net }
         ensures end { self.new.channel.ended ≡ self.old.channel.ended }
         ensures answers { StepAnswers call.now result }
         ensures fewer { result ≡ Step.Next →
@@ -270,7 +269,7 @@ impl<Tr: Network> Machine<Tr> {
         requires may { negotiates call.now ≡ true → A.may_ask }
         ensures stage { result ≡ poll.Pending → StageOf call.now stage.new }
         ensures waits { result ≡ poll.Pending → Tr.Conn.may_wait ⊎ A.may_wait }
-        ensures asked { negotiates call.now ≡ false → self.new.asked ≡ self.old.asked }
+        ensures net { negotiates call.now ≡ false → self.new.net ≡ self.old.net }
         ensures end { Tr.Conn.tells → Tr.Conn.may_wait →
             EndsAsTold self.old.channel.ended self.new.channel.ended self.old.channel.told }
         ensures answers { PollAnswers call.now result }
@@ -314,15 +313,11 @@ impl<Tr: Network> Machine<Tr> {
             return Answer::Fault(FtpError::SessionFailed);
         }
         let mut stage = self.enter(call);
-        let polled = self.poll_call(asker, alloc, encoding, call, &mut stage, &mut NeverWaits);
-        let_go(
-            polled.is_ready(),
-            &self.state.counts,
-            &mut self.listener,
-            &mut self.data,
-        );
-        match polled {
-            Poll::Ready(answer) => answer,
+        match self.poll_call(asker, alloc, encoding, call, &mut stage, &mut NeverWaits) {
+            Poll::Ready(answer) => {
+                self.let_go();
+                answer
+            }
             Poll::Pending => unreachable!(),
         }
     }
@@ -379,7 +374,7 @@ impl<Tr: Network> Machine<Tr> {
             (result ≡ poll.Ready (Answer.Fault FtpError.SessionFailed)) × (self.new ≡ self.old) }
         ensures polls { self.old.channel.failed ≡ false →
             let coding = coding_of E.decoded E.encoded encoding.now in
-            PollSteps (asking Tr.Conn.tells Tr.Conn.read_faults Tr.Conn.write_faults Tr.Conn.end_faults A.may_wait) (begun_at stage.old)
+            PollsTo (asking Tr.Conn.tells Tr.Conn.read_faults Tr.Conn.write_faults Tr.Conn.end_faults A.may_wait) (begun_at stage.old)
             (entered_tree coding call.now stage.old self.old.state)
             (remaining coding call.now (entered_state call.now stage.old self.old.state) stage.new)
             (entered_at call.now stage.old self.old) self.new result }
@@ -397,28 +392,12 @@ impl<Tr: Network> Machine<Tr> {
             return Poll::Ready(Answer::Fault(FtpError::SessionFailed));
         }
         self.begin_call(call, stage);
-        let polled = self.poll_call(asker, alloc, encoding, call, stage, w);
-        let_go(
-            polled.is_ready(),
-            &self.state.counts,
-            &mut self.listener,
-            &mut self.data,
-        );
-        polled
-    }
-}
-
-/// A call that is done closes its listener, and a data connection that opened no transfer.
-fn let_go<L: Drop, C: Drop>(
-    is_done: bool,
-    counts: &Counts,
-    listener: &mut Option<L>,
-    data: &mut Option<C>,
-) {
-    if is_done {
-        *listener = None;
-        if matches!(counts.owed(), Owed::Nothing) {
-            *data = None;
+        match self.poll_call(asker, alloc, encoding, call, stage, w) {
+            Poll::Ready(answer) => {
+                self.let_go();
+                Poll::Ready(answer)
+            }
+            Poll::Pending => Poll::Pending,
         }
     }
 }

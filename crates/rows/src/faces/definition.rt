@@ -9,7 +9,7 @@ use crate::transcript::Standing;
 use ftp_base::types::{Bytes, Items};
 use ftp_control::control::{ReplyForm, ReplyRule};
 use ftp_control::transport::Room;
-use ftp_session::model::{self, Played, Ran, Script, Wait};
+use ftp_session::model::{self, Dealings, Played, Ran, Script, Wait};
 use ftp_session::session::{Answer, Call, Event, State};
 use row_text::RowError;
 use session_plain::{connect_in_turn, run, run_polled};
@@ -26,11 +26,19 @@ fn first(alloc: Global, input: &[u8], play: &Play) -> Result<model::Standing, Al
         unsent: Bytes::new(alloc),
         local,
         peer,
-        asked: Items::from_vec(Vec::new(alloc)),
+        dealings: no_dealings(alloc),
         bytes: Bytes::from_slice(alloc, input)?,
         ended: true,
         outcomes: Items::from_vec(Vec::new(alloc)),
     })
+}
+
+/// Nothing was asked, and there is no data connection.
+fn no_dealings(alloc: Global) -> Dealings {
+    Dealings {
+        asked: Items::from_vec(Vec::new(alloc)),
+        data_conn: None,
+    }
 }
 
 /// A script that begins: nothing came, and nothing was said.
@@ -48,7 +56,7 @@ fn first_script(alloc: Global) -> Script {
         sent: Bytes::new(alloc),
         unsent: Bytes::new(alloc),
         untaken: Bytes::new(alloc),
-        asked: Items::from_vec(Vec::new(alloc)),
+        dealings: no_dealings(alloc),
         seen: 0,
         form: ReplyForm::Plain,
         state: State::new(),
@@ -72,10 +80,10 @@ pub fn ran(alloc: Global, calls: &[Call], play: &Play) -> Result<Standing, RowEr
         begun.outcomes = Items::from_vec(Vec::from_slice(alloc, &outcomes)?);
         match run(alloc, Room::Any, &encoding_of(play), calls, begun)? {
             Ran::Waiting(_, Wait::Outcome, here) => {
-                outcomes = play.setup.outcomes(alloc, here.asked.as_slice())?;
+                outcomes = play.setup.outcomes(alloc, here.dealings.asked.as_slice())?;
             }
             Ran::Finished(answers, here) | Ran::Waiting(answers, _, here) => {
-                let asked = lines_of(alloc, here.asked.as_slice(), &outcomes)?;
+                let asked = lines_of(alloc, here.dealings.asked.as_slice(), &outcomes)?;
                 return stands(alloc, asked, answers, here, play.input.len());
             }
         }
@@ -97,7 +105,7 @@ fn dialled(
     let encoding = encoding_of(play);
     match connect_in_turn(alloc, Room::Any, &encoding, &requests, dial.fault(), first)? {
         Played::Done(Answer::Unit, here) => {
-            let asked = lines_of(alloc, here.asked.as_slice(), &outcomes)?;
+            let asked = lines_of(alloc, here.dealings.asked.as_slice(), &outcomes)?;
             match run(alloc, Room::Any, &encoding, others, here)? {
                 Ran::Finished(answers, here) | Ran::Waiting(answers, _, here) => {
                     let mut all = answers.into_vec();

@@ -7,4 +7,4 @@ pub returns-in-Ok : goal.returns-in-Ok
 returns-in-Ok g c = rw c.time.ensures (copied_plays _ _ c.mdtm_call.result c.in-Ok.call (Mdtm c.args.path.now) _ _ _ c.in-Ok.is c.mdtm_call.ensures.call c.call.ensures.plays)
 
 pub returns-in-Err : goal.returns-in-Err
-returns-in-Err g c = rw c.withheld.ensures (withheld_plays _ _ (Mdtm c.args.path.now) _ refl)
+returns-in-Err g c = rw c.withheld.ensures (withheld_plays _ _ (Mdtm c.args.path.now) _)

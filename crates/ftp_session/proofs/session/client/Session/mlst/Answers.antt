@@ -7,4 +7,4 @@ pub returns-in-Ok : goal.returns-in-Ok
 returns-in-Ok g c = rw c.text.ensures (copied_plays _ _ c.mlst_call.result c.in-Ok.call (Mlst (option_map (λ text. text.now) c.args.path)) _ _ _ c.in-Ok.is c.mlst_call.ensures.call c.call.ensures.plays)
 
 pub returns-in-Err : goal.returns-in-Err
-returns-in-Err g c = rw c.withheld.ensures (withheld_plays _ _ (Mlst (option_map (λ text. text.now) c.args.path)) _ refl)
+returns-in-Err g c = rw c.withheld.ensures (withheld_plays _ _ (Mlst (option_map (λ text. text.now) c.args.path)) _)

@@ -1,25 +1,29 @@
-use Rattle.std.proofs.Common.{None}
+use Rattle.std.proofs.Common.{None, ap, refl, sym, ◌∙◌}
 use Rattle.ftp_control.specs.declared.transport.request.Request.TheVariants.{Connect}
 use Rattle.ftp_control.specs.declared.transport.request.RequestOutcome.TheVariants.{Done, Refused}
+use Rattle.ftp_session.proofs.Deals.{is_next, same_net}
 use Rattle.ftp_session.proofs.Negotiation.{asked_through, unasked_through}
 use Rattle.ftp_session.proofs.session.machine.Machine.ask_to_connect.Goals as goal
 
 pub returns-in-Ready-Ok-Ok-clause-asks : goal.returns-in-Ready-Ok-Ok-clause-asks
 returns-in-Ready-Ok-Ok-clause-asks g c =
     let made = rw (c.in-Ready-Ok-Ok.is, c.in-Ready-Ok-Ok.field-0-is, c.in-Ready-Ok-Ok.field-0-0-is) at c.connect.ensures.asks c.requires.may in
-    asked_through _ (Connect c.args.address None) Done _ _ _ c.self.view_is made
+    let came = rw (c.in-Ready-Ok-Ok.is, c.in-Ready-Ok-Ok.field-0-is, c.in-Ready-Ok-Ok.field-0-0-is) at c.connect.ensures.supplies c.requires.may in
+    asked_through _ (Connect c.args.address None) Done _ _ _ c.self.view_is (λ h. (made h, (_, came h, is_next _ (g.Tr.Conn.Tells.told c.in-Ready-Ok-Ok.conn) (c.begin.ensures h))))
 
 pub returns-in-Ready-Ok-Err-clause-asks : goal.returns-in-Ready-Ok-Err-clause-asks
 returns-in-Ready-Ok-Err-clause-asks g c =
     let made = rw (c.in-Ready-Ok-Err.is, c.in-Ready-Ok-Err.field-0-is, c.in-Ready-Ok-Err.field-0-0-is) at c.connect.ensures.asks c.requires.may in
-    asked_through _ (Connect c.args.address None) (Refused c.in-Ready-Ok-Err.fault) _ _ _ c.self.view_is made
+    asked_through _ (Connect c.args.address None) (Refused c.in-Ready-Ok-Err.fault) _ _ _ c.self.view_is (λ h. (made h, refl))
 
 pub returns-in-Ready-Err-clause-asks : goal.returns-in-Ready-Err-clause-asks
 returns-in-Ready-Err-clause-asks g c =
     let made = rw (c.in-Ready-Err.is, c.in-Ready-Err.field-0-is) at c.connect.ensures.asks c.requires.may in
-    unasked_through _ _ _ _ c.self.view_is made
+    let stays = rw (c.in-Ready-Err.is, c.in-Ready-Err.field-0-is) at c.connect.ensures.supplies c.requires.may in
+    unasked_through _ _ _ _ c.self.view_is (λ h. same_net _ _ (made h) (stays h) refl)
 
 pub returns-in-Pending-clause-asks : goal.returns-in-Pending-clause-asks
 returns-in-Pending-clause-asks g c =
     let made = rw c.in-Pending.is at c.connect.ensures.asks c.requires.may in
-    (unasked_through _ _ _ _ c.self.view_is made, c.connect.ensures.waits c.requires.may c.in-Pending.is)
+    let stays = rw c.in-Pending.is at c.connect.ensures.supplies c.requires.may in
+    (unasked_through _ _ _ _ c.self.view_is (λ h. same_net _ _ (made h) (stays h) refl), c.connect.ensures.waits c.requires.may c.in-Pending.is)

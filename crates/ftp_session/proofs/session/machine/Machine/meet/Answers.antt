@@ -14,4 +14,4 @@ pub returns-else-allows-clause-meets : goal.returns-else-allows-clause-meets
 returns-else-allows-clause-meets g c =
     let value = rw (c.ip.ensures, c.ip-in-Address.ensures) at c.allows.ensures.value in
     let is = ap (λ v. lets_in v.state c.args.peer c.in-Address.from) (sym c.self.view_is) ∙ sym value ∙ c.if-allows.false in
-    rw (c.in-Address.is, is) (c.self.view_is, c.turn_away.ensures.turned)
+    rw (c.in-Address.is, is) c.turn_away.ensures.turned

@@ -13,7 +13,7 @@ loop-answer-preserved g c =
     let begun = rw c.in-Next.is at c.step.ensures.begun in
     let stage_of = rw c.in-Next.is at c.step.ensures.stage in
     record {
-      so_far = next_step _ _ _ _ _ _ _ so_far c.step.new.stage c.step.new.self made quiet begun stage_of c.step.ensures.asked;
+      so_far = next_step _ _ _ _ _ _ _ so_far c.step.new.stage c.step.new.self made quiet begun stage_of c.step.ensures.net;
       end = λ h may. end_on c.args.self.now.channel.ended c.loop-answer.self.channel.ended c.step.new.self.channel.ended c.args.self.now.channel.told c.loop-answer.self.channel.told (so_far.moved.moves.leads.goes.given h) (c.loop-answer.invariant.end h may) (c.step.ensures.end h may);
     }
 

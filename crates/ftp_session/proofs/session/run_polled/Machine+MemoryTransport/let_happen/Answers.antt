@@ -30,7 +30,7 @@ loop-event-preserved g c =
       fails = fails_more c.args.self.now c.loop-event.self c.happen.new.self c.loop-event.answers.items (given_answer c.in_ok-answer.answer) c.note.new.answers.items noted.items held.fails c.in_ok-answer.ensures.fails;
       count = omega (arith, longer, held.count, at_most_one coding c.in_ok-answer.answer);
       room = omega (arith, held.room, noted.room);
-      so_far = λ depth. next_event coding depth c.args.self.now c.args.events.now c.loop-event.event-index c.event-item.result c.loop-event.self c.happen.new.self _ _ c.loop-event.stage c.happen.new.stage c.loop-event.answers.items c.note.new.answers.items c.in_ok-answer.answer c.loop-event-test.true c.event-item.is noted.items c.in_ok-answer.ensures.failed c.in_ok-answer.ensures.grows c.in_ok-answer.ensures.happens (held.so_far depth);
+      so_far = λ depth. next_event coding depth c.args.self.now c.args.events.now c.loop-event.event-index c.event-item.result c.loop-event.self c.happen.new.self _ _ c.loop-event.stage c.happen.new.stage c.loop-event.answers.items c.note.new.answers.items c.in_ok-answer.answer c.loop-event-test.true c.event-item.is noted.items c.in_ok-answer.ensures.failed c.in_ok-answer.ensures.happens (held.so_far depth);
     }
 
 pub returns-clause-scripted : goal.returns-clause-scripted
@@ -56,4 +56,4 @@ returns-in_err-answer-clause-grows g c =
     subst P (sym stopped.0) (has_grown coding c.args.self.now _ c.loop-event.self _ c.loop-event.stage c.loop-event.answers.items c.loop-event.invariant.so_far)
 
 pub returns-in_err-answers-clause-grows : goal.returns-in_err-answers-clause-grows
-returns-in_err-answers-clause-grows g c = grows_none c.args.self.now c.args.self.now refl
+returns-in_err-answers-clause-grows g c = grows_none c.args.self.now

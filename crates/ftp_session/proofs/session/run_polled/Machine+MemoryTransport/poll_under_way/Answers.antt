@@ -1,23 +1,36 @@
-use Rattle.std.proofs.Common.{ap, inl, refl, option_map}
+use Rattle.std.proofs.Common.{[], ◌++◌, ap, inl, refl, option_map}
 use Rattle.futures.specs.declared.task.Poll.TheVariants.{Ready, Pending}
 use Rattle.ftp_session.specs.Coding.{Coding, coding_of}
 use Rattle.ftp_session.proofs.Events.{polls_here_fail, at_poll, polled_none, polled_ready, polled_pending}
-use Rattle.ftp_session.proofs.Following.{poll_grows}
+use Rattle.ftp_session.proofs.Following.{poll_happens}
+use Rattle.ftp_session.specs.Deals.{outcomes_of}
 use Rattle.ftp_session.proofs.session.run_polled.Machine+MemoryTransport.poll_under_way.Goals as goal
 
 pub returns-in-Ready-clause-happens : goal.returns-in-Ready-clause-happens
-returns-in-Ready-clause-happens g c = λ asked outcomes left old s answers grown follows may.
+returns-in-Ready-clause-happens g c =
     let coding : Coding = coding_of g.E.Encoding.decoded g.E.Encoding.encoded c.args.encoding.now in
     let polled = rw c.in-Ready.is at c.poll_here.ensures.polled in
     let call = ap (λ o. option_map (λ c'. c'.now) o) c.in-Some.is in
-    at_poll coding outcomes left _ _ _ _ c.in-Some.call.now c.args.stage.now (option_map (λ c'. c'.now) c.args.under_way.now) _ call refl (polled_ready coding outcomes left asked old s c.args.self.now c.poll_here.new.self (option_map (λ c'. c'.now) c.args.under_way.now) c.in-Some.call.now c.args.stage.now c.poll_here.new.stage answers c.in-Ready.answer call grown follows may polled)
+    let happens = poll_happens coding c.in-Some.call.now c.args.stage.now c.poll_here.new.stage c.args.self.now c.poll_here.new.self (Ready c.in-Ready.answer) polled in
+    (
+      happens.0,
+      happens.1,
+      λ outcomes left old s answers follows may.
+          at_poll coding outcomes left _ _ _ _ c.in-Some.call.now c.args.stage.now (option_map (λ c'. c'.now) c.args.under_way.now) _ call refl (polled_ready coding outcomes left (outcomes_of happens.0 ++ left) old s c.args.self.now c.poll_here.new.self (option_map (λ c'. c'.now) c.args.under_way.now) c.in-Some.call.now c.args.stage.now c.poll_here.new.stage answers call follows may c.in-Ready.answer (λ f m. happens.2 outcomes left old s answers f m)),
+    )
 
 pub returns-in-Pending-clause-happens : goal.returns-in-Pending-clause-happens
-returns-in-Pending-clause-happens g c = λ asked outcomes left old s answers grown follows may.
+returns-in-Pending-clause-happens g c =
     let coding : Coding = coding_of g.E.Encoding.decoded g.E.Encoding.encoded c.args.encoding.now in
     let polled = rw c.in-Pending.is at c.poll_here.ensures.polled in
     let call = ap (λ o. option_map (λ c'. c'.now) o) c.in-Some.is in
-    inl (polled_pending coding outcomes left asked old s c.args.self.now c.poll_here.new.self (option_map (λ c'. c'.now) c.args.under_way.now) c.in-Some.call.now c.args.stage.now c.poll_here.new.stage answers call grown follows may polled)
+    let happens = poll_happens coding c.in-Some.call.now c.args.stage.now c.poll_here.new.stage c.args.self.now c.poll_here.new.self Pending polled in
+    (
+      happens.0,
+      happens.1,
+      λ outcomes left old s answers follows may.
+          inl (polled_pending coding outcomes left (outcomes_of happens.0 ++ left) old s c.args.self.now c.poll_here.new.self (option_map (λ c'. c'.now) c.args.under_way.now) c.in-Some.call.now c.args.stage.now c.poll_here.new.stage answers call follows may (λ f m. happens.2 outcomes left old s answers f m)),
+    )
 
 pub returns-in-Ready-clause-fails : goal.returns-in-Ready-clause-fails
 returns-in-Ready-clause-fails g c =
@@ -29,17 +42,7 @@ returns-in-Pending-clause-fails g c =
     let polled = rw c.in-Pending.is at c.poll_here.ensures.polled in
     polls_here_fail _ _ _ _ _ _ Pending polled
 
-pub returns-in-Ready-clause-grows : goal.returns-in-Ready-clause-grows
-returns-in-Ready-clause-grows g c =
-    let polled = rw c.in-Ready.is at c.poll_here.ensures.polled in
-    poll_grows _ _ _ _ _ _ (Ready c.in-Ready.answer) polled
-
-pub returns-in-Pending-clause-grows : goal.returns-in-Pending-clause-grows
-returns-in-Pending-clause-grows g c =
-    let polled = rw c.in-Pending.is at c.poll_here.ensures.polled in
-    poll_grows _ _ _ _ _ _ Pending polled
-
 pub returns-in_default-clause-happens : goal.returns-in_default-clause-happens
-returns-in_default-clause-happens g c = λ asked outcomes left old s answers grown follows may.
+returns-in_default-clause-happens g c =
     let coding : Coding = coding_of g.E.Encoding.decoded g.E.Encoding.encoded c.args.encoding.now in
-    inl (polled_none coding outcomes left asked old s c.args.self.now (option_map (λ c'. c'.now) c.args.under_way.now) c.args.stage.now answers (ap (λ o. option_map (λ c'. c'.now) o) c.in_default.is) grown follows)
+    ([], refl, λ outcomes left old s answers follows may. inl (polled_none coding outcomes left old s c.args.self.now (option_map (λ c'. c'.now) c.args.under_way.now) c.args.stage.now answers (ap (λ o. option_map (λ c'. c'.now) o) c.in_default.is) follows))
