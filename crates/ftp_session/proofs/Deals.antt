@@ -1,10 +1,8 @@
 -- Lemmas on what stands beside the control connection.
 use Rattle.std.proofs.Common.{◌≡◌, List, [], ◌∷◌, ◌++◌, Option, Some, None, option_map, refl, ap, sym, ◌∙◌, append_assoc, append-nil, subst}
 use Rattle.std.proofs.lemmas.List.{append_cancel_left}
-use Rattle.std.specs.declared.net.socket_addr.SocketAddr.{SocketAddr}
-use Rattle.ftp_base.specs.declared.types.fault.ConnectionError.{ConnectionError}
 use Rattle.ftp_control.proofs.Asking.{requests-append}
-use Rattle.ftp_control.specs.Asking.{recorded, requests_of}
+use Rattle.ftp_control.specs.Asking.{requests_of}
 use Rattle.ftp_control.specs.Told.{Told, begun}
 use Rattle.ftp_control.specs.declared.transport.request.Asked.{Asked}
 use Rattle.ftp_control.specs.declared.transport.supply.Supply.{Supply}

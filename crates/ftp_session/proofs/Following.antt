@@ -819,8 +819,7 @@ poll_happens coding call stage stage' v w result here =
     go (Ready answer) here going (last, inr aborts, lets_go) =
         let P : Answer → Type 0 = λ a. Aborts over_memory (begun_at stage) tree a (entered_at call stage v) last in
         let D : SessionValue → Type 0 = λ x. Deals (aborts.leads.answered ++ drops last.state.counts.owed) v.net x.net in
-        let deals = deals-append aborts.leads.answered (drops last.state.counts.owed) v.net last.net (let_go last).net (aborted_deals (begun_at stage) tree answer (entered_at call stage v) last aborts) (drops_deal last.state.counts.owed last.net) in
-        (
+        let deals = deals-append aborts.leads.answered (drops last.state.counts.owed) v.net last.net (let_go last).net (aborted_deals (begun_at stage) tree answer (entered_at call stage v) last aborts) (drops_deal last.state.counts.owed last.net) in (
           aborts.leads.answered ++ drops last.state.counts.owed,
           subst D (sym lets_go) deals,
           λ outcomes left old s answers f may. inr (record { fault = aborts.fault; is = ap Some aborts.is; going = going; last = last; aborts = subst P aborts.is aborts; lets_go = lets_go; given = here.given; sound = here.sound }),

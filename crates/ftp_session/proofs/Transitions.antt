@@ -36,7 +36,7 @@ use Rattle.ftp_session.specs.Run.{Resumes}
 use Rattle.ftp_session.specs.Steps.Following.{StageIn, entered_at, entered_state, entered_tree, is_first, is_first_turn}
 use Rattle.ftp_session.specs.Steps.Stages.{is_later, remaining, awaited, begun_at, StageOf, line_of}
 use Rattle.ftp_session.specs.Steps.Moving.{Moves, Advances, Ends, Steps, PollSteps, Hears, BeginsExchange, Concludes, Made, NothingTouched, NothingYet, Quiet, Still, HasBegun, BeginsHere, Speaks, Takes, Tracks, wants_memory, withheld, after_fault}
-use Rattle.ftp_session.proofs.Moving.{advances_on, leads_on, moves_on, leaf_ends, refused_line, lacks_memory_first, lacks_memory_at, stays_put, ends_on, aborts_on, said_or_taken_on, untouched, untouched_after}
+use Rattle.ftp_session.proofs.Moving.{advances_on, leads_on, leaf_ends, refused_line, lacks_memory_first, lacks_memory_at, stays_put, ends_on, aborts_on, said_or_taken_on, untouched, untouched_after}
 use Rattle.ftp_session.proofs.Negotiation.{still_on, unchanged_still}
 use Rattle.ftp_session.specs.Link.{Link}
 

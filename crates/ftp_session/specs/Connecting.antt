@@ -6,7 +6,7 @@ use Rattle.std.specs.declared.time.Duration.{Duration}
 use Rattle.ftp_base.specs.declared.types.fault.FtpError.{FtpError}
 use Rattle.ftp_base.specs.declared.types.fault.FtpError.TheVariants.{ConnectionError as Connection, OutOfMemory}
 use Rattle.ftp_base.specs.declared.types.fault.ConnectionError.{ConnectionError}
-use Rattle.ftp_control.specs.Asking.{requests_of, outcomes_of, connects_to, RefusedInTurn, ConnectsInTurn}
+use Rattle.ftp_control.specs.Asking.{outcomes_of, connects_to, RefusedInTurn, ConnectsInTurn}
 use Rattle.ftp_control.specs.Told.{Told}
 use Rattle.ftp_control.specs.declared.transport.room.Room.{Room}
 use Rattle.ftp_control.specs.declared.transport.request.Asked.{Asked}

@@ -1,7 +1,6 @@
 -- What stands beside the control connection: the requests of the transport, and the data connection: RFC 959, section
 -- 3.2.
 use Rattle.std.specs.Prelude.{◌≡◌, List, [], ◌∷◌, ◌++◌, Option, Some, None, option_map}
-use Rattle.std.specs.declared.net.socket_addr.SocketAddr.{SocketAddr}
 use Rattle.ftp_control.specs.Asking.{recorded, requests_of}
 use Rattle.ftp_control.specs.Told.{Told, begun}
 use Rattle.ftp_control.specs.declared.transport.request.Asked.{Asked}

@@ -31,9 +31,7 @@ pub fn play_call<E: Encoding>(
         let fault = Answer::Fault(FtpError::SessionFailed);
         return Ok(Played::Done(fault, standing));
     }
-    Ok(finally(play_dialogue(
-        alloc, room, encoding, call, standing,
-    )?))
+    Ok(finally(play_dialogue(alloc, room, encoding, call, standing)?))
 }
 
 /// A call that has its answer lets a data connection go that carries no transfer.
@@ -68,9 +66,9 @@ pub(crate) fn play_dialogue<E: Encoding>(
         (dialogue (coding_of E.decoded E.encoded encoding.now) call.now standing.state)
         (record standing { state = entered call.now standing.state })) }
 {
-    if !negotiates(call) {
-        return from_turn(alloc, room, encoding, call, Turn::First, standing);
+    if negotiates(call) {
+        let offset = standing.state.settings.restart_offset;
+        return negotiating(alloc, room, encoding, call, offset, armed(0, standing));
     }
-    let offset = standing.state.settings.restart_offset;
-    negotiating(alloc, room, encoding, call, offset, armed(0, standing))
+    from_turn(alloc, room, encoding, call, Turn::First, standing)
 }

@@ -340,7 +340,7 @@ impl<Tr: Network> Machine<Tr> {
         if left == 0 {
             return refused(ConnectionError::TimedOut);
         }
-        self.data_conn = None;
+        let _stranger = self.data_conn.take();
         let asking = Asking::Accepting(peer, left - 1, answer);
         go_to(stage, Stage::Agreeing(Agreeing::Asking(turn, asking)));
         Step::Next

@@ -1,4 +1,4 @@
-use Rattle.std.proofs.Common.{refl, option_map}
+use Rattle.std.proofs.Common.{option_map}
 use Rattle.ftp_calls.specs.declared.call.Call.TheVariants.{Mlst}
 use Rattle.ftp_session.proofs.Transitions.{copied_plays, withheld_plays}
 use Rattle.ftp_session.proofs.session.client.Session.mlst.Goals as goal

@@ -1,4 +1,3 @@
-use Rattle.std.proofs.Common.{refl}
 use Rattle.ftp_calls.specs.declared.call.Call.TheVariants.{Size}
 use Rattle.ftp_session.proofs.Transitions.{copied_plays, withheld_plays}
 use Rattle.ftp_session.proofs.session.client.Session.size.Goals as goal

@@ -1,4 +1,4 @@
-use Rattle.std.proofs.Common.{None, ap, refl, sym, ◌∙◌}
+use Rattle.std.proofs.Common.{None, refl}
 use Rattle.ftp_control.specs.declared.transport.request.Request.TheVariants.{Connect}
 use Rattle.ftp_control.specs.declared.transport.request.RequestOutcome.TheVariants.{Done, Refused}
 use Rattle.ftp_session.proofs.Deals.{is_next, same_net}

@@ -1,4 +1,4 @@
-use Rattle.std.proofs.Common.{ap, refl, sym, ◌∙◌}
+use Rattle.std.proofs.Common.{ap, sym, ◌∙◌}
 use Rattle.ftp_session.specs.Coding.{coding_of}
 use Rattle.ftp_session.proofs.Transitions.{made_by}
 use Rattle.ftp_session.proofs.session.machine.Machine.call.Goals as goal

@@ -1,4 +1,4 @@
-use Rattle.std.proofs.Common.{[], inl, ap, subst, option_map, None, sym, ◌∙◌, ◌≡◌}
+use Rattle.std.proofs.Common.{[], inl, ap, subst, option_map, None, sym, ◌∙◌}
 use Rattle.ftp_control.specs.Memory.{fed, closed_memory, widened}
 use Rattle.ftp_control.specs.Channel.{Channel}
 use Rattle.ftp_calls.specs.declared.call.Event.{Event}

@@ -11,8 +11,7 @@ returns-in-Ready-clause-happens g c =
     let coding : Coding = coding_of g.E.Encoding.decoded g.E.Encoding.encoded c.args.encoding.now in
     let polled = rw c.in-Ready.is at c.poll_here.ensures.polled in
     let call = ap (λ o. option_map (λ c'. c'.now) o) c.in-Some.is in
-    let happens = poll_happens coding c.in-Some.call.now c.args.stage.now c.poll_here.new.stage c.args.self.now c.poll_here.new.self (Ready c.in-Ready.answer) polled in
-    (
+    let happens = poll_happens coding c.in-Some.call.now c.args.stage.now c.poll_here.new.stage c.args.self.now c.poll_here.new.self (Ready c.in-Ready.answer) polled in (
       happens.0,
       happens.1,
       λ outcomes left old s answers follows may.
@@ -24,8 +23,7 @@ returns-in-Pending-clause-happens g c =
     let coding : Coding = coding_of g.E.Encoding.decoded g.E.Encoding.encoded c.args.encoding.now in
     let polled = rw c.in-Pending.is at c.poll_here.ensures.polled in
     let call = ap (λ o. option_map (λ c'. c'.now) o) c.in-Some.is in
-    let happens = poll_happens coding c.in-Some.call.now c.args.stage.now c.poll_here.new.stage c.args.self.now c.poll_here.new.self Pending polled in
-    (
+    let happens = poll_happens coding c.in-Some.call.now c.args.stage.now c.poll_here.new.stage c.args.self.now c.poll_here.new.self Pending polled in (
       happens.0,
       happens.1,
       λ outcomes left old s answers follows may.

@@ -1,0 +1,7 @@
+use Rattle.std.proofs.Common.{sym, ◌∙◌}
+use Rattle.session_plain.proofs.play.play_dialogue.Goals as goal
+
+pub returns : goal.returns
+returns g c =
+    let plain = sym c.negotiates.ensures ∙ c.if-negotiates.false in
+    rw plain c.from_turn.ensures
