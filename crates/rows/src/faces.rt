@@ -109,15 +109,13 @@ impl Face {
     }
 
     /// Whether a row can be played on it: the blocking client has no method that reads a reply alone, neither it nor
-    /// the session has one that opens a data connection, a run is made on a connection, and the definition of polled
-    /// runs is not given the outcomes of requests yet.
+    /// the session has one that opens a data connection, and a run is made on a connection.
     pub fn plays(self, play: &Play) -> bool {
         match self {
             Face::Definition => true,
             Face::Client => !play.opens_data() && client::has_methods(&play.calls),
             Face::Methods => !play.opens_data(),
-            Face::Run | Face::Polled => play.dial.is_none(),
-            Face::Script => play.dial.is_none() && !play.opens_data(),
+            Face::Run | Face::Polled | Face::Script => play.dial.is_none(),
         }
     }
 

@@ -8,15 +8,20 @@ use crate::requests::lines_of;
 use crate::transcript::Standing;
 use ftp_base::types::{Bytes, Items};
 use ftp_control::control::{ReplyForm, ReplyRule};
-use ftp_control::transport::Room;
+use ftp_control::transport::{RequestOutcome, Room};
 use ftp_session::model::{self, Dealings, Played, Ran, Script, Wait};
 use ftp_session::session::{Answer, Call, Event, State};
 use row_text::RowError;
 use session_plain::{connect_in_turn, run, run_polled};
 use std::alloc::{AllocError, Global};
 
-/// A run that begins: these are all bytes of the server.
-fn first(alloc: Global, input: &[u8], play: &Play) -> Result<model::Standing, AllocError> {
+/// A run that begins: these are all bytes of the server, and this is what its requests come to.
+fn first(
+    alloc: Global,
+    input: &[u8],
+    play: &Play,
+    outcomes: &[RequestOutcome],
+) -> Result<model::Standing, AllocError> {
     let (local, peer) = play.setup.ends();
     Ok(model::Standing {
         state: play.setup.state()?,
@@ -29,7 +34,7 @@ fn first(alloc: Global, input: &[u8], play: &Play) -> Result<model::Standing, Al
         dealings: no_dealings(alloc),
         bytes: Bytes::from_slice(alloc, input)?,
         ended: true,
-        outcomes: Items::from_vec(Vec::new(alloc)),
+        outcomes: Items::from_vec(Vec::from_slice(alloc, outcomes)?),
     })
 }
 
@@ -42,8 +47,8 @@ fn no_dealings(alloc: Global) -> Dealings {
 }
 
 /// A script that begins: nothing came, and nothing was said.
-fn first_script(alloc: Global) -> Script {
-    Script {
+fn first_script(alloc: Global, play: &Play) -> Result<Script, AllocError> {
+    Ok(Script {
         items: Items::from_vec(Vec::new(alloc)),
         answers: Items::from_vec(Vec::new(alloc)),
         call: None,
@@ -59,9 +64,9 @@ fn first_script(alloc: Global) -> Script {
         dealings: no_dealings(alloc),
         seen: 0,
         form: ReplyForm::Plain,
-        state: State::new(),
+        state: play.setup.state()?,
         failed: false,
-    }
+    })
 }
 
 /// The encoding of a row: UTF-8 where it names none.
@@ -69,63 +74,108 @@ fn encoding_of(play: &Play) -> Named {
     play.encoding.unwrap_or(Named::Utf8)
 }
 
-/// Where a run of these calls ends. It is played again for each request, with one outcome more.
+/// Where a run of these calls ends.
 pub fn ran(alloc: Global, calls: &[Call], play: &Play) -> Result<Standing, RowError> {
     if let (Some(dial), Some((_greet, others))) = (&play.dial, calls.split_first()) {
-        return dialled(alloc, dial, others, play, first(alloc, &play.input, play)?);
+        return dialled(alloc, dial, others, play);
     }
+    let outcomes = outcomes_of(alloc, calls, play)?;
+    let end = played(alloc, calls, play, &outcomes)?;
+    stands_after(alloc, &end, &outcomes, play.input.len())
+}
+
+/// Where this run stands, whose requests came to these outcomes.
+fn stands_after(
+    alloc: Global,
+    end: &Ran,
+    outcomes: &[RequestOutcome],
+    came: usize,
+) -> Result<Standing, RowError> {
+    match end {
+        Ran::Finished(answers, here) | Ran::Waiting(answers, _, here) => {
+            let asked = lines_of(alloc, here.dealings.asked.as_slice(), outcomes)?;
+            stands(alloc, asked, answers.as_slice(), here, came)
+        }
+    }
+}
+
+/// What the requests of these calls come to. They are played again for each request, with one outcome more.
+fn outcomes_of(
+    alloc: Global,
+    calls: &[Call],
+    play: &Play,
+) -> Result<Vec<RequestOutcome>, RowError> {
     let mut outcomes = Vec::new(alloc);
     for _ in 0..u64::MAX {
-        let mut begun = first(alloc, &play.input, play)?;
-        begun.outcomes = Items::from_vec(Vec::from_slice(alloc, &outcomes)?);
-        match run(alloc, Room::Any, &encoding_of(play), calls, begun)? {
+        match played(alloc, calls, play, &outcomes)? {
             Ran::Waiting(_, Wait::Outcome, here) => {
                 outcomes = play.setup.outcomes(alloc, here.dealings.asked.as_slice())?;
             }
-            Ran::Finished(answers, here) | Ran::Waiting(answers, _, here) => {
-                let asked = lines_of(alloc, here.dealings.asked.as_slice(), &outcomes)?;
-                return stands(alloc, asked, answers, here, play.input.len());
-            }
+            Ran::Finished(..) | Ran::Waiting(..) => return Ok(outcomes),
         }
     }
     Err(RowError::NotUnderstood)
 }
 
-/// Where a session comes to that connects first, and then makes these calls. Without a connection it makes none.
-fn dialled(
+/// What these calls come to, where their requests come to these outcomes.
+fn played(
     alloc: Global,
-    dial: &Dial,
-    others: &[Call],
+    calls: &[Call],
     play: &Play,
-    mut first: model::Standing,
-) -> Result<Standing, RowError> {
+    outcomes: &[RequestOutcome],
+) -> Result<Ran, AllocError> {
+    let begun = first(alloc, &play.input, play, outcomes)?;
+    run(alloc, Room::Any, &encoding_of(play), calls, begun)
+}
+
+/// Where a session comes to that connects first, and then makes these calls. Without a connection it makes none.
+fn dialled(alloc: Global, dial: &Dial, others: &[Call], play: &Play) -> Result<Standing, RowError> {
     let outcomes = dial.outcomes(alloc)?;
-    first.outcomes = Items::from_vec(Vec::from_slice(alloc, &outcomes)?);
-    let requests = dial.requests(alloc)?;
-    let encoding = encoding_of(play);
-    match connect_in_turn(alloc, Room::Any, &encoding, &requests, dial.fault(), first)? {
-        Played::Done(Answer::Unit, here) => {
-            let asked = lines_of(alloc, here.dealings.asked.as_slice(), &outcomes)?;
-            match run(alloc, Room::Any, &encoding, others, here)? {
-                Ran::Finished(answers, here) | Ran::Waiting(answers, _, here) => {
-                    let mut all = answers.into_vec();
-                    all.insert(0, Answer::Unit)?;
-                    stands(alloc, asked, Items::from_vec(all), here, play.input.len())
-                }
-            }
-        }
+    match connected(alloc, dial, play, &outcomes)? {
+        Played::Done(Answer::Unit, here) => greeted(alloc, others, play, here, &outcomes),
         Played::Done(answer, here) => {
             let mut all = Vec::new(alloc);
             all.push(answer)?;
-            stands(
-                alloc,
-                Vec::new(alloc),
-                Items::from_vec(all),
-                here,
-                play.input.len(),
-            )
+            stands(alloc, Vec::new(alloc), &all, &here, play.input.len())
         }
         Played::Pending(_, _) => Err(RowError::NotUnderstood),
+    }
+}
+
+/// What connecting comes to, where its requests come to these outcomes.
+fn connected(
+    alloc: Global,
+    dial: &Dial,
+    play: &Play,
+    outcomes: &[RequestOutcome],
+) -> Result<Played, AllocError> {
+    let requests = dial.requests(alloc)?;
+    let begun = first(alloc, &play.input, play, outcomes)?;
+    connect_in_turn(
+        alloc,
+        Room::Any,
+        &encoding_of(play),
+        &requests,
+        dial.fault(),
+        begun,
+    )
+}
+
+/// Where a session comes to that was greeted, and then makes these calls.
+fn greeted(
+    alloc: Global,
+    others: &[Call],
+    play: &Play,
+    here: model::Standing,
+    outcomes: &[RequestOutcome],
+) -> Result<Standing, RowError> {
+    let asked = lines_of(alloc, here.dealings.asked.as_slice(), outcomes)?;
+    match run(alloc, Room::Any, &encoding_of(play), others, here)? {
+        Ran::Finished(answers, here) | Ran::Waiting(answers, _, here) => {
+            let mut all = answers.into_vec();
+            all.insert(0, Answer::Unit)?;
+            stands(alloc, asked, &all, &here, play.input.len())
+        }
     }
 }
 
@@ -133,15 +183,15 @@ fn dialled(
 fn stands(
     alloc: Global,
     asked: Vec<String>,
-    answers: Items<Answer>,
-    here: model::Standing,
+    answers: &[Answer],
+    here: &model::Standing,
     came: usize,
 ) -> Result<Standing, RowError> {
-    let answers = texts_of(alloc, answers.as_slice())?;
+    let answers = texts_of(alloc, answers)?;
     let welcome = welcome(alloc, &here.state)?;
     Ok(Standing {
         asked,
-        sent: here.said.into_vec(),
+        sent: Vec::from_slice(alloc, here.said.as_slice())?,
         answers,
         taken: came.saturating_sub(here.bytes.len()),
         seen: None,
@@ -158,20 +208,89 @@ pub fn welcome(alloc: Global, state: &State) -> Result<Option<String>, AllocErro
     }
 }
 
-/// Where these events lead to.
-pub fn scripted(alloc: Global, events: &[Event], play: &Play) -> Result<Standing, RowError> {
-    let encoding = encoding_of(play);
-    let first = first(alloc, b"", play)?;
-    let script = run_polled(alloc, &encoding, &first, first_script(alloc), events)?;
-    stands_in(alloc, &script)
+/// What playing events came to.
+#[derive(Drop)]
+enum Attempt {
+    /// Where the session stands: it made no request whose outcome wasn't given.
+    Stands(Standing),
+    /// What the requests that it made come to: there are more than were given.
+    Asks(Vec<RequestOutcome>),
 }
 
-/// Where a session stands after this script.
-fn stands_in(alloc: Global, script: &Script) -> Result<Standing, RowError> {
+/// Where these events lead to. They happen again for each request, with one outcome more.
+pub fn scripted(alloc: Global, events: &[Event], play: &Play) -> Result<Standing, RowError> {
+    let mut outcomes = Vec::new(alloc);
+    for _ in 0..u64::MAX {
+        match attempted(alloc, events, play, &outcomes)? {
+            Attempt::Stands(standing) => return Ok(standing),
+            Attempt::Asks(more) => outcomes = more,
+        }
+    }
+    Err(RowError::NotUnderstood)
+}
+
+/// What these events come to, where the requests come to these outcomes.
+fn attempted(
+    alloc: Global,
+    events: &[Event],
+    play: &Play,
+    outcomes: &[RequestOutcome],
+) -> Result<Attempt, RowError> {
+    let script = script_of(alloc, events, play, outcomes)?;
+    attempt_of(alloc, &script, play, outcomes)
+}
+
+/// What a script came to whose requests were given these outcomes.
+fn attempt_of(
+    alloc: Global,
+    script: &Script,
+    play: &Play,
+    outcomes: &[RequestOutcome],
+) -> Result<Attempt, RowError> {
+    let asked = script.dealings.asked.as_slice();
+    if asked.len() > outcomes.len() {
+        return Ok(Attempt::Asks(play.setup.outcomes(alloc, asked)?));
+    }
+    Ok(Attempt::Stands(stands_in(alloc, script, outcomes)?))
+}
+
+/// The script of these events, where the requests come to these outcomes.
+fn script_of(
+    alloc: Global,
+    events: &[Event],
+    play: &Play,
+    outcomes: &[RequestOutcome],
+) -> Result<Script, AllocError> {
+    let begun = first(alloc, b"", play, outcomes)?;
+    script_from(alloc, events, play, &begun)
+}
+
+/// The script of these events, whose runs begin here.
+fn script_from(
+    alloc: Global,
+    events: &[Event],
+    play: &Play,
+    begun: &model::Standing,
+) -> Result<Script, AllocError> {
+    run_polled(
+        alloc,
+        &encoding_of(play),
+        begun,
+        first_script(alloc, play)?,
+        events,
+    )
+}
+
+/// Where a session stands after this script, whose requests came to these outcomes.
+fn stands_in(
+    alloc: Global,
+    script: &Script,
+    outcomes: &[RequestOutcome],
+) -> Result<Standing, RowError> {
     let answers = texts_of(alloc, script.answers.as_slice())?;
     let welcome = welcome(alloc, &script.state)?;
     Ok(Standing {
-        asked: Vec::new(alloc),
+        asked: lines_of(alloc, script.dealings.asked.as_slice(), outcomes)?,
         sent: Vec::from_slice(alloc, script.sent.as_slice())?,
         answers,
         taken: script.bytes.len().saturating_sub(script.untaken.len()),
