@@ -10,9 +10,9 @@ use Rattle.ftp_base.specs.Command.{text_of, words_of}
 use Rattle.ftp_control.specs.declared.control.rule.ReplyRule.{ReplyRule}
 use Rattle.ftp_control.specs.declared.control.rule.ReplyRule.TheVariants.{Lenient}
 use Rattle.ftp_control.specs.declared.transport.room.Room.TheVariants.{Any}
-use Rattle.ftp_control.specs.declared.transport.request.Request.{Request}
 use Rattle.ftp_control.specs.declared.transport.request.RequestOutcome.{RequestOutcome}
-use Rattle.ftp_control.specs.Asking.{outcomes_of}
+use Rattle.ftp_session.specs.Deals.{first_net, outcomes_of}
+use Rattle.ftp_session.specs.declared.model.Dealings.{Dealings}
 use Rattle.ftp_control.specs.Told.{IsFull, HasNoRoom}
 use Rattle.ftp_control.specs.declared.transport.room.Room.{Room}
 use Rattle.ftp_control.specs.Memory.{IsGiven, fresh_memory, fed}
@@ -55,14 +55,14 @@ answers_of (Finished answers s) = answers
 answers_of (Waiting answers wait s) = answers
 
 -- what the definition says of these bytes
-played : (decode : List ℕ → List ℕ) (state : State) (said unsent : List ℕ) (local peer : SocketAddr) (asked : List Request) (outcomes : List RequestOutcome) (ended : Bool) → answers_of (run Any (as_it_is decode) (Greet ∷ Noop ∷ []) (record { state = state; failed = false; rule = Lenient; said = said; unsent = unsent; local = local; peer = peer; asked = asked; bytes = server; ended = ended; outcomes = outcomes })) ≡ Done ∷ Done ∷ []
+played : (decode : List ℕ → List ℕ) (state : State) (said unsent : List ℕ) (local peer : SocketAddr) (dealings : Dealings) (outcomes : List RequestOutcome) (ended : Bool) → answers_of (run Any (as_it_is decode) (Greet ∷ Noop ∷ []) (record { state = state; failed = false; rule = Lenient; said = said; unsent = unsent; local = local; peer = peer; dealings = dealings; bytes = server; ended = ended; outcomes = outcomes })) ≡ Done ∷ Done ∷ []
 unfolding run play outcome text_of words_of
-played decode state said unsent local peer asked outcomes ended = refl
+played decode state said unsent local peer dealings outcomes ended = refl
 
 lenient : (rule : ReplyRule) → rule ≡ Lenient
 lenient Lenient = refl
 
-module _ (decode : List ℕ → List ℕ) (old new : SessionValue) (answers : List Answer) (begins : Begins (Unit {0}) (fed server fresh_memory) [] old) (given : IsGiven new.channel.told) (sound : IsSound (Unit {0}) new.channel) where
+module _ (decode : List ℕ → List ℕ) (old new : SessionValue) (answers : List Answer) (begins : Begins (Unit {0}) (fed server fresh_memory) (first_net [] []) old) (given : IsGiven new.channel.told) (sound : IsSound (Unit {0}) new.channel) where
   abbrev calls : List Call
   calls = Greet ∷ Noop ∷ []
 
@@ -123,7 +123,7 @@ module _ (decode : List ℕ → List ℕ) (old new : SessionValue) (answers : Li
       failed_at (Ask request next) is may = absurd may
       failed_at (Leaf answer state) is may = absurd may
 
-      may : Fails over_memory broke.aborts.place broke.aborts.fault broke.aborts.at broke.after ⊎ LacksMemory over_memory false (dialogue (as_it_is decode) broke.call broke.middle.state) broke.aborts.leads.came broke.aborts.fault (begun_by broke.call broke.middle) broke.aborts.at broke.after → MayAbort broke.aborts.fault
+      may : Fails over_memory broke.aborts.place broke.aborts.fault broke.aborts.at broke.last ⊎ LacksMemory over_memory false (dialogue (as_it_is decode) broke.call broke.middle.state) broke.aborts.leads.came broke.aborts.fault (begun_by broke.call broke.middle) broke.aborts.at broke.last → MayAbort broke.aborts.fault
       may (inl fails) = failed_at broke.aborts.place fails.is fails.may
       may (inr lacks) = inl lacks.is
 

@@ -9,6 +9,7 @@ use Rattle.ftp_calls.specs.declared.call.Answer.{Answer}
 use Rattle.ftp_calls.specs.declared.call.Call.{Call}
 use Rattle.ftp_calls.specs.declared.call.Call.TheVariants.{Greet}
 use Rattle.ftp_session.specs.Calls.{Begins}
+use Rattle.ftp_session.specs.Deals.{first_net}
 use Rattle.ftp_session.specs.Coding.{Coding}
 use Rattle.ftp_session.specs.Link.{Link}
 use Rattle.ftp_session.specs.Promises.{Runs}
@@ -41,7 +42,7 @@ Makes (call ∷ calls) old new text =
 -- the greeting and makes the calls
 pub record IsTranscript (script : Script) (text : List ℕ) : Type 0 where
   pub begun : SessionValue
-  pub begins : Begins (Unit {0}) (closed_memory (fed script.server fresh_memory)) [] begun
+  pub begins : Begins (Unit {0}) (closed_memory (fed script.server fresh_memory)) (first_net [] []) begun
   pub ended : SessionValue
   pub calls : List ℕ
   pub makes : Makes (Greet ∷ script.calls) begun ended calls

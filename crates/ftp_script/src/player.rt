@@ -6,6 +6,7 @@
 ghost use Rattle.std.specs.Prelude.{◌≡◌, ◌++◌, OnOk, None, IfOk, ℕ, List, [], drop};
 ghost use Rattle.ftp_control.specs.Memory.{closed_memory, fed, fresh_memory};
 ghost use Rattle.ftp_session.specs.Calls.{Begins};
+ghost use Rattle.ftp_session.specs.Deals.{first_net};
 ghost use Rattle.ftp_script.specs.Playing.{IsTranscript, MakesOne};
 
 use crate::script::Script;
@@ -38,7 +39,8 @@ pub(crate) fn transcript_of(alloc: Global, script: &Script) -> Result<Vec<u8>, A
 fn session_of(alloc: Global, server: &[u8]) -> Result<Session<MemoryTransport>, AllocError>
     ensures encoding { IfOk result (λ session. session.encoding.0 ≡ None) }
     ensures begins { IfOk result (λ session.
-        Begins (Unit {0}) (closed_memory (fed server.now fresh_memory)) [] session.machine) }
+        Begins (Unit {0}) (closed_memory (fed server.now fresh_memory))
+        (first_net [] []) session.machine) }
 {
     let mut conn = MemoryConn::new(alloc);
     conn.feed(server)?;
