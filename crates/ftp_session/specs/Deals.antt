@@ -15,7 +15,7 @@ use Rattle.ftp_session.specs.declared.model.Traffic.{Traffic}
 use Rattle.ftp_session.specs.declared.session.state.Owed.{Owed}
 use Rattle.ftp_session.specs.declared.session.state.Owed.TheVariants.{Nothing, Live, Left}
 
--- what the transport was asked, with the outcomes, in order; what it was handed to answer with next; and what the conn
+-- what the transport was asked, with the outcomes, in order; what it was handed to answer with next; and what the data
 -- connection tells, from the moment that it was made
 pub record Net : Type 0 where
   pub asked : List Asked

@@ -148,15 +148,15 @@ standing v more ended outcomes = record {
 }
 
 -- whatever still comes, and whatever room there is, this holds of where a run stood in a session and where it
--- stands now, where these bytes came between and these requests were answered
+-- stands now, where these bytes came between and this happened beside the control connection
 abbrev pub However : SessionValue → List ℕ → List Deal → SessionValue → (Room → Standing → Standing → Type 0) → Type 0
 However old came answered new Holds =
     (room : Room) (more : List ℕ) (ended : Bool) (outcomes : List RequestOutcome)
     → HasRoomFor room (length new.channel.told.sent) → GoesBeyond new.channel.ended more ended
     → Holds room (standing old (came ++ more) ended (outcomes_of answered ++ outcomes)) (standing new more ended outcomes)
 
--- these bytes came, these requests were answered, other bytes may have gone out, and no call failed; what was said
--- stays said, no more is untaken than was and came, and what is received was at hand, if it was before
+-- these bytes came, this happened beside the control connection, other bytes may have gone out, and no call failed;
+-- what was said stays said, no more is untaken than was and came, and what is received was at hand, if it was before
 pub record Goes (link : Link) (came : List ℕ) (answered : List Deal) (old new : SessionValue) : Type 0 where
   pub over : GoesBeyond old.channel.ended came new.channel.ended
   pub received : link.tells → new.channel.told.received ≡ old.channel.told.received ++ came
