@@ -71,6 +71,10 @@ impl Network for Counting {
         Ok(())
     }
 
+    fn note_build(&mut self, _address: SocketAddr) -> Result<(), AllocError> {
+        Ok(())
+    }
+
     fn closed(&mut self, _conn: TcpConn) {}
 }
 

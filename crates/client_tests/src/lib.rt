@@ -12,6 +12,8 @@ mod data_sockets;
 #[cfg(test)]
 mod grammar;
 #[cfg(test)]
+mod marks;
+#[cfg(test)]
 mod memory_transport;
 #[cfg(test)]
 mod negotiations;
@@ -27,3 +29,5 @@ mod sockets;
 mod state;
 #[cfg(test)]
 mod strangers;
+#[cfg(test)]
+mod transfers;

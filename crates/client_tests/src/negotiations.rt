@@ -11,7 +11,7 @@ use std::time::{Clock, Duration};
 use std::{io, thread};
 
 /// A session whose server greets, and the server's end. The server has another address than the client.
-fn connected<R>(rt: &R, mode: Mode) -> Result<(Session<TcpTransport>, TcpStream), Fail>
+pub fn connected<R>(rt: &R, mode: Mode) -> Result<(Session<TcpTransport>, TcpStream), Fail>
 where
     R: Net<Listener = TcpListener, Stream = TcpStream> + AllocGlobal,
 {
@@ -44,14 +44,14 @@ where
 }
 
 /// The next command line, without its end.
-fn next_line<R: AllocGlobal>(rt: &R, control: &mut BufReader<TcpStream>) -> io::Result<String> {
+pub fn next_line<R: AllocGlobal>(rt: &R, control: &mut BufReader<TcpStream>) -> io::Result<String> {
     let mut line = String::new(rt.alloc());
     control.read_line(&mut line)?;
     String::from_str(rt.alloc(), line.trim_end()).map_err(io::Error::from)
 }
 
 /// The port that a PORT command tells: its last two octets (RFC 959, section 5.3.2).
-fn port_of(line: &str) -> u16 {
+pub fn port_of(line: &str) -> u16 {
     let mut numbers = line.rsplit(',');
     let low = octet(numbers.next());
     let high = octet(numbers.next());
@@ -133,5 +133,17 @@ fn a_listener_lets_in_who_may_come_and_drops_others(rt: HostRuntime) -> Result<(
         let (command, _stream) = serving.join(&rt)?;
         assert_eq!(rt; command.as_str(), "RETR a.txt");
     }
+    Ok(())
+}
+
+#[test]
+fn nobody_connects_to_the_listener_of_a_call_that_is_done(rt: HostRuntime) -> Result<(), Fail> {
+    let (mut session, mut server) = connected(&rt, Mode::Active)?;
+    server.write_all(b"200 ok\r\n550 no\r\n")?;
+    assert!(rt; download(&rt, &mut session)?.starts_with("E10"));
+    let mut commands = BufReader::new(rt.alloc(), server)?;
+    let told = next_line(&rt, &mut commands)?;
+    let address = SocketAddr::from(([127, 0, 0, 1], port_of(&told)));
+    assert!(rt; TcpStream::connect(&rt, address).is_err());
     Ok(())
 }

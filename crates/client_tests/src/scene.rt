@@ -94,6 +94,7 @@ fn write_request(text: &mut String, request: &Request) -> Result<(), AllocError>
             write!(text, "{address} in {seconds} ")
         }
         Request::Listen(address) => write!(text, "listen {address} "),
+        Request::Build(address) => write!(text, "build {address} "),
         Request::Accept(deadline) => {
             let seconds = deadline.as_secs();
             write!(text, "accept in {seconds} ")

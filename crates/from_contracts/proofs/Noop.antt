@@ -10,9 +10,9 @@ use Rattle.ftp_base.specs.Command.{text_of, words_of}
 use Rattle.ftp_control.specs.declared.control.rule.ReplyRule.{ReplyRule}
 use Rattle.ftp_control.specs.declared.control.rule.ReplyRule.TheVariants.{Lenient}
 use Rattle.ftp_control.specs.declared.transport.room.Room.TheVariants.{Any}
-use Rattle.ftp_control.specs.declared.transport.request.RequestOutcome.{RequestOutcome}
 use Rattle.ftp_session.specs.Deals.{first_net, outcomes_of}
 use Rattle.ftp_session.specs.declared.model.Dealings.{Dealings}
+use Rattle.ftp_session.specs.declared.model.DealOutcome.{DealOutcome}
 use Rattle.ftp_control.specs.Told.{IsFull, HasNoRoom}
 use Rattle.ftp_control.specs.declared.transport.room.Room.{Room}
 use Rattle.ftp_control.specs.Memory.{IsGiven, fresh_memory, fed}
@@ -21,20 +21,20 @@ use Rattle.ftp_control.specs.Reading.{GoesOn}
 use Rattle.ftp_control.specs.Grammar.{outcome}
 use Rattle.ftp_session.specs.declared.session.state.State.{State}
 use Rattle.ftp_calls.specs.declared.call.Answer.{Answer}
-use Rattle.ftp_calls.specs.declared.call.Answer.TheVariants.{Unit as Done}
+use Rattle.ftp_calls.specs.declared.call.Answer.TheVariants.{Unit as Done, Fault}
 use Rattle.ftp_calls.specs.declared.call.Call.{Call}
 use Rattle.ftp_calls.specs.declared.call.Call.TheVariants.{Greet, Noop}
 use Rattle.ftp_session.specs.declared.model.Standing.{Standing}
 use Rattle.ftp_session.specs.declared.model.Ran.{Ran}
 use Rattle.ftp_session.specs.declared.model.Ran.TheVariants.{Finished, Waiting}
-use Rattle.ftp_session.specs.Link.{Link}
+use Rattle.ftp_session.specs.Link.{Builds, Link}
 use Rattle.ftp_session.specs.Coding.{Coding}
 use Rattle.ftp_session.specs.Calls.{Begins}
 use Rattle.ftp_session.specs.State.{SessionValue}
-use Rattle.ftp_session.specs.Dialogue.{Tree, Say, Hear, Look, Ask, Leaf, dialogue}
+use Rattle.ftp_session.specs.Dialogue.{Tree, Say, Hear, Look, Ask, Build, Move, Leaf, dialogue}
 use Rattle.ftp_session.specs.Play.{play}
 use Rattle.ftp_session.specs.Run.{run, OneView}
-use Rattle.ftp_session.specs.Promises.{begun_by, standing, Runs, RunsTo, RunAborts, Fails, LacksMemory, MayFailAt}
+use Rattle.ftp_session.specs.Promises.{answer_at, begun_by, standing, Runs, RunsTo, RunAborts, Fails, LacksMemory, MayFailAt}
 use Rattle.ftp_session.proofs.Running.{nothing_views}
 use Rattle.from_contracts.specs.Aborted.{MayAbort, WasAborted}
 
@@ -47,31 +47,34 @@ abbrev pub as_it_is : (List ℕ → List ℕ) → Coding
 as_it_is decode = record { decode = decode; encode = λ text. Ok text }
 
 -- a blocking connection over memory
-abbrev pub over_memory : Link
-over_memory = record { tells = Unit {0}; reads = λ kind. ⊥; writes = λ told kind. (kind ≡ kinds.OutOfMemory) ⊎ ((kind ≡ kinds.WouldBlock) × IsFull told); ends = λ kind. ⊥; asks_wait = ⊥ }
+abbrev pub over_memory : Builds → Link
+over_memory builds = record { tells = Unit {0}; reads = λ kind. ⊥; writes = λ told kind. (kind ≡ kinds.OutOfMemory) ⊎ ((kind ≡ kinds.WouldBlock) × IsFull told); ends = λ kind. ⊥; asks_wait = ⊥; builds = builds }
 
 abbrev answers_of : Ran → List Answer
 answers_of (Finished answers s) = answers
 answers_of (Waiting answers wait s) = answers
 
 -- what the definition says of these bytes
-played : (decode : List ℕ → List ℕ) (state : State) (said unsent : List ℕ) (local peer : SocketAddr) (dealings : Dealings) (outcomes : List RequestOutcome) (ended : Bool) → answers_of (run Any (as_it_is decode) (Greet ∷ Noop ∷ []) (record { state = state; failed = false; rule = Lenient; said = said; unsent = unsent; local = local; peer = peer; dealings = dealings; bytes = server; ended = ended; outcomes = outcomes })) ≡ Done ∷ Done ∷ []
+played : (decode : List ℕ → List ℕ) (state : State) (said unsent : List ℕ) (local peer : SocketAddr) (dealings : Dealings) (outcomes : List DealOutcome) (ended : Bool) → answers_of (run Any (as_it_is decode) (Greet ∷ Noop ∷ []) (record { state = state; failed = false; rule = Lenient; said = said; unsent = unsent; local = local; peer = peer; dealings = dealings; bytes = server; ended = ended; outcomes = outcomes })) ≡ Done ∷ Done ∷ []
 unfolding run play outcome text_of words_of
 played decode state said unsent local peer dealings outcomes ended = refl
 
 lenient : (rule : ReplyRule) → rule ≡ Lenient
 lenient Lenient = refl
 
-module _ (decode : List ℕ → List ℕ) (old new : SessionValue) (answers : List Answer) (begins : Begins (Unit {0}) (fed server fresh_memory) (first_net [] []) old) (given : IsGiven new.channel.told) (sound : IsSound (Unit {0}) new.channel) where
+same_fault : (one other : FtpError) → Fault one ≡ Fault other → one ≡ other
+same_fault one other is = cc is
+
+module _ (builds : Builds) (decode : List ℕ → List ℕ) (old new : SessionValue) (answers : List Answer) (begins : Begins (Unit {0}) (fed server fresh_memory) (first_net [] [] []) old) (given : IsGiven new.channel.told) (sound : IsSound (Unit {0}) new.channel) where
   abbrev calls : List Call
   calls = Greet ∷ Noop ∷ []
 
   -- where a run of these bytes begins
-  abbrev begin_at : List RequestOutcome → Bool → ReplyRule → List ℕ → Standing
+  abbrev begin_at : List DealOutcome → Bool → ReplyRule → List ℕ → Standing
   begin_at outcomes failed rule bytes = record (standing old [] new.channel.ended outcomes) { failed = failed; rule = rule; bytes = bytes }
 
   -- all bytes that were fed came
-  all_came : (runs : RunsTo over_memory (as_it_is decode) calls old new answers) → untaken old.channel ++ (runs.came ++ given.ahead) ≡ server
+  all_came : (runs : RunsTo (over_memory builds) (as_it_is decode) calls old new answers) → untaken old.channel ++ (runs.came ++ given.ahead) ≡ server
   all_came runs =
       let none : untaken old.channel ≡ [] = ap (λ k. k ++ old.channel.ahead) begins.idle.kept ∙ begins.idle.ahead in
       let received : new.channel.told.received ≡ runs.came = runs.goes.received tt ∙ ap (λ t. t.received ++ runs.came) (begins.told tt) in
@@ -79,7 +82,7 @@ module _ (decode : List ℕ → List ℕ) (old new : SessionValue) (answers : Li
       ap (λ u. u ++ (runs.came ++ given.ahead)) none ∙ ap (λ c. c ++ given.ahead) (sym received) ∙ sym given.front ∙ bytes
 
   -- a run that came to its end
-  finished : RunsTo over_memory (as_it_is decode) calls old new answers → answers ≡ Done ∷ Done ∷ []
+  finished : RunsTo (over_memory builds) (as_it_is decode) calls old new answers → answers ≡ Done ∷ Done ∷ []
   finished runs =
       let coding = as_it_is decode in
       let outcomes = outcomes_of runs.answered ++ [] in
@@ -95,7 +98,7 @@ module _ (decode : List ℕ → List ℕ) (old new : SessionValue) (answers : Li
       ∙ ap (λ b. B false Lenient b) (all_came runs)
       ∙ played decode old.state old.channel.told.sent old.channel.unsent _ _ _ outcomes new.channel.ended
 
-  aborted : RunAborts over_memory (as_it_is decode) calls [] old new answers → WasAborted answers
+  aborted : RunAborts (over_memory builds) (as_it_is decode) calls [] old new answers → WasAborted answers
   aborted broke = record {
     first = broke.first;
     later = broke.later;
@@ -116,18 +119,20 @@ module _ (decode : List ℕ → List ℕ) (old new : SessionValue) (answers : Li
           let P : Room → Type 0 = λ r. HasNoRoom r (length broke.aborts.at.channel.told.sent) in
           absurd (subst P room full.1)
 
-      failed_at : {kind : ErrorKind} (place : Tree) → broke.aborts.fault ≡ ConnectionError (Io kind) → MayFailAt over_memory place broke.aborts.at.channel.told kind → MayAbort broke.aborts.fault
-      failed_at (Say line next) is may = written is (may tt)
-      failed_at (Hear codes next) is may = absurd may
-      failed_at (Look end next) is may = absurd may
-      failed_at (Ask request next) is may = absurd may
-      failed_at (Leaf answer state) is may = absurd may
+      failed_at : (kind : ErrorKind) (place : Tree) → Fault broke.aborts.fault ≡ answer_at place (ConnectionError (Io kind)) → MayFailAt (over_memory builds) place broke.aborts.at.channel.told kind → MayAbort broke.aborts.fault
+      failed_at kind (Say line next) is may = written (same_fault _ _ is) (may tt)
+      failed_at kind (Hear codes next) is may = absurd may
+      failed_at kind (Look end next) is may = absurd may
+      failed_at kind (Ask request next) is may = absurd may
+      failed_at kind (Build address next) is may = absurd may
+      failed_at kind (Move movement next) is may = absurd may
+      failed_at kind (Leaf answer state) is may = absurd may
 
-      may : Fails over_memory broke.aborts.place broke.aborts.fault broke.aborts.at broke.last ⊎ LacksMemory over_memory false (dialogue (as_it_is decode) broke.call broke.middle.state) broke.aborts.leads.came broke.aborts.fault (begun_by broke.call broke.middle) broke.aborts.at broke.last → MayAbort broke.aborts.fault
-      may (inl fails) = failed_at broke.aborts.place fails.is fails.may
+      may : Fails (over_memory builds) broke.aborts.place broke.aborts.fault broke.aborts.at broke.last ⊎ LacksMemory (over_memory builds) false (dialogue (as_it_is decode) broke.call broke.middle.state) broke.aborts.leads.came broke.aborts.fault (begun_by broke.call broke.middle) broke.aborts.at broke.last → MayAbort broke.aborts.fault
+      may (inl fails) = failed_at fails.kind broke.aborts.place fails.is fails.may
       may (inr lacks) = inl lacks.is
 
   -- both calls succeed, or one was aborted
-  pub answered : Runs over_memory (as_it_is decode) calls old new answers → (answers ≡ Done ∷ Done ∷ []) ⊎ WasAborted answers
+  pub answered : Runs (over_memory builds) (as_it_is decode) calls old new answers → (answers ≡ Done ∷ Done ∷ []) ⊎ WasAborted answers
   answered (inl runs) = inl (finished runs)
   answered (inr broke) = inr (aborted broke)

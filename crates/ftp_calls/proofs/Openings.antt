@@ -1,7 +1,7 @@
 -- Which calls open a data connection.
 use Rattle.std.proofs.Common.{◌≡◌, Bool, true, false, ◌&&◌, refl}
 use Rattle.ftp_calls.specs.declared.call.Call.{Call}
-use Rattle.ftp_calls.specs.declared.call.Call.TheVariants.{Greet, Login, Cwd, Cdup, Pwd, Noop, Eprt, Opts, Site, TransferType, Mkdir, Rmdir, Rm, Rename, Quit, Mlst, Mdtm, Size, Feat, CustomCommand, ReadResponse, ReadResponseIn, ResumeTransfer, RetrAsStream, PutWithStream, AppendWithStream, CustomDataCommand}
+use Rattle.ftp_calls.specs.declared.call.Call.TheVariants.{Greet, Login, Cwd, Cdup, Pwd, Noop, Eprt, Opts, Site, TransferType, Mkdir, Rmdir, Rm, Rename, Quit, Mlst, Mdtm, Size, Feat, CustomCommand, ReadResponse, ReadResponseIn, ResumeTransfer, RetrAsStream, PutWithStream, AppendWithStream, CustomDataCommand, Set, Read, Write, Finish}
 use Rattle.ftp_calls.specs.declared.exchange.Turn.TheVariants.{Second}
 use Rattle.ftp_calls.specs.Exchanges.{is_read, negotiates, opens, row_of}
 
@@ -34,6 +34,10 @@ opens_alike (RetrAsStream p) = refl
 opens_alike (PutWithStream p) = refl
 opens_alike (AppendWithStream p) = refl
 opens_alike (CustomDataCommand l c) = refl
+opens_alike (Set s) = refl
+opens_alike (Read n) = refl
+opens_alike (Write b) = refl
+opens_alike Finish = refl
 
 -- a plain read opens none
 pub read_opens_none : (call : Call) → negotiates call ≡ true → is_read call ≡ false
@@ -64,3 +68,7 @@ read_opens_none (RetrAsStream p) opens = refl
 read_opens_none (PutWithStream p) opens = refl
 read_opens_none (AppendWithStream p) opens = refl
 read_opens_none (CustomDataCommand l c) opens = refl
+read_opens_none (Set s) opens = let clash : false ≡ true = opens in cc
+read_opens_none (Read n) opens = let clash : false ≡ true = opens in cc
+read_opens_none (Write b) opens = let clash : false ≡ true = opens in cc
+read_opens_none Finish opens = let clash : false ≡ true = opens in cc

@@ -3,21 +3,22 @@
 -- (MLST). All that a call does follows from its rows.
 use Rattle.std.specs.Prelude.{Bool, true, false, ◌&&◌, nat_lt, ℕ, if◌then◌else◌, List, [], ◌∷◌, Option, Some, None, is_none}
 use Rattle.ftp_base.specs.declared.status.Status.{Status}
-use Rattle.ftp_base.specs.declared.status.Status.TheVariants.{AlreadyOpen, AboutToSend, CommandOk, System, File, Ready, Closing, PassiveMode, ExtendedPassiveMode, LoggedIn, RequestedFileActionOk, PathCreated, NeedPassword, RequestFilePending}
+use Rattle.ftp_base.specs.declared.status.Status.TheVariants.{AlreadyOpen, AboutToSend, CommandOk, System, File, Ready, Closing, ClosingDataConnection, PassiveMode, ExtendedPassiveMode, LoggedIn, RequestedFileActionOk, PathCreated, NeedPassword, RequestFilePending}
 use Rattle.ftp_base.specs.declared.types.file_type.FileType.{FileType}
 use Rattle.ftp_base.specs.declared.types.file_type.FileType.TheVariants.{Ascii, Ebcdic, Image, Binary, Local}
 use Rattle.ftp_base.specs.declared.command.Command.{Command}
 use Rattle.ftp_base.specs.declared.command.Command.TheVariants as command
 use Rattle.ftp_calls.specs.declared.call.Call.{Call}
-use Rattle.ftp_calls.specs.declared.call.Call.TheVariants.{Greet, Login, Cwd, Cdup, Pwd, Noop, Eprt, Opts, Site, TransferType, Mkdir, Rmdir, Rm, Rename, Quit, Mlst, Mdtm, Size, Feat, CustomCommand, ReadResponse, ReadResponseIn, ResumeTransfer, RetrAsStream, PutWithStream, AppendWithStream, CustomDataCommand}
+use Rattle.ftp_calls.specs.declared.call.Call.TheVariants.{Greet, Login, Cwd, Cdup, Pwd, Noop, Eprt, Opts, Site, TransferType, Mkdir, Rmdir, Rm, Rename, Quit, Mlst, Mdtm, Size, Feat, CustomCommand, ReadResponse, ReadResponseIn, ResumeTransfer, RetrAsStream, PutWithStream, AppendWithStream, CustomDataCommand, Set, Read, Write, Finish}
 use Rattle.ftp_calls.specs.declared.exchange.Turn.{Turn}
-use Rattle.ftp_calls.specs.declared.exchange.Turn.TheVariants.{First, Second, Passive, ExtendedPassive, Active, Restart}
+use Rattle.ftp_calls.specs.declared.exchange.Turn.TheVariants.{First, Second, Passive, ExtendedPassive, Active, Restart, Closed}
 use Rattle.ftp_calls.specs.declared.exchange.Codes.{Codes}
 use Rattle.ftp_calls.specs.declared.exchange.Codes.TheVariants.{One, Either, Given, Features}
 use Rattle.ftp_calls.specs.declared.exchange.Ending.{Ending}
-use Rattle.ftp_calls.specs.declared.exchange.Ending.TheVariants.{Done, GivesReply, Greets, GivesPath, GivesSecondLine, GivesTime, GivesSize, GivesFeatures, SetsText, GoesOn, Continues, GivesAddress, GivesPort, Opens}
+use Rattle.ftp_calls.specs.declared.exchange.Ending.TheVariants.{Done, GivesReply, Greets, GivesPath, GivesSecondLine, GivesTime, GivesSize, GivesFeatures, SetsText, GoesOn, Continues, GivesAddress, GivesPort, Opens, Finishes}
 use Rattle.ftp_calls.specs.declared.exchange.Row.{Row}
-use Rattle.ftp_calls.specs.declared.exchange.Row.TheVariants.{Exchanges, Arms}
+use Rattle.ftp_calls.specs.declared.exchange.Row.TheVariants.{Exchanges, Arms, Sets, Moves}
+use Rattle.ftp_calls.specs.declared.exchange.Movement.TheVariants as movement
 use Rattle.ftp_calls.specs.Active.{port_command}
 
 -- the statuses that a reply may have
@@ -74,9 +75,14 @@ own_row (RetrAsStream path) first = says (command.Retr path) (Either AboutToSend
 own_row (PutWithStream path) first = says (command.Store path) (Either AlreadyOpen AboutToSend) (Opens false)
 own_row (AppendWithStream path) first = says (command.Appe path) (Either AlreadyOpen AboutToSend) (Opens false)
 own_row (CustomDataCommand line codes) first = says (command.Custom line) (Given codes) (Opens true)
+own_row (Set setting) first = Sets setting
+own_row (Read most) first = Moves (movement.Read most)
+own_row (Write bytes) first = Moves (movement.Write bytes)
+own_row Finish first = hears (Either ClosingDataConnection RequestedFileActionOk) (Finishes None)
 
 -- what a call does at this turn. Before the command that opens a data connection the server is asked where to connect,
--- or told where the client listens, and told the offset
+-- or told where the client listens, and told the offset; after a data connection was closed the transfer's last reply
+-- is heard
 abbrev pub row_of : Call → Turn → Row
 row_of call First = own_row call true
 row_of call Second = own_row call false
@@ -84,8 +90,10 @@ row_of call (Passive offset) = says command.Pasv (One PassiveMode) GivesAddress
 row_of call (ExtendedPassive offset) = says command.Epsv (One ExtendedPassiveMode) GivesPort
 row_of call (Active address offset) = says (port_command address) (One CommandOk) Continues
 row_of call (Restart offset) = says (command.Rest offset) (One RequestFilePending) Continues
+row_of call (Closed fault) = hears (Either ClosingDataConnection RequestedFileActionOk) (Finishes fault)
 
--- what a call that succeeds gives: nothing, a reply, a text, a time, a number of bytes, features or a data connection
+-- what a call that succeeds gives: nothing, a reply, a text, a time, a number of bytes, features, a data connection, or
+-- what went over one
 pub data Kind : Type 0 where
   Nothing : Kind
   Replies : Kind
@@ -94,6 +102,7 @@ pub data Kind : Type 0 where
   Sizes : Kind
   Lists : Kind
   Connections : Kind
+  Movements : Kind
 
 abbrev pub kind_of : Ending → Kind
 kind_of Done = Nothing
@@ -110,6 +119,7 @@ kind_of Continues = Nothing
 kind_of GivesAddress = Nothing
 kind_of GivesPort = Nothing
 kind_of (Opens gives_reply) = Connections
+kind_of (Finishes fault) = Nothing
 
 -- a reply is the answer
 abbrev pub gives_reply : Ending → Bool
@@ -127,26 +137,35 @@ gives_reply Continues = false
 gives_reply GivesAddress = false
 gives_reply GivesPort = false
 gives_reply (Opens replies) = false
+gives_reply (Finishes fault) = false
 
 -- the ending of a row that is an exchange
 abbrev pub ending_of : Row → Option Ending
 ending_of (Exchanges exchange) = Some exchange.ending
 ending_of (Arms offset) = None
+ending_of (Sets setting) = None
+ending_of (Moves movement) = None
 
 -- what a row says, if anything
 abbrev pub says_of : Row → Option Command
 says_of (Exchanges exchange) = exchange.says
 says_of (Arms offset) = None
+says_of (Sets setting) = None
+says_of (Moves movement) = None
 
 -- what a row gives where it succeeds
 abbrev pub given_by : Row → Kind
 given_by (Exchanges exchange) = kind_of exchange.ending
 given_by (Arms offset) = Nothing
+given_by (Sets setting) = Nothing
+given_by (Moves movement) = Movements
 
 -- a plain read: a reply is its answer, and nothing is said
 abbrev pub reads : Row → Bool
 reads (Exchanges exchange) = gives_reply exchange.ending && is_none exchange.says
 reads (Arms offset) = false
+reads (Sets setting) = false
+reads (Moves movement) = false
 
 abbrev pub is_read : Call → Bool
 is_read call = reads (row_of call First)
@@ -159,6 +178,8 @@ is_opening other = false
 abbrev pub opens : Row → Bool
 opens (Exchanges exchange) = is_opening exchange.ending
 opens (Arms offset) = false
+opens (Sets setting) = false
+opens (Moves movement) = false
 
 -- a call opens a data connection, and so negotiates first
 abbrev pub negotiates : Call → Bool
@@ -184,3 +205,44 @@ next_turn call (Passive offset) = Some (restarted call offset)
 next_turn call (ExtendedPassive offset) = Some (restarted call offset)
 next_turn call (Active address offset) = Some (restarted call offset)
 next_turn call (Restart offset) = Some Second
+next_turn call (Closed fault) = None
+
+-- a call is none of the control connection: it changes a setting, or moves bytes over the data connection
+abbrev pub local_row : Row → Bool
+local_row (Exchanges exchange) = false
+local_row (Arms offset) = false
+local_row (Sets setting) = true
+local_row (Moves movement) = true
+
+abbrev pub is_local : Call → Bool
+is_local call = local_row (row_of call First)
+
+-- a call brings a transfer to its end
+abbrev pub is_finishing : Ending → Bool
+is_finishing (Finishes fault) = true
+is_finishing other = false
+
+abbrev pub finishing_row : Row → Bool
+finishing_row (Exchanges exchange) = is_finishing exchange.ending
+finishing_row (Arms offset) = false
+finishing_row (Sets setting) = false
+finishing_row (Moves movement) = false
+
+abbrev pub finishes : Call → Bool
+finishes call = finishing_row (row_of call First)
+
+-- a call is of a transfer that the session holds
+abbrev pub moving_row : Row → Bool
+moving_row (Exchanges exchange) = is_finishing exchange.ending
+moving_row (Arms offset) = false
+moving_row (Sets setting) = false
+moving_row (Moves movement) = true
+
+abbrev pub of_transfer : Call → Bool
+of_transfer call = moving_row (row_of call First)
+
+-- the transfer that a call opens is an upload: RFC 959, section 4.1.3
+abbrev pub uploads : Call → Bool
+uploads (PutWithStream path) = true
+uploads (AppendWithStream path) = true
+uploads other = false

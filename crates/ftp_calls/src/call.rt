@@ -5,9 +5,25 @@
 //! dropped.
 
 use ftp_base::status::Status;
-use ftp_base::types::{Bytes, Features, FileType, FtpError, Items, Response, Text};
+use ftp_base::types::{
+    ActivePeerCheck, Bytes, Features, FileType, FtpError, Items, Mode, Response, Text,
+};
 use jiff::civil::DateTime;
 use std::net::SocketAddr;
+use std::time::Duration;
+
+/// What a session is told to do, without a word to the server.
+#[derive(Clone, Debug, Drop)]
+pub enum Setting {
+    /// Who opens data connections, and how they are asked for.
+    Mode(Mode),
+    /// Whether the host of a reply to `PASV` is passed over for the control connection's peer.
+    PassiveNatWorkaround(bool),
+    /// Which peers may open an active data connection.
+    ActivePeerCheck(ActivePeerCheck),
+    /// How long an active data connection is waited for.
+    ActiveDeadline(Duration),
+}
 
 /// A call of a session, with its arguments.
 #[derive(Clone, Debug, Drop)]
@@ -66,6 +82,14 @@ pub enum Call {
     AppendWithStream(Text),
     /// A data connection is opened, and a caller-supplied line; the statuses that its reply may have.
     CustomDataCommand(Text, Items<Status>),
+    /// A setting changes; nothing is said or heard, and a session that has failed takes it, too.
+    Set(Setting),
+    /// At most so many bytes are read from the transfer's data connection, in one read.
+    Read(usize),
+    /// Bytes are written to the transfer's data connection, in one write.
+    Write(Items<u8>),
+    /// The data connection is closed, and the transfer's last reply is read (226, 250).
+    Finish,
 }
 
 /// The answer of a call in a run.
@@ -87,6 +111,12 @@ pub enum Answer {
     Opened,
     /// A data connection is open, and this is the reply.
     OpenedWith(Response),
+    /// These bytes were read from the data connection; none at its end.
+    Bytes(Bytes),
+    /// So many bytes were written to the data connection.
+    Count(u64),
+    /// A call of a transfer, where the session holds none; nothing happened.
+    NoTransfer,
     /// The call failed.
     Fault(FtpError),
 }
@@ -106,6 +136,6 @@ pub enum Event {
     Poll,
     /// The call under way is dropped.
     Cancel,
-    /// The transfer is left. No call of today opens one, so nothing changes.
+    /// The transfer is left. Nothing changes yet.
     Leave,
 }

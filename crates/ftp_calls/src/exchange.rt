@@ -5,14 +5,15 @@
 //! of `Call`, a row of `own_row`, and its row in the definition.
 
 ghost use Rattle.std.specs.Prelude.{◌≡◌, Bool, IfOk};
-ghost use Rattle.ftp_calls.specs.Exchanges.{hears, negotiates, next_turn, own_row, restarted, restarts, row_of, says};
+ghost use Rattle.ftp_calls.specs.Exchanges.{finishes, hears, is_local, negotiates, next_turn, of_transfer, own_row, restarted, restarts, row_of, says, uploads};
 
 use crate::active::port_command;
-use crate::call::Call;
+use crate::call::{Call, Setting};
 use ftp_base::command::Command;
 use ftp_base::status::Status;
 use ftp_base::types::{FileType, Items, Text};
 use std::alloc::{AllocError, Global};
+use std::io::ErrorKind;
 use std::net::SocketAddr;
 
 /// Which of a call's exchanges. Those that negotiate keep the offset at which the transfer begins, in bytes.
@@ -30,6 +31,8 @@ pub enum Turn {
     Active(SocketAddr, u64),
     /// `REST`: the server is told the offset.
     Restart(u64),
+    /// The data connection was closed, or that failed, and the transfer's last reply is read.
+    Closed(Option<ErrorKind>),
 }
 
 /// The statuses that a reply may have.
@@ -76,6 +79,8 @@ pub enum Ending {
     GivesPort,
     /// The data connection carries a transfer from now on; the reply is part of the answer, or isn't.
     Opens(bool),
+    /// The transfer has come to its end; the fault of an upload's close is told before the reply's.
+    Finishes(Option<ErrorKind>),
 }
 
 /// One command and its reply, or one reply.
@@ -96,6 +101,21 @@ pub enum Row {
     Exchanges(Exchange),
     /// Nothing is said or heard: the next transfer begins at this offset, in bytes, and the call is done.
     Arms(u64),
+    /// Nothing is said or heard: a setting changes.
+    Sets(Setting),
+    /// Nothing is said or heard: bytes go over the data connection.
+    Moves(Movement),
+}
+
+/// What is done on a data connection.
+#[derive(Clone, Debug, Drop)]
+pub enum Movement {
+    /// At most so many bytes are read, in one read.
+    Read(usize),
+    /// Bytes are written, in one write.
+    Write(Items<u8>),
+    /// It is closed.
+    Close,
 }
 
 /// What a call does at this turn, with texts of its own.
@@ -124,6 +144,7 @@ pub fn row_at(alloc: Global, call: &Call, turn: Turn) -> Result<Row, AllocError>
             let codes = Codes::One(Status::RequestFilePending);
             Ok(says(Command::Rest(offset as usize), codes, Ending::Continues))
         }
+        Turn::Closed(fault) => Ok(last_reply(fault)),
     }
 }
 
@@ -152,7 +173,36 @@ pub fn next_turn(call: &Call, turn: Turn) -> Option<Turn>
         Turn::ExtendedPassive(offset) => Some(restarted(call, offset)),
         Turn::Active(_address, offset) => Some(restarted(call, offset)),
         Turn::Restart(_offset) => Some(Turn::Second),
+        Turn::Closed(_fault) => None,
     }
+}
+
+/// Whether a call is none of the control connection: it changes a setting, or moves bytes over the data connection.
+pub fn is_local(call: &Call) -> bool
+    ensures { result ≡ is_local call.now }
+{
+    matches!(call, Call::Set(_) | Call::Read(_) | Call::Write(_))
+}
+
+/// Whether a call brings a transfer to its end.
+pub fn finishes(call: &Call) -> bool
+    ensures { result ≡ finishes call.now }
+{
+    matches!(call, Call::Finish)
+}
+
+/// Whether a call is of a transfer that the session holds.
+pub fn of_transfer(call: &Call) -> bool
+    ensures { result ≡ of_transfer call.now }
+{
+    matches!(call, Call::Read(_) | Call::Write(_) | Call::Finish)
+}
+
+/// Whether the transfer that a call opens is an upload.
+pub fn uploads(call: &Call) -> bool
+    ensures { result ≡ uploads call.now }
+{
+    matches!(call, Call::PutWithStream(_) | Call::AppendWithStream(_))
 }
 
 /// The turn after the connection is agreed on: the offset, where there is one, and then the command.
@@ -242,7 +292,19 @@ fn own_row(call: Call, first: bool) -> Row
                 Ending::Opens(true),
             )
         }
+        Call::Set(setting) => Row::Sets(setting),
+        Call::Read(most) => Row::Moves(Movement::Read(most)),
+        Call::Write(bytes) => Row::Moves(Movement::Write(bytes)),
+        Call::Finish => last_reply(None),
     }
+}
+
+/// The last reply of a transfer (226, 250), after this fault of the close, if it failed.
+fn last_reply(fault: Option<ErrorKind>) -> Row
+    ensures { result ≡ row_of Call.Finish (Turn.Closed fault) }
+{
+    let codes = Codes::Either(Status::ClosingDataConnection, Status::RequestedFileActionOk);
+    hears(codes, Ending::Finishes(fault))
 }
 
 /// `USER`, and after 331 `PASS`.

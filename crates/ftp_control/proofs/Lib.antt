@@ -2,6 +2,7 @@ pub mod Asking
 pub mod Channels
 pub mod Law
 pub mod Lines
+pub mod Marks
 pub mod Memory
 pub mod Outcomes
 pub mod Reading

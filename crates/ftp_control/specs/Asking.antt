@@ -6,6 +6,7 @@ use Rattle.std.specs.declared.net.socket_addr.SocketAddr.{SocketAddr}
 use Rattle.std.specs.declared.time.Duration.{Duration}
 use Rattle.futures.specs.declared.task.Poll.{Poll}
 use Rattle.futures.specs.declared.task.Poll.TheVariants.{Ready, Pending}
+use Rattle.ftp_base.specs.declared.types.fault.FtpError.{FtpError}
 use Rattle.ftp_base.specs.declared.types.fault.ConnectionError.{ConnectionError}
 use Rattle.ftp_base.specs.declared.types.fault.ConnectionError.TheVariants.{Io}
 use Rattle.ftp_control.specs.Told.{Told}
@@ -59,6 +60,11 @@ connects_as told conn = Connects (told conn)
 
 abbrev pub comes_as : {C : Type 0} → (C → Told) → C × SocketAddr → Supply
 comes_as told made = Peer made.1 (told made.0)
+
+-- what a builder answered: a connection of this record, or its fault
+abbrev pub built_as : {C : Type 0} → (C → Told) → Result C FtpError → Result Told FtpError
+built_as told (Ok conn) = Ok (told conn)
+built_as told (Err fault) = Err fault
 
 -- what was handed in is what comes: what was made is the next item
 abbrev pub Supplies : {T : Type 0} → (T → Supply) → (List Supply → ConnectionError → Type 0) → Poll (Result (Result T ConnectionError) AllocError) → List Supply → List Supply → Type 0

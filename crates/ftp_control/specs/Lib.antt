@@ -5,6 +5,7 @@ pub mod Grammar
 pub mod Inside
 pub mod Law
 pub mod LineAnswer
+pub mod Mark
 pub mod Memory
 pub mod Performing
 pub mod Reading

@@ -5,6 +5,7 @@
 //! written once, over `PollConn`. `MemoryConn` records all its traffic, and what is proved of a client is said of such
 //! a record; `TcpConn` is a socket, of which nothing can be proved.
 
+mod builder;
 mod connecting;
 mod connection;
 mod memory;
@@ -18,6 +19,7 @@ mod socket_listener;
 mod supply;
 mod task;
 
+pub use builder::PassiveStreamBuilder;
 pub use connecting::{Tried, poll_connect_in_turn};
 pub use connection::{Conn, NeverWaits, PollConn, Tells};
 pub use memory::MemoryConn;

@@ -1,7 +1,9 @@
 -- The transcript of a script.
-use Rattle.std.specs.Prelude.{◌≡◌, ℕ, ◌-◌, ◌⊎◌, List, [], ◌∷◌, ◌++◌, length, drop, Ok}
+use Rattle.std.specs.Prelude.{◌≡◌, ℕ, ◌-◌, ◌⊎◌, List, [], ◌∷◌, ◌++◌, length, drop, Ok, Err}
 use Rattle.std.specs.Str.Lossy.{utf8_lossy}
 use Rattle.std.specs.declared.io.ErrorKind.TheVariants as kinds
+use Rattle.ftp_base.specs.declared.types.fault.FtpError.TheVariants.{ConnectionError}
+use Rattle.ftp_base.specs.declared.types.fault.ConnectionError.TheVariants.{NoAddress}
 use Rattle.ftp_control.specs.Told.{IsFull}
 use Rattle.ftp_control.specs.Memory.{closed_memory, fed, fresh_memory}
 use Rattle.ftp_control.specs.Channel.{untaken}
@@ -18,9 +20,9 @@ use Rattle.ftp_script.specs.declared.script.Script.{Script}
 use Rattle.ftp_script.specs.Shown.{call_text, end_text}
 
 -- a connection over memory: its record is true, no read fails and no question for an address, a write fails only for
--- want of memory or of room, and no request waits
+-- want of memory or of room, no request waits, and there is no builder
 abbrev pub memory : Link
-memory = record { tells = Unit {0}; reads = λ kind. ⊥; writes = λ told kind. (kind ≡ kinds.OutOfMemory) ⊎ ((kind ≡ kinds.WouldBlock) × IsFull told); ends = λ kind. ⊥; asks_wait = ⊥ }
+memory = record { tells = Unit {0}; reads = λ kind. ⊥; writes = λ told kind. (kind ≡ kinds.OutOfMemory) ⊎ ((kind ≡ kinds.WouldBlock) × IsFull told); ends = λ kind. ⊥; asks_wait = ⊥; builds = λ address built. built ≡ Err (ConnectionError NoAddress) }
 
 -- texts are UTF-8
 abbrev pub utf8 : Coding
@@ -42,7 +44,7 @@ Makes (call ∷ calls) old new text =
 -- the greeting and makes the calls
 pub record IsTranscript (script : Script) (text : List ℕ) : Type 0 where
   pub begun : SessionValue
-  pub begins : Begins (Unit {0}) (closed_memory (fed script.server fresh_memory)) (first_net [] []) begun
+  pub begins : Begins (Unit {0}) (closed_memory (fed script.server fresh_memory)) (first_net [] [] []) begun
   pub ended : SessionValue
   pub calls : List ℕ
   pub makes : Makes (Greet ∷ script.calls) begun ended calls

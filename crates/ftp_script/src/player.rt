@@ -38,9 +38,10 @@ pub(crate) fn transcript_of(alloc: Global, script: &Script) -> Result<Vec<u8>, A
 /// A session that is to read what the server sends.
 fn session_of(alloc: Global, server: &[u8]) -> Result<Session<MemoryTransport>, AllocError>
     ensures encoding { IfOk result (λ session. session.encoding.0 ≡ None) }
+    ensures builder { IfOk result (λ session. session.builder ≡ None) }
     ensures begins { IfOk result (λ session.
         Begins (Unit {0}) (closed_memory (fed server.now fresh_memory))
-        (first_net [] []) session.machine) }
+        (first_net [] [] []) session.machine) }
 {
     let mut conn = MemoryConn::new(alloc);
     conn.feed(server)?;
@@ -58,8 +59,10 @@ fn push_made(
     session: &mut Session<MemoryTransport>,
     call: &Call,
 ) -> Result<(), AllocError>
-    requires { session.old.encoding.0 ≡ None }
+    requires encoding { session.old.encoding.0 ≡ None }
+    requires builder { session.old.builder ≡ None }
     ensures encoding { session.new.encoding ≡ session.old.encoding }
+    ensures builder { session.new.builder ≡ session.old.builder }
     ensures makes { OnOk result ((made : List ℕ) × (text.new.items ≡ text.old.items ++ made) ×
         MakesOne call.now session.old.machine session.new.machine made) }
 {

@@ -97,6 +97,15 @@ fn push_answer(alloc: Global, text: &mut Vec<u8>, answer: &Answer) -> Result<(),
             text.extend_from_slice(b"opened with ")?;
             push_shown(text, reply.body.as_slice())
         }
+        Answer::Bytes(bytes) => {
+            text.extend_from_slice(b"bytes ")?;
+            push_shown(text, bytes.as_slice())
+        }
+        Answer::Count(count) => {
+            text.extend_from_slice(b"count ")?;
+            push_number(alloc, text, *count)
+        }
+        Answer::NoTransfer => text.extend_from_slice(b"NoTransfer"),
         Answer::Fault(fault) => {
             text.extend_from_slice(b"E")?;
             push_number(alloc, text, u64::from(fault.number()))?;

@@ -3,12 +3,14 @@ use Rattle.std.proofs.Common.{◌≡◌, ◌<◌, ◌-◌, Bool, true, false, Op
 use Rattle.ftp_calls.proofs.Openings.{opens_alike}
 use Rattle.ftp_calls.specs.declared.call.Answer.{Answer}
 use Rattle.ftp_calls.specs.declared.call.Call.{Call}
-use Rattle.ftp_calls.specs.declared.call.Call.TheVariants.{Greet, Login, Cwd, Cdup, Pwd, Noop, Eprt, Opts, Site, TransferType, Mkdir, Rmdir, Rm, Rename, Quit, Mlst, Mdtm, Size, Feat, CustomCommand, ReadResponse, ReadResponseIn, ResumeTransfer, RetrAsStream, PutWithStream, AppendWithStream, CustomDataCommand}
+use Rattle.ftp_calls.specs.declared.call.Call.TheVariants.{Greet, Login, Cwd, Cdup, Pwd, Noop, Eprt, Opts, Site, TransferType, Mkdir, Rmdir, Rm, Rename, Quit, Mlst, Mdtm, Size, Feat, CustomCommand, ReadResponse, ReadResponseIn, ResumeTransfer, RetrAsStream, PutWithStream, AppendWithStream, CustomDataCommand, Set, Read, Write, Finish}
 use Rattle.ftp_calls.specs.declared.exchange.Ending.{Ending}
+use Rattle.ftp_calls.specs.declared.exchange.Ending.TheVariants.{Finishes}
+use Rattle.ftp_session.proofs.Sorts.{finishing_moves}
 use Rattle.ftp_calls.specs.declared.exchange.Row.{Row}
-use Rattle.ftp_calls.specs.declared.exchange.Row.TheVariants.{Exchanges, Arms}
+use Rattle.ftp_calls.specs.declared.exchange.Row.TheVariants.{Exchanges, Arms, Sets, Moves}
 use Rattle.ftp_calls.specs.declared.exchange.Turn.{Turn}
-use Rattle.ftp_calls.specs.declared.exchange.Turn.TheVariants.{First, Second, Passive, ExtendedPassive, Active, Restart}
+use Rattle.ftp_calls.specs.declared.exchange.Turn.TheVariants.{First, Second, Passive, ExtendedPassive, Active, Restart, Closed}
 use Rattle.ftp_calls.specs.Exchanges.{Kind, ending_of, given_by, kind_of, negotiates, opens, own_row, row_of}
 use Rattle.ftp_session.specs.declared.session.stage.Asking.{Asking}
 use Rattle.ftp_session.specs.declared.session.stage.Asking.TheVariants.{PeerPort, Connection, Peer, Accepting}
@@ -51,21 +53,31 @@ own_agrees (RetrAsStream p) first = refl
 own_agrees (PutWithStream p) first = refl
 own_agrees (AppendWithStream p) first = refl
 own_agrees (CustomDataCommand l c) first = refl
+own_agrees (Set s) first = refl
+own_agrees (Read n) first = refl
+own_agrees (Write b) first = refl
+own_agrees Finish first = refl
+
+unfoldable some_ending : Ending → Option Ending → Ending
+some_ending other None = other
+some_ending other (Some ending) = ending
 
 -- a call whose reply leads to a data connection negotiates
 pub asks_opens : (call : Call) (turn : Turn) (ending : Ending) → ending_of (row_of call turn) ≡ Some ending → agrees ending ≡ true → TurnOf call turn → negotiates call ≡ true
+unfolding some_ending
 asks_opens call First ending row may of = sym (own_agrees call true) ∙ ap row_agrees row ∙ may
 asks_opens call Second ending row may of = sym (opens_alike call) ∙ sym (own_agrees call false) ∙ ap row_agrees row ∙ may
 asks_opens call (Passive offset) ending row may of = of
 asks_opens call (ExtendedPassive offset) ending row may of = of
 asks_opens call (Active address offset) ending row may of = of
 asks_opens call (Restart offset) ending row may of = of
+asks_opens call (Closed close) ending row may of =
+    let same : Finishes close ≡ ending = ap (some_ending ending) row in
+    let A : Ending → Type 0 = λ e. agrees e ≡ true in
+    let clash : false ≡ true = subst A (sym same) may in
+    cc
 
 -- the kind of an answer is its row's
-some_ending : Ending → Option Ending → Ending
-some_ending other None = other
-some_ending other (Some ending) = ending
-
 pub row_answers : (row : Row) (ending : Ending) (answer : Answer) → ending_of row ≡ Some ending → AnswersKind (kind_of ending) answer → AnswersKind (given_by row) answer
 unfolding some_ending
 row_answers (Exchanges exchange) ending answer is answers =
@@ -73,6 +85,8 @@ row_answers (Exchanges exchange) ending answer is answers =
     let P : Ending → Type 0 = λ e. AnswersKind (kind_of e) answer in
     subst P (sym same) answers
 row_answers (Arms offset) ending answer is answers = let clash : None ≡ Some ending = is in cc
+row_answers (Sets setting) ending answer is answers = let clash : None ≡ Some ending = is in cc
+row_answers (Moves movement) ending answer is answers = let clash : None ≡ Some ending = is in cc
 
 pub asking_answers : (call : Call) (turn : Turn) (ending : Ending) (asking : Asking) → TurnOf call turn → ending_of (row_of call turn) ≡ Some ending → AskingAnswers (kind_of ending) asking → AskingOf call asking
 asking_answers call turn ending (PeerPort port) of row answers = tt
@@ -87,6 +101,7 @@ many_nodes (Passive offset) = omega arith
 many_nodes (ExtendedPassive offset) = omega arith
 many_nodes (Active address offset) = omega arith
 many_nodes (Restart offset) = omega arith
+many_nodes (Closed close) = omega arith
 
 pub asking_fewer : (turn : Turn) (kind : Kind) (asking : Asking) → AskingAnswers kind asking → nodes_asked asking turn < nodes_from turn - 2
 asking_fewer turn kind (PeerPort port) answers = omega (arith, many_nodes turn)
@@ -105,8 +120,9 @@ second_plain call plain = own_agrees call false ∙ opens_alike call ∙ plain
 pub gives_kind : (call : Call) (kind : Kind) (answer : Answer) → MayAnswer call answer → Gives kind call → AnswersKind kind answer ⊎ IsFault answer
 gives_kind call kind answer (First, inl of, answers) gives = inl (let P : Kind → Type 0 = λ k. AnswersKind k answer in subst P gives.0 answers)
 gives_kind call kind answer (Second, inl of, answers) gives = inl (let P : Kind → Type 0 = λ k. AnswersKind k answer in subst P gives.1 answers)
-gives_kind call kind answer (Passive offset, inl of, answers) gives = let clash : true ≡ false = sym of ∙ gives.2 in cc
-gives_kind call kind answer (ExtendedPassive offset, inl of, answers) gives = let clash : true ≡ false = sym of ∙ gives.2 in cc
-gives_kind call kind answer (Active address offset, inl of, answers) gives = let clash : true ≡ false = sym of ∙ gives.2 in cc
-gives_kind call kind answer (Restart offset, inl of, answers) gives = let clash : true ≡ false = sym of ∙ gives.2 in cc
+gives_kind call kind answer (Passive offset, inl of, answers) gives = let clash : true ≡ false = sym of ∙ gives.2.0 in cc
+gives_kind call kind answer (ExtendedPassive offset, inl of, answers) gives = let clash : true ≡ false = sym of ∙ gives.2.0 in cc
+gives_kind call kind answer (Active address offset, inl of, answers) gives = let clash : true ≡ false = sym of ∙ gives.2.0 in cc
+gives_kind call kind answer (Restart offset, inl of, answers) gives = let clash : true ≡ false = sym of ∙ gives.2.0 in cc
+gives_kind call kind answer (Closed close, inl of, answers) gives = let clash : true ≡ false = sym (finishing_moves call of) ∙ gives.2.2 in cc
 gives_kind call kind answer (turn, inr fault, answers) gives = inr fault

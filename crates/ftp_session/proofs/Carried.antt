@@ -7,7 +7,7 @@ use Rattle.ftp_control.specs.declared.transport.room.Room.{Room}
 use Rattle.ftp_control.specs.declared.transport.room.Room.TheVariants.{Any, UpTo}
 use Rattle.ftp_session.specs.Deals.{Deal, Deals, outcomes_of}
 use Rattle.ftp_session.proofs.Deals.{outcomes-append}
-use Rattle.ftp_control.specs.declared.transport.request.RequestOutcome.{RequestOutcome}
+use Rattle.ftp_session.specs.declared.model.DealOutcome.{DealOutcome}
 use Rattle.ftp_control.specs.Told.{Told, HasRoomFor, HasNoRoom, EndsAsTold}
 use Rattle.ftp_control.specs.Memory.{IsGiven}
 use Rattle.ftp_control.specs.Reading.{GoesOn}
@@ -24,10 +24,9 @@ use Rattle.ftp_session.specs.Script.{unread, is_over, front, seen_in}
 use Rattle.ftp_session.specs.Scripted.{SaysFrontOf}
 use Rattle.ftp_session.specs.Steps.Moving.{Keeps, Shrinks}
 use Rattle.ftp_session.proofs.Hearing.{nothing_says}
-use Rattle.ftp_session.specs.Link.{over_memory}
+use Rattle.ftp_session.specs.Link.{Builds, over_memory}
 
 -- Bytes
-
 pub unread_is : (t : Told) (given : IsGiven t) → unread t ≡ given.ahead
 unread_is t given = ap (drop (length t.received)) given.front ∙ drop-append_seam t.received given.ahead
 
@@ -70,7 +69,7 @@ same_over t u same grows told =
 
 -- what was asked
 
-pub outcomes_on : (a b : List Deal) (later : List RequestOutcome) → outcomes_of (a ++ b) ++ later ≡ outcomes_of a ++ (outcomes_of b ++ later)
+pub outcomes_on : (a b : List Deal) (later : List DealOutcome) → outcomes_of (a ++ b) ++ later ≡ outcomes_of a ++ (outcomes_of b ++ later)
 outcomes_on a b later = ap (λ l. l ++ later) (outcomes-append a b) ∙ append_assoc (outcomes_of a) (outcomes_of b) later
 
 -- What is read
@@ -118,8 +117,8 @@ full_room (UpTo most) sent unsent line fit full some =
     (lt-leb _ _ (omega (arith, count, positive unsent some, fit, full)), rw (same, append_assoc sent unsent line) (take-append_seam sent (unsent ++ line)))
 
 -- what a poll leaves of a connection
-pub record Carried (v w : SessionValue) (came : List ℕ) (asked : List Deal) : Type 0 where
-  pub deals : Deals asked v.net w.net
+pub record Carried (builds : Builds) (v w : SessionValue) (came : List ℕ) (asked : List Deal) : Type 0 where
+  pub deals : Deals builds asked v.net w.net
   pub rule : w.channel.rule ≡ v.channel.rule
   pub received : w.channel.told.received ≡ v.channel.told.received ++ came
   pub failures : w.channel.told.failures ≡ v.channel.told.failures
@@ -129,8 +128,8 @@ pub record Carried (v w : SessionValue) (came : List ℕ) (asked : List Deal) : 
   pub has : IsGiven w.channel.told
   pub sound : IsSound (Unit {0}) w.channel
 
-pub carried : (v w : SessionValue) (state : State) (came : List ℕ) (answered : List Deal) → Goes over_memory came answered (record v { state = state }) w → IsSound (Unit {0}) v.channel → EndsAsTold v.channel.ended w.channel.ended v.channel.told → IsGiven w.channel.told → IsSound (Unit {0}) w.channel → Carried v w came answered
-carried v w state came answered goes sound end given sound' = record {
+pub carried : (builds : Builds) (v w : SessionValue) (state : State) (came : List ℕ) (answered : List Deal) → Goes (over_memory builds) came answered (record v { state = state }) w → IsSound (Unit {0}) v.channel → EndsAsTold v.channel.ended w.channel.ended v.channel.told → IsGiven w.channel.told → IsSound (Unit {0}) w.channel → Carried builds v w came answered
+carried builds v w state came answered goes sound end given sound' = record {
   deals = goes.deals tt;
   rule = goes.rule;
   received = goes.received tt;
@@ -146,8 +145,8 @@ carried v w state came answered goes sound end given sound' = record {
     go (inl e) = inl (sound.ended tt ∙ e)
     go (inr e) = inr e
 
-pub carried_none : (v : SessionValue) → IsGiven v.channel.told → IsSound (Unit {0}) v.channel → Carried v v [] []
-carried_none v given sound = record { deals = refl; rule = refl; received = sym (append-nil v.channel.told.received); failures = refl; split = refl; given = refl; over = refl; has = given; sound = sound }
+pub carried_none : (builds : Builds) (v : SessionValue) → IsGiven v.channel.told → IsSound (Unit {0}) v.channel → Carried builds v v [] []
+carried_none builds v given sound = record { deals = refl; rule = refl; received = sym (append-nil v.channel.told.received); failures = refl; split = refl; given = refl; over = refl; has = given; sound = sound }
 
 -- what went out and is unsent begins what is said with the next line
 pub line_front : (c : Channel) (line : List ℕ) → (c.unsent ≡ [] → ⊥) → SaysFrontOf c ((c.told.sent ++ c.unsent ++ line) ++ [])

@@ -2,13 +2,13 @@
 use Rattle.std.proofs.Common.{◌≡◌, List, [], ◌∷◌, ◌++◌, refl, sym, ap, subst, ◌∙◌, append_assoc}
 use Rattle.ftp_base.specs.declared.types.fault.ConnectionError.{ConnectionError}
 use Rattle.ftp_base.specs.declared.types.fault.FtpError.TheVariants.{ConnectionError as Connection}
-use Rattle.ftp_control.proofs.Asking.{outcomes-append}
-use Rattle.ftp_control.specs.Asking.{requests_of, outcomes_of, AreRefused, RefusedInTurn, ConnectsInTurn}
+use Rattle.ftp_control.specs.Asking.{requests_of, AreRefused, RefusedInTurn, ConnectsInTurn}
 use Rattle.ftp_control.specs.Told.{Told}
 use Rattle.ftp_control.specs.declared.transport.room.Room.{Room}
 use Rattle.ftp_control.specs.declared.transport.request.Asked.{Asked}
 use Rattle.ftp_control.specs.declared.transport.request.Request.{Request}
-use Rattle.ftp_control.specs.declared.transport.request.RequestOutcome.{RequestOutcome}
+use Rattle.ftp_session.specs.declared.model.DealOutcome.{DealOutcome}
+use Rattle.ftp_session.specs.declared.model.DealOutcome.TheVariants.{Answered}
 use Rattle.ftp_control.specs.declared.transport.request.RequestOutcome.TheVariants.{Done}
 use Rattle.ftp_control.specs.declared.transport.supply.Supply.{Supply}
 use Rattle.ftp_calls.specs.declared.call.Answer.TheVariants.{Fault}
@@ -18,10 +18,14 @@ use Rattle.ftp_session.specs.declared.model.Standing.{Standing}
 use Rattle.ftp_session.specs.Coding.{Coding}
 use Rattle.ftp_session.specs.Deals.{dealt}
 use Rattle.ftp_session.specs.declared.model.Dealings.{Dealings}
-use Rattle.ftp_session.specs.Connecting.{connecting, dealt_in_turn, if_connected, AsksAll, IsConnected, NoneConnects}
+use Rattle.ftp_session.specs.Connecting.{connecting, dealt_in_turn, if_connected, outcomes_in, AsksAll, IsConnected, NoneConnects}
 use Rattle.ftp_session.specs.Dialogue.{Tree, Leaf, dialogue}
 use Rattle.ftp_session.specs.Link.{Link}
 use Rattle.ftp_session.specs.Play.{play}
+
+outcomes-append : (a b : List Asked) → outcomes_in (a ++ b) ≡ outcomes_in a ++ outcomes_in b
+outcomes-append [] b = refl
+outcomes-append (one ∷ a) b = ap (λ l. Answered one.outcome ∷ l) (outcomes-append a b)
 
 dealt-snoc : (before : List Asked) (one : Asked) (d : Dealings) → dealt_in_turn (before ++ one ∷ []) d ≡ dealt one.request one.outcome (dealt_in_turn before d)
 dealt-snoc [] one d = refl
@@ -29,27 +33,27 @@ dealt-snoc (first ∷ before) one d = dealt-snoc before one (dealt first.request
 
 module _ (coding : Coding) (state : State) (refuses : List Supply → ConnectionError → Type 0) (room : Room) where
   -- requests that were refused leave those after them
-  past_refused : (answered : List Asked) (left : List Request) (fault last : ConnectionError) (ready ready' : List Supply) (s : Standing) → AreRefused refuses answered fault last ready ready' → play room (connecting coding (requests_of answered ++ left) fault state) (record s { outcomes = outcomes_of answered ++ s.outcomes }) ≡ play room (connecting coding left last state) (record s { dealings = dealt_in_turn answered s.dealings })
+  past_refused : (answered : List Asked) (left : List Request) (fault last : ConnectionError) (ready ready' : List Supply) (s : Standing) → AreRefused refuses answered fault last ready ready' → play room (connecting coding (requests_of answered ++ left) fault state) (record s { outcomes = outcomes_in answered ++ s.outcomes }) ≡ play room (connecting coding left last state) (record s { dealings = dealt_in_turn answered s.dealings })
   unfolding connecting play
   past_refused [] left fault last ready ready' s refused =
       ap (λ f. play room (connecting coding left f state) s) (sym refused.0)
   past_refused (one ∷ more) left fault last ready ready' s refused =
       let rest : List Request = requests_of more ++ left in
       let here : Standing = record s { dealings = dealt one.request one.outcome s.dealings } in
-      let next : Standing = record here { outcomes = outcomes_of more ++ s.outcomes } in
+      let next : Standing = record here { outcomes = outcomes_in more ++ s.outcomes } in
       let others : ConnectionError → Tree = λ cause. connecting coding rest cause state in
       let turn : play room (if_connected (dialogue coding Greet state) others one.outcome) next ≡ play room (others refused.0) next = ap (λ o. play room (if_connected (dialogue coding Greet state) others o) next) refused.2 in
       turn ∙ past_refused more left refused.0 last refused.1 ready' here refused.4
 
   -- the request after them came to a connection
-  past_connected : (before : List Asked) (request : Request) (left : List Request) (fault last : ConnectionError) (ready due : List Supply) (s : Standing) → AreRefused refuses before fault last ready due → (let one : Asked = record { request = request; outcome = Done } in play room (connecting coding (requests_of before ++ request ∷ left) fault state) (record s { outcomes = outcomes_of (before ++ one ∷ []) ++ s.outcomes }) ≡ play room (dialogue coding Greet state) (record s { dealings = dealt_in_turn (before ++ one ∷ []) s.dealings }))
+  past_connected : (before : List Asked) (request : Request) (left : List Request) (fault last : ConnectionError) (ready due : List Supply) (s : Standing) → AreRefused refuses before fault last ready due → (let one : Asked = record { request = request; outcome = Done } in play room (connecting coding (requests_of before ++ request ∷ left) fault state) (record s { outcomes = outcomes_in (before ++ one ∷ []) ++ s.outcomes }) ≡ play room (dialogue coding Greet state) (record s { dealings = dealt_in_turn (before ++ one ∷ []) s.dealings }))
   unfolding connecting play
   past_connected before request left fault last ready due s refused =
       let one : Asked = record { request = request; outcome = Done } in
-      let after : Standing = record s { outcomes = Done ∷ s.outcomes } in
-      let Q : List RequestOutcome → Standing = λ l. record s { outcomes = l } in
+      let after : Standing = record s { outcomes = Answered Done ∷ s.outcomes } in
+      let Q : List DealOutcome → Standing = λ l. record s { outcomes = l } in
       let P : Dealings → Standing = λ d. record s { dealings = d } in
-      let joined : outcomes_of (before ++ one ∷ []) ++ s.outcomes ≡ outcomes_of before ++ Done ∷ s.outcomes = ap (λ l. l ++ s.outcomes) (outcomes-append before (one ∷ [])) ∙ append_assoc (outcomes_of before) (Done ∷ []) s.outcomes in
+      let joined : outcomes_in (before ++ one ∷ []) ++ s.outcomes ≡ outcomes_in before ++ Answered Done ∷ s.outcomes = ap (λ l. l ++ s.outcomes) (outcomes-append before (one ∷ [])) ∙ append_assoc (outcomes_in before) (Answered Done ∷ []) s.outcomes in
       ap (λ l. play room (connecting coding (requests_of before ++ request ∷ left) fault state) (Q l)) joined
       ∙ past_refused before (request ∷ left) fault last ready due after refused
       ∙ ap (λ d. play room (dialogue coding Greet state) (P d)) (sym (dealt-snoc before one s.dealings))
@@ -65,7 +69,7 @@ module _ (link : Link) (coding : Coding) (refuses : List Supply → ConnectionEr
         answered = answered;
         asked_are = turn.recorded_is ∙ ap (λ l. l ++ one ∷ []) so_far.recorded_are ∙ append_assoc asked so_far.answered (one ∷ []);
         plays = λ state room s.
-            let P : List Request → Type 0 = λ l. play room (connecting coding l fault state) (record s { outcomes = outcomes_of answered ++ s.outcomes }) ≡ play room (dialogue coding Greet state) (record s { dealings = dealt_in_turn answered s.dealings }) in
+            let P : List Request → Type 0 = λ l. play room (connecting coding l fault state) (record s { outcomes = outcomes_in answered ++ s.outcomes }) ≡ play room (dialogue coding Greet state) (record s { dealings = dealt_in_turn answered s.dealings }) in
             subst P (sym so_far.in_order) (past_connected coding state refuses room so_far.answered turn.request turn.left fault turn.last ready turn.due s so_far.refused);
       }
 
@@ -80,7 +84,7 @@ module _ (link : Link) (coding : Coding) (refuses : List Supply → ConnectionEr
         answered = so_far.answered;
         asked_are = so_far.recorded_are;
         plays = λ state room s.
-            let P : List Request → Type 0 = λ l. play room (connecting coding l fault state) (record s { outcomes = outcomes_of so_far.answered ++ s.outcomes }) ≡ play room (Leaf (Fault (Connection last)) state) (record s { dealings = dealt_in_turn so_far.answered s.dealings }) in
+            let P : List Request → Type 0 = λ l. play room (connecting coding l fault state) (record s { outcomes = outcomes_in so_far.answered ++ s.outcomes }) ≡ play room (Leaf (Fault (Connection last)) state) (record s { dealings = dealt_in_turn so_far.answered s.dealings }) in
             subst P (sym so_far.in_order) (past_refused coding state refuses room so_far.answered [] fault last ready ready' s so_far.refused);
       }
 

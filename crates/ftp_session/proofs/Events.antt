@@ -14,7 +14,7 @@ use Rattle.ftp_calls.specs.declared.call.Event.TheVariants as event
 use Rattle.ftp_session.specs.declared.session.stage.Stage.{Stage}
 use Rattle.futures.specs.declared.task.Poll.TheVariants.{Ready, Pending}
 use Rattle.ftp_session.specs.Deals.{Deal, Net}
-use Rattle.ftp_control.specs.declared.transport.request.RequestOutcome.{RequestOutcome}
+use Rattle.ftp_session.specs.declared.model.DealOutcome.{DealOutcome}
 use Rattle.ftp_session.specs.declared.session.state.State.{State}
 use Rattle.ftp_session.specs.declared.model.Script.{Script}
 use Rattle.ftp_session.specs.State.{SessionValue}
@@ -33,8 +33,9 @@ use Rattle.ftp_session.specs.Steps.Stages.{remaining}
 use Rattle.ftp_session.proofs.Transitions.{given_by}
 use Rattle.ftp_session.proofs.Carried.{unread_is}
 use Rattle.ftp_session.proofs.Following.{PollFollows}
+use Rattle.ftp_session.specs.Link.{Builds}
 
-module _ (coding : Coding) (outcomes left : List RequestOutcome) where
+module _ (builds : Builds) (coding : Coding) (outcomes left : List DealOutcome) where
   -- what is given to a connection
   abbrev pub with_given : SessionValue → Given → SessionValue
   with_given v given = record v { channel = record v.channel { told = record v.channel.told { given = given } } }
@@ -51,7 +52,7 @@ module _ (coding : Coding) (outcomes left : List RequestOutcome) where
       back call stage (subst Q (sym items) (subst R (sym answers) (subst S (sym polled) (subst H (sym heard) same))))
     where
       -- the ends of the connection stay, and so does all that a run sees
-      same_standing : (more : List ℕ) (ended : Bool) (outcomes : List RequestOutcome) → standing v more ended outcomes ≡ standing (with_given v given) more ended outcomes
+      same_standing : (more : List ℕ) (ended : Bool) (outcomes : List DealOutcome) → standing v more ended outcomes ≡ standing (with_given v given) more ended outcomes
       same_standing more ended outcomes =
           let s : Standing = standing v more ended outcomes in
           ap (λ a. record s { local = a }) (sym local) ∙ ap (λ a. record s { local = given.local; peer = a }) (sym peer)
@@ -65,13 +66,13 @@ module _ (coding : Coding) (outcomes left : List RequestOutcome) where
       go : (call : Option Call) (stage : Stage) → Place coding old s came answered v call stage → Place coding old s came answered (with_given v given) call stage
       go None stage place = stands_given place
       go (Some call) stage (inl place) = inl (record { at = place.at; unpolled = place.unpolled; unheard = place.unheard; stands = stands_given place.stands })
-      go (Some call) stage (inr (inl place)) = inr (inl (record { stage_of = place.stage_of; polled = place.polled; going = place.going; reaches = reaches_given call (remaining coding call v.state stage) place.reaches; resumes = place.resumes; read = λ r. stands_given (place.read r); since = record { start = place.since.start; before = place.since.before; later = place.since.later; split = place.since.split; asked_before = place.since.asked_before; asked_later = place.since.asked_later; asked_split = place.since.asked_split; stands = place.since.stands; said = place.since.said; taken = place.since.taken; has_begun = place.since.has_begun; not_begun = place.since.not_begun } }))
+      go (Some call) stage (inr (inl place)) = inr (inl (record { stage_of = place.stage_of; polled = place.polled; going = place.going; reaches = reaches_given call (remaining coding call v.state stage) place.reaches; resumes = place.resumes; apart = place.apart; read = λ r. stands_given (place.read r); since = record { start = place.since.start; before = place.since.before; later = place.since.later; split = place.since.split; asked_before = place.since.asked_before; asked_later = place.since.asked_later; asked_split = place.since.asked_split; stands = place.since.stands; said = place.since.said; taken = place.since.taken; has_begun = place.since.has_begun; not_begun = place.since.not_begun } }))
       go (Some call) stage (inr (inr place)) = inr (inr (record { plain = place.plain; stage_of = place.stage_of; polled = place.polled; unheard = place.unheard; going = place.going; no_read = place.no_read; reaches = reaches_given call (remaining coding call v.state stage) place.reaches; resumes = place.resumes; since = record { start = place.since.start; before = place.since.before; later = place.since.later; split = place.since.split; asked_before = place.since.asked_before; asked_later = place.since.asked_later; asked_split = place.since.asked_split; stands = place.since.stands; said = place.since.said; taken = place.since.taken; has_begun = place.since.has_begun; not_begun = place.since.not_begun } }))
 
       back : (call : Option Call) (stage : Stage) → Place coding old (record s { items = t.items; answers = t.answers; polled = t.polled; heard = t.heard }) came answered (with_given v given) call stage → Place coding old t came answered (with_given v given) call stage
       back None stage place = place
       back (Some call) stage (inl place) = inl (record { at = place.at; unpolled = place.unpolled; unheard = place.unheard; stands = place.stands })
-      back (Some call) stage (inr (inl place)) = inr (inl (record { stage_of = place.stage_of; polled = place.polled; going = place.going; reaches = place.reaches; resumes = place.resumes; read = place.read; since = record { start = place.since.start; before = place.since.before; later = place.since.later; split = place.since.split; asked_before = place.since.asked_before; asked_later = place.since.asked_later; asked_split = place.since.asked_split; stands = place.since.stands; said = place.since.said; taken = place.since.taken; has_begun = place.since.has_begun; not_begun = place.since.not_begun } }))
+      back (Some call) stage (inr (inl place)) = inr (inl (record { stage_of = place.stage_of; polled = place.polled; going = place.going; reaches = place.reaches; resumes = place.resumes; apart = place.apart; read = place.read; since = record { start = place.since.start; before = place.since.before; later = place.since.later; split = place.since.split; asked_before = place.since.asked_before; asked_later = place.since.asked_later; asked_split = place.since.asked_split; stands = place.since.stands; said = place.since.said; taken = place.since.taken; has_begun = place.since.has_begun; not_begun = place.since.not_begun } }))
       back (Some call) stage (inr (inr place)) = inr (inr (record { plain = place.plain; stage_of = place.stage_of; polled = place.polled; unheard = place.unheard; going = place.going; no_read = place.no_read; reaches = place.reaches; resumes = place.resumes; since = record { start = place.since.start; before = place.since.before; later = place.since.later; split = place.since.split; asked_before = place.since.asked_before; asked_later = place.since.asked_later; asked_split = place.since.asked_split; stands = place.since.stands; said = place.since.said; taken = place.since.taken; has_begun = place.since.has_begun; not_begun = place.since.not_begun } }))
 
   -- what is fed is unread
@@ -82,9 +83,9 @@ module _ (coding : Coding) (outcomes left : List RequestOutcome) where
       ∙ drop-append_seam t.received (given.ahead ++ more)
       ∙ ap (λ u. u ++ more) (sym (unread_is t given))
 
-  module _ (old : SessionValue) (s : Script) (v : SessionValue) (call : Option Call) (stage : Stage) (answers : List Answer) (f : Follows coding outcomes left old s v call stage answers) where
+  module _ (old : SessionValue) (s : Script) (v : SessionValue) (call : Option Call) (stage : Stage) (answers : List Answer) (f : Follows builds coding outcomes left old s v call stage answers) where
     -- bytes come, where the end hadn't
-    fed_open : (more : List ℕ) → is_over v.channel.told ≡ false → (given : Given) → given ≡ record v.channel.told.given { bytes = v.channel.told.given.bytes ++ more } → IsGiven (with_given v given).channel.told → IsSound (Unit {0}) (with_given v given).channel → Follows coding outcomes left old (record s { bytes = s.bytes ++ more; untaken = s.untaken ++ more }) (with_given v given) call stage answers
+    fed_open : (more : List ℕ) → is_over v.channel.told ≡ false → (given : Given) → given ≡ record v.channel.told.given { bytes = v.channel.told.given.bytes ++ more } → IsGiven (with_given v given).channel.told → IsSound (Unit {0}) (with_given v given).channel → Follows builds coding outcomes left old (record s { bytes = s.bytes ++ more; untaken = s.untaken ++ more }) (with_given v given) call stage answers
     fed_open more on given is has sound =
         let t = v.channel.told in
         let unread' : drop (length t.received) given.bytes ≡ unread t ++ more = ap (λ g. drop (length t.received) g.bytes) is ∙ fed_unread t more f.given in
@@ -115,13 +116,13 @@ module _ (coding : Coding) (outcomes left : List RequestOutcome) where
           answers_are = f.answers_are;
         }
 
-    pub feeds : (more : List ℕ) (w : SessionValue) → w ≡ record v { channel = record v.channel { told = fed more v.channel.told } } → IsGiven w.channel.told → IsSound (Unit {0}) w.channel → Follows coding outcomes left old (after_event coding (start_of old outcomes) s (event.Feed more)) w call stage answers
+    pub feeds : (more : List ℕ) (w : SessionValue) → w ≡ record v { channel = record v.channel { told = fed more v.channel.told } } → IsGiven w.channel.told → IsSound (Unit {0}) w.channel → Follows builds coding outcomes left old (after_event coding (start_of old outcomes) s (event.Feed more)) w call stage answers
     feeds more w is has sound =
         let t = v.channel.told in
         let given : Given = record t.given { bytes = t.given.bytes ++ more } in
         let later : Script = record s { bytes = s.bytes ++ more; untaken = s.untaken ++ more } in
-        let P : SessionValue → Type 0 = λ x. IsGiven x.channel.told → IsSound (Unit {0}) x.channel → Follows coding outcomes left old (after_event coding (start_of old outcomes) s (event.Feed more)) x call stage answers in
-        let Q : Bool → Bool → Type 0 = λ a b. IsGiven (cond b t (record t { given = given })) → IsSound (Unit {0}) (record v.channel { told = cond b t (record t { given = given }) }) → Follows coding outcomes left old (cond a s later) (record v { channel = record v.channel { told = cond b t (record t { given = given }) } }) call stage answers in
+        let P : SessionValue → Type 0 = λ x. IsGiven x.channel.told → IsSound (Unit {0}) x.channel → Follows builds coding outcomes left old (after_event coding (start_of old outcomes) s (event.Feed more)) x call stage answers in
+        let Q : Bool → Bool → Type 0 = λ a b. IsGiven (cond b t (record t { given = given })) → IsSound (Unit {0}) (record v.channel { told = cond b t (record t { given = given }) }) → Follows builds coding outcomes left old (cond a s later) (record v { channel = record v.channel { told = cond b t (record t { given = given }) } }) call stage answers in
         let R : Bool → Type 0 = λ a. Q a (is_over t) in
         let go : (over : Bool) → is_over t ≡ over → Q over over = λ over. elim over as (λ o. is_over t ≡ o → Q o o) [
           | true ↦ λ on has sound. f
@@ -129,12 +130,12 @@ module _ (coding : Coding) (outcomes left : List RequestOutcome) where
         ] in
         subst P (sym is) (subst R (sym f.ended) (go (is_over t) refl)) has sound
 
-    pub ends : (w : SessionValue) → w ≡ record v { channel = record v.channel { told = closed_memory v.channel.told } } → IsGiven w.channel.told → IsSound (Unit {0}) w.channel → Follows coding outcomes left old (after_event coding (start_of old outcomes) s event.End) w call stage answers
+    pub ends : (w : SessionValue) → w ≡ record v { channel = record v.channel { told = closed_memory v.channel.told } } → IsGiven w.channel.told → IsSound (Unit {0}) w.channel → Follows builds coding outcomes left old (after_event coding (start_of old outcomes) s event.End) w call stage answers
     ends w is has sound =
-        let P : SessionValue → Type 0 = λ x. IsGiven x.channel.told → IsSound (Unit {0}) x.channel → Follows coding outcomes left old (after_event coding (start_of old outcomes) s event.End) x call stage answers in
+        let P : SessionValue → Type 0 = λ x. IsGiven x.channel.told → IsSound (Unit {0}) x.channel → Follows builds coding outcomes left old (after_event coding (start_of old outcomes) s event.End) x call stage answers in
         let given : Given = record v.channel.told.given { closed = true } in
         let after : Script = record s { ended = true } in
-        let ended : IsGiven (with_given v given).channel.told → IsSound (Unit {0}) (with_given v given).channel → Follows coding outcomes left old after (with_given v given) call stage answers = λ has sound. record {
+        let ended : IsGiven (with_given v given).channel.told → IsSound (Unit {0}) (with_given v given).channel → Follows builds coding outcomes left old after (with_given v given) call stage answers = λ has sound. record {
           came = f.came;
           answered = f.answered;
           deals = f.deals;
@@ -162,13 +163,13 @@ module _ (coding : Coding) (outcomes left : List RequestOutcome) where
         } in
         subst P (sym is) ended has sound
 
-    pub widens : (more : ℕ) (w : SessionValue) → w ≡ record v { channel = record v.channel { told = widened more v.channel.told } } → IsGiven w.channel.told → IsSound (Unit {0}) w.channel → Follows coding outcomes left old (after_event coding (start_of old outcomes) s (event.Room more)) w call stage answers
+    pub widens : (more : ℕ) (w : SessionValue) → w ≡ record v { channel = record v.channel { told = widened more v.channel.told } } → IsGiven w.channel.told → IsSound (Unit {0}) w.channel → Follows builds coding outcomes left old (after_event coding (start_of old outcomes) s (event.Room more)) w call stage answers
     widens more w is has sound =
-        let P : SessionValue → Type 0 = λ x. IsGiven x.channel.told → IsSound (Unit {0}) x.channel → Follows coding outcomes left old (after_event coding (start_of old outcomes) s (event.Room more)) x call stage answers in
+        let P : SessionValue → Type 0 = λ x. IsGiven x.channel.told → IsSound (Unit {0}) x.channel → Follows builds coding outcomes left old (after_event coding (start_of old outcomes) s (event.Room more)) x call stage answers in
         let t = v.channel.told in
         let given : Given = record t.given { room = more_room more (length t.sent) t.given.room } in
         let after : Script = record s { room = more_room more (length s.sent) s.room } in
-        let wide : IsGiven (with_given v given).channel.told → IsSound (Unit {0}) (with_given v given).channel → Follows coding outcomes left old after (with_given v given) call stage answers = λ has sound. record {
+        let wide : IsGiven (with_given v given).channel.told → IsSound (Unit {0}) (with_given v given).channel → Follows builds coding outcomes left old after (with_given v given) call stage answers = λ has sound. record {
           came = f.came;
           answered = f.answered;
           deals = f.deals;
@@ -197,11 +198,11 @@ module _ (coding : Coding) (outcomes left : List RequestOutcome) where
         subst P (sym is) wide has sound
 
   -- a call begins, where none is under way
-  pub starts : (old : SessionValue) (s : Script) (v : SessionValue) (next : Call) (call call' : Option Call) (stage stage' : Stage) (answers : List Answer) → Follows coding outcomes left old s v call stage answers → Starts next call call' stage stage' → Follows coding outcomes left old (after_event coding (start_of old outcomes) s (event.Start next)) v call' stage' answers
+  pub starts : (old : SessionValue) (s : Script) (v : SessionValue) (next : Call) (call call' : Option Call) (stage stage' : Stage) (answers : List Answer) → Follows builds coding outcomes left old s v call stage answers → Starts next call call' stage stage' → Follows builds coding outcomes left old (after_event coding (start_of old outcomes) s (event.Start next)) v call' stage' answers
   starts old s v next None call' stage stage' answers f is =
-      let P : Option Call → Type 0 = λ c. Follows coding outcomes left old (start_script next c s) v call' stage' answers in
-      let Q : Option Call → Type 0 = λ c. Follows coding outcomes left old (record s { call = Some next; polled = false; heard = false }) v c stage' answers in
-      let R : Stage → Type 0 = λ x. Follows coding outcomes left old (record s { call = Some next; polled = false; heard = false }) v (Some next) x answers in
+      let P : Option Call → Type 0 = λ c. Follows builds coding outcomes left old (start_script next c s) v call' stage' answers in
+      let Q : Option Call → Type 0 = λ c. Follows builds coding outcomes left old (record s { call = Some next; polled = false; heard = false }) v c stage' answers in
+      let R : Stage → Type 0 = λ x. Follows builds coding outcomes left old (record s { call = Some next; polled = false; heard = false }) v (Some next) x answers in
       subst P (sym f.call_is)
       (subst Q (sym is.0)
       (subst R (sym is.1)
@@ -232,13 +233,13 @@ module _ (coding : Coding) (outcomes left : List RequestOutcome) where
         answers_are = f.answers_are;
       })))
   starts old s v next (Some other) call' stage stage' answers f is =
-      let P : Option Call → Type 0 = λ c. Follows coding outcomes left old (start_script next c s) v call' stage' answers in
-      let Q : Option Call → Type 0 = λ c. Follows coding outcomes left old s v c stage' answers in
-      let R : Stage → Type 0 = λ x. Follows coding outcomes left old s v (Some other) x answers in
+      let P : Option Call → Type 0 = λ c. Follows builds coding outcomes left old (start_script next c s) v call' stage' answers in
+      let Q : Option Call → Type 0 = λ c. Follows builds coding outcomes left old s v c stage' answers in
+      let R : Stage → Type 0 = λ x. Follows builds coding outcomes left old s v (Some other) x answers in
       subst P (sym f.call_is) (subst Q (sym is.0) (subst R (sym is.1) f))
 
   -- the call under way is dropped
-  pub cancels : (old : SessionValue) (s : Script) (v : SessionValue) (call : Option Call) (stage stage' : Stage) (answers : List Answer) → Follows coding outcomes left old s v call stage answers → MayCancel s.call s.polled → Follows coding outcomes left old (after_event coding (start_of old outcomes) s event.Cancel) v None stage' answers
+  pub cancels : (old : SessionValue) (s : Script) (v : SessionValue) (call : Option Call) (stage stage' : Stage) (answers : List Answer) → Follows builds coding outcomes left old s v call stage answers → MayCancel s.call s.polled → Follows builds coding outcomes left old (after_event coding (start_of old outcomes) s event.Cancel) v None stage' answers
   cancels old s v call stage stage' answers f dropped = record {
     came = f.came;
     answered = f.answered;
@@ -269,13 +270,13 @@ module _ (coding : Coding) (outcomes left : List RequestOutcome) where
       go : (call : Option Call) (stage : Stage) → Place coding old s f.came f.answered v call stage → MayCancel call s.polled → Stands coding old s.items f.came f.answered v s.answers
       go None stage place may = place
       go (Some call) stage (inl place) may = place.stands
-      go (Some call) stage (inr (inl place)) (inl new) = let clash : true ≡ false = sym place.polled ∙ new in cc
+      go (Some call) stage (inr (inl place)) (inl new) = let clash : true ≡ false = sym place.polled ∙ new.0 in cc
       go (Some call) stage (inr (inl place)) (inr read) = place.read read
-      go (Some call) stage (inr (inr place)) (inl new) = let clash : true ≡ false = sym place.polled ∙ new in cc
+      go (Some call) stage (inr (inr place)) (inl new) = let clash : true ≡ false = sym place.polled ∙ new.0 in cc
       go (Some call) stage (inr (inr place)) (inr read) = let clash : true ≡ false = sym read ∙ place.no_read in cc
 
   -- a script begins
-  pub begins : (v : SessionValue) (form : ReplyForm) (stage : Stage) → outcomes ≡ left → IsGiven v.channel.told → IsSound (Unit {0}) v.channel → outcome v.channel.rule form v.channel.kept false ≡ Waits → Follows coding outcomes left v (script_of v form) v None stage []
+  pub begins : (v : SessionValue) (form : ReplyForm) (stage : Stage) → outcomes ≡ left → IsGiven v.channel.told → IsSound (Unit {0}) v.channel → outcome v.channel.rule form v.channel.kept false ≡ Waits → Follows builds coding outcomes left v (script_of v form) v None stage []
   begins v form stage all given sound waits = record {
     came = [];
     answered = [];
@@ -304,52 +305,52 @@ module _ (coding : Coding) (outcomes left : List RequestOutcome) where
   }
 
   -- a poll where no call is under way
-  pub polled_none : (old : SessionValue) (s : Script) (v : SessionValue) (under_way : Option Call) (stage : Stage) (answers : List Answer) → under_way ≡ None → Follows coding outcomes left old s v under_way stage answers → Follows coding outcomes left old (poll_script coding (start_of old outcomes) s.call s) v under_way stage (answers ++ [])
+  pub polled_none : (old : SessionValue) (s : Script) (v : SessionValue) (under_way : Option Call) (stage : Stage) (answers : List Answer) → under_way ≡ None → Follows builds coding outcomes left old s v under_way stage answers → Follows builds coding outcomes left old (poll_script coding (start_of old outcomes) s.call s) v under_way stage (answers ++ [])
   polled_none old s v under_way stage answers none f =
-      let S : Option Call → Type 0 = λ c. Follows coding outcomes left old (poll_script coding (start_of old outcomes) c s) v under_way stage (answers ++ []) in
-      let A : List Answer → Type 0 = λ a. Follows coding outcomes left old s v under_way stage a in
+      let S : Option Call → Type 0 = λ c. Follows builds coding outcomes left old (poll_script coding (start_of old outcomes) c s) v under_way stage (answers ++ []) in
+      let A : List Answer → Type 0 = λ a. Follows builds coding outcomes left old s v under_way stage a in
       subst S (sym (f.call_is ∙ none)) (subst A (sym (append-nil answers)) f)
 
   -- a poll of the call under way
-  module _ (due : List RequestOutcome) (old : SessionValue) (s : Script) (v w : SessionValue) (under_way : Option Call) (call : Call) (stage stage' : Stage) (answers : List Answer) (is : under_way ≡ Some call) (f : Follows coding outcomes due old s v under_way stage answers) (may : MayPoll coding (start_of old outcomes) s.call s) where
+  module _ (due : List DealOutcome) (old : SessionValue) (s : Script) (v w : SessionValue) (under_way : Option Call) (call : Call) (stage stage' : Stage) (answers : List Answer) (is : under_way ≡ Some call) (f : Follows builds coding outcomes due old s v under_way stage answers) (may : MayPoll coding (start_of old outcomes) s.call s) where
     named : s.call ≡ Some call
     named = f.call_is ∙ is
 
-    follows_call : Follows coding outcomes due old s v (Some call) stage answers
-    follows_call = let F : Option Call → Type 0 = λ c. Follows coding outcomes due old s v c stage answers in subst F is f
+    follows_call : Follows builds coding outcomes due old s v (Some call) stage answers
+    follows_call = let F : Option Call → Type 0 = λ c. Follows builds coding outcomes due old s v c stage answers in subst F is f
 
     may_call : MayPoll coding (start_of old outcomes) (Some call) s
     may_call = let M : Option Call → Type 0 = λ c. MayPoll coding (start_of old outcomes) c s in subst M named may
 
-    pub polled_ready : (answer : Answer) → (Follows coding outcomes due old s v (Some call) stage answers → MayPoll coding (start_of old outcomes) (Some call) s → PollFollows coding outcomes left old s v w call stage stage' answers (Ready answer)) → Follows coding outcomes left old (poll_script coding (start_of old outcomes) s.call s) w None stage' (answers ++ answer ∷ []) ⊎ AbortsCall coding call stage v w (Some answer)
+    pub polled_ready : (answer : Answer) → (Follows builds coding outcomes due old s v (Some call) stage answers → MayPoll coding (start_of old outcomes) (Some call) s → PollFollows builds coding outcomes left old s v w call stage stage' answers (Ready answer)) → Follows builds coding outcomes left old (poll_script coding (start_of old outcomes) s.call s) w None stage' (answers ++ answer ∷ []) ⊎ AbortsCall builds coding call stage v w (Some answer)
     polled_ready answer polls =
-        let R : Option Call → Type 0 = λ c. Follows coding outcomes left old (poll_script coding (start_of old outcomes) c s) w None stage' (answers ++ answer ∷ []) ⊎ AbortsCall coding call stage v w (Some answer) in
+        let R : Option Call → Type 0 = λ c. Follows builds coding outcomes left old (poll_script coding (start_of old outcomes) c s) w None stage' (answers ++ answer ∷ []) ⊎ AbortsCall builds coding call stage v w (Some answer) in
         subst R (sym named) (polls follows_call may_call)
 
-    pub polled_pending : (Follows coding outcomes due old s v (Some call) stage answers → MayPoll coding (start_of old outcomes) (Some call) s → PollFollows coding outcomes left old s v w call stage stage' answers Pending) → Follows coding outcomes left old (poll_script coding (start_of old outcomes) s.call s) w under_way stage' (answers ++ [])
+    pub polled_pending : (Follows builds coding outcomes due old s v (Some call) stage answers → MayPoll coding (start_of old outcomes) (Some call) s → PollFollows builds coding outcomes left old s v w call stage stage' answers Pending) → Follows builds coding outcomes left old (poll_script coding (start_of old outcomes) s.call s) w under_way stage' (answers ++ [])
     polled_pending polls =
-        let R : Option Call → Type 0 = λ c. Follows coding outcomes left old (poll_script coding (start_of old outcomes) c s) w under_way stage' (answers ++ []) in
-        let U : Option Call → Type 0 = λ c. Follows coding outcomes left old (poll_script coding (start_of old outcomes) (Some call) s) w c stage' (answers ++ []) in
-        let A : List Answer → Type 0 = λ a. Follows coding outcomes left old (poll_script coding (start_of old outcomes) (Some call) s) w (Some call) stage' a in
+        let R : Option Call → Type 0 = λ c. Follows builds coding outcomes left old (poll_script coding (start_of old outcomes) c s) w under_way stage' (answers ++ []) in
+        let U : Option Call → Type 0 = λ c. Follows builds coding outcomes left old (poll_script coding (start_of old outcomes) (Some call) s) w c stage' (answers ++ []) in
+        let A : List Answer → Type 0 = λ a. Follows builds coding outcomes left old (poll_script coding (start_of old outcomes) (Some call) s) w (Some call) stage' a in
         subst R (sym named) (subst U (sym is) (subst A (sym (append-nil answers)) (polls follows_call may_call)))
 
   -- a call that is aborted by a poll is under way no more
-  pub at_poll : (F : Type 0) (v w : SessionValue) (result : Option Answer) (under_way : Call) (stage : Stage) (call call' : Option Call) → call ≡ Some under_way → call' ≡ None → F ⊎ AbortsCall coding under_way stage v w result → F ⊎ (((c : Call) × (call ≡ Some c) × AbortsCall coding c stage v w result) × (call' ≡ None) × (event.Poll ≡ event.Poll))
+  pub at_poll : (F : Type 0) (v w : SessionValue) (result : Option Answer) (under_way : Call) (stage : Stage) (call call' : Option Call) → call ≡ Some under_way → call' ≡ None → F ⊎ AbortsCall builds coding under_way stage v w result → F ⊎ (((c : Call) × (call ≡ Some c) × AbortsCall builds coding c stage v w result) × (call' ≡ None) × (event.Poll ≡ event.Poll))
   at_poll F v w result under_way stage call call' is none (inl follows) = inl follows
   at_poll F v w result under_way stage call call' is none (inr aborts) = inr ((under_way, is, aborts), none, refl)
 
   -- an event without an answer
-  pub happened : (old : SessionValue) (s : Script) (w : SessionValue) (event kind : Event) (call call' : Option Call) (stage stage' : Stage) (answers : List Answer) → event ≡ kind → call' ≡ call → stage' ≡ stage → Follows coding outcomes left old (after_event coding (start_of old outcomes) s kind) w call stage answers → Follows coding outcomes left old (after_event coding (start_of old outcomes) s event) w call' stage' (answers ++ [])
+  pub happened : (old : SessionValue) (s : Script) (w : SessionValue) (event kind : Event) (call call' : Option Call) (stage stage' : Stage) (answers : List Answer) → event ≡ kind → call' ≡ call → stage' ≡ stage → Follows builds coding outcomes left old (after_event coding (start_of old outcomes) s kind) w call stage answers → Follows builds coding outcomes left old (after_event coding (start_of old outcomes) s event) w call' stage' (answers ++ [])
   happened old s w event kind call call' stage stage' answers is same stays f =
-      let E : Event → Type 0 = λ e. Follows coding outcomes left old (after_event coding (start_of old outcomes) s e) w call' stage' (answers ++ []) in
-      let C : Option Call → Type 0 = λ c. Follows coding outcomes left old (after_event coding (start_of old outcomes) s kind) w c stage' (answers ++ []) in
-      let S : Stage → Type 0 = λ x. Follows coding outcomes left old (after_event coding (start_of old outcomes) s kind) w call x (answers ++ []) in
-      let A : List Answer → Type 0 = λ a. Follows coding outcomes left old (after_event coding (start_of old outcomes) s kind) w call stage a in
+      let E : Event → Type 0 = λ e. Follows builds coding outcomes left old (after_event coding (start_of old outcomes) s e) w call' stage' (answers ++ []) in
+      let C : Option Call → Type 0 = λ c. Follows builds coding outcomes left old (after_event coding (start_of old outcomes) s kind) w c stage' (answers ++ []) in
+      let S : Stage → Type 0 = λ x. Follows builds coding outcomes left old (after_event coding (start_of old outcomes) s kind) w call x (answers ++ []) in
+      let A : List Answer → Type 0 = λ a. Follows builds coding outcomes left old (after_event coding (start_of old outcomes) s kind) w call stage a in
       subst E (sym is) (subst C (sym same) (subst S (sym stays) (subst A (sym (append-nil answers)) f)))
 
   -- the session itself stays
-  pub stayed : (old : SessionValue) (s : Script) (v w : SessionValue) (call : Option Call) (stage : Stage) (answers : List Answer) → w ≡ v → Follows coding outcomes left old s v call stage answers → Follows coding outcomes left old s w call stage answers
-  stayed old s v w call stage answers same f = let P : SessionValue → Type 0 = λ x. Follows coding outcomes left old s x call stage answers in subst P (sym same) f
+  pub stayed : (old : SessionValue) (s : Script) (v w : SessionValue) (call : Option Call) (stage : Stage) (answers : List Answer) → w ≡ v → Follows builds coding outcomes left old s v call stage answers → Follows builds coding outcomes left old s w call stage answers
+  stayed old s v w call stage answers same f = let P : SessionValue → Type 0 = λ x. Follows builds coding outcomes left old s x call stage answers in subst P (sym same) f
 
 -- what is fed fails nothing
 pub fed_failures : (more : List ℕ) (t : Told) → (fed more t).failures ≡ t.failures
@@ -359,8 +360,8 @@ fed_failures more t =
     go (is_over t)
 
 -- a poll over memory fails the session only where its call fails
-pub polls_here_fail : (coding : Coding) (call : Call) (stage stage' : Stage) (v w : SessionValue) (result : Poll Answer) → PollsHere coding call stage stage' v w result → FailsWith v w (given_by result)
-polls_here_fail coding call stage stage' v w result here = go result here.fails
+pub polls_here_fail : (builds : Builds) (coding : Coding) (call : Call) (stage stage' : Stage) (v w : SessionValue) (result : Poll Answer) → PollsHere builds coding call stage stage' v w result → FailsWith v w (given_by result)
+polls_here_fail builds coding call stage stage' v w result here = go result here.fails
   where
     go : (r : Poll Answer) → (w.channel.failed ≡ true → (v.channel.failed ≡ true) ⊎ HasFault (polled_answer r)) → FailsWith v w (given_by r)
     go (Ready answer) fails = fails
@@ -378,5 +379,5 @@ through F v w a b state net before after is =
     subst P before (after ∙ ap Q is)
 
 -- nothing happens beside the control connection
-pub grows_none : (v : SessionValue) → Grows v v
-grows_none v = ([], refl)
+pub grows_none : (builds : Builds) (v : SessionValue) → Grows builds v v
+grows_none builds v = ([], refl)

@@ -1,12 +1,11 @@
 -- Lemmas on scripts: what a Poll makes of one.
-use Rattle.std.proofs.Common.{◌≡◌, ℕ, ◌+◌, ◌<◌, ◌≤◌, Bool, true, false, cond, ◌||◌, Option, Some, None, List, [], ◌∷◌, ◌++◌, length, take, drop, Result, Ok, Err, inl, inr, ◌⊎◌, refl, ap, sym, ◌∙◌, subst, append_assoc, append-nil, length-append, arith}
+use Rattle.std.proofs.Common.{◌≡◌, ℕ, ◌+◌, ◌<◌, ◌≤◌, Bool, true, false, cond, ◌||◌, Option, Some, None, is_none, List, [], ◌∷◌, ◌++◌, length, take, drop, Result, Ok, Err, inl, inr, ◌⊎◌, refl, ap, sym, ◌∙◌, subst, append_assoc, append-nil, length-append, arith}
 use Rattle.std.proofs.lemmas.Bool.{le-leb}
 use Rattle.std.proofs.lemmas.List.{append_cancel_left}
 use Rattle.std.proofs.Math.Seq.{take-append_seam, drop-length}
 use Rattle.futures.specs.declared.task.Poll.{Poll}
 use Rattle.futures.specs.declared.task.Poll.TheVariants.{Ready, Pending}
 use Rattle.ftp_base.specs.declared.types.fault.FtpError.{FtpError}
-use Rattle.ftp_base.specs.declared.types.fault.FtpError.TheVariants.{SessionFailed}
 use Rattle.ftp_base.specs.declared.types.fault.ConnectionError.{ConnectionError as Cause}
 use Rattle.ftp_base.specs.declared.types.reply.Response.{Response}
 use Rattle.ftp_base.specs.declared.command.Command.{Command}
@@ -16,6 +15,7 @@ use Rattle.ftp_control.specs.declared.control.rule.ReplyRule.{ReplyRule}
 use Rattle.ftp_control.specs.declared.transport.room.Room.{Room}
 use Rattle.ftp_control.specs.declared.transport.room.Room.TheVariants.{Any, UpTo}
 use Rattle.ftp_control.specs.declared.transport.request.RequestOutcome.{RequestOutcome}
+use Rattle.ftp_session.specs.declared.model.DealOutcome.{DealOutcome}
 use Rattle.ftp_control.specs.declared.transport.request.RequestOutcome.TheVariants as asked
 use Rattle.ftp_control.specs.declared.control.form.ReplyForm.TheVariants.{Plain}
 use Rattle.ftp_session.specs.Deals.{Deal, Deals, Net, dealings_of, outcomes_of}
@@ -30,12 +30,11 @@ use Rattle.ftp_control.specs.declared.control.outcome.Outcome.TheVariants.{Waits
 use Rattle.ftp_control.specs.Grammar.{outcome}
 use Rattle.ftp_session.specs.declared.session.state.State.{State}
 use Rattle.ftp_calls.specs.declared.call.Answer.{Answer}
-use Rattle.ftp_calls.specs.declared.call.Answer.TheVariants.{Fault}
 use Rattle.ftp_calls.specs.declared.call.Call.{Call}
 use Rattle.ftp_calls.specs.declared.exchange.Turn.{Turn}
-use Rattle.ftp_calls.specs.declared.exchange.Turn.TheVariants.{First, Second, Passive, ExtendedPassive, Active, Restart}
+use Rattle.ftp_calls.specs.declared.exchange.Turn.TheVariants.{First, Second, Passive, ExtendedPassive, Active, Restart, Closed}
 use Rattle.ftp_session.specs.declared.session.stage.Stage.{Stage}
-use Rattle.ftp_session.specs.declared.session.stage.Stage.TheVariants.{At, Saying, Hearing, Arming, Agreeing}
+use Rattle.ftp_session.specs.declared.session.stage.Stage.TheVariants.{At, Saying, Hearing, Arming, Agreeing, Closing}
 use Rattle.ftp_session.specs.declared.model.Standing.{Standing}
 use Rattle.ftp_session.specs.declared.model.Wait.{Wait}
 use Rattle.ftp_session.specs.declared.model.Wait.TheVariants as wait
@@ -47,50 +46,51 @@ use Rattle.ftp_session.specs.State.{SessionValue, let_go}
 use Rattle.ftp_session.specs.Coding.{Coding}
 use Rattle.ftp_calls.specs.declared.exchange.Exchange.{Exchange}
 use Rattle.ftp_calls.specs.declared.exchange.Row.{Row}
-use Rattle.ftp_calls.specs.declared.exchange.Row.TheVariants.{Exchanges, Arms}
-use Rattle.ftp_calls.specs.Exchanges.{negotiates, is_read, row_of}
+use Rattle.ftp_calls.specs.declared.exchange.Row.TheVariants.{Exchanges, Arms, Sets, Moves}
+use Rattle.ftp_calls.specs.Exchanges.{finishes, is_local, negotiates, is_read, row_of}
 use Rattle.std.specs.Net.Socket.{socket_port}
 use Rattle.ftp_session.specs.Sound.{cannot_open}
-use Rattle.ftp_session.specs.Dialogue.{agreeing, armed, at_port, entered, from_turn, negotiating, negotiating_unless, on_address, Expected, expected_of, Tree, Say, Hear, saying, awaiting, doing, later, dialogue}
+use Rattle.ftp_session.specs.Dialogue.{agreeing, at_port, closing, entered, opened_from, told_of_close, with_left, from_turn, negotiating, negotiating_unless, on_address, Expected, expected_of, Tree, Say, Hear, saying, awaiting, doing, later, dialogue}
 use Rattle.ftp_session.specs.Play.{ended, finally, play, fits, heard_then}
 use Rattle.ftp_session.specs.declared.model.Played.{Played}
 use Rattle.ftp_session.specs.Run.{run, before, and_then, Resumes, Silent}
-use Rattle.ftp_session.specs.Promises.{begun_by, failed_from, standing, before_all, However, Fails, LacksMemory, Touched, Untouched, Goes, Leads, Rests, Aborts}
-use Rattle.ftp_session.specs.Script.{unread, is_over, start_of, front, seen_at, form_at, first_form, heard_form, polled_as, run_with, poll_script, HearsNothing, MayCancel, MayPoll}
-use Rattle.ftp_session.specs.Scripted.{SaysFrontOf, SaysNothing, Stands, SaysOrTakes, CallHasBegun, Reaches, LeftOf, entering}
+use Rattle.ftp_session.specs.Promises.{refusal_of, begun_by, failed_from, standing, before_all, However, Fails, LacksMemory, Touched, Untouched, Goes, Leads, Rests, Aborts}
+use Rattle.ftp_session.specs.Script.{unread, is_over, start_of, front, seen_at, form_at, first_form, heard_form, polled_as, run_with, poll_script, HearsNothing, MayCancel, MayPoll, needs_data}
+use Rattle.ftp_session.specs.Scripted.{MayGoOn, SaysFrontOf, SaysNothing, Stands, SaysOrTakes, CallHasBegun, Reaches, LeftOf, entering}
 use Rattle.ftp_session.specs.Steps.Stages.{StageOf, remaining, begun_at}
-use Rattle.ftp_session.specs.Steps.Moving.{BeginsHere, HasBegun, HasGoneOut, NothingTouched, Speaks, StillSays, Keeps, Shrinks, Calm, Advances, PollsTo, WaitsFor, WaitsToSay}
-use Rattle.ftp_session.specs.Steps.Following.{entered_at, entered_state, entered_tree, Since, Started, UnderWay, Unheard, Place, Follows, PollsHere, AbortsCall}
-use Rattle.ftp_session.proofs.Deals.{deals-append, deals_none, drops, drops_deal, outcomes-append}
-use Rattle.ftp_session.proofs.Moving.{Finishes, finishes, goes_after, fitted, play-Say}
+use Rattle.ftp_session.specs.Steps.Moving.{Apart, BeginsHere, HasBegun, HasGoneOut, NothingTouched, Speaks, StillSays, Keeps, Shrinks, Calm, Advances, PollsTo, WaitsFor, WaitsToSay}
+use Rattle.ftp_session.specs.Steps.Following.{MayPollAt, MayPollFrom, is_first, entered_at, entered_state, entered_tree, Since, Started, UnderWay, Unheard, Place, Follows, PollsHere, AbortsCall}
+use Rattle.ftp_session.proofs.Deals.{deals-append, drops, drops_deal, outcomes-append}
+use Rattle.ftp_session.proofs.Moving.{Finishes, finishes as finishes_by, goes_after, fitted, play-Say}
 use Rattle.ftp_session.proofs.Hearing.{play-Hear}
-use Rattle.ftp_session.proofs.Unheard.{LacksRoomFor, lacks_room, plain_dialogue, plain_entered, says_no_read}
-use Rattle.ftp_session.proofs.Running.{run-nil, run-cons, before_all-snoc, before_all-Finished, before_all-Waiting, refuses_on}
-use Rattle.ftp_session.specs.Link.{over_memory}
+use Rattle.ftp_session.proofs.Unheard.{LacksRoomFor, lacks_room, says_no_read}
+use Rattle.ftp_session.proofs.Carrying.{RefusedSo, beside_goes, carrying_resumes, local_resumes, may_go_on, needs_none, plain_dialogue, plain_entered, plain_finishes_none, read_apart, refused_so, taken_going, taken_plays}
+use Rattle.ftp_session.proofs.Sorts.{stage_no_local}
+use Rattle.ftp_session.specs.Play.{Refusal, Taken, Lacking, Failing}
+use Rattle.ftp_session.proofs.Running.{run-nil, run-cons, before_all-snoc, before_all-Finished, before_all-Waiting, plays_on}
+use Rattle.ftp_session.specs.Link.{Builds, over_memory}
 use Rattle.ftp_session.proofs.Carried.{front_fits, outcomes_on, over_at_end, seen_kept, waits_kept, full_room, Carried, carried, carried_none, line_front, all_said}
 
 -- what a poll comes to
-abbrev pub PollFollows : Coding → List RequestOutcome → List RequestOutcome → SessionValue → Script → SessionValue → SessionValue → Call → Stage → Stage → List Answer → Poll Answer → Type 0
-PollFollows coding outcomes left old s v w call stage stage' answers (Ready answer) =
-    Follows coding outcomes left old (poll_script coding (start_of old outcomes) (Some call) s) w None stage' (answers ++ answer ∷ []) ⊎ AbortsCall coding call stage v w (Some answer)
-PollFollows coding outcomes left old s v w call stage stage' answers Pending = Follows coding outcomes left old (poll_script coding (start_of old outcomes) (Some call) s) w (Some call) stage' answers
+abbrev pub PollFollows : Builds → Coding → List DealOutcome → List DealOutcome → SessionValue → Script → SessionValue → SessionValue → Call → Stage → Stage → List Answer → Poll Answer → Type 0
+PollFollows builds coding outcomes left old s v w call stage stage' answers (Ready answer) =
+    Follows builds coding outcomes left old (poll_script coding (start_of old outcomes) (Some call) s) w None stage' (answers ++ answer ∷ []) ⊎ AbortsCall builds coding call stage v w (Some answer)
+PollFollows builds coding outcomes left old s v w call stage stage' answers Pending = Follows builds coding outcomes left old (poll_script coding (start_of old outcomes) (Some call) s) w (Some call) stage' answers
 
-module _ (coding : Coding) (outcomes : List RequestOutcome) where
+module _ (builds : Builds) (coding : Coding) (outcomes : List DealOutcome) where
   -- Runs
 
   -- the next call under way
-  stands_reaches : (old v : SessionValue) (items : List Call) (came : List ℕ) (answered : List Deal) (answers : List Answer) (call : Call) → v.channel.failed ≡ false → Stands coding old items came answered v answers → Reaches coding old items came answered (begun_by call v) answers call (dialogue coding call v.state)
+  stands_reaches : (old v : SessionValue) (items : List Call) (came : List ℕ) (answered : List Deal) (answers : List Answer) (call : Call) → refusal_of call v ≡ Taken → Stands coding old items came answered v answers → Reaches coding old items came answered (begun_by call v) answers call (dialogue coding call v.state)
   stands_reaches old v items came answered answers call going stands = λ later room more ended outcomes' fit on.
       let s : Standing = standing v more ended outcomes' in
       let next : Standing → Ran = λ t. run room coding later t in
-      let here : Played = finally (play room (dialogue coding call v.state) (standing (begun_by call v) more ended outcomes')) in
-      let P : Bool → Type 0 = λ failed. cond failed (played.Done (Fault SessionFailed) s) here ≡ here in
       stands (call ∷ later) room more ended outcomes' fit on
-      ∙ ap (before_all answers) (run-cons coding room call later s ∙ ap (λ p. and_then p next) (subst P (sym going) refl))
+      ∙ ap (before_all answers) (run-cons coding room call later s ∙ ap (λ p. and_then p next) (taken_plays coding room call v more ended outcomes' going))
 
   module _ (old v w : SessionValue) (items : List Call) (came : List ℕ) (answered : List Deal) (answers : List Answer) (call : Call) where
     -- the call has its answer
-    reaches_stands : (tree : Tree) (answer : Answer) → Reaches coding old items came answered v answers call tree → (ends : Finishes over_memory tree answer v w) → Resumes v.channel.rule v.channel.kept tree → Stands coding old (items ++ call ∷ []) (came ++ ends.came) (answered ++ ends.answered) w (answers ++ answer ∷ [])
+    reaches_stands : (tree : Tree) (answer : Answer) → Reaches coding old items came answered v answers call tree → (ends : Finishes (over_memory builds) tree answer v w) → Resumes v.channel.rule v.channel.kept tree → Stands coding old (items ++ call ∷ []) (came ++ ends.came) (answered ++ ends.answered) w (answers ++ answer ∷ [])
     reaches_stands tree answer reaches ends resumes = λ later room more ended outcomes' fit on.
         let done = ends in
         let next : Standing → Ran = λ t. run room coding later t in
@@ -101,23 +101,27 @@ module _ (coding : Coding) (outcomes : List RequestOutcome) where
         ∙ sym (before_all-snoc answers answer (run room coding later (standing w more ended outcomes'))))
 
     -- more of it is left
-    reaches_on : (tree tree' : Tree) → Reaches coding old items came answered v answers call tree → (leads : Leads over_memory tree tree' v w) → However v leads.came leads.answered w (λ room s t. play room tree s ≡ play room tree' t) → Reaches coding old items (came ++ leads.came) (answered ++ leads.answered) w answers call tree'
+    reaches_on : (tree tree' : Tree) → Reaches coding old items came answered v answers call tree → (leads : Leads (over_memory builds) tree tree' v w) → However v leads.came leads.answered w (λ room s t. play room tree s ≡ play room tree' t) → Reaches coding old items (came ++ leads.came) (answered ++ leads.answered) w answers call tree'
     reaches_on tree tree' reaches leads plays = λ later room more ended outcomes' fit on.
         let next : Standing → Ran = λ t. run room coding later t in
         let first = reaches later room (leads.came ++ more) ended (outcomes_of leads.answered ++ outcomes') (fitted room _ _ (leads.goes.sent tt) fit) (goes_after v.channel.ended leads.came more w.channel.ended ended leads.goes.over on) in
         rw (append_assoc came leads.came more, outcomes_on answered leads.answered outcomes')
         (first ∙ ap (λ p. before_all answers (and_then (finally p) next)) (plays room more ended outcomes' fit on))
 
-  -- the session has failed
-  stands_refused : (old v : SessionValue) (items : List Call) (came : List ℕ) (answered : List Deal) (answers : List Answer) (call : Call) → v.channel.failed ≡ true → Stands coding old items came answered v answers → Stands coding old (items ++ call ∷ []) (came ++ []) (answered ++ []) v (answers ++ Fault SessionFailed ∷ [])
-  stands_refused old v items came answered answers call failed stands = λ later room more ended outcomes' fit on.
-      rw (append_assoc items (call ∷ []) later, append-nil came, append-nil answered)
-      (stands (call ∷ later) room more ended outcomes' fit on
-      ∙ ap (before_all answers) (refuses_on coding room call later (standing v more ended outcomes') failed)
-      ∙ sym (before_all-snoc answers (Fault SessionFailed) (run room coding later (standing v more ended outcomes'))))
+  -- the call is refused
+  stands_refused : (old v w : SessionValue) (items : List Call) (came : List ℕ) (answered : List Deal) (answers : List Answer) (call : Call) (answer : Answer) → (so : RefusedSo builds (Unit {0}) coding call v w answer) → Stands coding old items came answered v answers → Stands coding old (items ++ call ∷ []) (came ++ []) (answered ++ so.answered) w (answers ++ answer ∷ [])
+  stands_refused old v w items came answered answers call answer so stands = λ later room more ended outcomes' fit on.
+      let goes = beside_goes (over_memory builds) so.answered v w so.channel so.deals in
+      let R : List DealOutcome → Ran = λ o. run room coding (items ++ call ∷ later) (standing old (came ++ more) ended o) in
+      let same : outcomes_of (answered ++ so.answered) ++ outcomes' ≡ outcomes_of answered ++ outcomes' = ap (λ o. o ++ outcomes') (outcomes-append answered so.answered ∙ ap (λ o. outcomes_of answered ++ o) so.none ∙ append-nil (outcomes_of answered)) in
+      rw (append_assoc items (call ∷ []) later, append-nil came)
+      (ap R same
+      ∙ stands (call ∷ later) room more ended outcomes' (fitted room _ _ (goes.sent tt) fit) (goes_after v.channel.ended [] more w.channel.ended ended goes.over on)
+      ∙ ap (before_all answers) (plays_on coding room call later (standing v more ended outcomes') (standing w more ended outcomes') answer (so.plays tt room more ended outcomes'))
+      ∙ sym (before_all-snoc answers answer (run room coding later (standing w more ended outcomes'))))
 
   -- a plain read that waits leaves no trace
-  stands_rests : (old v w : SessionValue) (items : List Call) (came : List ℕ) (answered : List Deal) (answers : List Answer) → Stands coding old items came answered v answers → (rests : Rests over_memory v w) → Stands coding old items (came ++ rests.came) (answered ++ []) w answers
+  stands_rests : (old v w : SessionValue) (items : List Call) (came : List ℕ) (answered : List Deal) (answers : List Answer) → Stands coding old items came answered v answers → (rests : Rests (over_memory builds) v w) → Stands coding old items (came ++ rests.came) (answered ++ []) w answers
   stands_rests old v w items came answered answers stands rests = λ later room more ended outcomes' fit on.
       let first = stands later room (rests.came ++ more) ended outcomes' (fitted room _ _ (rests.goes.sent tt) fit) (goes_after v.channel.ended rests.came more w.channel.ended ended rests.goes.over on) in
       rw (append_assoc came rests.came more, append-nil answered)
@@ -126,7 +130,7 @@ module _ (coding : Coding) (outcomes : List RequestOutcome) where
   -- a run depends on the outcomes alone
   stands_same : (old v : SessionValue) (items : List Call) (came : List ℕ) (one two : List Deal) (answers : List Answer) → outcomes_of one ≡ outcomes_of two → Stands coding old items came one v answers → Stands coding old items came two v answers
   stands_same old v items came one two answers same stands = λ later room more ended outcomes' fit on.
-      let R : List RequestOutcome → Ran = λ o. run room coding (items ++ later) (standing old (came ++ more) ended (o ++ outcomes')) in
+      let R : List DealOutcome → Ran = λ o. run room coding (items ++ later) (standing old (came ++ more) ended (o ++ outcomes')) in
       ap R (sym same) ∙ stands later room more ended outcomes' fit on
 
   -- a reply that says nothing yet as one of a call's form is resumed by the call
@@ -145,6 +149,8 @@ module _ (coding : Coding) (outcomes : List RequestOutcome) where
         row : (r : Row) → outcome rule (heard_form r) kept false ≡ Waits → Resumes rule kept (doing coding r state (later coding call turn))
         row (Exchanges e) waits = go e waits e.says
         row (Arms offset) waits = tt
+        row (Sets setting) waits = tt
+        row (Moves moves) waits = carrying_resumes rule kept moves state
 
     -- no way to a data connection hears a list
     resumes_bound : (offset : ℕ) (state : State) (local : SocketAddr) → outcome rule Plain kept false ≡ Waits → (answer : RequestOutcome) → Resumes rule kept (on_address state (λ bound. from_turn coding call (Active (at_port (socket_port bound) local) offset) state) answer)
@@ -162,15 +168,18 @@ module _ (coding : Coding) (outcomes : List RequestOutcome) where
     resumes_unless None offset state waits = resumes_mode state.settings.mode offset state waits
 
     resumes_dialogue : (state : State) → outcome rule (first_form call) kept false ≡ Waits → Resumes rule kept (dialogue coding call state)
-    resumes_dialogue state waits = go (negotiates call) waits
+    resumes_dialogue state waits = go (negotiates call) (finishes call) waits
       where
-        go : (b : Bool) → outcome rule (cond b Plain (heard_form (row_of call First))) kept false ≡ Waits → Resumes rule kept (cond b (negotiating coding call state.settings.restart_offset (armed 0 state)) (from_turn coding call First state))
-        go true waits = resumes_unless (cannot_open state.counts) state.settings.restart_offset (armed 0 state) waits
-        go false waits = resumes_row First state waits
+        go : (b f : Bool) → outcome rule (cond (b || f) Plain (heard_form (row_of call First))) kept false ≡ Waits → Resumes rule kept (cond b (negotiating coding call state.settings.restart_offset (opened_from call state)) (cond f (closing coding call (with_left state)) (from_turn coding call First state)))
+        go true f waits = resumes_unless (cannot_open state.counts) state.settings.restart_offset (opened_from call state) waits
+        go false true waits = λ came. resumes_row (Closed (told_of_close state.uploads came)) (with_left state) waits
+        go false false waits = resumes_row First state waits
 
   -- where a poll begins of a call that was polled before
   settled_state : (call : Call) (stage : Stage) (state : State) → StageOf call stage → entered_state call stage state ≡ state
-  settled_state call (At First) state plain = plain_entered call state plain
+  settled_state call (At First) state plain = plain_entered call state plain.0 plain.2
+  settled_state call (At (Closed close)) state stage_of = refl
+  settled_state call Closing state stage_of = refl
   settled_state call (At Second) state stage_of = refl
   settled_state call (At (Passive offset)) state stage_of = refl
   settled_state call (At (ExtendedPassive offset)) state stage_of = refl
@@ -182,7 +191,9 @@ module _ (coding : Coding) (outcomes : List RequestOutcome) where
   settled_state call (Agreeing way) state stage_of = refl
 
   settled_tree : (call : Call) (stage : Stage) (state : State) → StageOf call stage → entered_tree coding call stage state ≡ remaining coding call state stage
-  settled_tree call (At First) state plain = plain_dialogue coding call state plain
+  settled_tree call (At First) state plain = plain_dialogue coding call state plain.0 plain.2
+  settled_tree call (At (Closed close)) state stage_of = refl
+  settled_tree call Closing state stage_of = refl
   settled_tree call (At Second) state stage_of = refl
   settled_tree call (At (Passive offset)) state stage_of = refl
   settled_tree call (At (ExtendedPassive offset)) state stage_of = refl
@@ -194,7 +205,7 @@ module _ (coding : Coding) (outcomes : List RequestOutcome) where
   settled_tree call (Agreeing way) state stage_of = refl
 
   -- what was fed, seen from after a poll
-  module _ (left : List RequestOutcome) (asked : List Deal) (old : SessionValue) (s : Script) (v w : SessionValue) (call : Call) (stage : Stage) (answers : List Answer) (f : Follows coding outcomes (outcomes_of asked ++ left) old s v (Some call) stage answers) (came : List ℕ) (c : Carried v w came asked) where
+  module _ (left : List DealOutcome) (asked : List Deal) (old : SessionValue) (s : Script) (v w : SessionValue) (call : Call) (stage : Stage) (answers : List Answer) (f : Follows builds coding outcomes (outcomes_of asked ++ left) old s v (Some call) stage answers) (came : List ℕ) (c : Carried builds v w came asked) where
     fed_bytes : s.bytes ≡ untaken old.channel ++ (f.came ++ came) ++ unread w.channel.told
     fed_bytes =
         f.bytes
@@ -211,8 +222,8 @@ module _ (coding : Coding) (outcomes : List RequestOutcome) where
     all_received : w.channel.told.received ≡ old.channel.told.received ++ (f.came ++ came)
     all_received = c.received ∙ ap (λ x. x ++ came) f.received ∙ append_assoc old.channel.told.received f.came came
 
-    all_deals : Deals (f.answered ++ asked) old.net w.net
-    all_deals = deals-append f.answered asked old.net v.net w.net f.deals c.deals
+    all_deals : Deals builds (f.answered ++ asked) old.net w.net
+    all_deals = deals-append builds f.answered asked old.net v.net w.net f.deals c.deals
 
     all_outcomes : outcomes ≡ outcomes_of (f.answered ++ asked) ++ left
     all_outcomes = f.outcomes_are ∙ sym (outcomes_on f.answered asked left)
@@ -224,14 +235,14 @@ module _ (coding : Coding) (outcomes : List RequestOutcome) where
     from_start : (calls : List Call) → run s.room coding calls (record (start_of old outcomes) { bytes = s.bytes; ended = s.ended }) ≡ run s.room coding calls (standing old ((f.came ++ came) ++ unread w.channel.told) (is_over w.channel.told) (outcomes_of (f.answered ++ asked) ++ left))
     from_start calls =
         let bytes : s.bytes ≡ untaken old.channel ++ ((f.came ++ came) ++ unread w.channel.told) = fed_bytes ∙ append_assoc (untaken old.channel) (f.came ++ came) (unread w.channel.told) in
-        let S : List RequestOutcome → Standing = λ o. record (start_of old o) { bytes = s.bytes; ended = s.ended } in
+        let S : List DealOutcome → Standing = λ o. record (start_of old o) { bytes = s.bytes; ended = s.ended } in
         ap (λ o. run s.room coding calls (S o)) all_outcomes ∙ rw (bytes, over_is)
 
     going_on : GoesOn w.channel.ended (unread w.channel.told) (is_over w.channel.told)
     going_on = over_at_end w c.has c.sound
 
     -- the call is done
-    finish : (P : Type 0) (stage' : Stage) (answer : Answer) → Stands coding old (s.items ++ call ∷ []) (f.came ++ came) (f.answered ++ asked) w (s.answers ++ answer ∷ []) → Shrinks came v w → Keeps P came v w → Follows coding outcomes left old (poll_script coding (start_of old outcomes) (Some call) s) w None stage' (answers ++ answer ∷ [])
+    finish : (P : Type 0) (stage' : Stage) (answer : Answer) → Stands coding old (s.items ++ call ∷ []) (f.came ++ came) (f.answered ++ asked) w (s.answers ++ answer ∷ []) → Shrinks came v w → Keeps P came v w → Follows builds coding outcomes left old (poll_script coding (start_of old outcomes) (Some call) s) w None stage' (answers ++ answer ∷ [])
     finish P stage' answer stands shrinks keeps =
         let ran : run s.room coding (s.items ++ call ∷ []) (record (start_of old outcomes) { bytes = s.bytes; ended = s.ended }) ≡ Finished (s.answers ++ answer ∷ []) here =
         from_start (s.items ++ call ∷ [])
@@ -241,8 +252,8 @@ module _ (coding : Coding) (outcomes : List RequestOutcome) where
         ∙ before_all-Finished (s.answers ++ answer ∷ []) [] here
         ∙ ap (λ a. Finished a here) (append-nil (s.answers ++ answer ∷ [])) in
         let after : Script = polled_as (Finished (s.answers ++ answer ∷ []) here) call s in
-        let Q : Ran → Type 0 = λ r. Follows coding outcomes left old (polled_as r call s) w None stage' (answers ++ answer ∷ []) in
-        let follows : Follows coding outcomes left old after w None stage' (answers ++ answer ∷ []) = record {
+        let Q : Ran → Type 0 = λ r. Follows builds coding outcomes left old (polled_as r call s) w None stage' (answers ++ answer ∷ []) in
+        let follows : Follows builds coding outcomes left old after w None stage' (answers ++ answer ∷ []) = record {
           came = f.came ++ came;
           answered = f.answered ++ asked;
           deals = all_deals;
@@ -281,7 +292,7 @@ module _ (coding : Coding) (outcomes : List RequestOutcome) where
         ∙ ap (λ a. Waiting a wait t) (append-nil s.answers)
 
     -- a call that waits without having heard says a line that isn't within the room
-    unheard_lacks : (state : State) (stage' : Stage) → negotiates call ≡ false → StageOf call stage' → Reaches coding old s.items (f.came ++ came) (f.answered ++ asked) w s.answers call (remaining coding call state stage') → HearsNothing (run_with coding (start_of old outcomes) call s) s → untaken w.channel ++ unread w.channel.told ≡ s.untaken → LacksRoomFor s.room here (remaining coding call state stage')
+    unheard_lacks : (state : State) (stage' : Stage) → needs_data call ≡ false → StageOf call stage' → Reaches coding old s.items (f.came ++ came) (f.answered ++ asked) w s.answers call (remaining coding call state stage') → HearsNothing (run_with coding (start_of old outcomes) call s) s → untaken w.channel ++ unread w.channel.told ≡ s.untaken → LacksRoomFor s.room here (remaining coding call state stage')
     unheard_lacks state stage' plain stage_of reaches nothing bytes = go (play s.room (remaining coding call state stage') here) refl (subst Nothing ran nothing)
       where
         Nothing : Ran → Type 0
@@ -316,11 +327,11 @@ module _ (coding : Coding) (outcomes : List RequestOutcome) where
             cc
 
     -- the call waits
-    wait_on : (tree : Tree) (stage' : Stage) (wait : Wait) (t : Standing) → Reaches coding old s.items (f.came ++ came) (f.answered ++ asked) w s.answers call tree → play s.room tree here ≡ played.Pending wait t → front s.room t.said ≡ w.channel.told.sent → SaysFrontOf w.channel (t.said ++ t.unsent) → t.bytes ≡ untaken w.channel ++ unread w.channel.told → seen_at wait s t.bytes ≡ length w.channel.kept → outcome w.channel.rule (form_at wait s) w.channel.kept false ≡ Waits → t.state ≡ w.state → t.failed ≡ w.channel.failed → t.dealings ≡ dealings_of w.net → (MayCancel (Some call) true → s.unsent ≡ w.channel.unsent) → Place coding old (polled_as (Waiting s.answers wait t) call s) (f.came ++ came) (f.answered ++ asked) w (Some call) stage' → Follows coding outcomes left old (poll_script coding (start_of old outcomes) (Some call) s) w (Some call) stage' answers
+    wait_on : (tree : Tree) (stage' : Stage) (wait : Wait) (t : Standing) → Reaches coding old s.items (f.came ++ came) (f.answered ++ asked) w s.answers call tree → play s.room tree here ≡ played.Pending wait t → front s.room t.said ≡ w.channel.told.sent → SaysFrontOf w.channel (t.said ++ t.unsent) → t.bytes ≡ untaken w.channel ++ unread w.channel.told → seen_at wait s t.bytes ≡ length w.channel.kept → outcome w.channel.rule (form_at wait s) w.channel.kept false ≡ Waits → t.state ≡ w.state → t.failed ≡ w.channel.failed → t.dealings ≡ dealings_of w.net → (MayCancel (Some call) true → s.unsent ≡ w.channel.unsent) → Place coding old (polled_as (Waiting s.answers wait t) call s) (f.came ++ came) (f.answered ++ asked) w (Some call) stage' → Follows builds coding outcomes left old (poll_script coding (start_of old outcomes) (Some call) s) w (Some call) stage' answers
     wait_on tree stage' wait t reaches waits sent begins bytes seen says_nothing state failed dealings unsent place =
         let ran = waits_ran tree wait t reaches waits in
-        let Q : Ran → Type 0 = λ r. Follows coding outcomes left old (polled_as r call s) w (Some call) stage' answers in
-        let follows : Follows coding outcomes left old (polled_as (Waiting s.answers wait t) call s) w (Some call) stage' answers = record {
+        let Q : Ran → Type 0 = λ r. Follows builds coding outcomes left old (polled_as r call s) w (Some call) stage' answers in
+        let follows : Follows builds coding outcomes left old (polled_as (Waiting s.answers wait t) call s) w (Some call) stage' answers = record {
           came = f.came ++ came;
           answered = f.answered ++ asked;
           deals = all_deals;
@@ -391,7 +402,7 @@ module _ (coding : Coding) (outcomes : List RequestOutcome) where
     not_begun = λ none. (refl, sym (append-nil (untaken v.channel)));
   }
 
-  since_on : (old : SessionValue) (items : List Call) (answers : List Answer) (came : List ℕ) (asked : List Deal) (v w : SessionValue) (begun begun' : Bool) (tree : Tree) (since : Since coding old items answers came asked v begun) → Speaks tree ⊎ Resumes v.channel.rule v.channel.kept tree → (more : List ℕ) (answered : List Deal) → Goes over_memory more answered v w → HasBegun over_memory begun begun' tree v w → Since coding old items answers (came ++ more) (asked ++ answered) w begun'
+  since_on : (old : SessionValue) (items : List Call) (answers : List Answer) (came : List ℕ) (asked : List Deal) (v w : SessionValue) (begun begun' : Bool) (tree : Tree) (since : Since coding old items answers came asked v begun) → Speaks tree ⊎ Resumes v.channel.rule v.channel.kept tree → (more : List ℕ) (answered : List Deal) → Goes (over_memory builds) more answered v w → HasBegun (over_memory builds) begun begun' tree v w → Since coding old items answers (came ++ more) (asked ++ answered) w begun'
   since_on old items answers came asked v w begun begun' tree since resumes more answered goes here = record {
     start = since.start;
     before = since.before;
@@ -407,7 +418,7 @@ module _ (coding : Coding) (outcomes : List RequestOutcome) where
     not_begun = λ none. back (here.1 none);
   }
     where
-      back : (begun ≡ false) × NothingTouched over_memory v w → SaysNothing (since.later ++ more) since.start w
+      back : (begun ≡ false) × NothingTouched (over_memory builds) v w → SaysNothing (since.later ++ more) since.start w
       back none =
           let first = since.not_begun none.0 in
           let here = none.1 tt in
@@ -422,7 +433,7 @@ module _ (coding : Coding) (outcomes : List RequestOutcome) where
       in_this (inl said_more) = inl (omega (arith, said_more, since.said))
       in_this (inr taken_more) = inr (omega (arith, taken_more, since.taken, ap length (goes.received tt), length-append v.channel.told.received more, length-append came more))
 
-      go : (begun ≡ true) ⊎ BeginsHere over_memory tree v w → SaysOrTakes since.before (came ++ more) since.start w
+      go : (begun ≡ true) ⊎ BeginsHere (over_memory builds) tree v w → SaysOrTakes since.before (came ++ more) since.start w
       go (inl has) = before_this (since.has_begun has)
       go (inr touched) = in_this (touched tt resumes)
 
@@ -437,12 +448,13 @@ module _ (coding : Coding) (outcomes : List RequestOutcome) where
   pub record Resumed (old : SessionValue) (s : Script) (came : List ℕ) (asked : List Deal) (v : SessionValue) (call : Call) (begun : Bool) (e : SessionValue) (tree : Tree) : Type 0 where
     pub reaches : Reaches coding old s.items came asked e s.answers call tree
     pub resumes : Resumes v.channel.rule v.channel.kept tree
+    pub apart : is_read call ≡ true → Apart tree
     pub read : is_read call ≡ true → Stands coding old s.items came asked v s.answers
     pub since : Since coding old s.items s.answers came asked e begun
 
   -- where a poll begins that waits for room and hears nothing
   pub record KeptWaiting (old : SessionValue) (s : Script) (came : List ℕ) (asked : List Deal) (v : SessionValue) (call : Call) (begun : Bool) (e : SessionValue) (state : State) (tree : Tree) : Type 0 where
-    pub plain : negotiates call ≡ false
+    pub plain : needs_data call ≡ false
     pub no_read : is_read call ≡ false
     pub reaches : Reaches coding old s.items came asked e s.answers call tree
     pub resumes : (rule : ReplyRule) (kept : List ℕ) → Resumes rule kept (dialogue coding call state) → Resumes rule kept tree
@@ -459,9 +471,9 @@ module _ (coding : Coding) (outcomes : List RequestOutcome) where
   Kept old s came asked v call stage =
       KeptWaiting old s came asked v call (begun_at stage) (entered_at call stage v) (entered_state call stage v.state) (entered_tree coding call stage v.state)
 
-  module _ (left : List RequestOutcome) (old : SessionValue) (s : Script) (v w : SessionValue) (call : Call) (stage : Stage) (answers : List Answer) (stage' : Stage) (advances : Advances over_memory (entered_tree coding call stage v.state) (remaining coding call (entered_state call stage v.state) stage') (entered_at call stage v) w) (f : Follows coding outcomes (outcomes_of advances.moves.leads.answered ++ left) old s v (Some call) stage answers) (c : Carried v w advances.moves.leads.came advances.moves.leads.answered) where
+  module _ (left : List DealOutcome) (old : SessionValue) (s : Script) (v w : SessionValue) (call : Call) (stage : Stage) (answers : List Answer) (stage' : Stage) (advances : Advances (over_memory builds) (entered_tree coding call stage v.state) (remaining coding call (entered_state call stage v.state) stage') (entered_at call stage v) w) (f : Follows builds coding outcomes (outcomes_of advances.moves.leads.answered ++ left) old s v (Some call) stage answers) (c : Carried builds v w advances.moves.leads.came advances.moves.leads.answered) where
     -- a poll that waits for room
-    room_waits : WaitsToSay over_memory (remaining coding call (entered_state call stage v.state) stage') w → Reaches coding old s.items (f.came ++ advances.moves.leads.came) (f.answered ++ advances.moves.leads.answered) w s.answers call (remaining coding call (entered_state call stage v.state) stage') → (MayCancel (Some call) true → s.unsent ≡ w.channel.unsent) → ((t : Standing) → run_with coding (start_of old outcomes) call s ≡ Waiting s.answers wait.Room t → Place coding old (polled_as (Waiting s.answers wait.Room t) call s) (f.came ++ advances.moves.leads.came) (f.answered ++ advances.moves.leads.answered) w (Some call) stage') → Follows coding outcomes left old (poll_script coding (start_of old outcomes) (Some call) s) w (Some call) stage' answers
+    room_waits : WaitsToSay (over_memory builds) (remaining coding call (entered_state call stage v.state) stage') w → Reaches coding old s.items (f.came ++ advances.moves.leads.came) (f.answered ++ advances.moves.leads.answered) w s.answers call (remaining coding call (entered_state call stage v.state) stage') → (MayCancel (Some call) true → s.unsent ≡ w.channel.unsent) → ((t : Standing) → run_with coding (start_of old outcomes) call s ≡ Waiting s.answers wait.Room t → Place coding old (polled_as (Waiting s.answers wait.Room t) call s) (f.came ++ advances.moves.leads.came) (f.answered ++ advances.moves.leads.answered) w (Some call) stage') → Follows builds coding outcomes left old (poll_script coding (start_of old outcomes) (Some call) s) w (Some call) stage' answers
     room_waits says reaches' unsent' place =
         let moves = advances.moves in
         let asked = moves.leads.answered in
@@ -478,7 +490,7 @@ module _ (coding : Coding) (outcomes : List RequestOutcome) where
         wait_on left asked old s v w call stage answers f moves.leads.came c (Say (Ok says.line) says.next) stage' wait.Room t there stuck.0 stuck.1 (line_front w.channel says.line says.some) refl seen says_nothing refl refl refl unsent' (place t ran)
 
     -- it still waits for room, where it was kept waiting
-    still_waits : v.channel.failed ≡ false → Kept old s f.came f.answered v call stage → StageOf call stage' → WaitsFor over_memory (remaining coding call (entered_state call stage v.state) stage') w → HasBegun over_memory (begun_at stage) (begun_at stage') (entered_tree coding call stage v.state) (entered_at call stage v) w → Follows coding outcomes left old (poll_script coding (start_of old outcomes) (Some call) s) w (Some call) stage' answers
+    still_waits : v.channel.failed ≡ false → Kept old s f.came f.answered v call stage → StageOf call stage' → WaitsFor (over_memory builds) (remaining coding call (entered_state call stage v.state) stage') w → HasBegun (over_memory builds) (begun_at stage) (begun_at stage') (entered_tree coding call stage v.state) (entered_at call stage v) w → Follows builds coding outcomes left old (poll_script coding (start_of old outcomes) (Some call) s) w (Some call) stage' answers
     still_waits going from stage_of waits begun = go (advances.moves.says from.lacks.line from.lacks.next from.lacks.is tt) waits
       where
         e : SessionValue
@@ -491,13 +503,13 @@ module _ (coding : Coding) (outcomes : List RequestOutcome) where
         tree' = remaining coding call (entered_state call stage v.state) stage'
 
         unsent' : MayCancel (Some call) true → s.unsent ≡ w.channel.unsent
-        unsent' (inl new) = let clash : true ≡ false = new in cc
+        unsent' (inl new) = let clash : true ≡ false = new.0 in cc
         unsent' (inr read) = let clash : true ≡ false = sym read ∙ from.no_read in cc
 
         speaks : Speaks before
         speaks = let P : Tree → Type 0 = Speaks in subst P (sym from.lacks.is) tt
 
-        place : (still : StillSays over_memory before tree' advances.moves.leads.came advances.moves.leads.answered from.lacks.line e w) → Reaches coding old s.items (f.came ++ advances.moves.leads.came) (f.answered ++ advances.moves.leads.answered) w s.answers call tree' → (t : Standing) → run_with coding (start_of old outcomes) call s ≡ Waiting s.answers wait.Room t → Place coding old (polled_as (Waiting s.answers wait.Room t) call s) (f.came ++ advances.moves.leads.came) (f.answered ++ advances.moves.leads.answered) w (Some call) stage'
+        place : (still : StillSays (over_memory builds) before tree' advances.moves.leads.came advances.moves.leads.answered from.lacks.line e w) → Reaches coding old s.items (f.came ++ advances.moves.leads.came) (f.answered ++ advances.moves.leads.answered) w s.answers call tree' → (t : Standing) → run_with coding (start_of old outcomes) call s ≡ Waiting s.answers wait.Room t → Place coding old (polled_as (Waiting s.answers wait.Room t) call s) (f.came ++ advances.moves.leads.came) (f.answered ++ advances.moves.leads.answered) w (Some call) stage'
         place still reaches' t ran = inr (inr (record {
           plain = from.plain;
           stage_of = stage_of;
@@ -510,7 +522,7 @@ module _ (coding : Coding) (outcomes : List RequestOutcome) where
           since = since_on old s.items s.answers f.came f.answered e w (begun_at stage) (begun_at stage') before from.since (inl speaks) advances.moves.leads.came advances.moves.leads.answered advances.moves.leads.goes begun;
         }))
 
-        go : StillSays over_memory before tree' advances.moves.leads.came advances.moves.leads.answered from.lacks.line e w ⊎ HasGoneOut from.lacks.line v w → WaitsFor over_memory tree' w → Follows coding outcomes left old (poll_script coding (start_of old outcomes) (Some call) s) w (Some call) stage' answers
+        go : StillSays (over_memory builds) before tree' advances.moves.leads.came advances.moves.leads.answered from.lacks.line e w ⊎ HasGoneOut from.lacks.line v w → WaitsFor (over_memory builds) tree' w → Follows builds coding outcomes left old (poll_script coding (start_of old outcomes) (Some call) s) w (Some call) stage' answers
         go (inr gone) waits = absurd (never_gone left advances.moves.leads.answered old s v w call stage answers f advances.moves.leads.came c from.lacks.line from.lacks.full gone)
         go (inl still) (inr (inl hears)) = let clash : Hear hears.codes hears.next ≡ Say (Ok still.rest) still.next = sym hears.is ∙ still.is in cc
         go (inl still) (inr (inr asks)) = absurd asks.may
@@ -519,7 +531,7 @@ module _ (coding : Coding) (outcomes : List RequestOutcome) where
             room_waits says reaches' unsent' (place still reaches')
 
     -- a poll that waits
-    pending : v.channel.failed ≡ false → Goes_on old s f.came f.answered v call stage → StageOf call stage' → WaitsFor over_memory (remaining coding call (entered_state call stage v.state) stage') w → (is_read call ≡ true → Rests over_memory v w) → HasBegun over_memory (begun_at stage) (begun_at stage') (entered_tree coding call stage v.state) (entered_at call stage v) w → Follows coding outcomes left old (poll_script coding (start_of old outcomes) (Some call) s) w (Some call) stage' answers
+    pending : v.channel.failed ≡ false → Goes_on old s f.came f.answered v call stage → StageOf call stage' → WaitsFor (over_memory builds) (remaining coding call (entered_state call stage v.state) stage') w → (is_read call ≡ true → Rests (over_memory builds) v w) → HasBegun (over_memory builds) (begun_at stage) (begun_at stage') (entered_tree coding call stage v.state) (entered_at call stage v) w → Follows builds coding outcomes left old (poll_script coding (start_of old outcomes) (Some call) s) w (Some call) stage' answers
     pending going from stage_of waits rests begun = go waits
       where
         e : SessionValue
@@ -548,13 +560,13 @@ module _ (coding : Coding) (outcomes : List RequestOutcome) where
             let rest = rests is in
             let goes = advances.moves.leads.goes in
             let came : rest.came ≡ advances.moves.leads.came = append_cancel_left v.channel.told.received rest.came advances.moves.leads.came (sym (rest.goes.received tt) ∙ goes.received tt) in
-            let none : outcomes_of advances.moves.leads.answered ≡ [] = deals_none advances.moves.leads.answered v.net w.net (goes.deals tt) (ap (λ n. n.asked) (rest.goes.deals tt)) in
+            let none : outcomes_of advances.moves.leads.answered ≡ [] = (advances.moves.apart (from.apart is)).0 in
             let same : outcomes_of (f.answered ++ []) ≡ outcomes_of asked' = outcomes-append f.answered [] ∙ ap (λ o. outcomes_of f.answered ++ o) (sym none) ∙ sym (outcomes-append f.answered advances.moves.leads.answered) in
             let P : List ℕ → Type 0 = λ x. Stands coding old s.items (f.came ++ x) asked' w s.answers in
             subst P came (stands_same old w s.items (f.came ++ rest.came) (f.answered ++ []) asked' s.answers same (stands_rests old v w s.items f.came f.answered s.answers (from.read is) rest))
 
         unsent' : MayCancel (Some call) true → s.unsent ≡ w.channel.unsent
-        unsent' (inl new) = let clash : true ≡ false = new in cc
+        unsent' (inl new) = let clash : true ≡ false = new.0 in cc
         unsent' (inr read) = f.unsent (inr read) ∙ ap (λ t. t.unsent) ((rests read).stays tt [] false [])
 
         under_way : (t : Standing) (wait : Wait) → UnderWay coding old (polled_as (Waiting s.answers wait t) call s) came' asked' w call stage'
@@ -564,11 +576,12 @@ module _ (coding : Coding) (outcomes : List RequestOutcome) where
           going = advances.failed ∙ going;
           reaches = let P : State → Type 0 = λ state. Reaches coding old s.items came' asked' w s.answers call (remaining coding call state stage') in subst P (sym advances.moves.state) reaches';
           resumes = let P : State → Type 0 = λ state. Resumes w.channel.rule w.channel.kept (remaining coding call state stage') in subst P (sym advances.moves.state) resumes';
+          apart = λ is. let P : State → Type 0 = λ state. Apart (remaining coding call state stage') in subst P (sym advances.moves.state) (advances.moves.apart (from.apart is)).1;
           read = read';
           since = since_on old s.items s.answers f.came f.answered e w (begun_at stage) (begun_at stage') before from.since (inr from.resumes) advances.moves.leads.came advances.moves.leads.answered advances.moves.leads.goes begun;
         }
 
-        go : WaitsFor over_memory tree' w → Follows coding outcomes left old (poll_script coding (start_of old outcomes) (Some call) s) w (Some call) stage' answers
+        go : WaitsFor (over_memory builds) tree' w → Follows builds coding outcomes left old (poll_script coding (start_of old outcomes) (Some call) s) w (Some call) stage' answers
         go (inl says) = room_waits says reaches' unsent' (λ t ran. inr (inl (under_way t wait.Room)))
         go (inr (inr asks)) = absurd asks.may
         go (inr (inl hears)) =
@@ -584,36 +597,36 @@ module _ (coding : Coding) (outcomes : List RequestOutcome) where
             let b : Wait = wait.Bytes hears.codes.form in
             wait_on left asked old s v w call stage answers f moves.leads.came c (Hear hears.codes hears.next) stage' b t (subst P hears.is reaches') stuck sent (all_said w.channel) refl seen resumed refl refl refl unsent' (inr (inl (under_way t b)))
 
-  module _ (left : List RequestOutcome) (old : SessionValue) (s : Script) (v w : SessionValue) (call : Call) (stage : Stage) (answers : List Answer) (answer : Answer) (ends : Finishes over_memory (entered_tree coding call stage v.state) answer (entered_at call stage v) w) (f : Follows coding outcomes (outcomes_of ends.answered ++ left) old s v (Some call) stage answers) (c : Carried v w ends.came ends.answered) where
+  module _ (left : List DealOutcome) (old : SessionValue) (s : Script) (v w : SessionValue) (call : Call) (stage : Stage) (answers : List Answer) (answer : Answer) (ends : Finishes (over_memory builds) (entered_tree coding call stage v.state) answer (entered_at call stage v) w) (f : Follows builds coding outcomes (outcomes_of ends.answered ++ left) old s v (Some call) stage answers) (c : Carried builds v w ends.came ends.answered) where
     -- a call that is kept waiting has no answer yet
     no_answer : Kept old s f.came f.answered v call stage → ⊥
     no_answer from = never_gone left ends.answered old s v w call stage answers f ends.came c from.lacks.line from.lacks.full (ends.gone from.lacks.line from.lacks.next from.lacks.is tt)
 
     -- a poll that completes the call
-    completed : (stage' : Stage) → Goes_on old s f.came f.answered v call stage → Follows coding outcomes left old (poll_script coding (start_of old outcomes) (Some call) s) w None stage' (answers ++ answer ∷ [])
+    completed : (stage' : Stage) → Goes_on old s f.came f.answered v call stage → Follows builds coding outcomes left old (poll_script coding (start_of old outcomes) (Some call) s) w None stage' (answers ++ answer ∷ [])
     completed stage' from =
         finish left ends.answered old s v w call stage answers f ends.came c (Silent (entered_tree coding call stage v.state)) stage' answer
         (reaches_stands old (entered_at call stage v) w s.items f.came f.answered s.answers call (entered_tree coding call stage v.state) answer from.reaches ends from.resumes)
         ends.shrinks ends.keeps
 
-  -- a session that has failed refuses the call
-  refused_poll : (left : List RequestOutcome) (old : SessionValue) (s : Script) (v : SessionValue) (call : Call) (stage stage' : Stage) (answers : List Answer) (f : Follows coding outcomes left old s v (Some call) stage answers) → v.channel.failed ≡ true → Stands coding old s.items f.came f.answered v s.answers → Follows coding outcomes left old (poll_script coding (start_of old outcomes) (Some call) s) v None stage' (answers ++ Fault SessionFailed ∷ [])
-  refused_poll left old s v call stage stage' answers f failed stands =
-      finish left [] old s v v call stage answers f [] (carried_none v f.given f.sound) (Unit {0}) stage' (Fault SessionFailed)
-      (stands_refused old v s.items f.came f.answered s.answers call failed stands)
-      (omega arith)
-      (inr (refl, refl, refl, tt))
+  -- the call is refused
+  refused_poll : (left : List DealOutcome) (old : SessionValue) (s : Script) (v w : SessionValue) (call : Call) (stage stage' : Stage) (answers : List Answer) (answer : Answer) → (so : RefusedSo builds (Unit {0}) coding call v w answer) → (f : Follows builds coding outcomes (outcomes_of so.answered ++ left) old s v (Some call) stage answers) → Carried builds v w [] so.answered → Stands coding old s.items f.came f.answered v s.answers → Follows builds coding outcomes left old (poll_script coding (start_of old outcomes) (Some call) s) w None stage' (answers ++ answer ∷ [])
+  refused_poll left old s v w call stage stage' answers answer so f c stands =
+      finish left so.answered old s v w call stage answers f [] c (Unit {0}) stage' answer
+      (stands_refused old v w s.items f.came f.answered s.answers call answer so stands)
+      (omega (arith, ap length (ap (λ x. x.ahead) so.channel)))
+      (inr (ap (λ x. x.kept) so.channel, ap (λ x. x.ahead) so.channel, refl, tt))
 
   -- where a poll of the call under way begins
-  module _ (due : List RequestOutcome) (old : SessionValue) (s : Script) (v : SessionValue) (call : Call) (stage : Stage) (answers : List Answer) (f : Follows coding outcomes due old s v (Some call) stage answers) (may : MayPoll coding (start_of old outcomes) (Some call) s) where
+  module _ (due : List DealOutcome) (old : SessionValue) (s : Script) (v : SessionValue) (call : Call) (stage : Stage) (answers : List Answer) (f : Follows builds coding outcomes due old s v (Some call) stage answers) (may : MayPoll coding (start_of old outcomes) (Some call) s) where
     -- the form of before goes on, or the call is kept waiting
-    agreed : s.heard ≡ false → v.channel.failed ≡ false → Resumes v.channel.rule v.channel.kept (dialogue coding call v.state) ⊎ ((negotiates call ≡ false) × HearsNothing (run_with coding (start_of old outcomes) call s) s)
+    agreed : s.heard ≡ false → v.channel.failed ≡ false → Resumes v.channel.rule v.channel.kept (dialogue coding call v.state) ⊎ ((needs_data call ≡ false) × HearsNothing (run_with coding (start_of old outcomes) call s) s)
     agreed unheard going = pick (may unheard (f.failed ∙ going))
       where
         kept : take s.seen s.untaken ≡ v.channel.kept
         kept = ap (λ n. take n s.untaken) f.seen ∙ ap (λ u. take (length v.channel.kept) u) (f.untaken ∙ append_assoc v.channel.kept v.channel.ahead (unread v.channel.told)) ∙ take-append_seam v.channel.kept (v.channel.ahead ++ unread v.channel.told)
 
-        pick : (first_form call ≡ s.form) ⊎ Resumes old.channel.rule (take s.seen s.untaken) (dialogue coding call s.state) ⊎ ((negotiates call ≡ false) × HearsNothing (run_with coding (start_of old outcomes) call s) s) → Resumes v.channel.rule v.channel.kept (dialogue coding call v.state) ⊎ ((negotiates call ≡ false) × HearsNothing (run_with coding (start_of old outcomes) call s) s)
+        pick : (first_form call ≡ s.form) ⊎ Resumes old.channel.rule (take s.seen s.untaken) (dialogue coding call s.state) ⊎ ((needs_data call ≡ false) × HearsNothing (run_with coding (start_of old outcomes) call s) s) → Resumes v.channel.rule v.channel.kept (dialogue coding call v.state) ⊎ ((needs_data call ≡ false) × HearsNothing (run_with coding (start_of old outcomes) call s) s)
         pick (inl same) = inl (resumes_dialogue v.channel.rule v.channel.kept call v.state (ap (λ b. outcome v.channel.rule b v.channel.kept false) same ∙ f.waits))
         pick (inr (inl waits)) =
             let P : State → Type 0 = λ state. Resumes old.channel.rule (take s.seen s.untaken) (dialogue coding call state) in
@@ -623,47 +636,51 @@ module _ (coding : Coding) (outcomes : List RequestOutcome) where
         pick (inr (inr nothing)) = inr nothing
 
     -- the line that doesn't go out
-    lacking : (stage' : Stage) → negotiates call ≡ false → StageOf call stage' → Reaches coding old s.items f.came f.answered v s.answers call (remaining coding call v.state stage') → HearsNothing (run_with coding (start_of old outcomes) call s) s → LacksRoomFor s.room (standing v (unread v.channel.told) (is_over v.channel.told) []) (remaining coding call v.state stage')
+    lacking : (stage' : Stage) → needs_data call ≡ false → StageOf call stage' → Reaches coding old s.items f.came f.answered v s.answers call (remaining coding call v.state stage') → HearsNothing (run_with coding (start_of old outcomes) call s) s → LacksRoomFor s.room (standing v (unread v.channel.told) (is_over v.channel.told) []) (remaining coding call v.state stage')
     lacking stage' plain stage_of reaches nothing =
         let P : List ℕ → Type 0 = λ x. Reaches coding old s.items x (f.answered ++ []) v s.answers call (remaining coding call v.state stage') in
         let A : List Deal → Type 0 = λ a. Reaches coding old s.items f.came a v s.answers call (remaining coding call v.state stage') in
-        let lacks = unheard_lacks due [] old s v v call stage answers f [] (carried_none v f.given f.sound) v.state stage' plain stage_of (subst P (sym (append-nil f.came)) (subst A (sym (append-nil f.answered)) reaches)) nothing (sym f.untaken) in
+        let lacks = unheard_lacks due [] old s v v call stage answers f [] (carried_none builds v f.given f.sound) v.state stage' plain stage_of (subst P (sym (append-nil f.came)) (subst A (sym (append-nil f.answered)) reaches)) nothing (sym f.untaken) in
         record { line = lacks.line; next = lacks.next; is = lacks.is; full = lacks.full }
 
-    begun_anew : Started coding old s f.came f.answered v call stage → v.channel.failed ≡ false → Resumes v.channel.rule v.channel.kept (dialogue coding call v.state) ⊎ ((negotiates call ≡ false) × HearsNothing (run_with coding (start_of old outcomes) call s) s) → Goes_on old s f.came f.answered v call (At First) ⊎ Kept old s f.came f.answered v call (At First)
+    begun_anew : Started coding old s f.came f.answered v call stage → refusal_of call v ≡ Taken → Resumes v.channel.rule v.channel.kept (dialogue coding call v.state) ⊎ ((is_local call ≡ false) × (needs_data call ≡ false) × HearsNothing (run_with coding (start_of old outcomes) call s) s) → Goes_on old s f.came f.answered v call (At First) ⊎ Kept old s f.came f.answered v call (At First)
     begun_anew started going (inl resumes) =
         inl (record {
           reaches = stands_reaches old v s.items f.came f.answered s.answers call going started.stands;
           resumes = resumes;
+          apart = λ r. read_apart coding call v.state r;
           read = λ r. started.stands;
           since = since_start old s.items s.answers f.came f.answered v (entered call v.state) started.stands;
         })
     begun_anew started going (inr nothing) =
-        let plain = nothing.0 in
-        let is = plain_dialogue coding call v.state plain in
-        let same = plain_entered call v.state plain in
+        let plain = nothing.1 in
+        let none = needs_none call plain in
+        let ends = plain_finishes_none call none.1 in
+        let is = plain_dialogue coding call v.state none.0 ends in
+        let same = plain_entered call v.state none.0 ends in
         let R : Tree → Type 0 = λ t. Reaches coding old s.items f.came f.answered v s.answers call t in
         let S : State → Type 0 = λ x. Reaches coding old s.items f.came f.answered (record v { state = x }) s.answers call (dialogue coding call v.state) in
         let D : State → Type 0 = λ x. (rule : ReplyRule) (kept : List ℕ) → Resumes rule kept (dialogue coding call x) → Resumes rule kept (dialogue coding call v.state) in
         let L : Tree → Type 0 = λ t. LacksRoomFor s.room (standing v (unread v.channel.told) (is_over v.channel.told) []) t in
         let reaches = stands_reaches old v s.items f.came f.answered s.answers call going started.stands in
-        let lacks = subst L (sym is) (lacking (At First) plain plain (subst R is (subst S same reaches)) nothing.1) in
+        let lacks = subst L (sym is) (lacking (At First) plain (none.0, nothing.0, ends) (subst R is (subst S same reaches)) nothing.2) in
         inr (record {
           plain = plain;
-          no_read = says_no_read coding call v.state lacks.line lacks.next plain lacks.is;
+          no_read = says_no_read coding call v.state lacks.line lacks.next (none.0, nothing.0, ends) lacks.is;
           reaches = reaches;
           resumes = subst D (sym same) (λ rule kept r. r);
           since = since_start old s.items s.answers f.came f.answered v (entered call v.state) started.stands;
-          nothing = nothing.1;
+          nothing = nothing.2;
           lacks = lacks;
         })
 
-    going_on_unheard : Unheard coding old s f.came f.answered v call stage → Resumes v.channel.rule v.channel.kept (dialogue coding call v.state) ⊎ ((negotiates call ≡ false) × HearsNothing (run_with coding (start_of old outcomes) call s) s) → Goes_on old s f.came f.answered v call stage ⊎ Kept old s f.came f.answered v call stage
+    going_on_unheard : Unheard coding old s f.came f.answered v call stage → Resumes v.channel.rule v.channel.kept (dialogue coding call v.state) ⊎ ((needs_data call ≡ false) × HearsNothing (run_with coding (start_of old outcomes) call s) s) → Goes_on old s f.came f.answered v call stage ⊎ Kept old s f.came f.answered v call stage
     going_on_unheard u (inl resumes) =
         let P : SessionValue → State → Tree → Type 0 = λ e x t. Resumed old s f.came f.answered v call (begun_at stage) e t in
         inl (settle call stage v u.stage_of P (record {
           reaches = u.reaches;
           resumes = u.resumes v.channel.rule v.channel.kept resumes;
+          apart = λ is. (let clash : true ≡ false = sym is ∙ u.no_read in cc);
           read = λ is. let clash : true ≡ false = sym is ∙ u.no_read in cc;
           since = u.since;
         }))
@@ -679,60 +696,71 @@ module _ (coding : Coding) (outcomes : List RequestOutcome) where
           lacks = lacking stage u.plain u.stage_of u.reaches nothing.1;
         }))
 
-    placed : v.channel.failed ≡ false → Goes_on old s f.came f.answered v call stage ⊎ Kept old s f.came f.answered v call stage
-    placed going = go f.place
+    -- a call that wasn't polled begins
+    anew : Started coding old s f.came f.answered v call stage → refusal_of call v ≡ Taken → Goes_on old s f.came f.answered v call (At First) ⊎ Kept old s f.came f.answered v call (At First)
+    anew started taken = go (is_local call) refl
+      where
+        add : is_local call ≡ false → Resumes v.channel.rule v.channel.kept (dialogue coding call v.state) ⊎ ((needs_data call ≡ false) × HearsNothing (run_with coding (start_of old outcomes) call s) s) → Resumes v.channel.rule v.channel.kept (dialogue coding call v.state) ⊎ ((is_local call ≡ false) × (needs_data call ≡ false) × HearsNothing (run_with coding (start_of old outcomes) call s) s)
+        add abroad (inl resumes) = inl resumes
+        add abroad (inr nothing) = inr (abroad, nothing.0, nothing.1)
+
+        go : (b : Bool) → is_local call ≡ b → Goes_on old s f.came f.answered v call (At First) ⊎ Kept old s f.came f.answered v call (At First)
+        go true local = begun_anew started taken (inl (local_resumes v.channel.rule v.channel.kept coding call v.state local))
+        go false abroad = begun_anew started taken (add abroad (agreed started.unheard (taken_going call v.channel.failed (is_none v.net.data_conn) taken abroad)))
+
+    placed : MayPollAt stage call v → Goes_on old s f.came f.answered v call stage ⊎ Kept old s f.came f.answered v call stage
+    placed may_poll = go f.place
       where
         go : Place coding old s f.came f.answered v (Some call) stage → Goes_on old s f.came f.answered v call stage ⊎ Kept old s f.came f.answered v call stage
         go (inl started) =
             let P : Stage → Type 0 = λ x. Goes_on old s f.came f.answered v call x ⊎ Kept old s f.came f.answered v call x in
-            subst P (sym started.at) (begun_anew started going (agreed started.unheard going))
+            let M : Stage → Type 0 = λ x. MayPollAt x call v in
+            subst P (sym started.at) (anew started (subst M started.at may_poll))
         go (inr (inl u)) =
             let P : SessionValue → State → Tree → Type 0 = λ e x t. Resumed old s f.came f.answered v call (begun_at stage) e t in
-            inl (settle call stage v u.stage_of P (record { reaches = u.reaches; resumes = u.resumes; read = u.read; since = u.since }))
-        go (inr (inr u)) = going_on_unheard u (agreed u.unheard going)
+            inl (settle call stage v u.stage_of P (record { reaches = u.reaches; resumes = u.resumes; apart = u.apart; read = u.read; since = u.since }))
+        go (inr (inr u)) = going_on_unheard u (agreed u.unheard u.going)
 
-    -- a call that is under way in a session that has failed wasn't polled
-    stands_failed : v.channel.failed ≡ true → Stands coding old s.items f.came f.answered v s.answers
-    stands_failed failed = go f.place
+    -- a call that is refused wasn't polled
+    stands_unpolled : (MayPollAt stage call v → ⊥) → Stands coding old s.items f.came f.answered v s.answers
+    stands_unpolled none = go f.place
       where
         go : Place coding old s f.came f.answered v (Some call) stage → Stands coding old s.items f.came f.answered v s.answers
         go (inl started) = started.stands
-        go (inr (inl u)) = let clash : true ≡ false = sym failed ∙ u.going in cc
-        go (inr (inr u)) = let clash : true ≡ false = sym failed ∙ u.going in cc
+        go (inr (inl u)) = absurd (none (may_go_on call stage v u.stage_of u.going))
+        go (inr (inr u)) = absurd (none (may_go_on call stage v u.stage_of u.going))
 
   -- where a poll ends
-  carry : (came : List ℕ) (answered : List Deal) (v w : SessionValue) (call : Call) (stage stage' : Stage) (result : Poll Answer) → IsSound (Unit {0}) v.channel → PollsHere coding call stage stage' v w result → Goes over_memory came answered (entered_at call stage v) w → Carried v w came answered
-  carry came answered v w call stage stage' result sound here goes = carried v w (entered_state call stage v.state) came answered goes sound here.end here.given here.sound
+  carry : (came : List ℕ) (answered : List Deal) (v w : SessionValue) (call : Call) (stage stage' : Stage) (result : Poll Answer) → IsSound (Unit {0}) v.channel → PollsHere builds coding call stage stage' v w result → Goes (over_memory builds) came answered (entered_at call stage v) w → Carried builds v w came answered
+  carry came answered v w call stage stage' result sound here goes = carried builds v w (entered_state call stage v.state) came answered goes sound here.end here.given here.sound
 
-  -- a poll of a session that has failed
-  pub poll_refused : (left : List RequestOutcome) (old : SessionValue) (s : Script) (v w : SessionValue) (call : Call) (stage stage' : Stage) (answers : List Answer) (result : Poll Answer) → Follows coding outcomes left old s v (Some call) stage answers → MayPoll coding (start_of old outcomes) (Some call) s → v.channel.failed ≡ true → PollsHere coding call stage stage' v w result → PollFollows coding outcomes left old s v w call stage stage' answers result
-  poll_refused left old s v w call stage stage' answers result f may failed here =
-      let is = here.refused failed in
-      let P : Poll Answer → Type 0 = λ r. PollFollows coding outcomes left old s v w call stage stage' answers r in
-      let Q : SessionValue → Type 0 = λ x. Follows coding outcomes left old (poll_script coding (start_of old outcomes) (Some call) s) x None stage' (answers ++ Fault SessionFailed ∷ []) in
-      let stays = refused_poll left old s v call stage stage' answers f failed (stands_failed left old s v call stage answers f may failed) in
-      subst P (sym is.0) (inl (subst Q (sym is.1) stays))
+  -- a poll of a call that is refused
+  pub poll_refused : (left : List DealOutcome) (old : SessionValue) (s : Script) (v w : SessionValue) (call : Call) (stage stage' : Stage) (answers : List Answer) (answer : Answer) → (so : RefusedSo builds (Unit {0}) coding call v w answer) → Follows builds coding outcomes (outcomes_of so.answered ++ left) old s v (Some call) stage answers → MayPoll coding (start_of old outcomes) (Some call) s → (MayPollAt stage call v → ⊥) → PollsHere builds coding call stage stage' v w (Ready answer) → PollFollows builds coding outcomes left old s v w call stage stage' answers (Ready answer)
+  poll_refused left old s v w call stage stage' answers answer so f may none here =
+      let goes = beside_goes (over_memory builds) so.answered v w so.channel so.deals in
+      let c = carried builds v w v.state [] so.answered goes f.sound here.end here.given here.sound in
+      inl (refused_poll left old s v w call stage stage' answers answer so f c (stands_unpolled (outcomes_of so.answered ++ left) old s v call stage answers f may none))
 
   -- a poll that completes its call
-  pub poll_ready : (left : List RequestOutcome) (old : SessionValue) (s : Script) (v w : SessionValue) (call : Call) (stage stage' : Stage) (answers : List Answer) (answer : Answer) → v.channel.failed ≡ false → (ends : Finishes over_memory (entered_tree coding call stage v.state) answer (entered_at call stage v) w) → Follows coding outcomes (outcomes_of ends.answered ++ left) old s v (Some call) stage answers → MayPoll coding (start_of old outcomes) (Some call) s → PollsHere coding call stage stage' v w (Ready answer) → Follows coding outcomes left old (poll_script coding (start_of old outcomes) (Some call) s) w None stage' (answers ++ answer ∷ [])
+  pub poll_ready : (left : List DealOutcome) (old : SessionValue) (s : Script) (v w : SessionValue) (call : Call) (stage stage' : Stage) (answers : List Answer) (answer : Answer) → MayPollAt stage call v → (ends : Finishes (over_memory builds) (entered_tree coding call stage v.state) answer (entered_at call stage v) w) → Follows builds coding outcomes (outcomes_of ends.answered ++ left) old s v (Some call) stage answers → MayPoll coding (start_of old outcomes) (Some call) s → PollsHere builds coding call stage stage' v w (Ready answer) → Follows builds coding outcomes left old (poll_script coding (start_of old outcomes) (Some call) s) w None stage' (answers ++ answer ∷ [])
   poll_ready left old s v w call stage stage' answers answer going ends f may here =
       pick (carry ends.came ends.answered v w call stage stage' (Ready answer) f.sound here ends.goes) (placed (outcomes_of ends.answered ++ left) old s v call stage answers f may going)
     where
-      pick : Carried v w ends.came ends.answered → Goes_on old s f.came f.answered v call stage ⊎ Kept old s f.came f.answered v call stage → Follows coding outcomes left old (poll_script coding (start_of old outcomes) (Some call) s) w None stage' (answers ++ answer ∷ [])
+      pick : Carried builds v w ends.came ends.answered → Goes_on old s f.came f.answered v call stage ⊎ Kept old s f.came f.answered v call stage → Follows builds coding outcomes left old (poll_script coding (start_of old outcomes) (Some call) s) w None stage' (answers ++ answer ∷ [])
       pick c (inl from) = completed left old s v w call stage answers answer ends f c stage' from
       pick c (inr from) = absurd (no_answer left old s v w call stage answers answer ends f c from)
 
   -- a poll that waits
-  pub poll_waits : (left : List RequestOutcome) (old : SessionValue) (s : Script) (v w : SessionValue) (call : Call) (stage stage' : Stage) (answers : List Answer) → v.channel.failed ≡ false → (advances : Advances over_memory (entered_tree coding call stage v.state) (remaining coding call (entered_state call stage v.state) stage') (entered_at call stage v) w) → WaitsFor over_memory (remaining coding call (entered_state call stage v.state) stage') w → Follows coding outcomes (outcomes_of advances.moves.leads.answered ++ left) old s v (Some call) stage answers → MayPoll coding (start_of old outcomes) (Some call) s → PollsHere coding call stage stage' v w Pending → Follows coding outcomes left old (poll_script coding (start_of old outcomes) (Some call) s) w (Some call) stage' answers
-  poll_waits left old s v w call stage stage' answers going advances waits f may here =
-      pick (carry advances.moves.leads.came advances.moves.leads.answered v w call stage stage' Pending f.sound here advances.moves.leads.goes) (placed (outcomes_of advances.moves.leads.answered ++ left) old s v call stage answers f may going)
+  pub poll_waits : (left : List DealOutcome) (old : SessionValue) (s : Script) (v w : SessionValue) (call : Call) (stage stage' : Stage) (answers : List Answer) → MayPollAt stage call v → v.channel.failed ≡ false → (advances : Advances (over_memory builds) (entered_tree coding call stage v.state) (remaining coding call (entered_state call stage v.state) stage') (entered_at call stage v) w) → WaitsFor (over_memory builds) (remaining coding call (entered_state call stage v.state) stage') w → Follows builds coding outcomes (outcomes_of advances.moves.leads.answered ++ left) old s v (Some call) stage answers → MayPoll coding (start_of old outcomes) (Some call) s → PollsHere builds coding call stage stage' v w Pending → Follows builds coding outcomes left old (poll_script coding (start_of old outcomes) (Some call) s) w (Some call) stage' answers
+  poll_waits left old s v w call stage stage' answers may_poll going advances waits f may here =
+      pick (carry advances.moves.leads.came advances.moves.leads.answered v w call stage stage' Pending f.sound here advances.moves.leads.goes) (placed (outcomes_of advances.moves.leads.answered ++ left) old s v call stage answers f may may_poll)
     where
-      pick : Carried v w advances.moves.leads.came advances.moves.leads.answered → Goes_on old s f.came f.answered v call stage ⊎ Kept old s f.came f.answered v call stage → Follows coding outcomes left old (poll_script coding (start_of old outcomes) (Some call) s) w (Some call) stage' answers
+      pick : Carried builds v w advances.moves.leads.came advances.moves.leads.answered → Goes_on old s f.came f.answered v call stage ⊎ Kept old s f.came f.answered v call stage → Follows builds coding outcomes left old (poll_script coding (start_of old outcomes) (Some call) s) w (Some call) stage' answers
       pick c (inl from) = pending left old s v w call stage answers stage' advances f c going from (here.left_at refl) waits (here.rests refl) (here.begun refl)
       pick c (inr from) = still_waits left old s v w call stage answers stage' advances f c going from (here.left_at refl) waits (here.begun refl)
 
   -- the call under way begins where it wasn't polled
-  pub entering_is : (due : List RequestOutcome) (old : SessionValue) (s : Script) (v : SessionValue) (call : Call) (stage : Stage) (answers : List Answer) → (f : Follows coding outcomes due old s v (Some call) stage answers) → entered_at call stage v ≡ entering s.polled call v
+  pub entering_is : (due : List DealOutcome) (old : SessionValue) (s : Script) (v : SessionValue) (call : Call) (stage : Stage) (answers : List Answer) → (f : Follows builds coding outcomes due old s v (Some call) stage answers) → entered_at call stage v ≡ entering s.polled call v
   entering_is due old s v call stage answers f = go f.place
     where
       polled : StageOf call stage → s.polled ≡ true → entered_at call stage v ≡ entering s.polled call v
@@ -744,10 +772,10 @@ module _ (coding : Coding) (outcomes : List RequestOutcome) where
       go (inr (inr u)) = polled u.stage_of u.polled
 
   -- what is left of the call under way
-  pub left_of : (due : List RequestOutcome) (old : SessionValue) (s : Script) (v : SessionValue) (call : Call) (stage : Stage) (answers : List Answer) → (f : Follows coding outcomes due old s v (Some call) stage answers) → v.channel.failed ≡ false → LeftOf coding old s v call (begun_at stage) (entered_tree coding call stage v.state)
-  left_of due old s v call stage answers f going = record {
+  pub left_of : (due : List DealOutcome) (old : SessionValue) (s : Script) (v : SessionValue) (call : Call) (stage : Stage) (answers : List Answer) → (f : Follows builds coding outcomes due old s v (Some call) stage answers) → MayPollAt stage call v → LeftOf builds coding old s v call (begun_at stage) (entered_tree coding call stage v.state)
+  left_of due old s v call stage answers f may_poll = record {
     call_is = f.call_is;
-    going = going;
+    going = going f.place;
     came = f.came;
     bytes = f.bytes;
     answered = f.answered;
@@ -756,10 +784,18 @@ module _ (coding : Coding) (outcomes : List RequestOutcome) where
     since = since f.place;
   }
     where
+      going : Place coding old s f.came f.answered v (Some call) stage → MayGoOn s.polled call v
+      going (inl started) =
+          let M : Stage → Type 0 = λ x. MayPollAt x call v in
+          rw started.unpolled (subst M started.at may_poll)
+      going (inr (inl u)) = rw u.polled u.going
+      going (inr (inr u)) = rw u.polled u.going
+
       reaches : Place coding old s f.came f.answered v (Some call) stage → Reaches coding old s.items f.came f.answered (entered_at call stage v) s.answers call (entered_tree coding call stage v.state)
       reaches (inl started) =
           let P : Stage → Type 0 = λ x. Reaches coding old s.items f.came f.answered (entered_at call x v) s.answers call (entered_tree coding call x v.state) in
-          subst P (sym started.at) (stands_reaches old v s.items f.came f.answered s.answers call going started.stands)
+          let M : Stage → Type 0 = λ x. MayPollAt x call v in
+          subst P (sym started.at) (stands_reaches old v s.items f.came f.answered s.answers call (subst M started.at may_poll) started.stands)
       reaches (inr (inl u)) = let P : SessionValue → State → Tree → Type 0 = λ e x t. Reaches coding old s.items f.came f.answered e s.answers call t in settle call stage v u.stage_of P u.reaches
       reaches (inr (inr u)) = let P : SessionValue → State → Tree → Type 0 = λ e x t. Reaches coding old s.items f.came f.answered e s.answers call t in settle call stage v u.stage_of P u.reaches
 
@@ -783,48 +819,87 @@ module _ (coding : Coding) (outcomes : List RequestOutcome) where
       since (inr (inr u)) = of_since u.since
 
 -- what a poll makes of a script, with what happened beside the control connection
-abbrev pub PollHappens : Coding → Call → Stage → Stage → SessionValue → SessionValue → Poll Answer → Type 0
-PollHappens coding call stage stage' v w result =
-    (answered : List Deal) × Deals answered v.net w.net × ((outcomes left : List RequestOutcome) (old : SessionValue) (s : Script) (answers : List Answer) → Follows coding outcomes (outcomes_of answered ++ left) old s v (Some call) stage answers → MayPoll coding (start_of old outcomes) (Some call) s → PollFollows coding outcomes left old s v w call stage stage' answers result)
+abbrev pub PollHappens : Builds → Coding → Call → Stage → Stage → SessionValue → SessionValue → Poll Answer → Type 0
+PollHappens builds coding call stage stage' v w result =
+    (answered : List Deal) × Deals builds answered v.net w.net × ((outcomes left : List DealOutcome) (old : SessionValue) (s : Script) (answers : List Answer) → Follows builds coding outcomes (outcomes_of answered ++ left) old s v (Some call) stage answers → MayPoll coding (start_of old outcomes) (Some call) s → PollFollows builds coding outcomes left old s v w call stage stage' answers result)
 
 -- what an aborted call left beside the control connection
-aborted_deals : (begun : Bool) (tree : Tree) (answer : Answer) (v w : SessionValue) (aborts : Aborts over_memory begun tree answer v w) → Deals aborts.leads.answered v.net w.net
-aborted_deals begun tree answer v w aborts =
-    let P : Net → Type 0 = λ n. Deals aborts.leads.answered v.net n in
+aborted_deals : (builds : Builds) (begun : Bool) (tree : Tree) (answer : Answer) (v w : SessionValue) (aborts : Aborts (over_memory builds) begun tree answer v w) → Deals builds aborts.leads.answered v.net w.net
+aborted_deals builds begun tree answer v w aborts =
+    let P : Net → Type 0 = λ n. Deals builds aborts.leads.answered v.net n in
     subst P (sym (go aborts.cause)) (aborts.leads.goes.deals tt)
   where
-    lost : ((w ≡ aborts.at) × (begun ≡ false) × Untouched over_memory aborts.leads.came v aborts.at) ⊎ ((w ≡ failed_from aborts.at) × ((begun ≡ true) ⊎ Touched over_memory tree v aborts.at)) → w.net ≡ aborts.at.net
+    lost : ((w ≡ aborts.at) × (begun ≡ false) × Untouched (over_memory builds) aborts.leads.came v aborts.at) ⊎ ((w ≡ failed_from aborts.at) × ((begun ≡ true) ⊎ Touched (over_memory builds) tree v aborts.at)) → w.net ≡ aborts.at.net
     lost (inl same) = ap (λ x. x.net) same.0
     lost (inr same) = ap (λ x. x.net) same.0
 
-    go : Fails over_memory aborts.place aborts.fault aborts.at w ⊎ LacksMemory over_memory begun tree aborts.leads.came aborts.fault v aborts.at w → w.net ≡ aborts.at.net
+    go : Fails (over_memory builds) aborts.place aborts.fault aborts.at w ⊎ LacksMemory (over_memory builds) begun tree aborts.leads.came aborts.fault v aborts.at w → w.net ≡ aborts.at.net
     go (inl fails) = ap (λ x. x.net) fails.same
     go (inr none) = lost none.leaves
 
-pub poll_happens : (coding : Coding) (call : Call) (stage stage' : Stage) (v w : SessionValue) (result : Poll Answer) → PollsHere coding call stage stage' v w result → PollHappens coding call stage stage' v w result
-poll_happens coding call stage stage' v w result here =
-    elim v.channel.failed as (λ t. v.channel.failed ≡ t → PollHappens coding call stage stage' v w result) [
-      | true ↦ λ failed. ([], ap (λ x. x.net) (here.refused failed).1, λ outcomes left old s answers f may. poll_refused coding outcomes left old s v w call stage stage' answers result f may failed here)
-      | false ↦ λ going. go result here going (here.polls going)
+pub poll_happens : (builds : Builds) (coding : Coding) (call : Call) (stage stage' : Stage) (v w : SessionValue) (result : Poll Answer) → PollsHere builds coding call stage stage' v w result → PollHappens builds coding call stage stage' v w result
+poll_happens builds coding call stage stage' v w result here =
+    elim (is_first stage) as (λ b. is_first stage ≡ b → PollHappens builds coding call stage stage' v w result) [
+      | true ↦ λ first. by_refusal (refusal_of call v) refl first
+      | false ↦ λ on. later (v.channel.failed) refl on
     ] refl
   where
     tree : Tree
     tree = entered_tree coding call stage v.state
 
-    go : (r : Poll Answer) → PollsHere coding call stage stage' v w r → v.channel.failed ≡ false → PollsTo over_memory (begun_at stage) tree (remaining coding call (entered_state call stage v.state) stage') (entered_at call stage v) w r → PollHappens coding call stage stage' v w r
+    From : Bool → Type 0
+    From = λ b. MayPollFrom b call v
+
+    go : (r : Poll Answer) → PollsHere builds coding call stage stage' v w r → MayPollAt stage call v → PollsTo (over_memory builds) (begun_at stage) tree (remaining coding call (entered_state call stage v.state) stage') (entered_at call stage v) w r → PollHappens builds coding call stage stage' v w r
     go (Ready answer) here going (last, inl ends, lets_go) =
-        let F : SessionValue → Type 0 = λ x. Finishes over_memory tree answer (entered_at call stage v) x in
-        let done : Finishes over_memory tree answer (entered_at call stage v) w = subst F (sym lets_go) (finishes over_memory tree answer (entered_at call stage v) last ends) in
-        (done.answered, done.goes.deals tt, λ outcomes left old s answers f may. inl (poll_ready coding outcomes left old s v w call stage stage' answers answer going done f may here))
+        let F : SessionValue → Type 0 = λ x. Finishes (over_memory builds) tree answer (entered_at call stage v) x in
+        let done : Finishes (over_memory builds) tree answer (entered_at call stage v) w = subst F (sym lets_go) (finishes_by (over_memory builds) tree answer (entered_at call stage v) last ends) in
+        (done.answered, done.goes.deals tt, λ outcomes left old s answers f may. inl (poll_ready builds coding outcomes left old s v w call stage stage' answers answer going done f may here))
     go (Ready answer) here going (last, inr aborts, lets_go) =
-        let P : Answer → Type 0 = λ a. Aborts over_memory (begun_at stage) tree a (entered_at call stage v) last in
-        let D : SessionValue → Type 0 = λ x. Deals (aborts.leads.answered ++ drops last.state.counts.owed) v.net x.net in
-        let deals = deals-append aborts.leads.answered (drops last.state.counts.owed) v.net last.net (let_go last).net (aborted_deals (begun_at stage) tree answer (entered_at call stage v) last aborts) (drops_deal last.state.counts.owed last.net) in (
+        let P : Answer → Type 0 = λ a. Aborts (over_memory builds) (begun_at stage) tree a (entered_at call stage v) last in
+        let D : SessionValue → Type 0 = λ x. Deals builds (aborts.leads.answered ++ drops last.state.counts.owed) v.net x.net in
+        let deals = deals-append builds aborts.leads.answered (drops last.state.counts.owed) v.net last.net (let_go last).net (aborted_deals builds (begun_at stage) tree answer (entered_at call stage v) last aborts) (drops_deal builds last.state.counts.owed last.net) in (
           aborts.leads.answered ++ drops last.state.counts.owed,
           subst D (sym lets_go) deals,
           λ outcomes left old s answers f may. inr (record { fault = aborts.fault; is = ap Some aborts.is; going = going; last = last; aborts = subst P aborts.is aborts; lets_go = lets_go; given = here.given; sound = here.sound }),
         )
     go Pending here going (last, polls, same) =
-        let A : SessionValue → Type 0 = λ x. Advances over_memory tree (remaining coding call (entered_state call stage v.state) stage') (entered_at call stage v) x × WaitsFor over_memory (remaining coding call (entered_state call stage v.state) stage') x in
+        let A : SessionValue → Type 0 = λ x. Advances (over_memory builds) tree (remaining coding call (entered_state call stage v.state) stage') (entered_at call stage v) x × WaitsFor (over_memory builds) (remaining coding call (entered_state call stage v.state) stage') x in
         let made = subst A (sym same) polls in
-        (made.0.moves.leads.answered, made.0.moves.leads.goes.deals tt, λ outcomes left old s answers f may. poll_waits coding outcomes left old s v w call stage stage' answers going made.0 made.1 f may here)
+        (made.0.moves.leads.answered, made.0.moves.leads.goes.deals tt, λ outcomes left old s answers f may. poll_waits builds coding outcomes left old s v w call stage stage' answers going (goes_on going) made.0 made.1 f may here)
+      where
+        goes_on : MayPollAt stage call v → v.channel.failed ≡ false
+        goes_on may =
+            elim (is_first stage) as (λ b. MayPollFrom b call v → v.channel.failed ≡ false) [
+              | true ↦ λ taken. taken_going call v.channel.failed (is_none v.net.data_conn) taken (stage_no_local call stage' (here.left_at refl))
+              | false ↦ λ on. on
+            ] may
+
+    refused : is_first stage ≡ true → (refusal_of call v ≡ Taken → ⊥) → PollHappens builds coding call stage stage' v w result
+    refused first none =
+        let made = here.refused first none in
+        let so = refused_so builds (Unit {0}) coding call v w made.0 made.2 in
+        let P : Poll Answer → Type 0 = λ r. PollHappens builds coding call stage stage' v w r in
+        let H : Poll Answer → Type 0 = λ r. PollsHere builds coding call stage stage' v w r in
+        let there : PollsHere builds coding call stage stage' v w (Ready made.0) = subst H made.1 here in
+        subst P (sym made.1) (so.answered, so.deals tt, λ outcomes left old s answers f may. poll_refused builds coding outcomes left old s v w call stage stage' answers made.0 so f may (λ at. none (subst From first at)) there)
+
+    by_refusal : (r : Refusal) → refusal_of call v ≡ r → is_first stage ≡ true → PollHappens builds coding call stage stage' v w result
+    by_refusal Taken is first = go result here (subst From (sym first) is) (here.polls (subst From (sym first) is))
+    by_refusal Lacking is first = refused first (λ taken. (let clash : Lacking ≡ Taken = sym is ∙ taken in cc))
+    by_refusal Failing is first = refused first (λ taken. (let clash : Failing ≡ Taken = sym is ∙ taken in cc))
+
+    later : (b : Bool) → v.channel.failed ≡ b → is_first stage ≡ false → PollHappens builds coding call stage stage' v w result
+    later false going on = go result here (subst From (sym on) going) (here.polls (subst From (sym on) going))
+    later true failed on =
+        let lost = here.lost on failed in
+        let P : Poll Answer → Type 0 = λ r. PollHappens builds coding call stage stage' v w r in
+        subst P (sym lost.0) ([], ap (λ x. x.net) lost.1, λ outcomes left old s answers f may. absurd (never outcomes left old s answers f))
+      where
+        never : (outcomes left : List DealOutcome) (old : SessionValue) (s : Script) (answers : List Answer) → Follows builds coding outcomes left old s v (Some call) stage answers → ⊥
+        never outcomes left old s answers f = at f.place
+          where
+            at : Place coding old s f.came f.answered v (Some call) stage → ⊥
+            at (inl started) = let clash : true ≡ false = sym (ap is_first started.at) ∙ on in cc
+            at (inr (inl u)) = let clash : true ≡ false = sym failed ∙ u.going in cc
+            at (inr (inr u)) = let clash : true ≡ false = sym failed ∙ u.going in cc

@@ -10,7 +10,7 @@ use Rattle.ftp_base.specs.declared.types.fault.FtpError.{FtpError}
 use Rattle.ftp_base.specs.declared.types.fault.FtpError.TheVariants as fault
 use Rattle.ftp_base.specs.declared.types.fault.ConnectionError.TheVariants as connection
 use Rattle.ftp_control.specs.declared.transport.room.Room.{Room}
-use Rattle.ftp_control.specs.declared.transport.request.RequestOutcome.{RequestOutcome}
+use Rattle.ftp_session.specs.declared.model.DealOutcome.{DealOutcome}
 use Rattle.ftp_control.specs.declared.control.rule.ReplyRule.{ReplyRule}
 use Rattle.ftp_control.specs.declared.control.broken.Broken.{Broken}
 use Rattle.ftp_control.specs.declared.control.broken.Broken.TheVariants.{Connection, OutOfMemory}
@@ -27,11 +27,11 @@ use Rattle.ftp_session.specs.declared.model.Standing.{Standing}
 use Rattle.ftp_session.specs.declared.model.Played.{Played}
 use Rattle.ftp_session.specs.Deals.{Net}
 use Rattle.ftp_session.specs.State.{SessionValue}
-use Rattle.ftp_session.specs.Dialogue.{Expected, Tree, Say, Hear, Look, Ask, Leaf}
+use Rattle.ftp_session.specs.Dialogue.{Expected, Tree, Say, Hear, Look, Ask, Build, Move, Leaf}
 use Rattle.ftp_session.specs.Play.{play, heard_then}
 use Rattle.ftp_session.specs.Run.{Resumes}
-use Rattle.ftp_session.specs.Promises.{standing, Goes, Leads, Rests}
-use Rattle.ftp_session.specs.Steps.Moving.{Moves, Advances, WaitsFor, AbortsRead, Hears, Takes}
+use Rattle.ftp_session.specs.Promises.{AbortsRead, standing, Goes, Leads, Rests}
+use Rattle.ftp_session.specs.Steps.Moving.{Moves, Advances, WaitsFor, Hears, Takes}
 use Rattle.ftp_session.specs.Link.{Link}
 
 pub play-Hear : (room : Room) (codes : Expected) (next : Result Response FtpError → Tree) (s : Standing) → play room (Hear codes next) s ≡ heard_then (outcome s.rule codes.form s.bytes s.ended) codes s (λ heard t. play room (next heard) t)
@@ -49,6 +49,8 @@ nothing_resumes rule (Say (Err cause) next) = tt
 nothing_resumes rule (Hear codes next) = nothing_says rule codes.form
 nothing_resumes rule (Look end next) = λ address. nothing_resumes rule (next address)
 nothing_resumes rule (Ask request next) = λ answer. nothing_resumes rule (next answer)
+nothing_resumes rule (Build address next) = λ fault. nothing_resumes rule (next fault)
+nothing_resumes rule (Move movement next) = λ came. nothing_resumes rule (next came)
 nothing_resumes rule (Leaf answer state) = tt
 
 -- bytes came, and nothing else happened
@@ -124,10 +126,11 @@ module _ (link : Link) (state : State) (net : Net) (t : Told) (kept ahead unsent
       calm = λ calm. inl none;
       shrinks = shrinks;
       says = λ line after is. let clash : Hear codes next ≡ Say (Ok line) after = is in cc;
+      apart = λ apart. (refl, apart answer);
     }
 
     -- bytes came, and nothing was settled
-    stays_on : (link.tells → (u.received ≡ t.received ++ came) × (u.given ≡ t.given) × NoneFailed t u × (u.sent ≡ t.sent)) → kept' ++ ahead' ≡ (kept ++ ahead) ++ came → link.tells → (more : List ℕ) (e : Bool) (outcomes : List RequestOutcome) → standing old (came ++ more) e outcomes ≡ standing (new u false) more e outcomes
+    stays_on : (link.tells → (u.received ≡ t.received ++ came) × (u.given ≡ t.given) × NoneFailed t u × (u.sent ≡ t.sent)) → kept' ++ ahead' ≡ (kept ++ ahead) ++ came → link.tells → (more : List ℕ) (e : Bool) (outcomes : List DealOutcome) → standing old (came ++ more) e outcomes ≡ standing (new u false) more e outcomes
     stays_on told all h more e outcomes =
         let s : Standing = standing old (came ++ more) e outcomes in
         ap (λ b. record s { bytes = b }) (bytes_after came more ∙ ap (λ b. b ++ more) (sym all))
@@ -156,6 +159,7 @@ module _ (link : Link) (state : State) (net : Net) (t : Told) (kept ahead unsent
               calm = λ calm. absurd calm;
               shrinks = let S : List ℕ → Type 0 = λ l. length l ≤ length ahead + length came in subst S (sym none) (omega arith);
               says = λ line after is. let clash : Hear codes next ≡ Say (Ok line) after = is in cc;
+              apart = λ apart. (refl, apart);
             };
             failed = refl;
           },

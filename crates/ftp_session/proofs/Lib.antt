@@ -1,12 +1,16 @@
 pub mod Agreeing
 pub mod Carried
+pub mod Carrying
 pub mod Connecting
+pub mod DataCommands
 pub mod Deals
 pub mod Events
 pub mod Following
 pub mod Hearing
+pub mod Sorts
 pub mod Moving
 pub mod Negotiation
+pub mod Polling
 pub mod Running
 pub mod Scripts
 pub mod Stages

@@ -7,7 +7,7 @@ use Rattle.ftp_base.specs.declared.types.fault.FtpError.TheVariants.{ConnectionE
 use Rattle.ftp_base.specs.declared.types.fault.ConnectionError.{ConnectionError as Cause}
 use Rattle.ftp_control.specs.declared.transport.room.Room.{Room}
 use Rattle.ftp_control.specs.declared.transport.room.Room.TheVariants.{Any, UpTo}
-use Rattle.ftp_control.specs.declared.transport.request.RequestOutcome.{RequestOutcome}
+use Rattle.ftp_session.specs.declared.model.DealOutcome.{DealOutcome}
 use Rattle.ftp_session.specs.Deals.{Deal, Net, outcomes_of}
 use Rattle.ftp_session.proofs.Deals.{deals-append, drops, drops_deal, drops_none, outcomes-append, traffic_kept}
 use Rattle.futures.specs.declared.task.Poll.{Poll}
@@ -24,7 +24,7 @@ use Rattle.ftp_session.specs.declared.session.stage.Step.TheVariants.{Next, Pend
 use Rattle.ftp_session.specs.declared.model.Standing.{Standing}
 use Rattle.ftp_session.specs.declared.model.Played.TheVariants as played
 use Rattle.ftp_session.specs.State.{SessionValue, let_go}
-use Rattle.ftp_session.specs.Dialogue.{Tree, Say, Hear, Look, Ask, Leaf}
+use Rattle.ftp_session.specs.Dialogue.{Tree, Say, Hear, Look, Ask, Build, Move, Leaf}
 use Rattle.ftp_session.specs.Play.{ended, finally, play, fits, said_then}
 use Rattle.ftp_session.specs.Run.{Resumes, Silent}
 use Rattle.ftp_session.specs.Promises.{IsFault, However, SaidOrTaken, standing, Rests, Goes, Leads, Fails, Touched, Untouched, LacksMemory, Aborts, failed_from}
@@ -92,6 +92,7 @@ stays_put link tree tree' v same =
         calm = λ calm. inr (refl, refl, refl, calm);
         shrinks = nothing_shrinks (length v.channel.ahead);
         says = λ line next is h. inl (record { rest = line; next = next; is = is; count = refl; resumes = λ rule kept r. r; plays = λ room more ended outcomes fit on. refl });
+        apart = λ apart. (refl, apart);
       };
       failed = refl;
     })
@@ -103,6 +104,8 @@ line_in (Say (Err cause) next) = []
 line_in (Hear codes next) = []
 line_in (Look end next) = []
 line_in (Ask request next) = []
+line_in (Build address next) = []
+line_in (Move movement next) = []
 line_in (Leaf answer state) = []
 
 -- A line is said
@@ -163,6 +166,7 @@ module _ (link : Link) (state : State) (net : Net) (a : Channel) (told : Told) (
             let whole : length after.channel.told.sent ≡ length (said before.channel) + length (due line) = ap length all ∙ length-append (a.told.sent ++ a.unsent) (due line) in
             let same : length (due line) ≡ length l = ap length (ap line_in is) in
             inr (omega (arith, whole, same));
+        apart = λ apart. (refl, apart);
       };
       failed = says.leaves.2;
     }
@@ -199,6 +203,7 @@ module _ (link : Link) (state : State) (net : Net) (a : Channel) (told : Told) (
             resumes = λ rule kept r. r;
             plays = said_part_plays says.leaves.2 (ap (λ t. t.given) (says.hears_nothing h)) (says.said h);
           });
+          apart = λ apart. (refl, apart);
         };
         failed = says.leaves.2;
       },
@@ -217,12 +222,12 @@ said_aborts link state net a told unsent failed line line' begun next fault goin
       leads = said_part link state net a now unsent a.failed line line' next refl says.said
           (said_goes link state net a now unsent a.failed (λ h. let F : Told → Told = λ t. record t { failures = a.told.failures; last_fault = a.told.last_fault } in ap F (says.hears_nothing h)) (λ h. record { failures = refl; last_fault = refl }) says.sends (λ h. said_grows link state net a now unsent a.failed line line' says.whole (says.said h)));
       state = refl;
-      going = going;
+      going = refl;
       fault = fault;
       is = refl;
       cause = inl (record {
         kind = says.leaves.kind;
-        is = says.leaves.is;
+        is = ap Fault says.leaves.is;
         may = says.leaves.may;
         same = ap P says.leaves.failed;
         failed = λ h. record { same = refl; counts = says.leaves.counts h };
@@ -306,21 +311,21 @@ nothing_touched : (link : Link) (v : SessionValue) → Untouched link [] v v
 nothing_touched link v = record { said = λ h. refl; untaken = sym (append-nil (untaken v.channel)) }
 
 -- memory ran out before anything happened
-pub lacks_memory_first : (link : Link) (tree : Tree) (v : SessionValue) → v.channel.failed ≡ false → Aborts link false tree (Fault OutOfMemory) v v
+pub lacks_memory_first : (link : Link) (tree : Tree) (v : SessionValue) → Aborts link false tree (Fault OutOfMemory) v v
 unfolding nothing_leads
-lacks_memory_first link tree v going = record {
+lacks_memory_first link tree v = record {
   place = tree;
   at = v;
   leads = nothing_leads link tree v;
   state = refl;
-  going = going;
+  going = refl;
   fault = OutOfMemory;
   is = refl;
   cause = inr (record { is = refl; leaves = inl (refl, refl, nothing_touched link v) });
 }
 
 -- memory ran out at some place, and the session has failed
-pub lacks_memory_at : (link : Link) (begun : Bool) (tree tree' : Tree) (old mid : SessionValue) → (begun ≡ true) ⊎ Touched link tree old mid → Moves link tree tree' old mid → mid.channel.failed ≡ false → Aborts link begun tree (Fault OutOfMemory) old (failed_from mid)
+pub lacks_memory_at : (link : Link) (begun : Bool) (tree tree' : Tree) (old mid : SessionValue) → (begun ≡ true) ⊎ Touched link tree old mid → Moves link tree tree' old mid → mid.channel.failed ≡ old.channel.failed → Aborts link begun tree (Fault OutOfMemory) old (failed_from mid)
 lacks_memory_at link begun tree tree' old mid begins moves going = record {
   place = tree';
   at = mid;
@@ -348,7 +353,7 @@ joined_goes link one two asked more a b c first second = record {
   said = λ h. omega (arith, first.said h, second.said h);
   untaken = omega (arith, first.untaken, second.untaken, length-append one two);
   at_hand = λ h is. second.at_hand h (first.at_hand h is);
-  deals = λ h. deals-append asked more a.net b.net c.net (first.deals h) (second.deals h);
+  deals = λ h. deals-append link.builds asked more a.net b.net c.net (first.deals h) (second.deals h);
   rule = second.rule ∙ first.rule;
 }
 
@@ -403,7 +408,7 @@ touched_on link tree a b c came answered goes here = λ h resumes. said_or_taken
 
 module _ (link : Link) (tree tree' : Tree) (a b c : SessionValue) (first : Moves link tree tree' a b) where
   -- the first part of two
-  pub first_plays : (two : List ℕ) (asked : List Deal) → Goes link two asked b c → link.tells → However a first.leads.came first.leads.answered b (λ room s t. play room tree s ≡ play room tree' t) → (room : Room) (more : List ℕ) (ended : Bool) (outcomes : List RequestOutcome) → HasRoomFor room (length c.channel.told.sent) → GoesOn c.channel.ended more ended → play room tree (standing a ((first.leads.came ++ two) ++ more) ended (outcomes_of (first.leads.answered ++ asked) ++ outcomes)) ≡ play room tree' (standing b (two ++ more) ended (outcomes_of asked ++ outcomes))
+  pub first_plays : (two : List ℕ) (asked : List Deal) → Goes link two asked b c → link.tells → However a first.leads.came first.leads.answered b (λ room s t. play room tree s ≡ play room tree' t) → (room : Room) (more : List ℕ) (ended : Bool) (outcomes : List DealOutcome) → HasRoomFor room (length c.channel.told.sent) → GoesOn c.channel.ended more ended → play room tree (standing a ((first.leads.came ++ two) ++ more) ended (outcomes_of (first.leads.answered ++ asked) ++ outcomes)) ≡ play room tree' (standing b (two ++ more) ended (outcomes_of asked ++ outcomes))
   first_plays two asked goes h plays room more ended outcomes fit on =
       rw (append_assoc first.leads.came two more, outcomes-append first.leads.answered asked, append_assoc (outcomes_of first.leads.answered) (outcomes_of asked) outcomes)
       (plays room (two ++ more) ended (outcomes_of asked ++ outcomes) (fitted room _ _ (goes.sent h) fit) (goes_after b.channel.ended two more c.channel.ended ended goes.over on))
@@ -430,6 +435,10 @@ module _ (link : Link) (tree tree' : Tree) (a b c : SessionValue) (first : Moves
     calm = λ calm. keeps_after (Calm tree) (Calm tree') first.leads.came second.leads.came a b c first.calm (second.calm calm);
     shrinks = shrinks_after first.leads.came second.leads.came a b c first.shrinks second.shrinks;
     says = λ line next is h. saying line h (first.says line next is h);
+    apart = λ apart.
+        let one = first.apart apart in
+        let two = second.apart one.1 in
+        (outcomes-append first.leads.answered second.leads.answered ∙ ap (λ o. o ++ outcomes_of second.leads.answered) one.0 ∙ two.0, two.1);
   }
     where
       together : (line : List ℕ) → link.tells → (still : StillSays link tree tree' first.leads.came first.leads.answered line a b) → StillSays link tree' last second.leads.came second.leads.answered still.rest b c ⊎ HasGoneOut still.rest b c → StillSays link tree last (first.leads.came ++ second.leads.came) (first.leads.answered ++ second.leads.answered) line a c ⊎ HasGoneOut line a c
@@ -476,13 +485,13 @@ module _ (link : Link) (tree tree' : Tree) (a b c : SessionValue) (first : Moves
       failing (inr fault) = inr fault
 
   -- a dialogue that is aborted after it has begun
-  pub aborts_on : (begun begun' : Bool) (answer : Answer) → (begun' ≡ true → (begun ≡ true) ⊎ Touched link tree a b) → begun' ≡ true → Aborts link begun' tree' answer b c → Aborts link begun tree answer a c
-  aborts_on begun begun' answer touched has second = record {
+  pub aborts_on : (begun begun' : Bool) (answer : Answer) → (begun' ≡ true → (begun ≡ true) ⊎ Touched link tree a b) → begun' ≡ true → b.channel.failed ≡ a.channel.failed → Aborts link begun' tree' answer b c → Aborts link begun tree answer a c
+  aborts_on begun begun' answer touched has same second = record {
     place = second.place;
     at = second.at;
     leads = leads_at;
     state = second.state ∙ first.state;
-    going = second.going;
+    going = second.going ∙ same;
     fault = second.fault;
     is = second.is;
     cause = go second.cause;
@@ -532,7 +541,7 @@ pub record Finishes (link : Link) (tree : Tree) (answer : Answer) (old new : Ses
   pub gone : (line : List ℕ) (next : Tree) → tree ≡ Say (Ok line) next → link.tells → HasGoneOut line old new
 
 -- what is let go is let go where a run stands
-pub ended_standing : (v : SessionValue) (more : List ℕ) (over : Bool) (outcomes : List RequestOutcome) → ended (standing v more over outcomes) ≡ standing (let_go v) more over outcomes
+pub ended_standing : (v : SessionValue) (more : List ℕ) (over : Bool) (outcomes : List DealOutcome) → ended (standing v more over outcomes) ≡ standing (let_go v) more over outcomes
 ended_standing v more over outcomes =
     let s : Standing = standing v more over outcomes in
     ap (λ d. record s { dealings = record s.dealings { data_conn = d } }) (sym (traffic_kept v.state.counts.owed v.net.data_conn))
@@ -547,7 +556,7 @@ letting_goes link v = record {
   said = λ h. omega arith;
   untaken = omega arith;
   at_hand = λ h is. is;
-  deals = λ h. drops_deal v.state.counts.owed v.net;
+  deals = λ h. drops_deal link.builds v.state.counts.owed v.net;
   rule = refl;
 }
 

@@ -12,8 +12,12 @@ use Rattle.ftp_control.specs.Memory.{IsGiven}
 use Rattle.ftp_control.specs.Told.{Told, AddressTells, HasFailed}
 use Rattle.ftp_control.specs.declared.transport.request.Request.{Request}
 use Rattle.ftp_control.specs.declared.transport.request.RequestOutcome.{RequestOutcome}
+use Rattle.ftp_session.specs.declared.model.DealOutcome.{DealOutcome}
+use Rattle.ftp_session.specs.declared.model.DealOutcome.TheVariants.{Answered, Built}
+use Rattle.ftp_session.specs.declared.model.DealOutcome.TheVariants as came
 use Rattle.ftp_control.specs.declared.transport.room.Room.{Room}
 use Rattle.ftp_calls.proofs.Openings.{read_opens_none}
+use Rattle.ftp_session.proofs.Sorts.{opens_no_local}
 use Rattle.ftp_calls.specs.declared.call.Answer.{Answer}
 use Rattle.ftp_calls.specs.declared.call.Answer.TheVariants.{Unit, Fault}
 use Rattle.ftp_calls.specs.declared.call.Call.{Call}
@@ -30,7 +34,7 @@ use Rattle.ftp_session.specs.declared.session.stage.Step.TheVariants.{Next, Pend
 use Rattle.ftp_session.specs.Coding.{Coding}
 use Rattle.ftp_base.specs.declared.types.mode.Mode.{Mode}
 use Rattle.ftp_base.specs.declared.types.mode.Mode.TheVariants as mode
-use Rattle.ftp_calls.specs.declared.exchange.Turn.TheVariants.{First, Second, Passive, ExtendedPassive, Active, Restart}
+use Rattle.ftp_calls.specs.declared.exchange.Turn.TheVariants.{First, Second, Passive, ExtendedPassive, Active, Restart, Closed}
 use Rattle.ftp_session.specs.Sound.{cannot_open}
 use Rattle.ftp_session.specs.declared.session.stage.Agreeing.TheVariants.{Negotiating, Asking}
 use Rattle.ftp_session.specs.declared.session.stage.Asking.TheVariants.{Accepting, Connection}
@@ -38,12 +42,13 @@ use Rattle.ftp_session.specs.declared.session.state.State.{State}
 use Rattle.ftp_calls.specs.declared.exchange.Turn.{Turn}
 use Rattle.ftp_control.specs.declared.transport.request.Request.TheVariants.{Accept, Connect}
 use Rattle.ftp_control.specs.declared.transport.request.RequestOutcome.TheVariants.{Done as Made, Address, Refused}
-use Rattle.ftp_session.specs.Dialogue.{End, Here, There, Tree, Say, Look, Ask, Leaf, accepting, admitting, agreeing, connecting_to, doing, from_turn, last_turn, later, lets_in, negotiating, negotiating_unless, on_address, on_connection, restart_turn, strangers, with_transfer}
+use Rattle.ftp_session.specs.Dialogue.{End, Here, There, Tree, Say, Look, Ask, Build, Move, Leaf, accepting, admitting, agreeing, connecting_to, doing, from_turn, last_turn, later, lets_in, negotiating, negotiating_unless, on_address, on_built, on_connection, restart_turn, strangers, with_transfer}
 use Rattle.ftp_session.specs.Link.{Link}
-use Rattle.ftp_session.specs.Deals.{Deal, Deals, DealIs, Dropped, Net, Requested, dealings_of, dealt}
+use Rattle.ftp_calls.specs.declared.exchange.Movement.{Movement}
+use Rattle.ftp_session.specs.Deals.{Deal, Deals, ConstructedIs, Constructed, Dropped, Moved, MovementIs, Net, RequestIs, Requested, answers, constructed, dealings_of, dealt, moved}
 use Rattle.ftp_session.specs.declared.model.Played.{Played}
 use Rattle.ftp_session.specs.declared.model.Traffic.{Traffic}
-use Rattle.ftp_session.proofs.Deals.{dealings_dealt}
+use Rattle.ftp_session.proofs.Deals.{dealings_constructed, dealings_dealt, dealings_moved}
 use Rattle.ftp_session.specs.Play.{asked_then, play, address_at}
 use Rattle.ftp_session.specs.Promises.{standing, Goes, Aborts, Untouched, failed_from}
 use Rattle.ftp_session.specs.State.{SessionValue}
@@ -51,9 +56,17 @@ use Rattle.ftp_session.specs.Steps.Moving.{dropped, Accepts, Concludes, Connects
 use Rattle.ftp_session.specs.Steps.Stages.{GoesOnTo, MayAnswer, StageOf, StepAnswers, TurnOf, is_later, begun_at, first_by, has_asked, nodes_from, nodes_left, nodes_of, remaining, way_of}
 use Rattle.ftp_session.proofs.Moving.{advances_on, leads_on, moves_on, leaf_ends, lacks_memory_at, nothing_leads, nothing_shrinks, stays_put}
 
-pub play-Ask : (room : Room) (request : Request) (next : RequestOutcome → Tree) (outcome : RequestOutcome) (outcomes : List RequestOutcome) (s : Standing) → play room (Ask request next) (record s { outcomes = outcome ∷ outcomes }) ≡ play room (next outcome) (record s { dealings = dealt request outcome s.dealings; outcomes = outcomes })
+pub play-Ask : (room : Room) (request : Request) (next : RequestOutcome → Tree) (outcome : RequestOutcome) (outcomes : List DealOutcome) (s : Standing) → play room (Ask request next) (record s { outcomes = Answered outcome ∷ outcomes }) ≡ play room (next outcome) (record s { dealings = dealt request outcome s.dealings; outcomes = outcomes })
 unfolding play
 play-Ask room request next outcome outcomes s = refl
+
+pub play-Build : (room : Room) (address : SocketAddr) (next : Option FtpError → Tree) (fault : Option FtpError) (outcomes : List DealOutcome) (s : Standing) → play room (Build address next) (record s { outcomes = Built fault ∷ outcomes }) ≡ play room (next fault) (record s { dealings = constructed address fault s.dealings; outcomes = outcomes })
+unfolding play
+play-Build room address next fault outcomes s = refl
+
+pub play-Move : (room : Room) (moves : Movement) (next : DealOutcome → Tree) (outcome : DealOutcome) (outcomes : List DealOutcome) (s : Standing) → answers moves outcome ≡ true → play room (Move moves next) (record s { outcomes = outcome ∷ outcomes }) ≡ play room (next outcome) (record s { dealings = moved moves outcome s.dealings; outcomes = outcomes })
+unfolding play
+play-Move room moves next outcome outcomes s is = rw is refl
 
 pub play-Look : (room : Room) (end : End) (next : SocketAddr → Tree) (s : Standing) → play room (Look end next) s ≡ play room (next (address_at end s)) s
 unfolding play
@@ -77,7 +90,7 @@ module _ (link : Link) (old : SessionValue) (net' : Net) where
   abbrev after : SessionValue
   after = record old { net = net' }
 
-  beside_goes : (answered : List Deal) → (link.tells → Deals answered old.net net') → Goes link [] answered old after
+  beside_goes : (answered : List Deal) → (link.tells → Deals link.builds answered old.net net') → Goes link [] answered old after
   beside_goes answered deals = record {
     over = record { nothing = λ e. refl; over = λ e. e };
     received = λ h. sym (append-nil old.channel.told.received);
@@ -95,7 +108,7 @@ module _ (link : Link) (old : SessionValue) (net' : Net) where
   nothing_said = record { said = λ h. refl; untaken = sym (append-nil (untaken old.channel)) }
 
   -- the transport was asked
-  pub asked_still : (request : Request) (outcome : RequestOutcome) → (link.tells → DealIs (Requested request outcome) old.net net') → (next : RequestOutcome → Tree) → Still link (Ask request next) (next outcome) old after
+  pub asked_still : (request : Request) (outcome : RequestOutcome) → (link.tells → RequestIs request outcome old.net net') → (next : RequestOutcome → Tree) → Still link (Ask request next) (next outcome) old after
   asked_still request outcome tie next = record {
     advances = record {
       moves = record {
@@ -114,6 +127,63 @@ module _ (link : Link) (old : SessionValue) (net' : Net) where
         calm = λ calm. inr (refl, refl, refl, tt);
         shrinks = nothing_shrinks (length old.channel.ahead);
         says = λ line next' is. let clash : Ask request next ≡ Say (Ok line) next' = is in cc;
+        apart = λ apart. absurd apart;
+      };
+      failed = refl;
+    };
+    none = refl;
+    untouched = nothing_said;
+  }
+
+  -- the builder was asked
+  pub built_still : (address : SocketAddr) (fault : Option FtpError) → (link.tells → ConstructedIs link.builds address fault old.net net') → (next : Option FtpError → Tree) → Still link (Build address next) (next fault) old after
+  built_still address fault tie next = record {
+    advances = record {
+      moves = record {
+        leads = record {
+          came = [];
+          answered = Constructed address fault ∷ [];
+          goes = beside_goes (Constructed address fault ∷ []) (λ h. (net', tie h, refl));
+          plays = λ h resumes room more ended outcomes fit on.
+              let s : Standing = standing old more ended outcomes in
+              play-Build room address next fault outcomes s
+              ∙ ap (λ d. play room (next fault) (record s { dealings = d })) (sym (dealings_constructed link.builds address fault old.net net' (tie h)));
+        };
+        state = refl;
+        resumes = λ r. r fault;
+        keeps = λ silent. inr (refl, refl, refl, (fault, silent));
+        calm = λ calm. inr (refl, refl, refl, tt);
+        shrinks = nothing_shrinks (length old.channel.ahead);
+        says = λ line next' is. let clash : Build address next ≡ Say (Ok line) next' = is in cc;
+        apart = λ apart. absurd apart;
+      };
+      failed = refl;
+    };
+    none = refl;
+    untouched = nothing_said;
+  }
+
+  -- something was done on the data connection
+  pub moved_still : (moves : Movement) (outcome : DealOutcome) → (link.tells → MovementIs moves outcome old.net net') → (next : DealOutcome → Tree) → Still link (Move moves next) (next outcome) old after
+  moved_still moves outcome tie next = record {
+    advances = record {
+      moves = record {
+        leads = record {
+          came = [];
+          answered = Moved moves outcome ∷ [];
+          goes = beside_goes (Moved moves outcome ∷ []) (λ h. (net', tie h, refl));
+          plays = λ h resumes room more ended outcomes fit on.
+              let s : Standing = standing old more ended outcomes in
+              play-Move room moves next outcome outcomes s (tie h).0
+              ∙ ap (λ d. play room (next outcome) (record s { dealings = d })) (sym (dealings_moved moves outcome old.net net' (tie h)));
+        };
+        state = refl;
+        resumes = λ r. r outcome;
+        keeps = λ silent. inr (refl, refl, refl, (outcome, silent));
+        calm = λ calm. inr (refl, refl, refl, tt);
+        shrinks = nothing_shrinks (length old.channel.ahead);
+        says = λ line next' is. let clash : Move moves next ≡ Say (Ok line) next' = is in cc;
+        apart = λ apart. absurd apart;
       };
       failed = refl;
     };
@@ -138,6 +208,7 @@ module _ (link : Link) (old : SessionValue) (net' : Net) where
         calm = λ calm. inr (refl, refl, refl, calm);
         shrinks = nothing_shrinks (length old.channel.ahead);
         says = λ line next is h. inl (record { rest = line; next = next; is = is; count = refl; resumes = λ rule kept r. r; plays = same h });
+        apart = λ apart. (refl, apart);
       };
       failed = refl;
     };
@@ -145,18 +216,23 @@ module _ (link : Link) (old : SessionValue) (net' : Net) where
     untouched = nothing_said;
   }
     where
-      same : link.tells → (room : Room) (more : List ℕ) (ended : Bool) (outcomes : List RequestOutcome) → Rattle.ftp_control.specs.Told.HasRoomFor room (length after.channel.told.sent) → Rattle.ftp_control.specs.Reading.GoesOn after.channel.ended more ended → play room tree (standing old more ended outcomes) ≡ play room tree (standing after more ended outcomes)
+      same : link.tells → (room : Room) (more : List ℕ) (ended : Bool) (outcomes : List DealOutcome) → Rattle.ftp_control.specs.Told.HasRoomFor room (length after.channel.told.sent) → Rattle.ftp_control.specs.Reading.GoesOn after.channel.ended more ended → play room tree (standing old more ended outcomes) ≡ play room tree (standing after more ended outcomes)
       same h room more ended outcomes fit on =
           let s : Standing = standing old more ended outcomes in
           ap (λ d. play room tree (record s { dealings = d })) (ap dealings_of (sym (tie h)))
 
 -- the same of a session that is known by an equation
-pub asked_through : (link : Link) (request : Request) (outcome : RequestOutcome) (view old : SessionValue) (net' : Net) → view ≡ old → (link.tells → DealIs (Requested request outcome) view.net net') → (next : RequestOutcome → Tree) → Still link (Ask request next) (next outcome) old (record view { net = net' })
+pub asked_through : (link : Link) (request : Request) (outcome : RequestOutcome) (view old : SessionValue) (net' : Net) → view ≡ old → (link.tells → RequestIs request outcome view.net net') → (next : RequestOutcome → Tree) → Still link (Ask request next) (next outcome) old (record view { net = net' })
 asked_through link request outcome view old net' is tie next =
     let P : SessionValue → Type 0 = λ v. Still link (Ask request next) (next outcome) v (record view { net = net' }) in
     subst P is (asked_still link view net' request outcome tie next)
 
-pub accepted_through : (link : Link) (outcome : RequestOutcome) (view old : SessionValue) (net' : Net) → view ≡ old → (link.tells → DealIs (Requested (Accept view.state.settings.active_deadline) outcome) view.net net') → (next : RequestOutcome → Tree) → Still link (Ask (Accept old.state.settings.active_deadline) next) (next outcome) old (record view { net = net' })
+pub built_through : (link : Link) (address : SocketAddr) (fault : Option FtpError) (view old : SessionValue) (net' : Net) → view ≡ old → (link.tells → ConstructedIs link.builds address fault view.net net') → (next : Option FtpError → Tree) → Still link (Build address next) (next fault) old (record view { net = net' })
+built_through link address fault view old net' is tie next =
+    let P : SessionValue → Type 0 = λ v. Still link (Build address next) (next fault) v (record view { net = net' }) in
+    subst P is (built_still link view net' address fault tie next)
+
+pub accepted_through : (link : Link) (outcome : RequestOutcome) (view old : SessionValue) (net' : Net) → view ≡ old → (link.tells → RequestIs (Accept view.state.settings.active_deadline) outcome view.net net') → (next : RequestOutcome → Tree) → Still link (Ask (Accept old.state.settings.active_deadline) next) (next outcome) old (record view { net = net' })
 accepted_through link outcome view old net' is tie next =
     let P : SessionValue → Type 0 = λ v. Still link (Ask (Accept v.state.settings.active_deadline) next) (next outcome) v (record view { net = net' }) in
     subst P is (asked_still link view net' (Accept view.state.settings.active_deadline) outcome tie next)
@@ -173,9 +249,14 @@ play-Accept room deadline next conn s =
     let k : RequestOutcome → Standing → Played = λ answer t. play room (next answer) t in
     elim s.outcomes as (λ o. asked_then o (Accept deadline) s k ≡ asked_then o (Accept deadline) (record s { dealings = record s.dealings { data_conn = conn } }) k) [
       | [] ↦ refl
-      | Made ∷ outcomes ↦ refl
-      | Address from ∷ outcomes ↦ refl
-      | Refused fault ∷ outcomes ↦ refl
+      | Answered Made ∷ outcomes ↦ refl
+      | Answered (Address from) ∷ outcomes ↦ refl
+      | Answered (Refused fault) ∷ outcomes ↦ refl
+      | Built fault ∷ outcomes ↦ refl
+      | came.Read bytes ∷ outcomes ↦ refl
+      | came.Wrote count ∷ outcomes ↦ refl
+      | came.Closed ∷ outcomes ↦ refl
+      | came.Failed kind ∷ outcomes ↦ refl
     ]
 
 -- a stranger's connection is let go before another peer is asked for
@@ -195,6 +276,7 @@ dropped_still link deadline next v = record {
       calm = λ calm. inr (refl, refl, refl, tt);
       shrinks = nothing_shrinks (length v.channel.ahead);
       says = λ line next' is. let clash : Ask (Accept deadline) next ≡ Say (Ok line) next' = is in cc;
+      apart = λ apart. absurd apart;
     };
     failed = refl;
   };
@@ -242,6 +324,7 @@ module _ (link : Link) (old : SessionValue) (told' : Told) where
         calm = λ calm. inr (refl, refl, refl, tt);
         shrinks = nothing_shrinks (length old.channel.ahead);
         says = λ line next' is. let clash : Look end next ≡ Say (Ok line) next' = is in cc;
+        apart = λ apart. (refl, apart address);
       };
       failed = refl;
     };
@@ -249,7 +332,7 @@ module _ (link : Link) (old : SessionValue) (told' : Told) where
     untouched = record { said = λ h. ap (λ t. t.sent ++ old.channel.unsent) (tie h).1; untaken = sym (append-nil (untaken old.channel)) };
   }
     where
-      known : (e : End) (more : List ℕ) (ended : Bool) (outcomes : List RequestOutcome) → address_at e (standing old more ended outcomes) ≡ address_at e (standing old [] false [])
+      known : (e : End) (more : List ℕ) (ended : Bool) (outcomes : List DealOutcome) → address_at e (standing old more ended outcomes) ≡ address_at e (standing old [] false [])
       known Here more ended outcomes = refl
       known There more ended outcomes = refl
 
@@ -262,7 +345,7 @@ module _ (link : Link) (old : SessionValue) (told' : Told) where
         at = old;
         leads = nothing_leads link (Look end next) old;
         state = refl;
-        going = going;
+        going = refl;
         fault = ConnectionError (Io kind);
         is = refl;
         cause = inl (record { kind = kind; is = refl; may = may; same = ap F going; failed = counts });
@@ -299,7 +382,7 @@ unchanged_still link tree tree' old new same is =
     let Q : Tree → Type 0 = λ t. Still link tree t old old in
     subst P (sym same) (subst Q (sym is) (record { advances = stays_put link tree tree old refl; none = refl; untouched = record { said = λ h. refl; untaken = sym (append-nil (untaken old.channel)) } }))
 
-still_touched : (link : Link) (tree tree' : Tree) (old new : SessionValue) → Still link tree tree' old new → NothingTouched link old new
+pub still_touched : (link : Link) (tree tree' : Tree) (old new : SessionValue) → Still link tree tree' old new → NothingTouched link old new
 still_touched link tree tree' old new still = λ h.
     let came = still.advances.moves.leads.came in
     ([], still.advances.moves.leads.goes.received h ∙ ap (λ c. old.channel.told.received ++ c) still.none, still.untouched.said h, still.untouched.untaken)
@@ -330,7 +413,7 @@ still_lacks link tree old new going still =
       at = new;
       leads = leads;
       state = still.advances.moves.state;
-      going = still.advances.failed ∙ going;
+      going = still.advances.failed;
       fault = OutOfMemory;
       is = refl;
       cause = inr (record { is = refl; leaves = inl (refl, refl, subst U (sym still.none) still.untouched) });
@@ -338,7 +421,7 @@ still_lacks link tree old new going still =
 
 -- memory ran out after a reply was taken
 pub still_fails : (link : Link) (tree : Tree) (old mid : SessionValue) → old.channel.failed ≡ false → Still link tree tree old mid → Aborts link true tree (Fault OutOfMemory) old (failed_from mid)
-still_fails link tree old mid going still = lacks_memory_at link true tree tree old mid (inl refl) still.advances.moves (still.advances.failed ∙ going)
+still_fails link tree old mid going still = lacks_memory_at link true tree tree old mid (inl refl) still.advances.moves still.advances.failed
 
 module _ (link : Link) (coding : Coding) (call : Call) (way : Way) (opens : negotiates call ≡ true) where
   -- the next node is reached
@@ -422,6 +505,7 @@ reached_fewer (Passive offset) = omega arith
 reached_fewer (ExtendedPassive offset) = omega arith
 reached_fewer (Active address offset) = omega arith
 reached_fewer (Restart offset) = omega arith
+reached_fewer (Closed close) = omega arith
 
 pub known_fewer : (turn : Turn) → strangers + 1 < nodes_from turn - 3
 known_fewer First = omega arith
@@ -430,6 +514,7 @@ known_fewer (Passive offset) = omega arith
 known_fewer (ExtendedPassive offset) = omega arith
 known_fewer (Active address offset) = omega arith
 known_fewer (Restart offset) = omega arith
+known_fewer (Closed close) = omega arith
 
 -- What comes after a turn
 
@@ -439,7 +524,7 @@ NextFits coding call nodes tree None = (state : State) → tree state ≡ Leaf U
 NextFits coding call nodes tree (Some next) = (nodes_from next < nodes - 4) × (is_later next ≡ true) × (negotiates call ≡ true → TurnOf call next) × ((state : State) → tree state ≡ from_turn coding call next state)
 
 second_fits : (coding : Coding) (call : Call) (nodes : ℕ) → strangers + 24 < nodes → NextFits coding call nodes (last_turn coding call) (Some Second)
-second_fits coding call nodes more = (omega (arith, more), refl, λ opens. read_opens_none call opens, λ state. refl)
+second_fits coding call nodes more = (omega (arith, more), refl, λ opens. (read_opens_none call opens, opens_no_local call opens), λ state. refl)
 
 restarted_fits : (coding : Coding) (call : Call) (offset nodes : ℕ) → strangers + 34 < nodes → NextFits coding call nodes (restart_turn coding call offset) (Some (restarted call offset))
 restarted_fits coding call offset nodes more =
@@ -455,6 +540,21 @@ next_fits coding call (Passive offset) = restarted_fits coding call offset (node
 next_fits coding call (ExtendedPassive offset) = restarted_fits coding call offset (nodes_from (ExtendedPassive offset)) (omega arith)
 next_fits coding call (Active address offset) = restarted_fits coding call offset (nodes_from (Active address offset)) (omega arith)
 next_fits coding call (Restart offset) = second_fits coding call (nodes_from (Restart offset)) (omega arith)
+next_fits coding call (Closed close) = λ state. refl
+
+-- the first node of a connection, by who makes it
+pub dials : (address : SocketAddr) (state : State) (next : Tree) → state.settings.stream_builder ≡ false → connecting_to address state next ≡ Ask (Connect address None) (on_connection state next)
+dials address state next is = ap (λ b. cond b (Build address (on_built state next)) (Ask (Connect address None) (on_connection state next))) is
+
+pub constructs : (address : SocketAddr) (state : State) (next : Tree) → state.settings.stream_builder ≡ true → connecting_to address state next ≡ Build address (on_built state next)
+constructs address state next is = ap (λ b. cond b (Build address (on_built state next)) (Ask (Connect address None) (on_connection state next))) is
+
+connecting_speaks_none : (address : SocketAddr) (state : State) (next : Tree) → Speaks (connecting_to address state next) → ⊥
+connecting_speaks_none address state next =
+    elim state.settings.stream_builder as (λ b. Speaks (cond b (Build address (on_built state next)) (Ask (Connect address None) (on_connection state next))) → ⊥) [
+      | true ↦ λ s. s
+      | false ↦ λ s. s
+    ]
 
 -- a connection was made: the next turn begins
 pub connected_walks : (link : Link) (coding : Coding) (call : Call) (turn : Turn) (address : SocketAddr) (stage' : Stage) (old mid : SessionValue) (result : Step) → negotiates call ≡ true → Still link (connecting_to address old.state (later coding call turn old.state)) (later coding call turn old.state) old mid → GoesOnTo call turn stage' result → Walks link coding call (Agreeing (Asking turn (Connection address))) stage' old mid result
@@ -463,7 +563,7 @@ connected_walks link coding call turn address stage' old mid Next opens still on
     let tree = connecting_to address old.state (later coding call turn old.state) in
     let P : Stage → Type 0 = λ s. Walks link coding call (Agreeing (Asking turn (Connection address))) s old mid Next in
     let T : Tree → Type 0 = λ t. Still link tree t old mid in
-    subst P (sym on.2) (walks_on link coding call (Asking turn (Connection address)) opens (At on.0) old mid (subst T (fits.3 old.state) still) fits.1 (λ s. absurd s) fits.0 (fits.2 opens))
+    subst P (sym on.2) (walks_on link coding call (Asking turn (Connection address)) opens (At on.0) old mid (subst T (fits.3 old.state) still) fits.1 (λ s. absurd (connecting_speaks_none address old.state (later coding call turn old.state) s)) fits.0 (fits.2 opens))
 connected_walks link coding call turn address stage' old mid Pending opens still on = absurd on
 connected_walks link coding call turn address stage' old mid (Done last) opens still on =
     let none = subst (λ o. NextFits coding call (nodes_from turn) (later coding call turn) o) on.0 (next_fits coding call turn) in
@@ -486,13 +586,43 @@ concludes_on coding call a reply stage' old new (Done last) same accepts on =
       net = ap (λ v. v.net) same;
     })
 
-pub connects_walks : (link : Link) (coding : Coding) (call : Call) (turn : Turn) (address : SocketAddr) (outcome : RequestOutcome) (stage' : Stage) (old mid : SessionValue) (result : Step) → negotiates call ≡ true → ((next : RequestOutcome → Tree) → Still link (Ask (Connect address None) next) (next outcome) old mid) → ConnectsTo call turn outcome stage' result → Walks link coding call (Agreeing (Asking turn (Connection address))) stage' old mid result
-connects_walks link coding call turn address Made stage' old mid result opens still on = connected_walks link coding call turn address stage' old mid result opens (still (on_connection old.state (later coding call turn old.state))) on
-connects_walks link coding call turn address (Address other) stage' old mid result opens still on = connected_walks link coding call turn address stage' old mid result opens (still (on_connection old.state (later coding call turn old.state))) on
-connects_walks link coding call turn address (Refused fault) stage' old mid result opens still is =
-    let way : Way = Asking turn (Connection address) in
-    let P : Step → Type 0 = λ r. Walks link coding call (Agreeing way) stage' old mid r in
-    subst P (sym is) (walks_end link coding call way opens stage' (Fault (ConnectionError fault)) old mid (inl (still_ends link (connecting_to address old.state (later coding call turn old.state)) (ConnectionError fault) old mid (still (on_connection old.state (later coding call turn old.state))))) (First, inr tt, tt))
+-- the transport was asked for a connection
+pub connects_walks : (link : Link) (coding : Coding) (call : Call) (turn : Turn) (address : SocketAddr) (outcome : RequestOutcome) (stage' : Stage) (old mid : SessionValue) (result : Step) → negotiates call ≡ true → old.state.settings.stream_builder ≡ false → ((next : RequestOutcome → Tree) → Still link (Ask (Connect address None) next) (next outcome) old mid) → ConnectsTo call turn outcome stage' result → Walks link coding call (Agreeing (Asking turn (Connection address))) stage' old mid result
+connects_walks link coding call turn address outcome stage' old mid result opens alone still on = go outcome (subst T (sym (dials address old.state next alone)) (still (on_connection old.state next))) on
+  where
+    next : Tree
+    next = later coding call turn old.state
+
+    T : Tree → Type 0
+    T t = Still link t (on_connection old.state next outcome) old mid
+
+    go : (o : RequestOutcome) → Still link (connecting_to address old.state next) (on_connection old.state next o) old mid → ConnectsTo call turn o stage' result → Walks link coding call (Agreeing (Asking turn (Connection address))) stage' old mid result
+    go Made here on = connected_walks link coding call turn address stage' old mid result opens here on
+    go (Address other) here on = connected_walks link coding call turn address stage' old mid result opens here on
+    go (Refused fault) here is =
+        let way : Way = Asking turn (Connection address) in
+        let P : Step → Type 0 = λ r. Walks link coding call (Agreeing way) stage' old mid r in
+        subst P (sym is) (walks_end link coding call way opens stage' (Fault (ConnectionError fault)) old mid (inl (still_ends link (connecting_to address old.state next) (ConnectionError fault) old mid here)) (First, inr tt, tt))
+
+-- it waits
+pub dial_waits : (link : Link) (coding : Coding) (call : Call) (turn : Turn) (address : SocketAddr) (old new : SessionValue) → negotiates call ≡ true → old.state.settings.stream_builder ≡ false → ((tree : Tree) → Still link tree tree old new) → link.asks_wait → Walks link coding call (Agreeing (Asking turn (Connection address))) (Agreeing (Asking turn (Connection address))) old new Pending
+dial_waits link coding call turn address old new opens alone still may =
+    let next : Tree = later coding call turn old.state in
+    walks_wait link coding call (Asking turn (Connection address)) opens (Connect address None) (on_connection old.state next) old new (dials address old.state next alone) still may (opens, tt)
+
+-- the builder made a connection
+pub built_walks : (link : Link) (coding : Coding) (call : Call) (turn : Turn) (address : SocketAddr) (stage' : Stage) (old mid : SessionValue) (result : Step) → negotiates call ≡ true → old.state.settings.stream_builder ≡ true → ((next : Option FtpError → Tree) → Still link (Build address next) (next None) old mid) → GoesOnTo call turn stage' result → Walks link coding call (Agreeing (Asking turn (Connection address))) stage' old mid result
+built_walks link coding call turn address stage' old mid result opens beside still on =
+    let next : Tree = later coding call turn old.state in
+    let T : Tree → Type 0 = λ t. Still link t next old mid in
+    connected_walks link coding call turn address stage' old mid result opens (subst T (sym (constructs address old.state next beside)) (still (on_built old.state next))) on
+
+-- it gave a fault, which is the answer
+pub unbuilt_walks : (link : Link) (coding : Coding) (call : Call) (turn : Turn) (address : SocketAddr) (fault : FtpError) (stage' : Stage) (old mid : SessionValue) → negotiates call ≡ true → old.state.settings.stream_builder ≡ true → ((next : Option FtpError → Tree) → Still link (Build address next) (next (Some fault)) old mid) → Walks link coding call (Agreeing (Asking turn (Connection address))) stage' old mid (Done (Fault fault))
+unbuilt_walks link coding call turn address fault stage' old mid opens beside still =
+    let next : Tree = later coding call turn old.state in
+    let T : Tree → Type 0 = λ t. Still link t (Leaf (Fault fault) old.state) old mid in
+    walks_end link coding call (Asking turn (Connection address)) opens stage' (Fault fault) old mid (inl (still_ends link (connecting_to address old.state next) fault old mid (subst T (sym (constructs address old.state next beside)) (still (on_built old.state next))))) (First, inr tt, tt)
 
 -- A peer is accepted
 

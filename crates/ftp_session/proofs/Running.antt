@@ -1,8 +1,7 @@
 -- Lemmas on lists of calls.
 use Rattle.std.proofs.lemmas.List.{drop_more}
 use Rattle.std.proofs.Math.ListN.{drop_of_length-le}
-use Rattle.std.proofs.Common.{◌≡◌, ℕ, ◌+◌, ◌<◌, ◌≤◌, drop, get_or, Bool, true, false, cond, List, [], ◌∷◌, ◌++◌, length, length-append, inl, inr, ◌⊎◌, refl, ap, sym, ◌∙◌, subst, append_assoc, append-nil}
-use Rattle.ftp_base.specs.declared.types.fault.FtpError.TheVariants.{SessionFailed}
+use Rattle.std.proofs.Common.{◌≡◌, ℕ, ◌+◌, ◌<◌, ◌≤◌, drop, get_or, is_none, Bool, true, false, List, [], ◌∷◌, ◌++◌, length, length-append, inl, inr, ◌⊎◌, refl, ap, sym, ◌∙◌, subst, append_assoc, append-nil}
 use Rattle.ftp_control.specs.declared.control.rule.ReplyRule.{ReplyRule}
 use Rattle.ftp_control.specs.declared.transport.room.Room.{Room}
 use Rattle.ftp_session.specs.Deals.{Deal, outcomes_of}
@@ -18,10 +17,13 @@ use Rattle.ftp_session.specs.declared.model.Ran.{Ran}
 use Rattle.ftp_session.specs.declared.model.Ran.TheVariants.{Finished, Waiting}
 use Rattle.ftp_session.specs.State.{SessionValue, let_go}
 use Rattle.ftp_session.specs.Coding.{Coding}
-use Rattle.ftp_session.specs.Dialogue.{dialogue, entered}
-use Rattle.ftp_session.specs.Play.{finally, play, play_call}
+use Rattle.ftp_session.specs.Dialogue.{dialogue}
+use Rattle.ftp_calls.specs.Exchanges.{is_local}
+use Rattle.ftp_session.specs.declared.model.DealOutcome.{DealOutcome}
+use Rattle.ftp_session.specs.Play.{Taken, play_call}
+use Rattle.ftp_session.proofs.Carrying.{beside_goes, refused_so, taken_going, taken_goes_on, taken_plays, taken_resumes}
 use Rattle.ftp_session.specs.Run.{run, before, and_then, OneView, Silent}
-use Rattle.ftp_session.specs.Promises.{begun_by, Goes, FailsWith, HasFault, IsFault, standing, before_all, Completes, Agrees, AllRefused, Makes, RanTo, RunsTo, RunAborts, Runs, Aborts, Plays, Wired, IsSuccess, IsRefused, IsPlayed, IsWithheld}
+use Rattle.ftp_session.specs.Promises.{begun_by, Goes, FailsWith, HasFault, IsFault, standing, before_all, Completes, Agrees, AllRefused, Makes, RanTo, RunsTo, RunAborts, Runs, Aborts, Plays, Wired, IsSuccess, IsRefusal, IsRefused, IsPlayed, IsWithheld, refusal_of}
 use Rattle.ftp_session.specs.Steps.Moving.{Keeps, Ends, Made}
 use Rattle.ftp_session.proofs.Hearing.{nothing_resumes}
 use Rattle.ftp_session.proofs.Wired.{wired}
@@ -84,14 +86,16 @@ keeps_from P came call old new keeps = keeps
 
 -- what is made of a call is its dialogue
 pub made_plays : (link : Link) (coding : Coding) (call : Call) (old new : SessionValue) (answer : Answer) → Made link coding call old new answer → Plays link coding call old new answer
-made_plays link coding call old new answer (inl refused) = record {
-  wired = λ success. let P : Answer → Type 0 = IsSuccess in absurd (subst P refused.is success);
-  made = inl refused;
-  fails = λ failed. inl refused.failed;
-}
+made_plays link coding call old new answer (inl refused) =
+    let so = refused_so link.builds link.tells coding call old new answer refused in
+    record {
+      wired = λ success. absurd (so.unsuccessful success);
+      made = inl refused;
+      fails = so.fails;
+    }
 made_plays link coding call old new answer (inr made) = record {
   wired = λ success. words success made.plays;
-  made = inr (inl (record { going = made.going; last = made.last; plays = go made.plays; lets_go = made.lets_go }));
+  made = inr (inl (record { going = made.going; apart = made.apart; last = made.last; plays = go made.plays; lets_go = made.lets_go }));
   fails = λ failed. fails made.plays (sym (ap (λ v. v.channel.failed) made.lets_go) ∙ failed);
 }
   where
@@ -113,23 +117,16 @@ module _ (coding : Coding) where
   nothing_views rule [] = tt
   nothing_views rule (call ∷ calls) = λ state. (nothing_resumes rule (dialogue coding call state), λ silent. nothing_views rule calls)
 
-  -- a call that is played goes on with the later ones
-  pub plays_on : (room : Room) (call : Call) (later : List Call) (s t : Standing) (answer : Answer) → s.failed ≡ false → finally (play room (dialogue coding call s.state) (record s { state = entered call s.state })) ≡ Done answer t → run room coding (call ∷ later) s ≡ before answer (run room coding later t)
-  plays_on room call later s t answer going is =
+  -- a call that is done goes on with the later ones
+  pub plays_on : (room : Room) (call : Call) (later : List Call) (s t : Standing) (answer : Answer) → play_call room coding call s ≡ Done answer t → run room coding (call ∷ later) s ≡ before answer (run room coding later t)
+  plays_on room call later s t answer is =
       let next : Standing → Ran = λ u. run room coding later u in
-      let P : Bool → Type 0 = λ failed. cond failed (Done (Fault SessionFailed) s) (finally (play room (dialogue coding call s.state) (record s { state = entered call s.state }))) ≡ Done answer t in
-      run-cons coding room call later s ∙ ap (λ p. and_then p next) (subst P (sym going) is)
-
-  pub refuses_on : (room : Room) (call : Call) (later : List Call) (s : Standing) → s.failed ≡ true → run room coding (call ∷ later) s ≡ before (Fault SessionFailed) (run room coding later s)
-  refuses_on room call later s failed =
-      let next : Standing → Ran = λ u. run room coding later u in
-      let P : Bool → Type 0 = λ f. cond f (Done (Fault SessionFailed) s) (finally (play room (dialogue coding call s.state) (record s { state = entered call s.state }))) ≡ Done (Fault SessionFailed) s in
-      run-cons coding room call later s ∙ ap (λ p. and_then p next) (subst P (sym failed) refl)
+      run-cons coding room call later s ∙ ap (λ p. and_then p next) is
 
   -- the view of the calls after one that is done
   views_on : (call : Call) (later : List Call) (came : List ℕ) (mid new : SessionValue) (state : State) → new.channel.rule ≡ mid.channel.rule → Keeps (Silent (dialogue coding call state)) came mid new → OneView mid.channel.rule mid.channel.kept coding (call ∷ later) → OneView new.channel.rule new.channel.kept coding later
   views_on call later came mid new state rule (inl none) view = rw none (nothing_views new.channel.rule later)
-  views_on call later came mid new state rule (inr same) view = rw (same.0, rule) ((view state).1 same.3)
+  views_on call later came mid new state rule (inr same) view = rw (same.0, rule) ((view state).1 (inl same.3))
 
 -- a run that got so far, with the view of the calls that are left
 pub record Reached (link : Link) (coding : Coding) (calls to_make : List Call) (old new : SessionValue) (answers : List Answer) : Type 0 where
@@ -163,8 +160,8 @@ module _ (link : Link) (coding : Coding) (calls later : List Call) (call : Call)
   counts_more done one is = length-append answers (one ∷ []) ∙ ap (λ n. n + 1) is ∙ sym (length-append done (call ∷ []))
 
   -- the next call is done
-  completes_next : mid.channel.failed ≡ false → Finishes link (dialogue coding call mid.state) answer (begun_by call mid) new → Reached link coding calls later old new (answers ++ answer ∷ [])
-  completes_next going ends =
+  completes_next : refusal_of call mid ≡ Taken → (is_local call ≡ true → new.channel ≡ mid.channel) → Finishes link (dialogue coding call mid.state) answer (begun_by call mid) new → Reached link coding calls later old new (answers ++ answer ∷ [])
+  completes_next taken apart ends =
       let ran = reached.ran in
       let done = ends in
       record {
@@ -176,41 +173,49 @@ module _ (link : Link) (coding : Coding) (calls later : List Call) (call : Call)
           answered = ran.answered ++ done.answered;
           goes = joined_goes link ran.came done.came ran.answered done.answered old mid new ran.goes (goes_from link done.came done.answered call mid new done.goes);
           runs = λ h agrees room more ended outcomes fit on.
+              let resumes = taken_resumes mid.channel.rule mid.channel.kept coding call mid taken (λ going. (reached.agrees agrees going mid.state).0) in
               let first = ran.runs h agrees room (done.came ++ more) ended (outcomes_of done.answered ++ outcomes) (fitted room _ _ (done.goes.sent h) fit) (goes_after mid.channel.ended done.came more new.channel.ended ended done.goes.over on) in
-              let played = done.plays h (reached.agrees agrees going mid.state).0 room more ended outcomes fit on in
+              let played = done.plays h resumes room more ended outcomes fit on in
               rw (append_assoc ran.came done.came more, outcomes-append ran.answered done.answered, append_assoc (outcomes_of ran.answered) (outcomes_of done.answered) outcomes)
               (first
-              ∙ ap (before_all answers) (plays_on coding room call later (standing mid (done.came ++ more) ended (outcomes_of done.answered ++ outcomes)) (standing new more ended outcomes) answer going played)
+              ∙ ap (before_all answers) (plays_on coding room call later (standing mid (done.came ++ more) ended (outcomes_of done.answered ++ outcomes)) (standing new more ended outcomes) answer (taken_plays coding room call mid (done.came ++ more) ended (outcomes_of done.answered ++ outcomes) taken ∙ played))
               ∙ sym (before_all-snoc answers answer (run room coding later (standing new more ended outcomes))));
         };
-        agrees = λ agrees going'. views_on coding call later done.came mid new mid.state done.goes.rule (keeps_from (Silent (dialogue coding call mid.state)) done.came call mid new ends.keeps) (reached.agrees agrees going);
+        agrees = λ agrees going'. views_on coding call later done.came mid new mid.state done.goes.rule (keeps_from (Silent (dialogue coding call mid.state)) done.came call mid new ends.keeps) (reached.agrees agrees (taken_goes_on call mid new taken apart going'));
       }
 
-  -- the session has failed
-  refuses_next : IsRefused mid new answer → Reached link coding calls later old new (answers ++ answer ∷ [])
+  -- it is refused
+  refuses_next : IsRefused link.tells call mid new answer → Reached link coding calls later old new (answers ++ answer ∷ [])
   refuses_next refused =
       let ran = reached.ran in
-      let P : SessionValue → Type 0 = λ v. Reached link coding calls later old v (answers ++ answer ∷ []) in
-      let Q : Answer → Type 0 = λ a. Reached link coding calls later old mid (answers ++ a ∷ []) in
-      subst P (sym refused.unchanged)
-      (subst Q (sym refused.is)
-      (record {
+      let so = refused_so link.builds link.tells coding call mid new answer refused in
+      let goes = beside_goes link so.answered mid new so.channel so.deals in
+      record {
         ran = record {
           done = ran.done ++ call ∷ [];
           split = split_more ran.done ran.split;
-          count = counts_more ran.done (Fault SessionFailed) ran.count;
-          came = ran.came;
-          answered = ran.answered;
-          goes = ran.goes;
+          count = counts_more ran.done answer ran.count;
+          came = ran.came ++ [];
+          answered = ran.answered ++ so.answered;
+          goes = joined_goes link ran.came [] ran.answered so.answered old mid new ran.goes goes;
           runs = λ h agrees room more ended outcomes fit on.
-              ran.runs h agrees room more ended outcomes fit on
-              ∙ ap (before_all answers) (refuses_on coding room call later (standing mid more ended outcomes) refused.failed)
-              ∙ sym (before_all-snoc answers (Fault SessionFailed) (run room coding later (standing mid more ended outcomes)));
+              let O : List DealOutcome → Ran = λ o. run room coding calls (standing old (ran.came ++ more) ended o) in
+              let same : outcomes_of (ran.answered ++ so.answered) ++ outcomes ≡ outcomes_of ran.answered ++ outcomes = ap (λ o. o ++ outcomes) (outcomes-append ran.answered so.answered ∙ ap (λ o. outcomes_of ran.answered ++ o) so.none ∙ append-nil (outcomes_of ran.answered)) in
+              let first = ran.runs h agrees room more ended outcomes (fitted room _ _ (goes.sent h) fit) (goes_after mid.channel.ended [] more new.channel.ended ended goes.over on) in
+              rw (append-nil ran.came)
+              (ap O same
+              ∙ first
+              ∙ ap (before_all answers) (plays_on coding room call later (standing mid more ended outcomes) (standing new more ended outcomes) answer (so.plays h room more ended outcomes))
+              ∙ sym (before_all-snoc answers answer (run room coding later (standing new more ended outcomes))));
         };
-        agrees = λ agrees going. let clash : true ≡ false = sym refused.failed ∙ going in cc;
-      }))
+        agrees = λ agrees going.
+            let on = so.goes_on going in
+            let V : SessionValue → Type 0 = λ v. v.channel.failed ≡ false in
+            let P : SessionValue → Type 0 = λ v. OneView v.channel.rule v.channel.kept coding later in
+            subst P (sym on.0) ((reached.agrees agrees (subst V on.0 going) mid.state).1 (inr on.1));
+      }
 
-  aborts_next : (last : SessionValue) → new ≡ let_go last → mid.channel.failed ≡ false → Aborts link false (dialogue coding call mid.state) answer (begun_by call mid) last → RunAborts link coding calls later old new (answers ++ answer ∷ [])
+  aborts_next : (last : SessionValue) → new ≡ let_go last → refusal_of call mid ≡ Taken → Aborts link false (dialogue coding call mid.state) answer (begun_by call mid) last → RunAborts link coding calls later old new (answers ++ answer ∷ [])
   aborts_next last lets_go going aborts = record {
     first = answers;
     call = call;
@@ -226,7 +231,7 @@ module _ (link : Link) (coding : Coding) (calls later : List Call) (call : Call)
     later = [];
     answers_are = ap (λ a. answers ++ a ∷ []) aborts.is;
     makes = (refl, refl);
-    failed = λ failed. (refl, tt);
+    failed = λ failed. (refl, refl);
   }
 
   pub next_answer : Made link coding call mid new answer → RunsSoFar link coding calls later old new (answers ++ answer ∷ [])
@@ -234,12 +239,15 @@ module _ (link : Link) (coding : Coding) (calls later : List Call) (call : Call)
   next_answer (inr made) = go made.plays
     where
       go : Ends link (dialogue coding call mid.state) answer (begun_by call mid) made.last ⊎ Aborts link false (dialogue coding call mid.state) answer (begun_by call mid) made.last → RunsSoFar link coding calls later old new (answers ++ answer ∷ [])
-      go (inl ends) = inl (let P : SessionValue → Type 0 = λ v. Finishes link (dialogue coding call mid.state) answer (begun_by call mid) v in completes_next made.going (subst P (sym made.lets_go) (finishes link (dialogue coding call mid.state) answer (begun_by call mid) made.last ends)))
+      go (inl ends) = inl (let P : SessionValue → Type 0 = λ v. Finishes link (dialogue coding call mid.state) answer (begun_by call mid) v in completes_next made.going made.apart (subst P (sym made.lets_go) (finishes link (dialogue coding call mid.state) answer (begun_by call mid) made.last ends)))
       go (inr aborts) = inr (aborts_next made.last made.lets_go made.going aborts)
 
-all_snoc : (first : List Answer) (answer : Answer) → AllRefused first → answer ≡ Fault SessionFailed → AllRefused (first ++ answer ∷ [])
-all_snoc [] answer all is = (is, tt)
-all_snoc (one ∷ first) answer all is = (all.0, all_snoc first answer all.1 is)
+all_snoc : (calls : List Call) (first : List Answer) (call : Call) (answer : Answer) → AllRefused calls first → (is_local call ≡ false → IsRefusal answer) → AllRefused (calls ++ call ∷ []) (first ++ answer ∷ [])
+all_snoc [] first call answer none is =
+    let P : List Answer → Type 0 = λ l. AllRefused (call ∷ []) (l ++ answer ∷ []) in
+    subst P (sym none) (is, refl)
+all_snoc (one ∷ calls) [] call answer all is = absurd all
+all_snoc (one ∷ calls) (first ∷ answers) call answer all is = (all.0, all_snoc calls answers call answer all.1 is)
 
 -- one call more is made
 makes_more : (link : Link) (coding : Coding) (made : List Call) (call : Call) (old mid new : SessionValue) (answers : List Answer) (answer : Answer) → Makes link coding made old mid answers → Plays link coding call mid new answer → Makes link coding (made ++ call ∷ []) old new (answers ++ answer ∷ [])
@@ -269,13 +277,19 @@ aborted_more link coding calls to_make call old mid new answers answer broke pla
   failed = λ failed. go plays.made failed (broke.failed failed);
 }
   where
-    go : IsRefused mid new answer ⊎ IsPlayed link coding call mid new answer ⊎ IsWithheld mid new answer → broke.after.channel.failed ≡ true → (mid ≡ broke.after) × AllRefused broke.later → (new ≡ broke.after) × AllRefused (broke.later ++ answer ∷ [])
-    go (inl refused) failed so_far = (refused.unchanged ∙ so_far.0, all_snoc broke.later answer so_far.1 refused.is)
-    go (inr (inl played)) failed so_far =
-        let clash : true ≡ false = sym failed ∙ sym (ap (λ v. v.channel.failed) so_far.0) ∙ played.going in
-        cc
+    go : IsRefused link.tells call mid new answer ⊎ IsPlayed link coding call mid new answer ⊎ IsWithheld mid new answer → broke.after.channel.failed ≡ true → (mid.channel ≡ broke.after.channel) × AllRefused broke.made broke.later → (new.channel ≡ broke.after.channel) × AllRefused (broke.made ++ call ∷ []) (broke.later ++ answer ∷ [])
+    go (inl refused) failed so_far =
+        let so = refused_so link.builds link.tells coding call mid new answer refused in
+        (so.channel ∙ so_far.0, all_snoc broke.made broke.later call answer so_far.1 (λ abroad. so.refusal_is))
+    go (inr (inl played)) failed so_far = apart (is_local call) refl
+      where
+        apart : (b : Bool) → is_local call ≡ b → (new.channel ≡ broke.after.channel) × AllRefused (broke.made ++ call ∷ []) (broke.later ++ answer ∷ [])
+        apart true local = (played.apart local ∙ so_far.0, all_snoc broke.made broke.later call answer so_far.1 (λ abroad. (let clash : true ≡ false = sym local ∙ abroad in cc)))
+        apart false abroad =
+            let clash : true ≡ false = sym failed ∙ sym (ap (λ c. c.failed) so_far.0) ∙ taken_going call mid.channel.failed (is_none mid.net.data_conn) played.going abroad in
+            cc
     go (inr (inr none)) failed so_far =
-        let clash : true ≡ false = sym failed ∙ sym (ap (λ v. v.channel.failed) so_far.0) ∙ none.going in
+        let clash : true ≡ false = sym failed ∙ sym (ap (λ c. c.failed) so_far.0) ∙ none.going in
         cc
 
 -- what is made of a call fails the session only where the call fails

@@ -5,15 +5,16 @@ use Rattle.ftp_base.specs.declared.types.fault.ConnectionError.{ConnectionError 
 use Rattle.ftp_control.specs.Saying.{due, said}
 use Rattle.ftp_calls.specs.declared.call.Call.{Call}
 use Rattle.ftp_calls.specs.declared.exchange.Turn.{Turn}
-use Rattle.ftp_calls.specs.declared.exchange.Turn.TheVariants.{First, Second, Passive, ExtendedPassive, Active, Restart}
+use Rattle.ftp_calls.specs.declared.exchange.Turn.TheVariants.{First, Second, Passive, ExtendedPassive, Active, Restart, Closed}
 use Rattle.ftp_session.specs.declared.session.stage.Awaits.{Awaits}
 use Rattle.ftp_session.specs.declared.session.stage.Stage.{Stage}
-use Rattle.ftp_session.specs.declared.session.stage.Stage.TheVariants.{At, Saying, Hearing, Arming, Agreeing}
+use Rattle.ftp_session.specs.declared.session.stage.Stage.TheVariants.{At, Saying, Hearing, Arming, Agreeing, Closing}
 use Rattle.ftp_session.specs.Coding.{Coding}
 use Rattle.ftp_calls.specs.declared.exchange.Exchange.{Exchange}
 use Rattle.ftp_calls.specs.declared.exchange.Row.TheVariants.{Exchanges, Arms}
 use Rattle.ftp_calls.specs.Exchanges.{ending_of, gives_reply, is_read, reads, row_of}
 use Rattle.ftp_calls.proofs.Openings.{read_opens_none}
+use Rattle.ftp_session.proofs.Sorts.{finishing_no_read}
 use Rattle.ftp_session.specs.Dialogue.{expected_of, Tree, Say, saying, awaiting, doing, later}
 use Rattle.ftp_session.specs.Steps.Stages.{TurnOf, is_later, begun_at, nodes_from, line_of, awaits_of, NodeOf, Begun}
 use Rattle.ftp_session.specs.declared.session.stage.Step.{Step}
@@ -33,6 +34,7 @@ one_fewer (Passive offset) = omega arith
 one_fewer (ExtendedPassive offset) = omega arith
 one_fewer (Active address offset) = omega arith
 one_fewer (Restart offset) = omega arith
+one_fewer (Closed close) = omega arith
 
 two_fewer : (turn : Turn) → nodes_from turn - 2 < nodes_from turn
 two_fewer First = omega arith
@@ -41,15 +43,17 @@ two_fewer (Passive offset) = omega arith
 two_fewer (ExtendedPassive offset) = omega arith
 two_fewer (Active address offset) = omega arith
 two_fewer (Restart offset) = omega arith
+two_fewer (Closed close) = omega arith
 
 -- a turn that comes later is none of a plain read
 pub later_is_no_read : (call : Call) (turn : Turn) → TurnOf call turn → is_later turn ≡ true → is_read call ≡ false
 later_is_no_read call First of later = let clash : false ≡ true = later in cc
-later_is_no_read call Second of later = of
+later_is_no_read call Second of later = of.0
 later_is_no_read call (Passive offset) of later = let clash : false ≡ true = later in cc
 later_is_no_read call (ExtendedPassive offset) of later = let clash : false ≡ true = later in cc
 later_is_no_read call (Active address offset) of later = let clash : false ≡ true = later in cc
 later_is_no_read call (Restart offset) of later = read_opens_none call of
+later_is_no_read call (Closed close) of later = let clash : false ≡ true = later in cc
 
 -- a line that is said first
 said_first : (coding : Coding) (command : Option Command) (line : List ℕ) (next : Tree) → is_none command ≡ false → line_of coding command ≡ Ok line → Say (Ok line) next ≡ saying coding command next
@@ -61,11 +65,12 @@ said_first coding (Some command) line next some is =
 -- a call that says something is no plain read
 pub no_read : (call : Call) (turn : Turn) (exchange : Exchange) → row_of call turn ≡ Exchanges exchange → TurnOf call turn → is_none exchange.says ≡ false → is_read call ≡ false
 no_read call First exchange row of some = ap reads row ∙ ap (λ b. gives_reply exchange.ending && b) some ∙ and_false (gives_reply exchange.ending)
-no_read call Second exchange row of some = of
+no_read call Second exchange row of some = of.0
 no_read call (Passive offset) exchange row of some = read_opens_none call of
 no_read call (ExtendedPassive offset) exchange row of some = read_opens_none call of
 no_read call (Active address offset) exchange row of some = read_opens_none call of
 no_read call (Restart offset) exchange row of some = read_opens_none call of
+no_read call (Closed close) exchange row of some = finishing_no_read call of
 
 -- a line that hasn't begun to go out
 unbegun : (line : Option (List ℕ)) (a : Awaits) → is_none line ≡ false → begun_at (Saying line a) ≡ a.begun
@@ -77,6 +82,7 @@ pub node_begins : (coding : Coding) (call : Call) (turn : Turn) (e : Exchange) (
 node_begins coding call turn e (At other) row read node = absurd node
 node_begins coding call turn e (Arming other offset) row read node = absurd node
 node_begins coding call turn e (Agreeing agreeing) row read node = absurd node
+node_begins coding call turn e Closing row read node = absurd node
 node_begins coding call turn e (Saying line a) row read node =
     let P : Awaits → Type 0 = λ x. Begun coding call turn (Saying line x) in
     subst P (sym node.3) (record {

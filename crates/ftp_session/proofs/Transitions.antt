@@ -1,5 +1,5 @@
 -- Lemmas on the machine's steps and polls.
-use Rattle.std.proofs.Common.{◌∷◌, ◌++◌, append-nil, ◌≡◌, ◌<◌, ◌+◌, ℕ, length, Bool, true, false, cond, Option, Some, None, List, [], Result, Ok, Err, inl, inr, ◌⊎◌, refl, ap, sym, ◌∙◌, subst, arith}
+use Rattle.std.proofs.Common.{◌∷◌, ◌++◌, append-nil, ◌≡◌, ◌<◌, ◌+◌, ◌&&◌, ℕ, length, Bool, true, false, cond, Option, Some, None, List, [], Result, Ok, Err, inl, inr, ◌⊎◌, refl, ap, sym, ◌∙◌, subst, arith}
 use Rattle.std.specs.Prelude.{IfOk}
 use Rattle.std.specs.declared.alloc.AllocError.{AllocError}
 use Rattle.futures.specs.declared.task.Poll.{Poll}
@@ -9,33 +9,39 @@ use Rattle.ftp_base.specs.declared.types.reply.Response.{Response}
 use Rattle.ftp_base.specs.declared.types.fault.FtpError.{FtpError}
 use Rattle.ftp_base.specs.declared.types.fault.FtpError.TheVariants.{ConnectionError, SecureError, UnexpectedResponse, BadResponse, InvalidAddress, DataConnectionAlreadyOpen, OutOfMemory, SessionFailed}
 use Rattle.ftp_base.specs.declared.types.fault.ConnectionError.{ConnectionError as Cause}
+use Rattle.ftp_base.specs.declared.types.fault.ConnectionError.TheVariants.{Io}
+use Rattle.ftp_calls.specs.declared.exchange.Ending.{Ending}
 use Rattle.ftp_control.specs.Refusal.{IsRefusalOf}
-use Rattle.ftp_control.specs.Told.{Told, EndsAsTold}
+use Rattle.ftp_control.specs.Told.{Told, EndsAsTold, HasFailed}
 use Rattle.ftp_session.specs.declared.session.state.State.{State}
 use Rattle.ftp_calls.specs.declared.call.Answer.{Answer}
 use Rattle.ftp_calls.specs.declared.call.Answer.TheVariants.{Unit, Fault}
 use Rattle.ftp_calls.specs.declared.call.Call.{Call}
 use Rattle.ftp_calls.specs.declared.exchange.Turn.{Turn}
-use Rattle.ftp_calls.specs.declared.exchange.Turn.TheVariants.{First, Second, Passive, ExtendedPassive, Active, Restart}
+use Rattle.ftp_calls.specs.declared.exchange.Turn.TheVariants.{First, Second, Passive, ExtendedPassive, Active, Restart, Closed}
 use Rattle.ftp_session.specs.declared.session.stage.Awaits.{Awaits}
 use Rattle.ftp_session.specs.declared.session.stage.Stage.{Stage}
-use Rattle.ftp_session.specs.declared.session.stage.Stage.TheVariants.{At, Saying, Hearing, Arming, Agreeing}
+use Rattle.ftp_session.specs.declared.session.stage.Stage.TheVariants.{At, Saying, Hearing, Arming, Agreeing, Closing}
 use Rattle.ftp_session.specs.declared.session.stage.Step.{Step}
 use Rattle.ftp_session.specs.declared.session.stage.Step.TheVariants.{Next, Pending, Done}
 use Rattle.ftp_session.specs.State.{SessionValue, let_go}
 use Rattle.ftp_session.specs.Coding.{Coding}
 use Rattle.ftp_calls.specs.declared.exchange.Row.{Row}
-use Rattle.ftp_calls.specs.declared.exchange.Row.TheVariants.{Exchanges, Arms}
-use Rattle.ftp_calls.specs.Exchanges.{is_read, negotiates, row_of, says_of}
+use Rattle.ftp_calls.specs.declared.exchange.Row.TheVariants.{Exchanges, Arms, Sets}
+use Rattle.ftp_calls.specs.declared.exchange.Row.TheVariants as row
+use Rattle.ftp_calls.specs.Exchanges.{finishes, is_local, is_read, negotiates, row_of, says_of}
+use Rattle.ftp_session.proofs.Sorts.{read_finishes_none}
+use Rattle.ftp_session.proofs.Carrying.{failing_refuses, plain_entered}
+use Rattle.ftp_session.specs.Play.{Taken}
 use Rattle.ftp_calls.proofs.Openings.{read_opens_none}
 use Rattle.ftp_session.proofs.Stages.{later_is_no_read}
-use Rattle.ftp_session.specs.Dialogue.{Expected, expected_of, Tree, Say, Hear, Leaf, saying, armed, awaiting, doing, accepted, later, from_turn, dialogue}
-use Rattle.ftp_session.specs.Promises.{IsFault, HasFault, Aborts, Fails, SaidOrTaken, Touched, Untouched, LacksMemory, Plays, GivesFault, Reads, Rests, begun_by, failed_from}
+use Rattle.ftp_session.specs.Dialogue.{Expected, expected_of, Tree, Say, Hear, Leaf, saying, after_fault_of, armed, awaiting, concluded, doing, accepted, later, from_turn, opened_from, told_fault, with_left, dialogue}
+use Rattle.ftp_session.specs.Promises.{AbortsRead, FailsRead, IsFault, HasFault, Aborts, Fails, SaidOrTaken, Touched, Untouched, LacksMemory, Plays, GivesFault, Reads, Rests, begun_by, failed_from, refusal_of}
 use Rattle.ftp_control.specs.Channel.{untaken}
 use Rattle.ftp_session.specs.Run.{Resumes}
 use Rattle.ftp_session.specs.Steps.Following.{StageIn, entered_at, entered_state, entered_tree, is_first, is_first_turn}
-use Rattle.ftp_session.specs.Steps.Stages.{is_later, remaining, awaited, begun_at, StageOf, line_of}
-use Rattle.ftp_session.specs.Steps.Moving.{Moves, Advances, Ends, Steps, PollSteps, Hears, BeginsExchange, Concludes, Made, NothingTouched, NothingYet, Quiet, Still, HasBegun, BeginsHere, Speaks, Takes, Tracks, wants_memory, withheld, after_fault}
+use Rattle.ftp_session.specs.Steps.Stages.{IsPlain, is_later, remaining, awaited, begun_at, StageOf, line_of}
+use Rattle.ftp_session.specs.Steps.Moving.{Moves, Advances, Ends, Steps, PollSteps, Hears, BeginsExchange, Concludes, Made, NothingTouched, NothingYet, Quiet, Still, HasBegun, BeginsHere, EndsFaulty, FaultLeaves, FaultLeavesIf, Speaks, Takes, Tracks, wants_memory, withheld, after_fault}
 use Rattle.ftp_session.proofs.Moving.{advances_on, leads_on, leaf_ends, refused_line, lacks_memory_first, lacks_memory_at, stays_put, ends_on, aborts_on, said_or_taken_on, untouched, untouched_after}
 use Rattle.ftp_session.proofs.Negotiation.{still_on, unchanged_still}
 use Rattle.ftp_session.specs.Link.{Link}
@@ -53,6 +59,8 @@ line_refused link coding (Some command) cause next v is =
 row_refused : (link : Link) (coding : Coding) (row : Row) (cause : Cause) (later : State → Tree) (v : SessionValue) → line_of coding (says_of row) ≡ Err cause → Ends link (doing coding row v.state later) (Fault (ConnectionError cause)) v v
 row_refused link coding (Exchanges e) cause later v is = line_refused link coding e.says cause (awaiting coding (expected_of e.hears) e.ending v.state later) v is
 row_refused link coding (Arms offset) cause later v is = let clash : Ok [] ≡ Err cause = is in cc
+row_refused link coding (Sets setting) cause later v is = let clash : Ok [] ≡ Err cause = is in cc
+row_refused link coding (row.Moves movement) cause later v is = let clash : Ok [] ≡ Err cause = is in cc
 
 -- an exchange that doesn't begin
 pub refused_ends : (link : Link) (coding : Coding) (call : Call) (turn : Turn) (fault : FtpError) (v : SessionValue) → v.channel.failed ≡ false → IsRefusalOf (line_of coding (says_of (row_of call turn))) fault → Ends link (from_turn coding call turn v.state) (Fault fault) v (after_fault (is_later turn) fault v) ⊎ Aborts link (is_later turn) (from_turn coding call turn v.state) (Fault fault) v (after_fault (is_later turn) fault v)
@@ -66,8 +74,8 @@ refused_ends link coding call turn DataConnectionAlreadyOpen v going is = absurd
 refused_ends link coding call turn OutOfMemory v going is =
     let tree = from_turn coding call turn v.state in
     inr (elim (is_later turn) as (λ b. Aborts link b tree (Fault OutOfMemory) v (after_fault b OutOfMemory v)) [
-      | true ↦ lacks_memory_at link true tree tree v v (inl refl) (stays_put link tree tree v refl).moves going
-      | false ↦ lacks_memory_first link tree v going
+      | true ↦ lacks_memory_at link true tree tree v v (inl refl) (stays_put link tree tree v refl).moves refl
+      | false ↦ lacks_memory_first link tree v
     ])
 refused_ends link coding call turn SessionFailed v going is = absurd is
 
@@ -119,7 +127,7 @@ concludes link coding call a reply stage' old mid new (Done answer) going heard 
 concludes link coding call a reply stage' old mid new (Done answer) going heard takes (inr lacks) =
     let A : Answer → Type 0 = λ x. Aborts link a.begun (awaited coding call old.state a) x old new in
     let V : SessionValue → Type 0 = λ v. Aborts link a.begun (awaited coding call old.state a) (Fault OutOfMemory) old v in
-    inr (subst A (sym lacks.0) (subst V (sym lacks.1) (lacks_memory_at link a.begun (awaited coding call old.state a) (accepted coding a.ending old.state reply (later coding call a.turn)) old mid (inr (λ h resumes. inr (takes h resumes))) heard.moves (heard.failed ∙ going))))
+    inr (subst A (sym lacks.0) (subst V (sym lacks.1) (lacks_memory_at link a.begun (awaited coding call old.state a) (accepted coding a.ending old.state reply (later coding call a.turn)) old mid (inr (λ h resumes. inr (takes h resumes))) heard.moves heard.failed)))
 
 -- a dialogue that goes on after a reply has begun with it
 pub accepted_begins : (link : Link) (coding : Coding) (call : Call) (a : Awaits) (reply : Response) (stage' : Stage) (old mid new : SessionValue) (step : Step) → Takes link (awaited coding call old.state a) old mid → (step ≡ Next → begun_at stage' ≡ true) → Concludes coding call a reply stage' mid new step → Tracks link a.begun (begun_at stage') (awaited coding call old.state a) old new step
@@ -145,25 +153,74 @@ not_memory OutOfMemory other = absurd (other refl)
 not_memory SessionFailed other = refl
 
 -- a read that ends with a fault
-pub fault_ends : (link : Link) (codes : Expected) (next : Result Response FtpError → Tree) (begun : Bool) (fault : FtpError) (old mid : SessionValue) → next (Err fault) ≡ Leaf (Fault fault) old.state → Hears link codes next old mid (poll.Ready (Err fault)) → Ends link (Hear codes next) (Fault fault) old (after_fault begun fault mid) ⊎ Aborts link begun (Hear codes next) (Fault fault) old (after_fault begun fault mid)
-fault_ends link codes next begun fault old mid leaf (inl (moves, other)) =
-    let T : Tree → Type 0 = λ t. Moves link (Hear codes next) t old mid in
-    let L : State → Tree = λ s. Leaf (Fault fault) s in
-    let here : next (Err fault) ≡ Leaf (Fault fault) mid.state = leaf ∙ ap L (sym moves.state) in
-    rw (not_memory fault other) (inl (leaf_ends link (Hear codes next) (Fault fault) old mid mid (subst T here moves) (λ f. inr tt) refl refl))
-fault_ends link codes next begun fault old mid leaf (inr aborts) = inr (go aborts.cause)
-  where
-    go : Fails link (Hear codes next) fault aborts.at mid ⊎ ((fault ≡ OutOfMemory) × (mid ≡ aborts.at) × Untouched link aborts.leads.came old aborts.at) → Aborts link begun (Hear codes next) (Fault fault) old (after_fault begun fault mid)
-    go (inl fails) =
-        let io : wants_memory fault ≡ false = ap wants_memory fails.is in
-        rw io (record { place = Hear codes next; at = aborts.at; leads = aborts.leads; state = aborts.state; going = aborts.going; fault = fault; is = refl; cause = inl fails })
-    go (inr lacks) =
-        let memory : wants_memory fault ≡ true = ap wants_memory lacks.0 in
-        rw memory
-        (elim begun as (λ b. Aborts link b (Hear codes next) (Fault fault) old (cond b (failed_from mid) mid)) [
-          | true ↦ record { place = Hear codes next; at = aborts.at; leads = aborts.leads; state = aborts.state; going = aborts.going; fault = fault; is = refl; cause = inr (record { is = lacks.0; leaves = inr (ap failed_from lacks.1, inl refl) }) }
-          | false ↦ record { place = Hear codes next; at = aborts.at; leads = aborts.leads; state = aborts.state; going = aborts.going; fault = fault; is = refl; cause = inr (record { is = lacks.0; leaves = inl (lacks.1, refl, lacks.2) }) }
-        ])
+module _ (link : Link) (coding : Coding) (codes : Expected) (ending : Ending) (later : State → Tree) (begun : Bool) (fault told : FtpError) (old mid new : SessionValue) (going : old.channel.failed ≡ false) where
+  abbrev heard_next : Result Response FtpError → Tree
+  heard_next = concluded coding ending old.state later
+
+  abbrev Ending_so : Type 0
+  Ending_so = Ends link (Hear codes heard_next) (Fault told) old new ⊎ Aborts link begun (Hear codes heard_next) (Fault told) old new
+
+  -- what is left, by whether memory ran out
+  abbrev LeftBy : Bool → Type 0
+  LeftBy memory = FaultLeavesIf memory ending fault (cond (memory && begun) (failed_from mid) mid).state new.state told × (new ≡ record (cond (memory && begun) (failed_from mid) mid) { state = new.state })
+
+  fault_heard : Moves link (Hear codes heard_next) (heard_next (Err fault)) old mid → LeftBy false → Ending_so
+  fault_heard moves left =
+      let T : Tree → Type 0 = λ t. Moves link (Hear codes heard_next) t old mid in
+      let is : heard_next (Err fault) ≡ Leaf (Fault told) new.state =
+      ap (λ f. Leaf (Fault f) (after_fault_of ending old.state)) (sym left.0.0)
+      ∙ ap (λ s. Leaf (Fault told) (after_fault_of ending s)) (sym moves.state)
+      ∙ ap (λ s. Leaf (Fault told) s) (sym left.0.1) in
+      inl (leaf_ends link (Hear codes heard_next) (Fault told) old mid new (subst T is moves) (λ f. inr tt) (ap (λ v. v.channel) left.1) (ap (λ v. v.net) left.1))
+
+  fault_failed : (aborts : AbortsRead link codes heard_next fault old mid) → FailsRead link fault aborts.at mid → LeftBy false → Ending_so
+  fault_failed aborts fails left =
+      let io : FtpError = ConnectionError (Io fails.kind) in
+      let state : new.state ≡ after_fault_of ending old.state = left.0.1 ∙ ap (λ v. after_fault_of ending v.state) fails.same ∙ ap (λ s. after_fault_of ending s) aborts.state in
+      let channel : new.channel.told ≡ mid.channel.told = ap (λ v. v.channel.told) left.1 in
+      let V : State → Told → SessionValue = λ s t. record aborts.at { channel = record aborts.at.channel { told = t; failed = true }; state = s } in
+      let S : SessionValue → SessionValue = λ v. record v { state = new.state } in
+      let F : Told → Type 0 = λ t. link.tells → HasFailed fails.kind aborts.at.channel.told t in
+      inr (record {
+        place = Hear codes heard_next;
+        at = aborts.at;
+        leads = aborts.leads;
+        state = aborts.state;
+        going = aborts.going ∙ sym going;
+        fault = told;
+        is = refl;
+        cause = inl (record {
+          kind = fails.kind;
+          is = ap Fault (left.0.0 ∙ ap (λ f. told_fault ending f) fails.is);
+          may = fails.may;
+          same = left.1 ∙ ap S fails.same ∙ ap (λ t. V new.state t) (sym channel) ∙ ap (λ s. V s new.channel.told) state;
+          failed = subst F (sym channel) fails.failed;
+        });
+      })
+
+  fault_lacks : (aborts : AbortsRead link codes heard_next fault old mid) → (fault ≡ OutOfMemory) × (mid ≡ aborts.at) × Untouched link aborts.leads.came old aborts.at → LeftBy true → Ending_so
+  fault_lacks aborts lacks left =
+      let P : SessionValue → Type 0 = λ v. Aborts link begun (Hear codes heard_next) (Fault told) old v in
+      let S : State → SessionValue = λ s. record (cond begun (failed_from mid) mid) { state = s } in
+      let same : new ≡ cond begun (failed_from mid) mid = left.1 ∙ ap S left.0.1 in
+      let is : told ≡ OutOfMemory = left.0.0 ∙ lacks.0 in
+      inr (subst P (sym same) (elim begun as (λ b. Aborts link b (Hear codes heard_next) (Fault told) old (cond b (failed_from mid) mid)) [
+        | true ↦ record { place = Hear codes heard_next; at = aborts.at; leads = aborts.leads; state = aborts.state; going = aborts.going ∙ sym going; fault = told; is = refl; cause = inr (record { is = is; leaves = inr (ap failed_from lacks.1, inl refl) }) }
+        | false ↦ record { place = Hear codes heard_next; at = aborts.at; leads = aborts.leads; state = aborts.state; going = aborts.going ∙ sym going; fault = told; is = refl; cause = inr (record { is = is; leaves = inl (lacks.1, refl, lacks.2) }) }
+      ]))
+
+  pub fault_ends : Hears link codes heard_next old mid (poll.Ready (Err fault)) → FaultLeaves ending fault (after_fault begun fault mid).state new.state told → new ≡ record (after_fault begun fault mid) { state = new.state } → Ending_so
+  fault_ends (inl (moves, other)) leaves same = fault_heard moves (subst LeftBy (not_memory fault other) (leaves, same))
+  fault_ends (inr aborts) leaves same = go aborts.cause
+    where
+      go : FailsRead link fault aborts.at mid ⊎ ((fault ≡ OutOfMemory) × (mid ≡ aborts.at) × Untouched link aborts.leads.came old aborts.at) → Ending_so
+      go (inl fails) = fault_failed aborts fails (subst LeftBy (ap wants_memory fails.is) (leaves, same))
+      go (inr lacks) = fault_lacks aborts lacks (subst LeftBy (ap wants_memory lacks.0) (leaves, same))
+
+-- the same of the reply that a call awaits
+pub fault_awaited : (link : Link) (coding : Coding) (call : Call) (a : Awaits) (fault told : FtpError) (old mid new : SessionValue) → old.channel.failed ≡ false → EndsFaulty a.begun a.ending fault mid new told → Hears link (expected_of a.hears) (concluded coding a.ending old.state (later coding call a.turn)) old mid (poll.Ready (Err fault)) → Ends link (awaited coding call old.state a) (Fault told) old new ⊎ Aborts link a.begun (awaited coding call old.state a) (Fault told) old new
+fault_awaited link coding call a fault told old mid new going ends heard =
+    fault_ends link coding (expected_of a.hears) a.ending (later coding call a.turn) a.begun fault told old mid new going heard ends.1 ends.0
 
 -- A poll of many steps
 
@@ -179,7 +236,7 @@ pub record SoFar (link : Link) (coding : Coding) (call : Call) (stage stage' : S
   pub quiet : begun_at stage' ≡ false → NothingYet link coding call stage stage' old new
   pub stage_of : StageOf call stage'
   pub begun : HasBegun link (begun_at stage) (begun_at stage') (remaining coding call old.state stage) old new
-  pub net : negotiates call ≡ false → new.net ≡ old.net
+  pub net : negotiates call ≡ false → finishes call ≡ false → new.net ≡ old.net
 
 pub nothing_so_far : (link : Link) (coding : Coding) (call : Call) (stage : Stage) (v : SessionValue) → StageOf call stage → SoFar link coding call stage stage v v
 nothing_so_far link coding call stage v stage_of =
@@ -189,7 +246,7 @@ nothing_so_far link coding call stage v stage_of =
       quiet = λ begun. record { still = unchanged_still link tree tree v v refl refl; begun = begun; speaks = λ speaks. speaks; read = λ read. refl };
       stage_of = stage_of;
       begun = (λ has. inl has, λ none. (none, untouched link v));
-      net = λ none. refl;
+      net = λ none ends. refl;
     }
 
 -- what was said or taken after nothing was
@@ -222,7 +279,7 @@ aborts_after link tree tree' a b c begun answer still second = record {
   at = second.at;
   leads = leads_on link tree tree' a b second.at still.advances.moves second.place second.leads;
   state = second.state ∙ still.advances.moves.state;
-  going = second.going;
+  going = second.going ∙ still.advances.failed;
   fault = second.fault;
   is = second.is;
   cause = go second.cause;
@@ -252,11 +309,13 @@ aborts_after link tree tree' a b c begun answer still second = record {
 -- a plain read that goes on has said and taken nothing
 pub read_is_quiet : (call : Call) (stage : Stage) → StageOf call stage → is_read call ≡ true → begun_at stage ≡ false
 read_is_quiet call (At First) stage_of read = refl
-read_is_quiet call (At Second) stage_of read = let clash : true ≡ false = sym read ∙ stage_of in cc
+read_is_quiet call (At Second) stage_of read = let clash : true ≡ false = sym read ∙ stage_of.0 in cc
 read_is_quiet call (At (Passive offset)) stage_of read = refl
 read_is_quiet call (At (ExtendedPassive offset)) stage_of read = refl
 read_is_quiet call (At (Active address offset)) stage_of read = refl
 read_is_quiet call (At (Restart offset)) stage_of read = let clash : true ≡ false = sym read ∙ read_opens_none call stage_of in cc
+read_is_quiet call (At (Closed close)) stage_of read = refl
+read_is_quiet call Closing stage_of read = refl
 read_is_quiet call (Saying line a) stage_of read = let clash : true ≡ false = sym read ∙ stage_of.1 in cc
 read_is_quiet call (Arming turn offset) stage_of read = later_none call turn (λ later. later_is_no_read call turn stage_of.1 later) read
 read_is_quiet call (Agreeing way) stage_of read = let clash : true ≡ false = sym read ∙ read_opens_none call stage_of.0 in cc
@@ -297,7 +356,7 @@ module _ (link : Link) (coding : Coding) (call : Call) (stage stage' : Stage) (a
       go false none (inr here) = inr (from_here (so_far.quiet none) here)
 
   -- one step more
-  pub next_step : (stage'' : Stage) (c : SessionValue) → Steps link (begun_at stage') (remaining coding call b.state stage') (remaining coding call b.state stage'') b c Next → Quiet link coding call stage' stage'' b c Next → HasBegun link (begun_at stage') (begun_at stage'') (remaining coding call b.state stage') b c → StageOf call stage'' → (negotiates call ≡ false → c.net ≡ b.net) → SoFar link coding call stage stage'' a c
+  pub next_step : (stage'' : Stage) (c : SessionValue) → Steps link (begun_at stage') (remaining coding call b.state stage') (remaining coding call b.state stage'') b c Next → Quiet link coding call stage' stage'' b c Next → HasBegun link (begun_at stage') (begun_at stage'') (remaining coding call b.state stage') b c → StageOf call stage'' → (negotiates call ≡ false → finishes call ≡ false → c.net ≡ b.net) → SoFar link coding call stage stage'' a c
   next_step stage'' c steps quiet begun stage_of net = record {
     moved = advances_on link (remaining coding call a.state stage) (remaining coding call a.state stage') (remaining coding call a.state stage'') a b c so_far.moved (steps_from link coding (begun_at stage') call a.state b.state stage' stage'' b c Next so_far.moved.moves.state steps);
     quiet = λ begun.
@@ -314,7 +373,7 @@ module _ (link : Link) (coding : Coding) (call : Call) (stage stage' : Stage) (a
         };
     stage_of = stage_of;
     begun = begun_on stage'' c steps.moves begun;
-    net = λ none. net none ∙ so_far.net none;
+    net = λ none ends. net none ends ∙ so_far.net none ends;
   }
 
   -- the last step
@@ -329,7 +388,7 @@ module _ (link : Link) (coding : Coding) (call : Call) (stage stage' : Stage) (a
       touched (inr here) = inr (λ h resumes. here h (inr resumes))
 
       aborted : (x : Bool) → begun_at stage' ≡ x → Aborts link (begun_at stage') (remaining coding call a.state stage') answer b c → Aborts link (begun_at stage) (remaining coding call a.state stage) answer a c
-      aborted true has aborts = aborts_on link (remaining coding call a.state stage) (remaining coding call a.state stage') a b c so_far.moved.moves (begun_at stage) (begun_at stage') answer (λ begun. touched (so_far.begun.0 begun)) has aborts
+      aborted true has aborts = aborts_on link (remaining coding call a.state stage) (remaining coding call a.state stage') a b c so_far.moved.moves (begun_at stage) (begun_at stage') answer (λ begun. touched (so_far.begun.0 begun)) has so_far.moved.failed aborts
       aborted false has aborts =
           let quiet = so_far.quiet has in
           let R : Bool → Type 0 = λ x. Aborts link x (remaining coding call a.state stage') answer b c in
@@ -352,25 +411,32 @@ module _ (link : Link) (coding : Coding) (call : Call) (stage stage' : Stage) (a
       subst P ((so_far.quiet (read_is_quiet call stage' so_far.stage_of read)).read read) rests
 
 -- a call that was entered is made
-pub made_by : (link : Link) (coding : Coding) (call : Call) (stage stage' : Stage) (old entered last new : SessionValue) (answer : Answer) → old.channel.failed ≡ false → entered ≡ begun_by call old → remaining coding call entered.state stage ≡ dialogue coding call old.state → begun_at stage ≡ false → PollSteps link (begun_at stage) (remaining coding call entered.state stage) (remaining coding call entered.state stage') entered last (poll.Ready answer) → new ≡ let_go last → Made link coding call old new answer
-made_by link coding call stage stage' old entered last new answer going same tree begun polls lets_go =
+pub made_by : (link : Link) (coding : Coding) (call : Call) (stage stage' : Stage) (old entered last new : SessionValue) (answer : Answer) → refusal_of call old ≡ Taken → is_local call ≡ false → entered ≡ begun_by call old → remaining coding call entered.state stage ≡ dialogue coding call old.state → begun_at stage ≡ false → PollSteps link (begun_at stage) (remaining coding call entered.state stage) (remaining coding call entered.state stage') entered last (poll.Ready answer) → new ≡ let_go last → Made link coding call old new answer
+made_by link coding call stage stage' old entered last new answer going abroad same tree begun polls lets_go =
     let T : Tree → Bool → SessionValue → Type 0 = λ t b v. Ends link t answer v last ⊎ Aborts link b t answer v last in
     let P : SessionValue → Type 0 = λ v. T (dialogue coding call old.state) false v in
     let Q : Bool → Type 0 = λ b. T (dialogue coding call old.state) b entered in
     let R : Tree → Type 0 = λ t. T t (begun_at stage) entered in
-    inr (record { going = going; last = last; plays = subst P same (subst Q begun (subst R tree polls)); lets_go = lets_go })
+    inr (record { going = going; apart = λ local. (let clash : true ≡ false = sym local ∙ abroad in cc); last = last; plays = subst P same (subst Q begun (subst R tree polls)); lets_go = lets_go })
 
--- a call that opens no data connection begins where it is
-pub begun_plain : (call : Call) (v : SessionValue) → negotiates call ≡ false → begun_by call v ≡ v
-begun_plain call v plain =
-    let F : Bool → SessionValue = λ b. record v { state = cond b (armed 0 v.state) v.state } in
-    ap F plain
+-- the same after a call wasn't refused
+pub made_after : (link : Link) (coding : Coding) (call : Call) (stage stage' : Stage) (old mid entered last new : SessionValue) (answer : Answer) → refusal_of call old ≡ Taken → mid ≡ old → is_local call ≡ false → entered ≡ begun_by call mid → remaining coding call entered.state stage ≡ dialogue coding call mid.state → begun_at stage ≡ false → PollSteps link (begun_at stage) (remaining coding call entered.state stage) (remaining coding call entered.state stage') entered last (poll.Ready answer) → new ≡ let_go last → Made link coding call old new answer
+made_after link coding call stage stage' old mid entered last new answer taken same abroad begins tree begun polls lets_go =
+    let B : SessionValue → Type 0 = λ v. entered ≡ begun_by call v in
+    let D : SessionValue → Type 0 = λ v. remaining coding call entered.state stage ≡ dialogue coding call v.state in
+    made_by link coding call stage stage' old entered last new answer taken abroad (subst B same begins) (subst D same tree) begun polls lets_go
+
+-- a call that needs no data connection begins where it is
+pub begun_plain : (call : Call) (v : SessionValue) → negotiates call ≡ false → finishes call ≡ false → begun_by call v ≡ v
+begun_plain call v plain goes_on =
+    let F : Bool → Bool → SessionValue = λ b f. record v { state = cond b (opened_from call v.state) (cond f (with_left v.state) v.state) } in
+    ap (λ b. F b (finishes call)) plain ∙ ap (λ f. F false f) goes_on
 
 -- a call whose arguments found no memory
-pub withheld_plays : (link : Link) (coding : Coding) (call : Call) (v : SessionValue) → Plays link coding call v v (Fault (withheld v))
-withheld_plays link coding call v =
+pub withheld_plays : (link : Link) (coding : Coding) (call : Call) (v : SessionValue) → IsPlain call → Plays link coding call v v (Fault (withheld v))
+withheld_plays link coding call v plain =
     elim v.channel.failed as (λ b. v.channel.failed ≡ b → Plays link coding call v v (Fault (cond b SessionFailed OutOfMemory))) [
-      | true ↦ λ failed. record { wired = λ success. absurd success; made = inl (record { failed = failed; is = refl; unchanged = refl }); fails = λ f. inl f }
+      | true ↦ λ failed. record { wired = λ success. absurd success; made = inl (failing_refuses link.tells call v plain failed); fails = λ f. inl f }
       | false ↦ λ going. record { wired = λ success. absurd success; made = inr (inr (record { going = going; is = refl; unchanged = refl })); fails = λ f. inl f }
     ] refl
 
@@ -385,20 +451,7 @@ copied_plays link coding call copy made old new answer is same plays =
 pub hears_reads : (link : Link) (codes : Expected) (next : Result Response FtpError → Tree) (old new : SessionValue) (result : Poll (Result Response FtpError)) → Hears link codes next old new result → Reads link codes next old new result
 hears_reads link codes next old new (poll.Ready (Ok reply)) heard = heard.0.moves.leads
 hears_reads link codes next old new (poll.Ready (Err fault)) (inl moved) = inl moved.0.leads
-hears_reads link codes next old new (poll.Ready (Err fault)) (inr aborts) = inr (record {
-  place = Hear codes next;
-  at = aborts.at;
-  leads = aborts.leads;
-  state = aborts.state;
-  going = aborts.going;
-  fault = fault;
-  is = refl;
-  cause = go aborts.cause;
-})
-  where
-    go : Fails link (Hear codes next) fault aborts.at new ⊎ ((fault ≡ OutOfMemory) × (new ≡ aborts.at) × Untouched link aborts.leads.came old aborts.at) → Fails link (Hear codes next) fault aborts.at new ⊎ LacksMemory link false (Hear codes next) aborts.leads.came fault old aborts.at new
-    go (inl fails) = inl fails
-    go (inr lacks) = inr (record { is = lacks.0; leaves = inl (lacks.1, refl, lacks.2) })
+hears_reads link codes next old new (poll.Ready (Err fault)) (inr aborts) = inr aborts
 hears_reads link codes next old new poll.Pending heard = (heard.0.moves.leads, heard.2)
 
 -- a read fails the session only where it gives a fault
@@ -451,9 +504,8 @@ module _ (link : Link) (coding : Coding) (call : Call) (stage first last : Stage
 pub rests_entered : (link : Link) (call : Call) (stage : Stage) (v e w : SessionValue) → is_read call ≡ true → e ≡ entered_at call stage v → Rests link e w → Rests link v w
 rests_entered link call stage v e w read same rests =
     let plain : negotiates call ≡ false = elim (negotiates call) as (λ b. negotiates call ≡ b → b ≡ false) [ true ↦ λ opens. let clash : true ≡ false = sym read ∙ read_opens_none call opens in cc | false ↦ λ none. refl ] refl in
-    let E : Bool → SessionValue = λ b. record v { state = cond b (cond (negotiates call) (armed 0 v.state) v.state) v.state } in
-    let N : Bool → SessionValue = λ n. record v { state = cond (is_first stage) (cond n (armed 0 v.state) v.state) v.state } in
-    let here : E (is_first stage) ≡ v = ap N plain ∙ elim (is_first stage) as (λ b. record v { state = cond b v.state v.state } ≡ v) [ true ↦ refl | false ↦ refl ] in
+    let N : State → SessionValue = λ s. record v { state = cond (is_first stage) s v.state } in
+    let here : entered_at call stage v ≡ v = ap N (plain_entered call v.state plain (read_finishes_none call read)) ∙ elim (is_first stage) as (λ b. record v { state = cond b v.state v.state } ≡ v) [ true ↦ refl | false ↦ refl ] in
     let P : SessionValue → Type 0 = λ x. Rests link x w in
     subst P (same ∙ here) rests
 
@@ -465,6 +517,7 @@ first_turn (Passive offset) is = let clash : false ≡ true = is in cc
 first_turn (ExtendedPassive offset) is = let clash : false ≡ true = is in cc
 first_turn (Active address offset) is = let clash : false ≡ true = is in cc
 first_turn (Restart offset) is = let clash : false ≡ true = is in cc
+first_turn (Closed close) is = let clash : false ≡ true = is in cc
 
 pub is_at_first : (stage : Stage) → is_first stage ≡ true → stage ≡ At First
 is_at_first (At turn) is = ap At (first_turn turn is)
@@ -472,6 +525,7 @@ is_at_first (Saying line a) is = let clash : false ≡ true = is in cc
 is_at_first (Hearing a) is = let clash : false ≡ true = is in cc
 is_at_first (Arming turn offset) is = let clash : false ≡ true = is in cc
 is_at_first (Agreeing way) is = let clash : false ≡ true = is in cc
+is_at_first Closing is = let clash : false ≡ true = is in cc
 
 pub stage_in_later : (call : Call) (stage : Stage) → is_first stage ≡ false → StageIn (Some call) stage → StageOf call stage
 stage_in_later call stage later (inl stage_of) = stage_of

@@ -31,11 +31,11 @@ use Rattle.ftp_calls.specs.declared.exchange.Ending.{Ending}
 use Rattle.ftp_calls.specs.declared.exchange.Turn.TheVariants.{First}
 use Rattle.ftp_calls.specs.declared.exchange.Exchange.{Exchange}
 use Rattle.ftp_calls.specs.declared.exchange.Row.{Row}
-use Rattle.ftp_calls.specs.declared.exchange.Row.TheVariants.{Exchanges, Arms}
-use Rattle.ftp_calls.specs.Exchanges.{is_read, negotiates, reads, row_of}
+use Rattle.ftp_calls.specs.declared.exchange.Row.TheVariants.{Exchanges, Arms, Sets, Moves}
+use Rattle.ftp_calls.specs.Exchanges.{is_read, reads, row_of}
 use Rattle.ftp_session.specs.declared.session.state.State.{State}
 use Rattle.ftp_session.specs.declared.session.stage.Stage.{Stage}
-use Rattle.ftp_session.specs.declared.session.stage.Stage.TheVariants.{At, Saying, Hearing, Arming, Agreeing}
+use Rattle.ftp_session.specs.declared.session.stage.Stage.TheVariants.{At, Saying, Hearing, Arming, Agreeing, Closing}
 use Rattle.ftp_session.specs.declared.model.Standing.{Standing}
 use Rattle.ftp_session.specs.declared.model.Wait.{Wait}
 use Rattle.ftp_session.specs.declared.model.Wait.TheVariants as wait
@@ -43,11 +43,15 @@ use Rattle.ftp_session.specs.declared.model.Played.{Played}
 use Rattle.ftp_session.specs.declared.model.Played.TheVariants.{Done, Pending}
 use Rattle.ftp_session.specs.declared.model.Script.{Script}
 use Rattle.ftp_session.specs.Coding.{Coding}
-use Rattle.ftp_session.specs.Dialogue.{Expected, expected_of, Tree, Say, Hear, Look, Ask, Leaf, saying, awaiting, armed, doing, exchanging, concluded, entered, from_turn, later, negotiating, dialogue}
-use Rattle.ftp_session.specs.Deals.{dealt}
-use Rattle.ftp_session.specs.Play.{play, address_at, fits, heard_then, taken, asked_then}
-use Rattle.ftp_session.specs.Script.{heard_in, heard_at}
-use Rattle.ftp_session.specs.Steps.Stages.{StageOf, remaining}
+use Rattle.ftp_session.specs.Dialogue.{Expected, expected_of, Tree, Say, Hear, Look, Ask, Build, Move, Leaf, saying, after_fault_of, awaiting, armed, doing, exchanging, concluded, later, set_to, told_fault, dialogue}
+use Rattle.ftp_session.specs.declared.model.DealOutcome.{DealOutcome}
+use Rattle.ftp_session.specs.declared.model.DealOutcome.TheVariants as came
+use Rattle.ftp_session.specs.Deals.{answers as answers_to, constructed, dealt, moved}
+use Rattle.ftp_session.specs.Play.{play, address_at, fits, heard_then, taken, asked_then, built_then, moved_then}
+use Rattle.ftp_session.specs.Script.{heard_in, heard_at, needs_data}
+use Rattle.ftp_session.proofs.Carrying.{needs_none, plain_dialogue}
+use Rattle.ftp_session.proofs.Sorts.{finishing_moves, turn_abroad}
+use Rattle.ftp_session.specs.Steps.Stages.{StageOf, TurnOf, remaining}
 use Rattle.ftp_session.proofs.Stages.{no_read}
 use Rattle.ftp_session.proofs.Moving.{play-Say, play-Leaf, play-Refused}
 use Rattle.ftp_session.proofs.Hearing.{play-Hear}
@@ -161,7 +165,35 @@ play_shrinks room (Ask request next) s how t is =
     let k : RequestOutcome → Standing → Played = λ answer u. play room (next answer) u in
     elim s.outcomes as (λ o. asked_then o request s k ≡ Pending how t → length t.bytes ≤ length s.bytes) [
       | [] ↦ λ e. omega (arith, ap length (ap bytes_in e))
-      | outcome ∷ outcomes ↦ λ e. play_shrinks room (next outcome) (record s { dealings = dealt request outcome s.dealings; outcomes = outcomes }) how t e
+      | came.Answered outcome ∷ outcomes ↦ λ e. play_shrinks room (next outcome) (record s { dealings = dealt request outcome s.dealings; outcomes = outcomes }) how t e
+      | came.Built fault ∷ outcomes ↦ λ e. omega (arith, ap length (ap bytes_in e))
+      | came.Read bytes ∷ outcomes ↦ λ e. omega (arith, ap length (ap bytes_in e))
+      | came.Wrote count ∷ outcomes ↦ λ e. omega (arith, ap length (ap bytes_in e))
+      | came.Closed ∷ outcomes ↦ λ e. omega (arith, ap length (ap bytes_in e))
+      | came.Failed kind ∷ outcomes ↦ λ e. omega (arith, ap length (ap bytes_in e))
+    ] is
+play_shrinks room (Build address next) s how t is =
+    let k : Option FtpError → Standing → Played = λ fault u. play room (next fault) u in
+    elim s.outcomes as (λ o. built_then o address s k ≡ Pending how t → length t.bytes ≤ length s.bytes) [
+      | [] ↦ λ e. omega (arith, ap length (ap bytes_in e))
+      | came.Answered outcome ∷ outcomes ↦ λ e. omega (arith, ap length (ap bytes_in e))
+      | came.Built fault ∷ outcomes ↦ λ e. play_shrinks room (next fault) (record s { dealings = constructed address fault s.dealings; outcomes = outcomes }) how t e
+      | came.Read bytes ∷ outcomes ↦ λ e. omega (arith, ap length (ap bytes_in e))
+      | came.Wrote count ∷ outcomes ↦ λ e. omega (arith, ap length (ap bytes_in e))
+      | came.Closed ∷ outcomes ↦ λ e. omega (arith, ap length (ap bytes_in e))
+      | came.Failed kind ∷ outcomes ↦ λ e. omega (arith, ap length (ap bytes_in e))
+    ] is
+play_shrinks room (Move moves next) s how t is =
+    let k : DealOutcome → Standing → Played = λ outcome u. play room (next outcome) u in
+    elim s.outcomes as (λ o. moved_then o moves s k ≡ Pending how t → length t.bytes ≤ length s.bytes) [
+      | [] ↦ λ e. omega (arith, ap length (ap bytes_in e))
+      | outcome ∷ outcomes ↦ λ e. (
+          let after : Standing = record s { dealings = moved moves outcome s.dealings; outcomes = outcomes } in
+          elim (answers_to moves outcome) as (λ b. cond b (play room (next outcome) after) (Pending wait.Outcome s) ≡ Pending how t → length t.bytes ≤ length s.bytes) [
+            | true ↦ λ f. play_shrinks room (next outcome) after how t f
+            | false ↦ λ f. omega (arith, ap length (ap bytes_in f))
+          ] e
+          )
     ] is
 play_shrinks room (Leaf answer state) s how t is = let clash : Done answer (record s { state = state }) ≡ Pending how t = is in cc
 
@@ -205,7 +237,7 @@ module _ (coding : Coding) (room : Room) (script : Script) (s : Standing) (untak
       k = λ heard u. play room (concluded coding ending state after heard) u
 
       fails : (cause : FtpError) (u : Standing) → k (Err cause) u ≡ Pending how t → ⊥
-      fails cause u e = let clash : Done (Fault cause) (record u { state = state }) ≡ Pending how t = sym (play-Leaf room (Fault cause) state u) ∙ e in cc
+      fails cause u e = let clash : Done (Fault (told_fault ending cause)) (record u { state = after_fault_of ending state }) ≡ Pending how t = sym (play-Leaf room (Fault (told_fault ending cause)) (after_fault_of ending state) u) ∙ e in cc
 
       go : (o : Outcome) → outcome s.rule codes.form s.bytes s.ended ≡ o → heard_then o codes here k ≡ Pending how t → ⊥
       go (Whole reply code) is e =
@@ -237,12 +269,12 @@ module _ (coding : Coding) (room : Room) (script : Script) (s : Standing) (untak
       go false is e = record { line = line; next = next; is = refl; full = is }
 
   -- a change of settings never waits
-  never_waits : {A : Type 0} (offset : ℕ) (state : State) → play room (Leaf answers.Unit (armed offset state)) s ≡ Pending how t → A
-  never_waits offset state is = let clash : Done answers.Unit (record s { state = armed offset state }) ≡ Pending how t = sym (play-Leaf room answers.Unit (armed offset state) s) ∙ is in cc
+  never_waits : {A : Type 0} (state : State) → play room (Leaf answers.Unit state) s ≡ Pending how t → A
+  never_waits state is = let clash : Done answers.Unit (record s { state = state }) ≡ Pending how t = sym (play-Leaf room answers.Unit state s) ∙ is in cc
 
   -- at each stage of a call
-  pub lacks_room : (call : Call) (state : State) (stage : Stage) → negotiates call ≡ false → StageOf call stage → play room (remaining coding call state stage) s ≡ Pending how t → LacksRoomFor room s (remaining coding call state stage)
-  lacks_room call state (At turn) plain stage_of is = row (row_of call turn) is
+  pub lacks_room : (call : Call) (state : State) (stage : Stage) → needs_data call ≡ false → StageOf call stage → play room (remaining coding call state stage) s ≡ Pending how t → LacksRoomFor room s (remaining coding call state stage)
+  lacks_room call state (At turn) plain stage_of is = row (row_of call turn) refl is
     where
       line : (e : Exchange) (l : Result (List ℕ) Cause) → play room (Say l (awaiting coding (expected_of e.hears) e.ending state (later coding call turn))) s ≡ Pending how t → LacksRoomFor room s (Say l (awaiting coding (expected_of e.hears) e.ending state (later coding call turn)))
       line e (Ok bytes) is = says_more bytes (expected_of e.hears) e.ending state (later coding call turn) is
@@ -252,24 +284,20 @@ module _ (coding : Coding) (room : Room) (script : Script) (s : Standing) (untak
       go e None is = absurd (hears_none (expected_of e.hears) e.ending state (later coding call turn) s.said s.unsent is)
       go e (Some command) is = line e (wire coding.encode (text_of command)) is
 
-      row : (r : Row) → play room (doing coding r state (later coding call turn)) s ≡ Pending how t → LacksRoomFor room s (doing coding r state (later coding call turn))
-      row (Exchanges e) is = go e e.says is
-      row (Arms offset) is = never_waits offset state is
+      row : (r : Row) → row_of call turn ≡ r → play room (doing coding r state (later coding call turn)) s ≡ Pending how t → LacksRoomFor room s (doing coding r state (later coding call turn))
+      row (Exchanges e) at is = go e e.says is
+      row (Arms offset) at is = never_waits (armed offset state) is
+      row (Sets setting) at is = never_waits (set_to setting state) is
+      row (Moves moves) at is = absurd (turn_abroad call turn (Moves moves) at refl stage_of)
   lacks_room call state (Saying line a) plain stage_of is = says_more (due line) (expected_of a.hears) a.ending state (later coding call a.turn) is
   lacks_room call state (Hearing a) plain stage_of is = absurd (hears_none (expected_of a.hears) a.ending state (later coding call a.turn) s.said s.unsent is)
-  lacks_room call state (Arming turn offset) plain stage_of is = never_waits offset state is
-  lacks_room call state (Agreeing way) plain stage_of is = let clash : true ≡ false = sym stage_of.0 ∙ plain in cc
-
--- the dialogue of a call that opens no data connection
-pub plain_dialogue : (coding : Coding) (call : Call) (state : State) → negotiates call ≡ false → dialogue coding call state ≡ from_turn coding call First state
-plain_dialogue coding call state plain = ap (λ b. cond b (negotiating coding call state.settings.restart_offset (armed 0 state)) (from_turn coding call First state)) plain
-
-pub plain_entered : (call : Call) (state : State) → negotiates call ≡ false → entered call state ≡ state
-plain_entered call state plain = ap (λ b. cond b (armed 0 state) state) plain
+  lacks_room call state (Arming turn offset) plain stage_of is = never_waits (armed offset state) is
+  lacks_room call state (Agreeing way) plain stage_of is = let clash : true ≡ false = sym stage_of.0 ∙ (needs_none call plain).0 in cc
+  lacks_room call state Closing plain stage_of is = let clash : true ≡ false = sym (finishing_moves call stage_of) ∙ (needs_none call plain).1 in cc
 
 -- a call that says a line first is no plain read
-pub says_no_read : (coding : Coding) (call : Call) (state : State) (line : List ℕ) (next : Tree) → negotiates call ≡ false → dialogue coding call state ≡ Say (Ok line) next → is_read call ≡ false
-says_no_read coding call state line next plain is = row (row_of call First) refl (sym (plain_dialogue coding call state plain) ∙ is)
+pub says_no_read : (coding : Coding) (call : Call) (state : State) (line : List ℕ) (next : Tree) → TurnOf call First → dialogue coding call state ≡ Say (Ok line) next → is_read call ≡ false
+says_no_read coding call state line next plain is = row (row_of call First) refl (sym (plain_dialogue coding call state plain.0 plain.2) ∙ is)
   where
     go : (e : Exchange) → row_of call First ≡ Exchanges e → exchanging coding e state (later coding call First) ≡ Say (Ok line) next → (says : Option Command) → e.says ≡ says → is_read call ≡ false
     go e at is None none =
@@ -282,3 +310,5 @@ says_no_read coding call state line next plain is = row (row_of call First) refl
     row : (r : Row) → row_of call First ≡ r → doing coding r state (later coding call First) ≡ Say (Ok line) next → is_read call ≡ false
     row (Exchanges e) at is = go e at is e.says refl
     row (Arms offset) at is = ap reads at
+    row (Sets setting) at is = ap reads at
+    row (Moves moves) at is = ap reads at

@@ -1,5 +1,5 @@
 -- What a call that succeeded did on the wire.
-use Rattle.std.proofs.Common.{◌≡◌, ℕ, Bool, true, false, cond, eqb, Option, Some, None, List, [], ◌++◌, Result, Ok, Err, refl, ap, sym, ◌∙◌, subst, append-nil}
+use Rattle.std.proofs.Common.{◌≡◌, ◌||◌, ◌∷◌, ℕ, Bool, true, false, cond, eqb, Option, Some, None, List, [], ◌++◌, Result, Ok, Err, refl, ap, sym, ◌∙◌, subst, append-nil}
 use Rattle.ftp_base.specs.Status.{code_of, status_of}
 use Rattle.ftp_base.specs.declared.command.Command.{Command}
 use Rattle.ftp_base.specs.Command.{text_of}
@@ -11,7 +11,7 @@ use Rattle.ftp_base.specs.declared.types.fault.ConnectionError.{ConnectionError 
 use Rattle.ftp_base.specs.declared.types.fault.ConnectionError.TheVariants as connection
 use Rattle.ftp_control.specs.declared.transport.room.Room.TheVariants.{Any}
 use Rattle.ftp_session.specs.Deals.{outcomes_of}
-use Rattle.ftp_control.specs.declared.transport.request.RequestOutcome.{RequestOutcome}
+use Rattle.ftp_session.specs.declared.model.DealOutcome.{DealOutcome}
 use Rattle.ftp_control.specs.declared.control.outcome.Outcome.{Outcome}
 use Rattle.ftp_control.specs.declared.control.outcome.Outcome.TheVariants.{Whole, Bad, TooLarge, Ended, Waits}
 use Rattle.ftp_control.specs.Grammar.{outcome, left_by}
@@ -26,16 +26,21 @@ use Rattle.ftp_calls.specs.declared.exchange.Ending.TheVariants as ending
 use Rattle.ftp_calls.specs.declared.exchange.Exchange.{Exchange}
 use Rattle.ftp_session.specs.declared.model.Standing.{Standing}
 use Rattle.ftp_session.specs.declared.model.Played.{Played}
-use Rattle.ftp_session.specs.declared.model.Played.TheVariants.{Done}
+use Rattle.ftp_session.specs.declared.model.Played.TheVariants.{Done, Pending}
 use Rattle.ftp_session.specs.State.{SessionValue, let_go}
 use Rattle.ftp_session.specs.Coding.{Coding}
 use Rattle.ftp_calls.specs.declared.exchange.Row.{Row}
-use Rattle.ftp_calls.specs.declared.exchange.Row.TheVariants.{Exchanges, Arms}
-use Rattle.ftp_calls.specs.Exchanges.{ending_of, negotiates, row_of}
+use Rattle.ftp_calls.specs.declared.exchange.Row.TheVariants.{Exchanges, Arms, Sets, Moves}
+use Rattle.ftp_calls.specs.Exchanges.{ending_of, finishes, negotiates, row_of}
 use Rattle.ftp_session.proofs.Agreeing.{first_plain, row_agrees, second_plain}
 use Rattle.ftp_session.specs.Steps.Moving.{agrees}
-use Rattle.ftp_session.specs.Dialogue.{Expected, expected_of, Tree, Say, Leaf, saying, awaiting, concluded, accepted, exchanging, armed, doing, entered, from_turn, later, negotiating, dialogue}
-use Rattle.ftp_session.specs.Play.{play, heard_then}
+use Rattle.ftp_calls.specs.declared.exchange.Movement.{Movement}
+use Rattle.ftp_session.specs.declared.model.Wait.TheVariants as wait
+use Rattle.ftp_session.specs.Deals.{answers, moved as beside}
+use Rattle.ftp_session.proofs.Carrying.{carrying_is}
+use Rattle.ftp_session.specs.Steps.Moving.{moves_nothing, nothing_moved}
+use Rattle.ftp_session.specs.Dialogue.{Expected, expected_of, Tree, Say, Move, Leaf, saying, after_fault_of, told_fault, awaiting, carrying, closing, concluded, accepted, exchanging, armed, doing, entered, finish_answer, from_turn, later, moved_answer, negotiating, opened_from, set_to, with_finished, with_left, dialogue}
+use Rattle.ftp_session.specs.Play.{play, heard_then, moved_then}
 use Rattle.ftp_session.specs.Promises.{standing, begun_by, Completes, IsSuccess, Says, Exchanged, ExchangedIf, IsSilent, Succeeds, SucceedsBy, SucceedsUnless, Wired, goes_on_with}
 use Rattle.ftp_session.proofs.Moving.{play-Say, play-Leaf, play-Refused}
 use Rattle.ftp_session.proofs.Hearing.{play-Hear}
@@ -68,7 +73,7 @@ module _ (coding : Coding) (codes : Expected) (how : Ending) (state : State) (ne
   k a x = play Any (concluded coding how state next a) x
 
   found : (fault : FtpError) (x : Standing) → k (Err fault) x ≡ Done answer t → ⊥
-  found fault x is = no_success fault answer (record x { state = state }) t (sym (play-Leaf Any (Fault fault) state x) ∙ is) success
+  found fault x is = no_success (told_fault how fault) answer (record x { state = after_fault_of how state }) t (sym (play-Leaf Any (Fault (told_fault how fault)) (after_fault_of how state) x) ∙ is) success
 
   pub one_reply : play Any (awaiting coding codes how state next) s ≡ Done answer t → HeardOne coding codes how state next answer s t
   one_reply is = go (outcome s.rule codes.form s.bytes s.ended) refl (sym (play-Hear Any codes (concluded coding how state next) s) ∙ is)
@@ -138,6 +143,7 @@ accepted_leaf coding ending.Continues state reply plain = (Unit, state, refl)
 accepted_leaf coding ending.GivesAddress state reply plain = let clash : true ≡ false = plain in cc
 accepted_leaf coding ending.GivesPort state reply plain = let clash : true ≡ false = plain in cc
 accepted_leaf coding (ending.Opens replies) state reply plain = let clash : true ≡ false = plain in cc
+accepted_leaf coding (ending.Finishes close) state reply plain = (finish_answer close, with_finished state, refl)
 accepted_leaf coding (ending.GoesOn status) state reply plain = (Unit, state, same (eqb (code_of reply.status) (code_of status)))
   where
     same : (b : Bool) → cond b (Leaf Unit state) (Leaf Unit state) ≡ Leaf Unit state
@@ -156,9 +162,37 @@ module _ (coding : Coding) (call : Call) (answer : Answer) (s t : Standing) (sta
       let same = leaf_at a answer new m t done in
       (ap (λ x. x.said) same, ap (λ x. x.unsent) same, ap (λ x. x.bytes) same)
 
+  -- bytes went over the data connection
+  moved : (moves : Movement) (m : Standing) → play Any (Move moves (λ came. Leaf (moved_answer came) state)) m ≡ Done answer t → IsSilent m t
+  unfolding play
+  moved moves m done = go m.outcomes done
+    where
+      k : DealOutcome → Standing → Played
+      k = λ came u. play Any (Leaf (moved_answer came) state) u
+
+      go : (o : List DealOutcome) → moved_then o moves m k ≡ Done answer t → IsSilent m t
+      go [] e = let clash : Pending wait.Outcome m ≡ Done answer t = e in cc
+      go (outcome ∷ outcomes) e =
+          let after : Standing = record m { dealings = beside moves outcome m.dealings; outcomes = outcomes } in
+          elim (answers moves outcome) as (λ b. cond b (k outcome after) (Pending wait.Outcome m) ≡ Done answer t → IsSilent m t) [
+            | true ↦ λ f. (let same = leaf_at (moved_answer outcome) answer state after t f in (ap (λ x. x.said) same, ap (λ x. x.unsent) same, ap (λ x. x.bytes) same))
+            | false ↦ λ f. (let clash : Pending wait.Outcome m ≡ Done answer t = f in cc)
+          ] e
+
+  carried : (moves : Movement) (m : Standing) → play Any (carrying moves state) m ≡ Done answer t → IsSilent m t
+  carried moves m done =
+      let next : Tree = Move moves (λ came. Leaf (moved_answer came) state) in
+      let P : Tree → Type 0 = λ x. play Any x m ≡ Done answer t in
+      elim (moves_nothing moves) as (λ b. P (cond b (Leaf (nothing_moved moves) state) next) → IsSilent m t) [
+        | true ↦ λ e. stays m (nothing_moved moves) state e
+        | false ↦ λ e. moved moves m e
+      ] (subst P (carrying_is moves state) done)
+
   -- the second row
   last : (r : Row) (m : Standing) → row_agrees (ending_of r) ≡ false → play Any (doing coding r state (λ x. Leaf Unit x)) m ≡ Done answer t → ExchangedIf true coding r m t
   last (Arms offset) m plain done = stays m Unit (armed offset state) done
+  last (Sets setting) m plain done = stays m Unit (set_to setting state) done
+  last (Moves moves) m plain done = carried moves m done
   last (Exchanges e) m plain done =
       let two = one_exchange coding e state (λ x. Leaf Unit x) answer m t success done in
       let leaf = accepted_leaf coding e.ending state two.reply plain in
@@ -196,25 +230,31 @@ module _ (coding : Coding) (call : Call) (answer : Answer) (s t : Standing) (sta
   next ending.GivesAddress reply m plain done = let clash : true ≡ false = plain in cc
   next ending.GivesPort reply m plain done = let clash : true ≡ false = plain in cc
   next (ending.Opens replies) reply m plain done = let clash : true ≡ false = plain in cc
+  next (ending.Finishes close) reply m plain done = stays m _ _ done
 
   -- the first row
   by_row : (r : Row) → row_agrees (ending_of r) ≡ false → play Any (doing coding r state (later coding call First)) s ≡ Done answer t → SucceedsBy coding r (row_of call Second) s t
   by_row (Arms offset) plain done = stays s Unit (armed offset state) done
+  by_row (Sets setting) plain done = stays s Unit (set_to setting state) done
+  by_row (Moves moves) plain done = carried moves s done
   by_row (Exchanges e) plain done =
       let one = one_exchange coding e state (later coding call First) answer s t success done in
       record { reply = one.reply; between = one.between; first = one.exchanged; second = next e.ending one.reply one.between plain one.goes }
 
 pub call_succeeds : (coding : Coding) (call : Call) (answer : Answer) (s t : Standing) (state : State) → IsSuccess answer → play Any (dialogue coding call state) s ≡ Done answer t → Succeeds coding call s t
 call_succeeds coding call answer s t state success is =
-    elim (negotiates call) as (λ b. negotiates call ≡ b → play Any (cond b (negotiating coding call state.settings.restart_offset (armed 0 state)) (from_turn coding call First state)) s ≡ Done answer t → SucceedsUnless b coding call s t) [
+    elim (negotiates call) as (λ b. negotiates call ≡ b → play Any (cond b (negotiating coding call state.settings.restart_offset (opened_from call state)) (cond (finishes call) (closing coding call (with_left state)) (from_turn coding call First state))) s ≡ Done answer t → SucceedsUnless (b || finishes call) coding call s t) [
       | true ↦ λ opens e. tt
-      | false ↦ λ none e. by_row coding call answer s t state success none (row_of call First) (first_plain call none) e
+      | false ↦ λ none e. (elim (finishes call) as (λ f. play Any (cond f (closing coding call (with_left state)) (from_turn coding call First state)) s ≡ Done answer t → SucceedsUnless f coding call s t) [
+        | true ↦ λ e. tt
+        | false ↦ λ e. by_row coding call answer s t state success none (row_of call First) (first_plain call none) e
+      ] e)
     ] refl is
 
 -- where a call began doesn't matter to what it did on the wire
 begun_succeeds : (coding : Coding) (call : Call) (s t : Standing) (state : State) → Succeeds coding call (record s { state = state }) t → Succeeds coding call s t
 begun_succeeds coding call s t state =
-    elim (negotiates call) as (λ b. SucceedsUnless b coding call (record s { state = state }) t → SucceedsUnless b coding call s t) [
+    elim (negotiates call || finishes call) as (λ b. SucceedsUnless b coding call (record s { state = state }) t → SucceedsUnless b coding call s t) [
       | true ↦ λ e. tt
       | false ↦ λ e. by_row (row_of call First) e
     ]
@@ -225,6 +265,8 @@ begun_succeeds coding call s t state =
 
     by_row : (r : Row) → SucceedsBy coding r (row_of call Second) (record s { state = state }) t → SucceedsBy coding r (row_of call Second) s t
     by_row (Arms offset) silent = silent
+    by_row (Sets setting) silent = silent
+    by_row (Moves moves) silent = silent
     by_row (Exchanges e) two = record {
       reply = two.reply;
       between = two.between;
@@ -244,7 +286,7 @@ wired link coding call old last new lets_go answer done success = record {
       let ended = last.channel.ended in
       let played = done.plays h resumes Any [] ended [] tt (record { nothing = λ e. refl; over = λ e. e }) in
       let F : List ℕ → Standing = λ c. standing (begun_by call old) c ended (outcomes_of done.answered ++ []) in
-      let G : List RequestOutcome → Standing = λ o. standing (begun_by call old) done.came ended o in
+      let G : List DealOutcome → Standing = λ o. standing (begun_by call old) done.came ended o in
       let same : standing (begun_by call old) (done.came ++ []) ended (outcomes_of done.answered ++ []) ≡ standing (begun_by call old) done.came ended (outcomes_of done.answered) = ap F (append-nil done.came) ∙ ap G (append-nil (outcomes_of done.answered)) in
       let P : Standing → Type 0 = λ s. play Any (dialogue coding call old.state) s ≡ Done answer (standing last [] ended []) in
       begun_succeeds coding call (standing old done.came ended (outcomes_of done.answered)) (standing last [] ended []) (entered call old.state)

@@ -6,7 +6,7 @@ use Rattle.std.specs.declared.time.Duration.{Duration}
 use Rattle.ftp_base.specs.declared.types.fault.FtpError.{FtpError}
 use Rattle.ftp_base.specs.declared.types.fault.FtpError.TheVariants.{ConnectionError as Connection, OutOfMemory}
 use Rattle.ftp_base.specs.declared.types.fault.ConnectionError.{ConnectionError}
-use Rattle.ftp_control.specs.Asking.{outcomes_of, connects_to, RefusedInTurn, ConnectsInTurn}
+use Rattle.ftp_control.specs.Asking.{connects_to, RefusedInTurn, ConnectsInTurn}
 use Rattle.ftp_control.specs.Told.{Told}
 use Rattle.ftp_control.specs.declared.transport.room.Room.{Room}
 use Rattle.ftp_control.specs.declared.transport.request.Asked.{Asked}
@@ -17,6 +17,8 @@ use Rattle.ftp_control.specs.declared.transport.supply.Supply.{Supply}
 use Rattle.ftp_calls.specs.declared.call.Answer.TheVariants.{Fault}
 use Rattle.ftp_calls.specs.declared.call.Call.TheVariants.{Greet}
 use Rattle.ftp_session.specs.declared.session.state.State.{State}
+use Rattle.ftp_session.specs.declared.model.DealOutcome.{DealOutcome}
+use Rattle.ftp_session.specs.declared.model.DealOutcome.TheVariants.{Answered}
 use Rattle.ftp_session.specs.declared.model.Standing.{Standing}
 use Rattle.ftp_session.specs.Calls.{Connects}
 use Rattle.ftp_session.specs.Coding.{Coding}
@@ -44,6 +46,11 @@ connecting coding (request ∷ requests) fault state =
 abbrev pub connects_within : Duration → SocketAddr → List Request
 connects_within limit address = if as_nanos limit == 0 then [] else connects_to (Some limit) (address ∷ [])
 
+-- the outcomes of these requests
+abbrev pub outcomes_in : List Asked → List DealOutcome
+outcomes_in [] = []
+outcomes_in (one ∷ more) = Answered one.outcome ∷ outcomes_in more
+
 -- what requests make of what stands beside the control connection
 abbrev pub dealt_in_turn : List Asked → Dealings → Dealings
 dealt_in_turn [] d = d
@@ -54,7 +61,7 @@ dealt_in_turn (one ∷ more) d = dealt_in_turn more (dealt one.request one.outco
 pub record AsksAll (tree left : State → Tree) (asked asked' : List Asked) : Type 0 where
   pub answered : List Asked
   pub asked_are : asked' ≡ asked ++ answered
-  pub plays : (state : State) (room : Room) (s : Standing) → play room (tree state) (record s { outcomes = outcomes_of answered ++ s.outcomes }) ≡ play room (left state) (record s { dealings = dealt_in_turn answered s.dealings })
+  pub plays : (state : State) (room : Room) (s : Standing) → play room (tree state) (record s { outcomes = outcomes_in answered ++ s.outcomes }) ≡ play room (left state) (record s { dealings = dealt_in_turn answered s.dealings })
 
 -- a transport that was handed these outcomes, and was asked this before, made a connection of this record; the requests
 -- before it were refused
@@ -64,11 +71,11 @@ pub record IsConnected (link : Link) (coding : Coding) (refuses : List Supply �
   pub asks : link.tells → AsksAll (connecting coding requests fault) (dialogue coding Greet) asked asked'
 
 -- the connection was asked for, and the greeting's dialogue was made on it
-pub record ConnectsBy (link : Link) (coding : Coding) (refuses : List Supply → ConnectionError → Type 0) (requests : List Request) (fault : ConnectionError) (ready : List Supply) (asked : List Asked) (new : SessionValue) (result : Result (Unit {0}) FtpError) : Type 0 where
+pub record ConnectsBy (link : Link) (coding : Coding) (refuses : List Supply → ConnectionError → Type 0) (requests : List Request) (fault : ConnectionError) (ready : List Supply) (closed : List Told) (asked : List Asked) (new : SessionValue) (result : Result (Unit {0}) FtpError) : Type 0 where
   pub told : Told
   pub asked_by : List Asked
   pub connected : IsConnected link coding refuses requests fault ready asked asked_by told
-  pub connects : Connects link coding told (first_net asked_by connected.unused) new result
+  pub connects : Connects link coding told (first_net asked_by connected.unused closed) new result
 
 -- each request was refused, and the last fault is the answer
 pub record NoneConnects (link : Link) (coding : Coding) (refuses : List Supply → ConnectionError → Type 0) (requests : List Request) (fault : ConnectionError) (ready : List Supply) (asked : List Asked) (answer : FtpError) : Type 0 where
@@ -81,6 +88,6 @@ pub record NoneConnects (link : Link) (coding : Coding) (refuses : List Supply �
 
 -- no session is connected: each request was refused; or the greeting's dialogue on the connection failed; or memory ran
 -- out
-abbrev pub FailsToConnectBy : Link → Coding → (List Supply → ConnectionError → Type 0) → List Request → ConnectionError → List Supply → List Asked → FtpError → Type 0
-FailsToConnectBy link coding refuses requests fault ready asked answer =
-    NoneConnects link coding refuses requests fault ready asked answer ⊎ ((new : SessionValue) × ConnectsBy link coding refuses requests fault ready asked new (Err answer)) ⊎ (answer ≡ OutOfMemory)
+abbrev pub FailsToConnectBy : Link → Coding → (List Supply → ConnectionError → Type 0) → List Request → ConnectionError → List Supply → List Told → List Asked → FtpError → Type 0
+FailsToConnectBy link coding refuses requests fault ready closed asked answer =
+    NoneConnects link coding refuses requests fault ready asked answer ⊎ ((new : SessionValue) × ConnectsBy link coding refuses requests fault ready closed asked new (Err answer)) ⊎ (answer ≡ OutOfMemory)

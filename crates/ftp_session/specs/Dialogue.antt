@@ -1,7 +1,8 @@
 -- The dialogues of a session as trees: RFC 959, sections 5.4 and 6. A tree says, hears and asks in turn, and ends
 -- in an answer with the change of state.
-use Rattle.std.specs.Prelude.{ℕ, zero, suc, nat_lt, ◌&&◌, Bool, List, [], ◌∷◌, ◌==◌, Option, Some, None, Result, Ok, Err, if◌then◌else◌}
+use Rattle.std.specs.Prelude.{ℕ, zero, suc, length, nat_lt, ◌&&◌, Bool, List, [], ◌∷◌, ◌==◌, Option, Some, None, Result, Ok, Err, if◌then◌else◌}
 use Rattle.std.specs.Net.Socket.{socket_ip, socket_port}
+use Rattle.std.specs.declared.io.ErrorKind.{ErrorKind}
 use Rattle.std.specs.declared.net.socket_addr.SocketAddr.{SocketAddr}
 use Rattle.std.specs.declared.net.socket_addr.SocketAddr.TheVariants.{V4, V6}
 use Rattle.ftp_base.specs.declared.status.Status.{Status}
@@ -26,30 +27,39 @@ use Rattle.ftp_calls.specs.declared.call.Answer.{Answer}
 use Rattle.ftp_calls.specs.declared.call.Answer.TheVariants.{Unit, Reply, Text, Time, Size, Opened, OpenedWith, Fault}
 use Rattle.ftp_calls.specs.declared.call.Answer.TheVariants as answer
 use Rattle.ftp_base.specs.declared.types.fault.FtpError.TheVariants.{ConnectionError as Connection, UnexpectedResponse, BadResponse}
-use Rattle.ftp_base.specs.declared.types.fault.ConnectionError.TheVariants.{NoAddress as Nowhere, TimedOut}
+use Rattle.ftp_base.specs.declared.types.fault.ConnectionError.TheVariants.{Io, NoAddress as Nowhere, TimedOut}
 use Rattle.ftp_base.specs.declared.types.mode.Mode.{Mode}
 use Rattle.ftp_base.specs.declared.types.mode.Mode.TheVariants as mode
 use Rattle.ftp_base.specs.Peer.{allows}
 use Rattle.ftp_base.specs.Features.{Entries}
 use Rattle.jiff_core.specs.declared.civil.datetime.DateTime.{DateTime}
 use Rattle.ftp_calls.specs.declared.call.Call.{Call}
+use Rattle.ftp_calls.specs.declared.call.Setting.{Setting}
+use Rattle.ftp_calls.specs.declared.call.Setting.TheVariants as setting
+use Rattle.ftp_calls.specs.declared.exchange.Movement.{Movement}
+use Rattle.ftp_calls.specs.declared.exchange.Movement.TheVariants as movement
+use Rattle.ftp_session.specs.declared.model.DealOutcome.{DealOutcome}
+use Rattle.ftp_session.specs.declared.model.DealOutcome.TheVariants as came
+use Rattle.ftp_session.specs.declared.session.state.Settings.{Settings}
+use Rattle.ftp_session.specs.declared.session.state.Owed.{Owed}
+use Rattle.ftp_session.specs.declared.session.state.Owed.TheVariants as owed
 use Rattle.ftp_calls.specs.declared.exchange.Turn.{Turn}
-use Rattle.ftp_calls.specs.declared.exchange.Turn.TheVariants.{First, Second, Passive, ExtendedPassive, Active, Restart}
+use Rattle.ftp_calls.specs.declared.exchange.Turn.TheVariants.{First, Second, Passive, ExtendedPassive, Active, Restart, Closed}
 use Rattle.ftp_calls.specs.declared.exchange.Ending.{Ending}
-use Rattle.ftp_calls.specs.declared.exchange.Ending.TheVariants.{Done, GivesReply, Greets, GivesPath, GivesSecondLine, GivesTime, GivesSize, GivesFeatures, SetsText, GoesOn, Continues, GivesAddress, GivesPort, Opens}
+use Rattle.ftp_calls.specs.declared.exchange.Ending.TheVariants.{Done, GivesReply, Greets, GivesPath, GivesSecondLine, GivesTime, GivesSize, GivesFeatures, SetsText, GoesOn, Continues, GivesAddress, GivesPort, Opens, Finishes}
 use Rattle.ftp_calls.specs.declared.exchange.Exchange.{Exchange}
 use Rattle.ftp_calls.specs.declared.exchange.Row.{Row}
-use Rattle.ftp_calls.specs.declared.exchange.Row.TheVariants.{Exchanges, Arms}
+use Rattle.ftp_calls.specs.declared.exchange.Row.TheVariants.{Exchanges, Arms, Sets, Moves}
 use Rattle.ftp_session.specs.Coding.{Coding}
 use Rattle.ftp_calls.specs.declared.exchange.Codes.{Codes}
 use Rattle.ftp_calls.specs.declared.exchange.Codes.TheVariants.{One, Either, Given, Features}
-use Rattle.ftp_calls.specs.Exchanges.{row_of, negotiates, restarts}
+use Rattle.ftp_calls.specs.Exchanges.{row_of, finishes, negotiates, restarts, uploads}
 use Rattle.ftp_answers.specs.Answers.{path_of, second_line_of, size_of, features_in}
 use Rattle.ftp_answers.specs.Times.{time_of}
 use Rattle.ftp_answers.specs.Addresses.{passive_address_of, extended_port_of}
 use Rattle.ftp_answers.specs.declared.addresses.NoAddress.{NoAddress}
 use Rattle.ftp_answers.specs.declared.addresses.NoAddress.TheVariants.{Absent, Unreadable}
-use Rattle.ftp_session.specs.Sound.{cannot_open, one_more}
+use Rattle.ftp_session.specs.Sound.{cannot_open, left_behind, one_finished, one_more}
 
 -- a reply that is awaited: its form, and the statuses that are accepted
 pub record Expected : Type 0 where
@@ -74,12 +84,15 @@ pub data End : Type 0 where
 
 -- what is left of a call: a command's line, or its refusal, is said; a reply of one of these statuses is heard, or
 -- a fault in its place; the address of an end of the control connection is looked up; the transport is asked for
--- something; or the call ends with this answer, in this state
+-- something; the caller's builder is asked for a connection to an address, and makes one or gives a fault; something is
+-- done on the data connection; or the call ends with this answer, in this state
 pub data Tree : Type 0 where
   Say : Result (List ℕ) ConnectionError → Tree → Tree
   Hear : Expected → (Result Response FtpError → Tree) → Tree
   Look : End → (SocketAddr → Tree) → Tree
   Ask : Request → (RequestOutcome → Tree) → Tree
+  Build : SocketAddr → (Option FtpError → Tree) → Tree
+  Move : Movement → (DealOutcome → Tree) → Tree
   Leaf : Answer → State → Tree
 
 -- what a greeting's bytes say in an encoding
@@ -126,8 +139,15 @@ on_connection state next Made = next
 on_connection state next (Address address) = next
 on_connection state next (Refused fault) = Leaf (Fault (Connection fault)) state
 
+-- a connection that the builder makes; its fault is the answer as it is
+abbrev pub on_built : State → Tree → Option FtpError → Tree
+on_built state next None = next
+on_built state next (Some fault) = Leaf (Fault fault) state
+
 abbrev pub connecting_to : SocketAddr → State → Tree → Tree
-connecting_to address state next = Ask (Connect address None) (on_connection state next)
+connecting_to address state next =
+    if state.settings.stream_builder then Build address (on_built state next)
+    else Ask (Connect address None) (on_connection state next)
 
 -- a connection to a port of the control connection's peer
 abbrev pub connecting_to_peer : ℕ → State → Tree → Tree
@@ -182,6 +202,59 @@ opening mode.ExtendedPassive answer state = Leaf answer (with_transfer state)
 abbrev pub opened_answer : Bool → Response → Answer
 opened_answer gives_reply reply = if gives_reply then OpenedWith reply else Opened
 
+-- A transfer
+
+-- what was done on a data connection is the answer
+abbrev pub moved_answer : DealOutcome → Answer
+moved_answer (came.Answered outcome) = Unit
+moved_answer (came.Built fault) = Unit
+moved_answer (came.Read bytes) = answer.Bytes bytes
+moved_answer (came.Wrote count) = answer.Count count
+moved_answer came.Closed = Unit
+moved_answer (came.Failed kind) = Fault (Connection (Io kind))
+
+-- bytes go over the data connection; a read or a write of nothing asks nothing
+abbrev pub carrying : Movement → State → Tree
+carrying (movement.Read most) state =
+    if most == 0 then Leaf (answer.Bytes []) state else Move (movement.Read most) (λ came. Leaf (moved_answer came) state)
+carrying (movement.Write bytes) state =
+    if length bytes == 0 then Leaf (answer.Count 0) state else Move (movement.Write bytes) (λ came. Leaf (moved_answer came) state)
+carrying movement.Close state = Move movement.Close (λ came. Leaf (moved_answer came) state)
+
+-- the transfer has come to its end
+abbrev pub with_finished : State → State
+with_finished state = record state { counts = one_finished state.counts }
+
+-- the transfer is left
+abbrev pub with_left : State → State
+with_left state = record state { counts = left_behind state.counts }
+
+-- the fault of a close
+abbrev pub fault_of_close : DealOutcome → Option ErrorKind
+fault_of_close (came.Failed kind) = Some kind
+fault_of_close other = None
+
+-- the fault of an upload's close is told before the reply's
+abbrev pub told_of_close : Bool → DealOutcome → Option ErrorKind
+told_of_close uploads outcome = if uploads then fault_of_close outcome else None
+
+abbrev pub finish_answer : Option ErrorKind → Answer
+finish_answer None = Unit
+finish_answer (Some kind) = Fault (Connection (Io kind))
+
+abbrev pub finish_fault : Option ErrorKind → FtpError → FtpError
+finish_fault None fault = fault
+finish_fault (Some kind) fault = Connection (Io kind)
+
+-- a fault is heard in place of a reply: what is told, and in which state
+abbrev pub told_fault : Ending → FtpError → FtpError
+told_fault (Finishes close) fault = finish_fault close fault
+told_fault other fault = fault
+
+abbrev pub after_fault_of : Ending → State → State
+after_fault_of (Finishes close) state = with_finished state
+after_fault_of other state = state
+
 -- Exchanges
 
 -- what an accepted reply does, where `later` is the next exchange
@@ -200,11 +273,12 @@ accepted coding Continues state reply later = later state
 accepted coding GivesAddress state reply later = to_address state reply (later state) (passive_address_of reply.body)
 accepted coding GivesPort state reply later = to_port state reply (later state) (extended_port_of reply.body)
 accepted coding (Opens gives_reply) state reply later = opening state.settings.mode (opened_answer gives_reply reply) state
+accepted coding (Finishes close) state reply later = Leaf (finish_answer close) (with_finished state)
 
 -- a reply is accepted, or a fault is the answer
 abbrev pub concluded : Coding → Ending → State → (State → Tree) → Result Response FtpError → Tree
 concluded coding ending state later (Ok reply) = accepted coding ending state reply later
-concluded coding ending state later (Err fault) = Leaf (Fault fault) state
+concluded coding ending state later (Err fault) = Leaf (Fault (told_fault ending fault)) (after_fault_of ending state)
 
 -- a reply is awaited
 abbrev pub awaiting : Coding → Expected → Ending → State → (State → Tree) → Tree
@@ -224,10 +298,22 @@ exchanging coding exchange state later =
 abbrev pub armed : ℕ → State → State
 armed offset state = record state { settings = record state.settings { restart_offset = offset } }
 
--- a row, and what comes after it: one exchange, or a change of settings
+-- a setting changes
+abbrev pub changed : Setting → Settings → Settings
+changed (setting.Mode mode) s = record s { mode = mode }
+changed (setting.PassiveNatWorkaround enabled) s = record s { passive_nat_workaround = enabled }
+changed (setting.ActivePeerCheck check) s = record s { active_peer_check = check }
+changed (setting.ActiveDeadline deadline) s = record s { active_deadline = deadline }
+
+abbrev pub set_to : Setting → State → State
+set_to setting state = record state { settings = changed setting state.settings }
+
+-- a row, and what comes after it: one exchange, a change of settings, or bytes on the data connection
 abbrev pub doing : Coding → Row → State → (State → Tree) → Tree
 doing coding (Exchanges exchange) state later = exchanging coding exchange state later
 doing coding (Arms offset) state later = Leaf Unit (armed offset state)
+doing coding (Sets setting) state later = Leaf Unit (set_to setting state)
+doing coding (Moves movement) state later = carrying movement state
 
 -- the last turn, and the one before it where an offset is told
 abbrev pub last_turn : Coding → Call → State → Tree
@@ -246,6 +332,7 @@ later coding call (Passive offset) state = restart_turn coding call offset state
 later coding call (ExtendedPassive offset) state = restart_turn coding call offset state
 later coding call (Active address offset) state = restart_turn coding call offset state
 later coding call (Restart offset) state = last_turn coding call state
+later coding call (Closed close) state = Leaf Unit state
 
 -- the dialogue of a call from this turn on
 abbrev pub from_turn : Coding → Call → Turn → State → Tree
@@ -273,12 +360,27 @@ negotiating_unless None coding call offset state = agreeing state.settings.mode 
 abbrev pub negotiating : Coding → Call → ℕ → State → Tree
 negotiating coding call offset state = negotiating_unless (cannot_open state.counts) coding call offset state
 
+-- the data connection is closed, and the transfer's last reply is heard
+abbrev pub closing : Coding → Call → State → Tree
+closing coding call state = Move movement.Close (λ came. from_turn coding call (Closed (told_of_close state.uploads came)) state)
+
+-- whether a transfer is an upload, of the one that is opened, or of the one that is owed
+abbrev pub uploads_beside : Owed → Bool → Bool → Bool
+uploads_beside owed.Nothing opened before = opened
+uploads_beside (owed.Live number) opened before = before
+uploads_beside (owed.Left number) opened before = before
+
+-- the state in which a call begins: one that opens a data connection takes the offset away; one that brings a transfer
+-- to its end has left it
+abbrev pub opened_from : Call → State → State
+opened_from call state = record (armed 0 state) { uploads = uploads_beside state.counts.owed (uploads call) state.uploads }
+
+abbrev pub entered : Call → State → State
+entered call state = if negotiates call then opened_from call state else if finishes call then with_left state else state
+
 -- the dialogue of a call; one that opens a data connection takes the offset away, whatever comes of it
 abbrev pub dialogue : Coding → Call → State → Tree
 dialogue coding call state =
-    if negotiates call then negotiating coding call state.settings.restart_offset (armed 0 state)
+    if negotiates call then negotiating coding call state.settings.restart_offset (opened_from call state)
+    else if finishes call then closing coding call (with_left state)
     else from_turn coding call First state
-
--- the state in which a call begins: one that opens a data connection takes the offset away
-abbrev pub entered : Call → State → State
-entered call state = if negotiates call then armed 0 state else state

@@ -3,6 +3,7 @@ pub mod Coding
 pub mod Connecting
 pub mod Deals
 pub mod Dialogue
+pub mod Laws
 pub mod Link
 pub mod Play
 pub mod Promises

@@ -1,25 +1,43 @@
 -- What is known of a session's connection.
-use Rattle.std.specs.Prelude.{◌≡◌}
+use Rattle.std.specs.Prelude.{◌≡◌, Option, Some, None, Result, Err}
 use Rattle.std.specs.declared.io.ErrorKind.{ErrorKind}
 use Rattle.std.specs.declared.io.ErrorKind.TheVariants as kinds
+use Rattle.std.specs.declared.net.socket_addr.SocketAddr.{SocketAddr}
+use Rattle.ftp_base.specs.declared.types.fault.FtpError.{FtpError}
+use Rattle.ftp_base.specs.declared.types.fault.FtpError.TheVariants.{ConnectionError}
+use Rattle.ftp_base.specs.declared.types.fault.ConnectionError.TheVariants.{NoAddress}
 use Rattle.ftp_control.specs.Told.{Told}
 
+-- what a builder of passive data connections may answer for an address
+abbrev pub Builds : Type 1
+Builds = SocketAddr → Result Told FtpError → Type 0
+
 -- whether its record is true, and which faults its reads, its writes and a question for an address may answer, the
--- writes by what was recorded; and whether a request may have to wait
+-- writes by what was recorded; whether a request may have to wait; and what the caller's builder may answer
 pub record Link : Type 1 where
   pub tells : Type 0
   pub reads : ErrorKind → Type 0
   pub writes : Told → ErrorKind → Type 0
   pub ends : ErrorKind → Type 0
   pub asks_wait : Type 0
+  pub builds : Builds
 
--- a connection of a transport whose requests may wait, or may not
-abbrev pub asking : Type 0 → (ErrorKind → Type 0) → (Told → ErrorKind → Type 0) → (ErrorKind → Type 0) → Type 0 → Link
-asking tells reads writes ends asks_wait = record { tells = tells; reads = reads; writes = writes; ends = ends; asks_wait = asks_wait }
+-- a connection of a transport whose requests may wait, or may not, beside a builder
+abbrev pub building : Builds → Type 0 → (ErrorKind → Type 0) → (Told → ErrorKind → Type 0) → (ErrorKind → Type 0) → Type 0 → Link
+building builds tells reads writes ends asks_wait = record { tells = tells; reads = reads; writes = writes; ends = ends; asks_wait = asks_wait; builds = builds }
+
+-- no builder is asked
+abbrev pub builds_nothing : Builds
+builds_nothing = λ address built. ⊥
+
+-- what a session's builder may answer; where it has none there is no address to connect to
+abbrev pub built_by : {B : Type 0} → (B → Builds) → Option B → Builds
+built_by answers None = λ address built. built ≡ Err (ConnectionError NoAddress)
+built_by answers (Some builder) = answers builder
 
 abbrev pub link : Type 0 → (ErrorKind → Type 0) → (Told → ErrorKind → Type 0) → (ErrorKind → Type 0) → Link
-link tells reads writes ends = asking tells reads writes ends ⊥
+link tells reads writes ends = building builds_nothing tells reads writes ends ⊥
 
 -- a polled connection over memory: no read fails and no question, and a write fails only for want of memory
-abbrev pub over_memory : Link
-over_memory = link (Unit {0}) (λ kind. ⊥) (λ told kind. kind ≡ kinds.OutOfMemory) (λ kind. ⊥)
+abbrev pub over_memory : Builds → Link
+over_memory builds = building builds (Unit {0}) (λ kind. ⊥) (λ told kind. kind ≡ kinds.OutOfMemory) (λ kind. ⊥) ⊥

@@ -1,6 +1,6 @@
 -- What a dialogue comes to: its answer, or that it waits. All that the server sends is known at once, and so is
 -- the room for what is said.
-use Rattle.std.specs.Prelude.{ℕ, Bool, true, List, [], ◌∷◌, ◌++◌, length, nat_le, Result, Ok, Err, if◌then◌else◌}
+use Rattle.std.specs.Prelude.{ℕ, Bool, true, false, ◌&&◌, List, [], ◌∷◌, ◌++◌, length, nat_le, Option, is_none, Result, Ok, Err, if◌then◌else◌}
 use Rattle.ftp_base.specs.Status.{status_of}
 use Rattle.ftp_base.specs.declared.types.reply.Response.{Response}
 use Rattle.ftp_base.specs.declared.types.fault.FtpError.{FtpError}
@@ -14,16 +14,20 @@ use Rattle.ftp_control.specs.Grammar.{outcome, left_by}
 use Rattle.ftp_control.specs.Answer.{expected_reply}
 use Rattle.ftp_control.specs.declared.transport.request.Request.{Request}
 use Rattle.ftp_control.specs.declared.transport.request.RequestOutcome.{RequestOutcome}
+use Rattle.ftp_session.specs.declared.model.DealOutcome.{DealOutcome}
 use Rattle.std.specs.declared.net.socket_addr.SocketAddr.{SocketAddr}
-use Rattle.ftp_calls.specs.declared.call.Answer.TheVariants.{Fault}
+use Rattle.ftp_calls.specs.declared.call.Answer.TheVariants.{Fault, NoTransfer}
+use Rattle.ftp_calls.specs.declared.exchange.Movement.{Movement}
+use Rattle.ftp_calls.specs.Exchanges.{finishes, is_local, of_transfer}
+use Rattle.ftp_session.specs.declared.model.DealOutcome.TheVariants.{Answered, Built}
 use Rattle.ftp_calls.specs.declared.call.Call.{Call}
 use Rattle.ftp_session.specs.declared.model.Standing.{Standing}
 use Rattle.ftp_session.specs.declared.model.Wait.TheVariants.{Room, Bytes, Outcome as Asking}
 use Rattle.ftp_session.specs.declared.model.Played.{Played}
 use Rattle.ftp_session.specs.declared.model.Played.TheVariants.{Done, Pending}
 use Rattle.ftp_session.specs.Coding.{Coding}
-use Rattle.ftp_session.specs.Deals.{dealing, dealt, kept_for}
-use Rattle.ftp_session.specs.Dialogue.{Tree, Expected, End, Here, There, Say, Hear, Look, Ask, Leaf, dialogue, entered}
+use Rattle.ftp_session.specs.Deals.{answers, constructed, constructing, dealing, dealt, kept_for, moved, parted}
+use Rattle.ftp_session.specs.Dialogue.{Tree, Expected, End, Here, There, Say, Hear, Look, Ask, Build, Move, Leaf, dialogue, entered, with_left}
 
 -- so much is within the room
 abbrev pub fits : Rooms → List ℕ → Bool
@@ -53,11 +57,24 @@ heard_then Ended codes s next =
     next (Err (fault.ConnectionError connection.UnexpectedEof)) (record (taken (left_by Ended s.bytes) s) { failed = true })
 heard_then Waits codes s next = Pending (Bytes codes.form) s
 
--- the next outcome that is known is the request's
-abbrev pub asked_then : List RequestOutcome → Request → Standing → (RequestOutcome → Standing → Played) → Played
-asked_then [] request s next = Pending Asking (record s { dealings = dealing request s.dealings })
-asked_then (outcome ∷ outcomes) request s next =
+-- the next outcome that is known is the request's; one of another kind is as good as none
+abbrev pub asked_then : List DealOutcome → Request → Standing → (RequestOutcome → Standing → Played) → Played
+asked_then (Answered outcome ∷ outcomes) request s next =
     next outcome (record s { dealings = dealt request outcome s.dealings; outcomes = outcomes })
+asked_then outcomes request s next = Pending Asking (record s { dealings = dealing request s.dealings })
+
+-- the next outcome that is known is the builder's answer
+abbrev pub built_then : List DealOutcome → SocketAddr → Standing → (Option FtpError → Standing → Played) → Played
+built_then (Built fault ∷ outcomes) address s next =
+    next fault (record s { dealings = constructed address fault s.dealings; outcomes = outcomes })
+built_then outcomes address s next = Pending Asking (record s { dealings = constructing address s.dealings })
+
+-- the next outcome that is known is that of what is done on the data connection
+abbrev pub moved_then : List DealOutcome → Movement → Standing → (DealOutcome → Standing → Played) → Played
+moved_then [] movement s next = Pending Asking s
+moved_then (outcome ∷ outcomes) movement s next =
+    if answers movement outcome then next outcome (record s { dealings = moved movement outcome s.dealings; outcomes = outcomes })
+    else Pending Asking s
 
 -- the address of an end of the control connection
 abbrev pub address_at : End → Standing → SocketAddr
@@ -72,6 +89,8 @@ play room (Hear codes next) s =
     heard_then (outcome s.rule codes.form s.bytes s.ended) codes s (λ heard t. play room (next heard) t)
 play room (Look end next) s = play room (next (address_at end s)) s
 play room (Ask request next) s = asked_then s.outcomes request s (λ answer t. play room (next answer) t)
+play room (Build address next) s = built_then s.outcomes address s (λ fault t. play room (next fault) t)
+play room (Move movement next) s = moved_then s.outcomes movement s (λ came t. play room (next came) t)
 play room (Leaf answer state) s = Done answer (record s { state = state })
 
 -- a call is done: a data connection that carries no transfer is let go
@@ -82,8 +101,31 @@ abbrev pub finally : Played → Played
 finally (Done answer s) = Done answer (ended s)
 finally (Pending wait s) = Pending wait s
 
--- what a call comes to; once the session has failed it says and hears nothing
+-- why a call isn't made: it is of a transfer, and none is held; or it goes over the control connection, and the session
+-- has failed
+pub data Refusal : Type 0 where
+  Taken : Refusal
+  Lacking : Refusal
+  Failing : Refusal
+
+abbrev pub refused_if_failed : Bool → Bool → Refusal
+refused_if_failed true failed = Taken
+refused_if_failed false true = Failing
+refused_if_failed false false = Taken
+
+abbrev pub refusal : Call → Bool → Bool → Refusal
+refusal call failed lacks = if of_transfer call && lacks then Lacking else refused_if_failed (is_local call) failed
+
+-- the transfer is left: its data connection is closed
+abbrev pub leaving : Standing → Standing
+leaving s = record s { state = with_left s.state; dealings = parted s.dealings }
+
+-- what a call comes to; once the session has failed it says and hears nothing, and a transfer that it would bring to
+-- its end is left
+abbrev pub play_unless : Refusal → Rooms → Coding → Call → Standing → Played
+play_unless Taken room coding call s = finally (play room (dialogue coding call s.state) (record s { state = entered call s.state }))
+play_unless Lacking room coding call s = Done NoTransfer s
+play_unless Failing room coding call s = Done (Fault fault.SessionFailed) (if finishes call then leaving s else s)
+
 abbrev pub play_call : Rooms → Coding → Call → Standing → Played
-play_call room coding call s =
-    if s.failed then Done (Fault fault.SessionFailed) s
-    else finally (play room (dialogue coding call s.state) (record s { state = entered call s.state }))
+play_call room coding call s = play_unless (refusal call s.failed (is_none s.dealings.data_conn)) room coding call s

@@ -1,6 +1,6 @@
 -- What a session promises of a call and of a list of calls: what their definition says of all that the server sends,
 -- until the connection fails or memory runs out.
-use Rattle.std.specs.Prelude.{◌≡◌, ◌⊎◌, ◌≤◌, ◌<◌, ◌+◌, ◌==◌, ℕ, Bool, true, false, Option, Some, None, List, [], ◌∷◌, ◌++◌, length, Result, Ok, Err}
+use Rattle.std.specs.Prelude.{◌≡◌, ◌⊎◌, ◌≤◌, ◌<◌, ◌+◌, ◌==◌, ◌||◌, is_none, ℕ, Bool, true, false, Option, Some, None, List, [], ◌∷◌, ◌++◌, length, Result, Ok, Err}
 use Rattle.std.specs.declared.io.ErrorKind.{ErrorKind}
 use Rattle.futures.specs.declared.task.Poll.{Poll}
 use Rattle.futures.specs.declared.task.Poll.TheVariants.{Ready, Pending}
@@ -16,7 +16,7 @@ use Rattle.ftp_base.specs.declared.types.fault.FtpError.{FtpError}
 use Rattle.ftp_base.specs.declared.types.fault.FtpError.TheVariants.{ConnectionError, OutOfMemory, SessionFailed}
 use Rattle.ftp_base.specs.declared.types.fault.ConnectionError.TheVariants.{Io}
 use Rattle.ftp_control.specs.declared.transport.room.Room.{Room}
-use Rattle.ftp_control.specs.declared.transport.request.RequestOutcome.{RequestOutcome}
+use Rattle.ftp_session.specs.declared.model.DealOutcome.{DealOutcome}
 use Rattle.ftp_control.specs.Told.{Told, HasRoomFor, HasFailed, NoneFailed}
 use Rattle.ftp_control.specs.Memory.{IsGiven}
 use Rattle.ftp_control.specs.Reading.{GoesOn as GoesBeyond}
@@ -27,10 +27,10 @@ use Rattle.ftp_calls.specs.declared.call.Answer.TheVariants.{Fault}
 use Rattle.ftp_calls.specs.declared.call.Answer.TheVariants as answers
 use Rattle.ftp_calls.specs.declared.exchange.Turn.TheVariants.{First, Second}
 use Rattle.ftp_calls.specs.declared.exchange.Ending.{Ending}
-use Rattle.ftp_calls.specs.declared.exchange.Ending.TheVariants.{Done, GivesReply, Greets, GivesPath, GivesSecondLine, GivesTime, GivesSize, GivesFeatures, SetsText, GoesOn, Continues, GivesAddress, GivesPort, Opens}
+use Rattle.ftp_calls.specs.declared.exchange.Ending.TheVariants.{Done, GivesReply, Greets, GivesPath, GivesSecondLine, GivesTime, GivesSize, GivesFeatures, SetsText, GoesOn, Continues, GivesAddress, GivesPort, Opens, Finishes}
 use Rattle.ftp_calls.specs.declared.exchange.Exchange.{Exchange}
 use Rattle.ftp_calls.specs.declared.exchange.Row.{Row}
-use Rattle.ftp_calls.specs.declared.exchange.Row.TheVariants.{Exchanges, Arms}
+use Rattle.ftp_calls.specs.declared.exchange.Row.TheVariants.{Exchanges, Arms, Sets, Moves}
 use Rattle.ftp_calls.specs.declared.call.Call.{Call}
 use Rattle.ftp_session.specs.declared.model.Standing.{Standing}
 use Rattle.ftp_session.specs.declared.model.Played.TheVariants as played
@@ -38,10 +38,11 @@ use Rattle.ftp_session.specs.declared.model.Ran.{Ran}
 use Rattle.ftp_session.specs.declared.model.Ran.TheVariants.{Finished}
 use Rattle.ftp_session.specs.State.{SessionValue, let_go}
 use Rattle.ftp_session.specs.Coding.{Coding}
-use Rattle.ftp_session.specs.Deals.{Deal, Deals, dealings_of, outcomes_of}
-use Rattle.ftp_calls.specs.Exchanges.{row_of, negotiates}
-use Rattle.ftp_session.specs.Dialogue.{Expected, expected_of, Tree, Say, Hear, Look, Ask, Leaf, dialogue, entered}
-use Rattle.ftp_session.specs.Play.{play}
+use Rattle.ftp_session.specs.Deals.{Deal, Deals, PartedIs, dealings_of, outcomes_of}
+use Rattle.ftp_session.specs.declared.session.state.State.{State}
+use Rattle.ftp_calls.specs.Exchanges.{row_of, finishes, is_local, negotiates}
+use Rattle.ftp_session.specs.Dialogue.{Expected, expected_of, Tree, Say, Hear, Look, Ask, Build, Move, Leaf, dialogue, entered, with_left}
+use Rattle.ftp_session.specs.Play.{Refusal, Taken, Lacking, Failing, play, refusal}
 use Rattle.ftp_session.specs.Run.{run, before, OneView, Resumes}
 use Rattle.ftp_session.specs.Link.{Link}
 
@@ -56,6 +57,9 @@ IsSuccess (answers.Size size) = Unit {0}
 IsSuccess (answers.Features features) = Unit {0}
 IsSuccess answers.Opened = Unit {0}
 IsSuccess (answers.OpenedWith reply) = Unit {0}
+IsSuccess (answers.Bytes bytes) = Unit {0}
+IsSuccess (answers.Count count) = Unit {0}
+IsSuccess answers.NoTransfer = ⊥
 IsSuccess (Fault fault) = ⊥
 
 -- a command's line was said after what was unsent, or nothing was
@@ -88,6 +92,7 @@ goes_on_with Continues reply = true
 goes_on_with GivesAddress reply = true
 goes_on_with GivesPort reply = true
 goes_on_with (Opens replies) reply = false
+goes_on_with (Finishes close) reply = false
 
 -- nothing was said or consumed
 abbrev pub IsSilent : Standing → Standing → Type 0
@@ -97,6 +102,8 @@ IsSilent s t = (t.said ≡ s.said) × (t.unsent ≡ s.unsent) × (t.bytes ≡ s.
 abbrev pub ExchangedIf : Bool → Coding → Row → Standing → Standing → Type 0
 ExchangedIf true coding (Exchanges exchange) s t = (reply : Response) × Exchanged coding exchange reply s t
 ExchangedIf true coding (Arms offset) s t = IsSilent s t
+ExchangedIf true coding (Sets setting) s t = IsSilent s t
+ExchangedIf true coding (Moves movement) s t = IsSilent s t
 ExchangedIf false coding row s t = IsSilent s t
 
 -- an exchange, and the next row where its reply goes on
@@ -110,14 +117,16 @@ pub record ExchangesTwo (coding : Coding) (exchange : Exchange) (next : Row) (s 
 abbrev pub SucceedsBy : Coding → Row → Row → Standing → Standing → Type 0
 SucceedsBy coding (Exchanges exchange) next s t = ExchangesTwo coding exchange next s t
 SucceedsBy coding (Arms offset) next s t = IsSilent s t
+SucceedsBy coding (Sets setting) next s t = IsSilent s t
+SucceedsBy coding (Moves movement) next s t = IsSilent s t
 
--- of a call that opens a data connection the dialogue alone says what it did
+-- of a call that opens a data connection, or brings a transfer to its end, the dialogue alone says what it did
 abbrev pub SucceedsUnless : Bool → Coding → Call → Standing → Standing → Type 0
 SucceedsUnless true coding call s t = Unit {0}
 SucceedsUnless false coding call s t = SucceedsBy coding (row_of call First) (row_of call Second) s t
 
 abbrev pub Succeeds : Coding → Call → Standing → Standing → Type 0
-Succeeds coding call s t = SucceedsUnless (negotiates call) coding call s t
+Succeeds coding call s t = SucceedsUnless (negotiates call || finishes call) coding call s t
 
 -- a call failed
 abbrev pub IsFault : Answer → Type 0
@@ -129,10 +138,13 @@ IsFault (answers.Size size) = ⊥
 IsFault (answers.Features features) = ⊥
 IsFault answers.Opened = ⊥
 IsFault (answers.OpenedWith reply) = ⊥
+IsFault (answers.Bytes bytes) = ⊥
+IsFault (answers.Count count) = ⊥
+IsFault answers.NoTransfer = ⊥
 IsFault (Fault fault) = Unit {0}
 
 -- where a run stands in a session, where these bytes are still to come, and these outcomes
-abbrev pub standing : SessionValue → List ℕ → Bool → List RequestOutcome → Standing
+abbrev pub standing : SessionValue → List ℕ → Bool → List DealOutcome → Standing
 standing v more ended outcomes = record {
   state = v.state;
   failed = v.channel.failed;
@@ -151,7 +163,7 @@ standing v more ended outcomes = record {
 -- stands now, where these bytes came between and this happened beside the control connection
 abbrev pub However : SessionValue → List ℕ → List Deal → SessionValue → (Room → Standing → Standing → Type 0) → Type 0
 However old came answered new Holds =
-    (room : Room) (more : List ℕ) (ended : Bool) (outcomes : List RequestOutcome)
+    (room : Room) (more : List ℕ) (ended : Bool) (outcomes : List DealOutcome)
     → HasRoomFor room (length new.channel.told.sent) → GoesBeyond new.channel.ended more ended
     → Holds room (standing old (came ++ more) ended (outcomes_of answered ++ outcomes)) (standing new more ended outcomes)
 
@@ -166,7 +178,7 @@ pub record Goes (link : Link) (came : List ℕ) (answered : List Deal) (old new 
   pub said : link.tells → length (said old.channel) ≤ length (said new.channel)
   pub untaken : length (untaken new.channel) ≤ length (untaken old.channel) + length came
   pub at_hand : link.tells → IsGiven old.channel.told → IsGiven new.channel.told
-  pub deals : link.tells → Deals answered old.net new.net
+  pub deals : link.tells → Deals link.builds answered old.net new.net
   pub rule : new.channel.rule ≡ old.channel.rule
 
 -- one tree is left of another
@@ -190,6 +202,8 @@ MayFailAt link (Say line next) told kind = link.tells → link.writes told kind
 MayFailAt link (Hear codes next) told kind = link.reads kind
 MayFailAt link (Look end next) told kind = link.ends kind
 MayFailAt link (Ask request next) told kind = ⊥
+MayFailAt link (Build address next) told kind = ⊥
+MayFailAt link (Move movement next) told kind = ⊥
 MayFailAt link (Leaf answer state) told kind = ⊥
 
 -- the session fails where a line or a reply may be lost, and goes on where an address isn't known
@@ -198,14 +212,35 @@ fails_at (Say line next) = true
 fails_at (Hear codes next) = true
 fails_at (Look end next) = false
 fails_at (Ask request next) = true
+fails_at (Build address next) = true
+fails_at (Move movement next) = true
 fails_at (Leaf answer state) = true
 
--- the connection failed at this node, which was counted and is told, and nothing else happened
+-- what a tree that is over answers, and leaves
+abbrev pub answer_of : Tree → Answer → Answer
+answer_of (Leaf answer state) other = answer
+answer_of tree other = other
+
+abbrev pub state_of : Tree → State → State
+state_of (Leaf answer state) other = state
+state_of tree other = other
+
+-- where a reply is awaited a fault takes its place; elsewhere it is the answer, and the state stays
+abbrev pub answer_at : Tree → FtpError → Answer
+answer_at (Hear codes next) fault = answer_of (next (Err fault)) (Fault fault)
+answer_at tree fault = Fault fault
+
+abbrev pub state_at : Tree → FtpError → State → State
+state_at (Hear codes next) fault state = state_of (next (Err fault)) state
+state_at tree fault state = state
+
+-- the connection failed at this node, which was counted and is told, and nothing else happened but what the tree says of
+-- such a fault
 pub record Fails (link : Link) (place : Tree) (fault : FtpError) (at new : SessionValue) : Type 0 where
   pub kind : ErrorKind
-  pub is : fault ≡ ConnectionError (Io kind)
+  pub is : Fault fault ≡ answer_at place (ConnectionError (Io kind))
   pub may : MayFailAt link place at.channel.told kind
-  pub same : new ≡ record at { channel = record at.channel { told = new.channel.told; failed = fails_at place } }
+  pub same : new ≡ record at { channel = record at.channel { told = new.channel.told; failed = fails_at place }; state = state_at place (ConnectionError (Io kind)) at.state }
   pub failed : link.tells → HasFailed kind at.channel.told new.channel.told
 
 -- nothing was said and no reply was taken
@@ -236,24 +271,38 @@ pub record Aborts (link : Link) (begun : Bool) (tree : Tree) (answer : Answer) (
   pub at : SessionValue
   pub leads : Leads link tree place old at
   pub state : at.state ≡ old.state
-  pub going : at.channel.failed ≡ false
+  pub going : at.channel.failed ≡ old.channel.failed
   pub fault : FtpError
   pub is : answer ≡ Fault fault
   pub cause : Fails link place fault at new ⊎ LacksMemory link begun tree leads.came fault old at new
 
--- a call, whole: it fails with `SessionFailed` where the session has failed, else its dialogue comes to its answer
--- or is aborted
-pub record IsRefused (old new : SessionValue) (answer : Answer) : Type 0 where
-  pub failed : old.channel.failed ≡ true
-  pub is : answer ≡ Fault SessionFailed
-  pub unchanged : new ≡ old
+-- a call isn't made: nothing changes, but where the session has failed a call that would bring a transfer to its end
+-- leaves it, and its data connection is closed
+abbrev pub LeavesIf : Bool → Type 0 → SessionValue → SessionValue → Type 0
+LeavesIf true tells old new = (new ≡ record old { state = with_left old.state; net = new.net }) × (tells → PartedIs old.net new.net)
+LeavesIf false tells old new = new ≡ old
+
+abbrev pub Refuses : Refusal → Type 0 → Call → SessionValue → SessionValue → Answer → Type 0
+Refuses Taken tells call old new answer = ⊥
+Refuses Lacking tells call old new answer = (answer ≡ answers.NoTransfer) × (new ≡ old)
+Refuses Failing tells call old new answer = (answer ≡ Fault SessionFailed) × LeavesIf (finishes call) tells old new
+
+abbrev pub refusal_of : Call → SessionValue → Refusal
+refusal_of call v = refusal call v.channel.failed (is_none v.net.data_conn)
+
+abbrev pub IsRefused : Type 0 → Call → SessionValue → SessionValue → Answer → Type 0
+IsRefused tells call old new answer = Refuses (refusal_of call old) tells call old new answer
+
+-- a call, whole: it is refused, or its dialogue comes to its answer or is aborted; one that is none of the control
+-- connection says and hears nothing there
 
 -- where a call begins
 abbrev pub begun_by : Call → SessionValue → SessionValue
 begun_by call v = record v { state = entered call v.state }
 
 pub record IsPlayed (link : Link) (coding : Coding) (call : Call) (old new : SessionValue) (answer : Answer) : Type 0 where
-  pub going : old.channel.failed ≡ false
+  pub going : refusal_of call old ≡ Taken
+  pub apart : is_local call ≡ true → new.channel ≡ old.channel
   pub last : SessionValue
   pub plays : Completes link (dialogue coding call old.state) answer (begun_by call old) last ⊎ Aborts link false (dialogue coding call old.state) answer (begun_by call old) last
   pub lets_go : new ≡ let_go last
@@ -275,7 +324,7 @@ pub record Wired (link : Link) (coding : Coding) (call : Call) (old new : Sessio
 
 pub record Plays (link : Link) (coding : Coding) (call : Call) (old new : SessionValue) (answer : Answer) : Type 0 where
   pub wired : IsSuccess answer → Wired link coding call old new
-  pub made : IsRefused old new answer ⊎ IsPlayed link coding call old new answer ⊎ IsWithheld old new answer
+  pub made : IsRefused link.tells call old new answer ⊎ IsPlayed link coding call old new answer ⊎ IsWithheld old new answer
   pub fails : new.channel.failed ≡ true → (old.channel.failed ≡ true) ⊎ IsFault answer
 
 -- a read that waits leaves a run where it stood: what came is untaken, and nothing else happened
@@ -283,13 +332,29 @@ pub record Rests (link : Link) (old new : SessionValue) : Type 0 where
   pub came : List ℕ
   pub goes : Goes link came [] old new
   pub failed : new.channel.failed ≡ old.channel.failed
-  pub stays : link.tells → (more : List ℕ) (ended : Bool) (outcomes : List RequestOutcome) → standing old (came ++ more) ended outcomes ≡ standing new more ended outcomes
+  pub stays : link.tells → (more : List ℕ) (ended : Bool) (outcomes : List DealOutcome) → standing old (came ++ more) ended outcomes ≡ standing new more ended outcomes
+
+-- the connection failed in a read, which was counted
+pub record FailsRead (link : Link) (fault : FtpError) (at new : SessionValue) : Type 0 where
+  pub kind : ErrorKind
+  pub is : fault ≡ ConnectionError (Io kind)
+  pub may : link.reads kind
+  pub same : new ≡ record at { channel = record at.channel { told = new.channel.told; failed = true } }
+  pub failed : link.tells → HasFailed kind at.channel.told new.channel.told
+
+-- a read is aborted: the connection failed, which was counted; or memory ran out, and nothing is lost
+pub record AbortsRead (link : Link) (codes : Expected) (next : Result Response FtpError → Tree) (fault : FtpError) (old new : SessionValue) : Type 0 where
+  pub at : SessionValue
+  pub leads : Leads link (Hear codes next) (Hear codes next) old at
+  pub state : at.state ≡ old.state
+  pub going : at.channel.failed ≡ false
+  pub cause : FailsRead link fault at new ⊎ ((fault ≡ OutOfMemory) × (new ≡ at) × Untouched link leads.came old at)
 
 -- a read of one reply: it is heard, or a fault in its place; or the read is aborted, or waits
 abbrev pub Reads : Link → Expected → (Result Response FtpError → Tree) → SessionValue → SessionValue → Poll (Result Response FtpError) → Type 0
 Reads link codes next old new (Ready (Ok reply)) = Leads link (Hear codes next) (next (Ok reply)) old new
 Reads link codes next old new (Ready (Err fault)) =
-    Leads link (Hear codes next) (next (Err fault)) old new ⊎ Aborts link false (Hear codes next) (Fault fault) old new
+    Leads link (Hear codes next) (next (Err fault)) old new ⊎ AbortsRead link codes next fault old new
 Reads link codes next old new Pending = Leads link (Hear codes next) (Hear codes next) old new × Rests link old new
 
 -- a read gives a fault
@@ -334,10 +399,14 @@ HasFault (answer ∷ answers) = IsFault answer ⊎ HasFault answers
 abbrev pub FailsWith : SessionValue → SessionValue → List Answer → Type 0
 FailsWith v w answers = w.channel.failed ≡ true → (v.channel.failed ≡ true) ⊎ HasFault answers
 
--- each is refused, since the session has failed
-abbrev pub AllRefused : List Answer → Type 0
-AllRefused [] = Unit {0}
-AllRefused (answer ∷ answers) = (answer ≡ Fault SessionFailed) × AllRefused answers
+-- a session that has failed refuses each call that goes over the control connection
+abbrev pub IsRefusal : Answer → Type 0
+IsRefusal answer = (answer ≡ Fault SessionFailed) ⊎ (answer ≡ answers.NoTransfer)
+
+abbrev pub AllRefused : List Call → List Answer → Type 0
+AllRefused [] answers = answers ≡ []
+AllRefused (call ∷ calls) [] = ⊥
+AllRefused (call ∷ calls) (answer ∷ answers) = (is_local call ≡ false → IsRefusal answer) × AllRefused calls answers
 
 -- calls made one after another: each is its dialogue, or is refused, or is aborted
 abbrev pub Makes : Link → Coding → List Call → SessionValue → SessionValue → List Answer → Type 0
@@ -346,15 +415,15 @@ Makes link coding (call ∷ calls) old new answers =
     (middle : SessionValue) × (answer : Answer) × (later : List Answer) × (answers ≡ answer ∷ later) × Plays link coding call old middle answer × Makes link coding calls middle new later
 
 -- a run in which a call was aborted, where these are left to make: the answers before it are the definition's, and
--- each later call that was made is its dialogue again; where the session has failed, each is refused and changes
--- nothing
+-- each later call that was made is its dialogue again; where the session has failed, each that goes over the control
+-- connection is refused, and nothing is said or read there
 pub record RunAborts (link : Link) (coding : Coding) (calls to_make : List Call) (old new : SessionValue) (answers : List Answer) : Type 0 where
   pub first : List Answer
   pub call : Call
   pub made : List Call
   pub middle : SessionValue
   pub ran : RanTo link coding calls (call ∷ made ++ to_make) old middle first
-  pub going : middle.channel.failed ≡ false
+  pub going : refusal_of call middle ≡ Taken
   pub fault : FtpError
   pub last : SessionValue
   pub aborts : Aborts link false (dialogue coding call middle.state) (Fault fault) (begun_by call middle) last
@@ -363,7 +432,7 @@ pub record RunAborts (link : Link) (coding : Coding) (calls to_make : List Call)
   pub later : List Answer
   pub answers_are : answers ≡ first ++ Fault fault ∷ later
   pub makes : Makes link coding made after new later
-  pub failed : after.channel.failed ≡ true → (new ≡ after) × AllRefused later
+  pub failed : after.channel.failed ≡ true → (new.channel ≡ after.channel) × AllRefused made later
 
 -- the run of a list of calls
 abbrev pub Runs : Link → Coding → List Call → SessionValue → SessionValue → List Answer → Type 0

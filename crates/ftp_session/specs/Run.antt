@@ -1,11 +1,13 @@
 -- A list of calls, played one after another.
-use Rattle.std.specs.Prelude.{◌≡◌, false, ℕ, List, [], ◌∷◌, Ok, Err}
+use Rattle.std.specs.Prelude.{◌≡◌, ◌⊎◌, true, false, ℕ, List, [], ◌∷◌, Option, Ok, Err}
 use Rattle.std.specs.declared.net.socket_addr.SocketAddr.{SocketAddr}
 use Rattle.ftp_control.specs.declared.control.rule.ReplyRule.{ReplyRule}
 use Rattle.ftp_control.specs.declared.control.outcome.Outcome.TheVariants.{Waits}
 use Rattle.ftp_control.specs.declared.transport.room.Room.{Room}
 use Rattle.ftp_control.specs.Grammar.{outcome}
+use Rattle.ftp_base.specs.declared.types.fault.FtpError.{FtpError}
 use Rattle.ftp_control.specs.declared.transport.request.RequestOutcome.{RequestOutcome}
+use Rattle.ftp_session.specs.declared.model.DealOutcome.{DealOutcome}
 use Rattle.ftp_session.specs.declared.session.state.State.{State}
 use Rattle.ftp_calls.specs.declared.call.Answer.{Answer}
 use Rattle.ftp_calls.specs.declared.call.Call.{Call}
@@ -14,8 +16,9 @@ use Rattle.ftp_session.specs.declared.model.Played.{Played}
 use Rattle.ftp_session.specs.declared.model.Played.TheVariants.{Done, Pending}
 use Rattle.ftp_session.specs.declared.model.Ran.{Ran}
 use Rattle.ftp_session.specs.declared.model.Ran.TheVariants.{Finished, Waiting}
+use Rattle.ftp_calls.specs.Exchanges.{of_transfer}
 use Rattle.ftp_session.specs.Coding.{Coding}
-use Rattle.ftp_session.specs.Dialogue.{Tree, Say, Hear, Look, Ask, Leaf, dialogue}
+use Rattle.ftp_session.specs.Dialogue.{Tree, Say, Hear, Look, Ask, Build, Move, Leaf, dialogue}
 use Rattle.ftp_session.specs.Play.{play_call}
 
 -- an answer before those of later calls
@@ -42,6 +45,8 @@ Silent (Say (Err cause) next) = Unit {0}
 Silent (Hear codes next) = ⊥
 Silent (Look end next) = (address : SocketAddr) × Silent (next address)
 Silent (Ask request next) = (answer : RequestOutcome) × Silent (next answer)
+Silent (Build address next) = (fault : Option FtpError) × Silent (next fault)
+Silent (Move movement next) = (came : DealOutcome) × Silent (next came)
 Silent (Leaf answer state) = Unit {0}
 
 -- the first list under which the tree hears
@@ -51,10 +56,16 @@ Resumes rule seen (Say (Err cause) next) = Unit {0}
 Resumes rule seen (Hear codes next) = outcome rule codes.form seen false ≡ Waits
 Resumes rule seen (Look end next) = (address : SocketAddr) → Resumes rule seen (next address)
 Resumes rule seen (Ask request next) = (answer : RequestOutcome) → Resumes rule seen (next answer)
+Resumes rule seen (Build address next) = (fault : Option FtpError) → Resumes rule seen (next fault)
+Resumes rule seen (Move movement next) = (came : DealOutcome) → Resumes rule seen (next came)
 Resumes rule seen (Leaf answer state) = Unit {0}
+
+-- a call may hear nothing: its dialogue doesn't, or it is of a transfer, and none is held
+abbrev pub MayBeSilent : Coding → Call → State → Type 0
+MayBeSilent coding call state = Silent (dialogue coding call state) ⊎ (of_transfer call ≡ true)
 
 -- the first list under which these calls hear
 abbrev pub OneView : ReplyRule → List ℕ → Coding → List Call → Type 0
 OneView rule seen coding [] = Unit {0}
 OneView rule seen coding (call ∷ calls) =
-    (state : State) → Resumes rule seen (dialogue coding call state) × (Silent (dialogue coding call state) → OneView rule seen coding calls)
+    (state : State) → Resumes rule seen (dialogue coding call state) × (MayBeSilent coding call state → OneView rule seen coding calls)

@@ -17,9 +17,9 @@ use Rattle.ftp_session.specs.declared.model.Ran.TheVariants.{Finished, Waiting}
 use Rattle.ftp_control.specs.declared.control.form.ReplyForm.{ReplyForm}
 use Rattle.ftp_calls.specs.declared.exchange.Turn.TheVariants.{First}
 use Rattle.ftp_session.specs.Coding.{Coding}
-use Rattle.ftp_calls.specs.Exchanges.{row_of, is_read, negotiates}
+use Rattle.ftp_calls.specs.Exchanges.{row_of, finishes, is_read, negotiates, of_transfer}
 use Rattle.ftp_calls.specs.declared.exchange.Row.{Row}
-use Rattle.ftp_calls.specs.declared.exchange.Row.TheVariants.{Exchanges, Arms}
+use Rattle.ftp_calls.specs.declared.exchange.Row.TheVariants.{Exchanges, Arms, Sets, Moves}
 use Rattle.ftp_control.specs.declared.control.form.ReplyForm.TheVariants.{Plain}
 use Rattle.ftp_session.specs.Dialogue.{expected_of, dialogue}
 use Rattle.ftp_session.specs.Run.{run, Resumes}
@@ -27,7 +27,7 @@ use Rattle.ftp_session.specs.Promises.{standing}
 use Rattle.ftp_control.specs.Channel.{untaken}
 use Rattle.ftp_control.specs.Saying.{said}
 use Rattle.ftp_session.specs.Deals.{dealings_of}
-use Rattle.ftp_control.specs.declared.transport.request.RequestOutcome.{RequestOutcome}
+use Rattle.ftp_session.specs.declared.model.DealOutcome.{DealOutcome}
 use Rattle.ftp_session.specs.State.{SessionValue}
 
 -- what came on a connection and wasn't read yet
@@ -39,7 +39,7 @@ abbrev pub is_over : Told → Bool
 is_over t = t.given.closed || t.ended
 
 -- where a run begins, on what has come by then; these are the outcomes of its requests
-abbrev pub start_of : SessionValue → List RequestOutcome → Standing
+abbrev pub start_of : SessionValue → List DealOutcome → Standing
 start_of v outcomes = standing v (unread v.channel.told) (is_over v.channel.told) outcomes
 
 -- a script begins; what an earlier read left was read as a reply of this form
@@ -68,10 +68,12 @@ script_of v form = record {
 abbrev pub heard_form : Row → ReplyForm
 heard_form (Exchanges exchange) = (expected_of exchange.hears).form
 heard_form (Arms offset) = Plain
+heard_form (Sets setting) = Plain
+heard_form (Moves movement) = Plain
 
--- the form of the reply that a call first hears; no negotiation hears a list
+-- the form of the reply that a call first hears; neither a negotiation nor the end of a transfer hears a list
 abbrev pub first_form : Call → ReplyForm
-first_form call = if negotiates call then Plain else heard_form (row_of call First)
+first_form call = if negotiates call || finishes call then Plain else heard_form (row_of call First)
 
 -- what goes out of what was said
 abbrev pub front : Room → List ℕ → List ℕ
@@ -162,14 +164,18 @@ abbrev pub script : Coding → Standing → Script → List Event → Script
 script coding start s [] = s
 script coding start s (event ∷ events) = script coding start (after_event coding start s event) events
 
--- Lawful lists: a call is dropped before its first Poll, or it is a plain read; and a reply under way is resumed as one
--- of the form that it was read as before, unless it is no whole reply of the call's form. Of a session that has failed,
--- of a call that is refused and of one that opens no data connection and waits for room before it hears, nothing is
--- asked
+-- Lawful lists: a call is dropped before its first Poll, unless it brings a transfer to its end, or it is a plain read;
+-- and a reply under way is resumed as one of the form that it was read as before, unless it is no whole reply of the
+-- call's form. Of a session that has failed, of a call that is refused and of one that needs no data connection and waits
+-- for room before it hears, nothing is asked
+
+-- what a call comes to depends on what happens beside the control connection
+abbrev pub needs_data : Call → Bool
+needs_data call = negotiates call || of_transfer call
 
 abbrev pub MayCancel : Option Call → Bool → Type 0
 MayCancel None polled = Unit {0}
-MayCancel (Some call) polled = (polled ≡ false) ⊎ (is_read call ≡ true)
+MayCancel (Some call) polled = ((polled ≡ false) × (finishes call ≡ false)) ⊎ (is_read call ≡ true)
 
 -- the call waits, and hasn't heard
 abbrev pub HearsNothing : Ran → Script → Type 0
@@ -179,7 +185,7 @@ HearsNothing (Waiting answers wait t) s = heard_at wait s t.bytes ≡ false
 abbrev pub MayPoll : Coding → Standing → Option Call → Script → Type 0
 MayPoll coding start None s = Unit {0}
 MayPoll coding start (Some call) s =
-    s.heard ≡ false → s.failed ≡ false → (first_form call ≡ s.form) ⊎ Resumes start.rule (take s.seen s.untaken) (dialogue coding call s.state) ⊎ ((negotiates call ≡ false) × HearsNothing (run_with coding start call s) s)
+    s.heard ≡ false → s.failed ≡ false → (first_form call ≡ s.form) ⊎ Resumes start.rule (take s.seen s.untaken) (dialogue coding call s.state) ⊎ ((needs_data call ≡ false) × HearsNothing (run_with coding start call s) s)
 
 abbrev pub IsLawful : Coding → Standing → Script → Event → Type 0
 IsLawful coding start s (event.Feed more) = Unit {0}

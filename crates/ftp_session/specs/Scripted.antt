@@ -7,12 +7,16 @@ use Rattle.ftp_control.specs.declared.control.outcome.Outcome.TheVariants.{Waits
 use Rattle.ftp_control.specs.Grammar.{outcome}
 use Rattle.ftp_control.specs.Told.{HasRoomFor}
 use Rattle.ftp_session.specs.Deals.{Deal, Deals, dealings_of, outcomes_of}
-use Rattle.ftp_control.specs.declared.transport.request.RequestOutcome.{RequestOutcome}
+use Rattle.ftp_session.specs.declared.model.DealOutcome.{DealOutcome}
 use Rattle.ftp_control.specs.Reading.{GoesOn}
 use Rattle.ftp_control.specs.Channel.{Channel, untaken}
 use Rattle.ftp_control.specs.Saying.{said}
 use Rattle.ftp_calls.specs.declared.call.Answer.{Answer}
 use Rattle.ftp_calls.specs.declared.call.Answer.TheVariants.{Fault}
+use Rattle.ftp_calls.specs.declared.call.Answer.TheVariants as answers
+use Rattle.std.specs.declared.io.ErrorKind.{ErrorKind}
+use Rattle.ftp_base.specs.declared.types.fault.FtpError.TheVariants.{ConnectionError, OutOfMemory}
+use Rattle.ftp_base.specs.declared.types.fault.ConnectionError.TheVariants.{Io}
 use Rattle.ftp_calls.specs.declared.call.Call.{Call}
 use Rattle.ftp_calls.specs.declared.call.Event.{Event}
 use Rattle.ftp_calls.specs.declared.call.Event.TheVariants.{Feed, Poll}
@@ -22,9 +26,10 @@ use Rattle.ftp_session.specs.Coding.{Coding}
 use Rattle.ftp_session.specs.Dialogue.{Tree}
 use Rattle.ftp_session.specs.Play.{play, finally}
 use Rattle.ftp_session.specs.Run.{run, and_then}
-use Rattle.ftp_session.specs.Promises.{standing, before_all, begun_by, Aborts, AllRefused}
+use Rattle.ftp_session.specs.Play.{Taken}
+use Rattle.ftp_session.specs.Promises.{standing, before_all, begun_by, refusal_of, Aborts, IsRefusal}
 use Rattle.ftp_session.specs.Script.{script, script_of, start_of, unread, is_over, Lawful, MayCancel}
-use Rattle.ftp_session.specs.Link.{over_memory}
+use Rattle.ftp_session.specs.Link.{Builds, over_memory}
 
 -- what was sent and what is unsent, joined, begin what was said; where they aren't all of it, the tail of an earlier
 -- line is still unsent
@@ -49,17 +54,17 @@ pub record StandsAt (s : Script) (new : SessionValue) (answers : List Answer) : 
   pub failed : new.channel.failed ≡ s.failed
 
 -- what happened beside the control connection since, with these outcomes first of all
-pub record Answered (outcomes left : List RequestOutcome) (old new : SessionValue) : Type 0 where
+pub record Answered (builds : Builds) (outcomes left : List DealOutcome) (old new : SessionValue) : Type 0 where
   pub answered : List Deal
-  pub deals : Deals answered old.net new.net
+  pub deals : Deals builds answered old.net new.net
   pub outcomes_are : outcomes ≡ outcomes_of answered ++ left
 
 -- the events come to their script, where these are the outcomes of the transport's requests; what was received and what
 -- is unread are the bytes that came; nothing fails, and which lines open and end a reply stays
-pub record ScriptHolds (coding : Coding) (outcomes : List RequestOutcome) (old : SessionValue) (form : ReplyForm) (events : List Event) (new : SessionValue) (answers : List Answer) : Type 0 where
+pub record ScriptHolds (builds : Builds) (coding : Coding) (outcomes : List DealOutcome) (old : SessionValue) (form : ReplyForm) (events : List Event) (new : SessionValue) (answers : List Answer) : Type 0 where
   pub at : StandsAt (script coding (start_of old outcomes) (script_of old form) events) new answers
-  pub left : List RequestOutcome
-  pub answered : Answered outcomes left old new
+  pub left : List DealOutcome
+  pub answered : Answered builds outcomes left old new
   pub came : List ℕ
   pub received : new.channel.told.received ≡ old.channel.told.received ++ came
   pub bytes : (script coding (start_of old outcomes) (script_of old form) events).bytes ≡ untaken old.channel ++ came ++ unread new.channel.told
@@ -69,14 +74,14 @@ pub record ScriptHolds (coding : Coding) (outcomes : List RequestOutcome) (old :
 -- the calls that are done come to these answers, and the call under way to what is left of it, from here
 abbrev pub Reaches : Coding → SessionValue → List Call → List ℕ → List Deal → SessionValue → List Answer → Call → Tree → Type 0
 Reaches coding old items came answered v answers call tree =
-    (later : List Call) (room : Room) (more : List ℕ) (ended : Bool) (outcomes : List RequestOutcome)
+    (later : List Call) (room : Room) (more : List ℕ) (ended : Bool) (outcomes : List DealOutcome)
     → HasRoomFor room (length v.channel.told.sent) → GoesOn v.channel.ended more ended
     → run room coding (items ++ call ∷ later) (standing old (came ++ more) ended (outcomes_of answered ++ outcomes)) ≡ before_all answers (and_then (finally (play room tree (standing v more ended outcomes))) (λ t. run room coding later t))
 
 -- the calls that are done come to these answers, and to whatever comes after them from here
 abbrev pub Stands : Coding → SessionValue → List Call → List ℕ → List Deal → SessionValue → List Answer → Type 0
 Stands coding old items came answered v answers =
-    (later : List Call) (room : Room) (more : List ℕ) (ended : Bool) (outcomes : List RequestOutcome)
+    (later : List Call) (room : Room) (more : List ℕ) (ended : Bool) (outcomes : List DealOutcome)
     → HasRoomFor room (length v.channel.told.sent) → GoesOn v.channel.ended more ended
     → run room coding (items ++ later) (standing old (came ++ more) ended (outcomes_of answered ++ outcomes)) ≡ before_all answers (run room coding later (standing v more ended outcomes))
 
@@ -107,62 +112,83 @@ pub record CallHasBegun (coding : Coding) (old : SessionValue) (s : Script) (cam
 abbrev pub entering : Bool → Call → SessionValue → SessionValue
 entering polled call v = if polled then v else begun_by call v
 
+-- a call that is polled for the first time isn't refused; one that was polled goes on
+abbrev pub MayGoOn : Bool → Call → SessionValue → Type 0
+MayGoOn true call v = v.channel.failed ≡ false
+MayGoOn false call v = refusal_of call v ≡ Taken
+
 -- a call was under way, and this is left of its dialogue
-pub record LeftOf (coding : Coding) (old : SessionValue) (s : Script) (v : SessionValue) (call : Call) (begun : Bool) (tree : Tree) : Type 0 where
+pub record LeftOf (builds : Builds) (coding : Coding) (old : SessionValue) (s : Script) (v : SessionValue) (call : Call) (begun : Bool) (tree : Tree) : Type 0 where
   pub call_is : s.call ≡ Some call
-  pub going : v.channel.failed ≡ false
+  pub going : MayGoOn s.polled call v
   pub came : List ℕ
   pub bytes : s.bytes ≡ untaken old.channel ++ came ++ unread v.channel.told
   pub answered : List Deal
-  pub deals : Deals answered old.net v.net
+  pub deals : Deals builds answered old.net v.net
   pub reaches : Reaches coding old s.items came answered (entering s.polled call v) s.answers call tree
   pub since : CallHasBegun coding old s came answered v begun
 
+-- an answer that a call may give which is none of the control connection
+abbrev pub IsApart : Answer → Type 0
+IsApart answers.Unit = Unit {0}
+IsApart (answers.Bytes bytes) = Unit {0}
+IsApart (answers.Count count) = Unit {0}
+IsApart (Fault fault) = (fault ≡ OutOfMemory) ⊎ ((kind : ErrorKind) × (fault ≡ ConnectionError (Io kind)))
+IsApart other = ⊥
+
+abbrev pub IsOfFailed : Answer → Type 0
+IsOfFailed answer = IsRefusal answer ⊎ IsApart answer
+
+-- each is refused, or is such an answer
+abbrev pub AreRefused : List Answer → Type 0
+AreRefused [] = Unit {0}
+AreRefused (answer ∷ answers) = IsOfFailed answer × AreRefused answers
+
 -- a call was aborted at a Poll, in a session that the events before had come to; the later events find no call under
 -- way, and come to `Later`
-pub record ScriptAborts (Later : SessionValue → List Event → List Answer → Type 0) (coding : Coding) (outcomes : List RequestOutcome) (old : SessionValue) (form : ReplyForm) (events : List Event) (new : SessionValue) (answers : List Answer) : Type 0 where
+pub record ScriptAborts (builds : Builds) (Later : SessionValue → List Event → List Answer → Type 0) (coding : Coding) (outcomes : List DealOutcome) (old : SessionValue) (form : ReplyForm) (events : List Event) (new : SessionValue) (answers : List Answer) : Type 0 where
   pub before : List Event
   pub later : List Event
   pub split : events ≡ before ++ Poll ∷ later
   pub first : List Answer
   pub middle : SessionValue
-  pub at : ScriptHolds coding outcomes old form before middle first
+  pub at : ScriptHolds builds coding outcomes old form before middle first
   pub call : Call
   pub begun : Bool
   pub tree : Tree
-  pub under_way : LeftOf coding old (script coding (start_of old outcomes) (script_of old form) before) middle call begun tree
+  pub under_way : LeftOf builds coding old (script coding (start_of old outcomes) (script_of old form) before) middle call begun tree
   pub fault : FtpError
   pub last : SessionValue
-  pub aborts : Aborts over_memory begun tree (Fault fault) (entering (script coding (start_of old outcomes) (script_of old form) before).polled call middle) last
+  pub aborts : Aborts (over_memory builds) begun tree (Fault fault) (entering (script coding (start_of old outcomes) (script_of old form) before).polled call middle) last
   pub after : SessionValue
   pub lets_go : after ≡ let_go last
   pub others : List Answer
   pub answers_are : answers ≡ first ++ Fault fault ∷ others
   pub goes_on : Later after later others
-  pub failed : after.channel.failed ≡ true → (new.channel.failed ≡ true) × AllRefused others
+  pub failed : after.channel.failed ≡ true → (new.channel.failed ≡ true) × AreRefused others
 
 -- what happened beside the control connection is told; with these outcomes, whatever others come after them, and for
 -- every lawful list, where what an earlier read left of a reply says nothing yet as one of this form: the events come to
 -- their script, or a call is aborted and the later ones are such a list again; that is said of so many calls that are
 -- aborted
-abbrev pub ScriptsHold : ℕ → Coding → SessionValue → List Event → SessionValue → List Answer → Type 0
-ScriptsHold zero coding old events new answers = Unit {0}
-ScriptsHold (suc depth) coding old events new answers =
-    (answered : List Deal) × Deals answered old.net new.net × ((form : ReplyForm) (left : List RequestOutcome) → outcome old.channel.rule form old.channel.kept false ≡ Waits → Lawful coding (start_of old (outcomes_of answered ++ left)) (script_of old form) events → ScriptHolds coding (outcomes_of answered ++ left) old form events new answers ⊎ ScriptAborts (λ after later others. ScriptsHold depth coding after later new others) coding (outcomes_of answered ++ left) old form events new answers)
+abbrev pub ScriptsHold : Builds → ℕ → Coding → SessionValue → List Event → SessionValue → List Answer → Type 0
+ScriptsHold builds zero coding old events new answers = Unit {0}
+ScriptsHold builds (suc depth) coding old events new answers =
+    (answered : List Deal) × Deals builds answered old.net new.net × ((form : ReplyForm) (left : List DealOutcome) → outcome old.channel.rule form old.channel.kept false ≡ Waits → Lawful coding (start_of old (outcomes_of answered ++ left)) (script_of old form) events → ScriptHolds builds coding (outcomes_of answered ++ left) old form events new answers ⊎ ScriptAborts builds (λ after later others. ScriptsHold builds depth coding after later new others) coding (outcomes_of answered ++ left) old form events new answers)
 
 -- that is said of however many
-abbrev pub IsScripted : Coding → SessionValue → List Event → SessionValue → List Answer → Type 0
-IsScripted coding old events new answers = (depth : ℕ) → ScriptsHold depth coding old events new answers
+abbrev pub IsScripted : Builds → Coding → SessionValue → List Event → SessionValue → List Answer → Type 0
+IsScripted builds coding old events new answers = (depth : ℕ) → ScriptsHold builds depth coding old events new answers
 
 -- memory ran out: for the answers, and nothing changed; or for the bytes of a Feed, and the events before it have
 -- happened
-pub record StopsAtFeed (coding : Coding) (old : SessionValue) (events : List Event) (new : SessionValue) : Type 0 where
+pub record StopsAtFeed (builds : Builds) (coding : Coding) (old : SessionValue) (events : List Event) (new : SessionValue) : Type 0 where
   pub before : List Event
   pub bytes : List ℕ
   pub later : List Event
   pub split : events ≡ before ++ Feed bytes ∷ later
   pub answers : List Answer
-  pub scripted : IsScripted coding old before new answers
+  pub scripted : IsScripted builds coding old before new answers
 
-abbrev pub Stops : Coding → SessionValue → List Event → SessionValue → Type 0
-Stops coding old events new = (new ≡ old) ⊎ StopsAtFeed coding old events new
+abbrev pub Stops : Builds → Coding → SessionValue → List Event → SessionValue → Type 0
+Stops builds coding old events new = (new ≡ old) ⊎ StopsAtFeed builds coding old events new

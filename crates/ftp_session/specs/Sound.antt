@@ -47,6 +47,24 @@ counted_unless (Some fault) c = c
 abbrev pub one_more : Transfers → Transfers
 one_more c = counted_unless (cannot_open c) c
 
+-- the transfer that is owed has come to its end
+abbrev pub finished_with : Owed → Transfers → Transfers
+finished_with Nothing c = c
+finished_with (Live number) c = record c { finished = c.finished + 1; owed = Nothing }
+finished_with (Left number) c = record c { finished = c.finished + 1; owed = Nothing }
+
+abbrev pub one_finished : Transfers → Transfers
+one_finished c = finished_with c.owed c
+
+-- the transfer that is live is left, and its last reply is still owed
+abbrev pub left_of : Owed → Owed
+left_of Nothing = Nothing
+left_of (Live number) = Left number
+left_of (Left number) = Left number
+
+abbrev pub left_behind : Transfers → Transfers
+left_behind c = record c { owed = left_of c.owed }
+
 -- a sound session: its channel's bytes and lines, and its counts
 pub record Sound (tells : Type 0) (c : Channel) (transfers : Transfers) : Type 0 where
   pub channel : IsSound tells c

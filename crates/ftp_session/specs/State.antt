@@ -25,7 +25,9 @@ pub record IsFirst (state : State) : Type 0 where
   pub text : state.settings.text ≡ true
   pub secure : state.settings.secure ≡ false
   pub offset : state.settings.restart_offset ≡ 0
+  pub builder : state.settings.stream_builder ≡ false
   pub transfers : state.counts ≡ no_transfers
+  pub downloads : state.uploads ≡ false
   pub ungreeted : state.welcome ≡ None
 
 -- the text of a greeting is read again in another encoding

@@ -5,9 +5,10 @@
 //! with them.
 
 use crate::session::{Answer, Call, State};
-use ftp_base::types::{Bytes, Items};
+use ftp_base::types::{Bytes, FtpError, Items};
 use ftp_control::control::{ReplyForm, ReplyRule};
 use ftp_control::transport::{Request, RequestOutcome, Room};
+use std::io::ErrorKind;
 use std::net::SocketAddr;
 
 /// What went over a data connection.
@@ -22,10 +23,29 @@ pub struct Traffic {
 /// What stands beside the control connection.
 #[derive(Clone, Drop)]
 pub struct Dealings {
-    /// What the transport was asked, in order.
+    /// What the transport and the builder were asked, in order.
     pub asked: Items<Request>,
+    /// What went over the data connections that were closed and handed back, in order.
+    pub closed: Items<Traffic>,
     /// What went over the data connection, from the moment that it was made.
     pub data_conn: Option<Traffic>,
+}
+
+/// What the transport or the builder was asked for, or what was done on the data connection, came to.
+#[derive(Clone, Drop)]
+pub enum DealOutcome {
+    /// A request of the transport came to this.
+    Answered(RequestOutcome),
+    /// The caller's builder made a connection; or gave this fault.
+    Built(Option<FtpError>),
+    /// A read gave these bytes; none at the end.
+    Read(Bytes),
+    /// A write took so many bytes.
+    Wrote(usize),
+    /// A close was done.
+    Closed,
+    /// A read, a write or a close failed.
+    Failed(ErrorKind),
 }
 
 /// Where a run stands.
@@ -51,8 +71,8 @@ pub struct Standing {
     pub bytes: Bytes,
     /// Whether no others come.
     pub ended: bool,
-    /// The outcomes of the transport's requests to come.
-    pub outcomes: Items<RequestOutcome>,
+    /// The outcomes to come of the transport's requests, and of what is done on the data connection.
+    pub outcomes: Items<DealOutcome>,
 }
 
 /// What a call waits for.

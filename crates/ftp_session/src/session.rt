@@ -6,6 +6,7 @@
 
 pub mod answers;
 mod asks;
+mod carrying;
 mod chosen;
 mod client;
 mod commands;
@@ -15,6 +16,7 @@ mod negotiation;
 mod nodes;
 mod parameters;
 mod questions;
+mod requests;
 mod run;
 mod run_polled;
 mod settings;
@@ -24,6 +26,6 @@ mod transitions;
 
 pub use chosen::Chosen;
 pub use client::Session;
-pub use ftp_calls::call::{Answer, Call, Event};
+pub use ftp_calls::call::{Answer, Call, Event, Setting};
 pub use parameters::{NoStreamBuilder, NoTlsConnector};
 pub use state::{Counts, Owed, Settings, State};

@@ -6,8 +6,9 @@ use jiff::civil::DateTime;
 use row_text::shown;
 use std::alloc::{AllocError, Global};
 
-/// An answer: `ok`, `ok` and what it gives, `opened`, `opened with` and the reply, or the number of the refusal, with
-/// the kind of a connection's fault or the code of an unexpected reply.
+/// An answer: `ok`, `ok` and what it gives, `opened`, `opened with` and the reply, `bytes` and those that were read,
+/// `count` and how many were written, `NoTransfer`, or the number of the refusal, with the kind of a connection's fault
+/// or the code of an unexpected reply.
 pub fn text_of(alloc: Global, answer: &Answer) -> Result<String, AllocError> {
     match answer {
         Answer::Unit => String::from_str(alloc, "ok"),
@@ -27,8 +28,20 @@ pub fn text_of(alloc: Global, answer: &Answer) -> Result<String, AllocError> {
             let body = shown(alloc, reply.body.as_slice())?;
             format!(in alloc; "opened with {body}")
         }
+        Answer::Bytes(bytes) => bytes_text(alloc, bytes.as_slice()),
+        Answer::Count(count) => format!(in alloc; "count {count}"),
+        Answer::NoTransfer => String::from_str(alloc, "NoTransfer"),
         Answer::Fault(fault) => fault_text(alloc, fault),
     }
+}
+
+/// The bytes of a read: `bytes` alone at the end.
+fn bytes_text(alloc: Global, bytes: &[u8]) -> Result<String, AllocError> {
+    if bytes.is_empty() {
+        return String::from_str(alloc, "bytes");
+    }
+    let text = shown(alloc, bytes)?;
+    format!(in alloc; "bytes {text}")
 }
 
 /// A date and a time of day.

@@ -1,21 +1,22 @@
 //! Calls in words.
 
+use crate::settings::setting;
 use ftp_base::status::Status;
 use ftp_base::types::Items;
 use ftp_session::session::Call;
-use row_text::{RowError, file_type, pair, text, value};
+use row_text::{RowError, bytes_of, file_type, pair, text, value};
 use std::alloc::Global;
 
 /// The call that words write: its name, and what it takes.
 pub fn call(alloc: Global, words: &str) -> Result<Call, RowError> {
     match words.split_once(' ') {
         Some((name, argument)) => with_argument(alloc, name, argument),
-        None => bare(words).ok_or(RowError::NotUnderstood),
+        None => bare(alloc, words).ok_or(RowError::NotUnderstood),
     }
 }
 
 /// A call that takes nothing.
-fn bare(name: &str) -> Option<Call> {
+fn bare(alloc: Global, name: &str) -> Option<Call> {
     match name {
         "greet" => Some(Call::Greet),
         "cdup" => Some(Call::Cdup),
@@ -24,6 +25,8 @@ fn bare(name: &str) -> Option<Call> {
         "mlst" => Some(Call::Mlst(None)),
         "feat" => Some(Call::Feat),
         "quit" => Some(Call::Quit),
+        "send" => Some(Call::Write(Items::from_vec(Vec::new(alloc)))),
+        "finish" => Some(Call::Finish),
         _ => None,
     }
 }
@@ -46,6 +49,9 @@ fn with_argument(alloc: Global, name: &str, argument: &str) -> Result<Call, RowE
         "append" => Ok(Call::AppendWithStream(text(alloc, argument)?)),
         "data" => data(alloc, argument),
         "resume" => Ok(Call::ResumeTransfer(value(argument)?)),
+        "receive" => Ok(Call::Read(value(argument)?)),
+        "send" => Ok(Call::Write(Items::from_vec(bytes_of(alloc, argument)?))),
+        "set" => set(alloc, argument),
         "opts" => opts(alloc, argument),
         "read" => Ok(Call::ReadResponse(status(argument)?)),
         "reads" => Ok(Call::ReadResponseIn(statuses(alloc, argument)?)),
@@ -69,6 +75,12 @@ fn with_two(alloc: Global, name: &str, arguments: &str) -> Result<Call, RowError
 fn data(alloc: Global, words: &str) -> Result<Call, RowError> {
     let (line, codes) = words.rsplit_once(' ').ok_or(RowError::NotUnderstood)?;
     Ok(Call::CustomDataCommand(text(alloc, line)?, statuses(alloc, codes)?))
+}
+
+/// `SETTING VALUE`.
+fn set(alloc: Global, words: &str) -> Result<Call, RowError> {
+    let (name, argument) = pair(words, " ")?;
+    Ok(Call::Set(setting(alloc, name, argument)?))
 }
 
 /// `OPTION`, or `OPTION VALUE`.

@@ -109,12 +109,12 @@ impl Face {
     }
 
     /// Whether a row can be played on it: the blocking client has no method that reads a reply alone, neither it nor
-    /// the session has one that opens a data connection, and a run is made on a connection.
+    /// the session has one that opens a data connection or is of a transfer, and a run is made on a connection.
     pub fn plays(self, play: &Play) -> bool {
         match self {
             Face::Definition => true,
-            Face::Client => !play.opens_data() && client::has_methods(&play.calls),
-            Face::Methods => !play.opens_data(),
+            Face::Client => play.has_methods() && client::has_methods(&play.calls),
+            Face::Methods => play.has_methods(),
             Face::Run | Face::Polled | Face::Script => play.dial.is_none(),
         }
     }

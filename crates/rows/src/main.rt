@@ -8,6 +8,8 @@
 
 mod alphabet;
 mod answers;
+mod beside;
+mod builder;
 mod calls;
 mod dial;
 mod encodings;
@@ -16,6 +18,7 @@ mod play;
 mod reader;
 mod requests;
 mod row;
+mod settings;
 mod setup;
 mod step;
 mod tally;

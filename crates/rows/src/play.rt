@@ -1,12 +1,13 @@
 //! A row as bytes, calls and events.
 
+use crate::builder::RowBuilder;
 use crate::calls::call;
 use crate::dial::Dial;
 use crate::encodings::Named;
 use crate::setup::Setup;
 use crate::step::Step;
 use ftp_base::types::Bytes;
-use ftp_calls::exchange::negotiates;
+use ftp_calls::exchange::{is_local, negotiates, of_transfer};
 use ftp_session::session::{Call, Event};
 use row_text::{RowError, bytes_of, value};
 use std::alloc::Global;
@@ -75,7 +76,13 @@ impl Play {
             Step::Connect(words) => self.dialled(alloc).connect(words),
             Step::Within(words) => self.dialled(alloc).connect_within(words),
             Step::Set(word, argument) => self.setup.take(alloc, word, argument),
-            Step::Connects => self.setup.connects(),
+            Step::Connects(bytes) => self.setup.connects(alloc, bytes),
+            Step::Builds(bytes) => {
+                Ok(self.setup.has_builder(RowBuilder::of_bytes(alloc, bytes)?))
+            }
+            Step::BuildsNot(name) => {
+                Ok(self.setup.has_builder(RowBuilder::of_fault(alloc, name)?))
+            }
             _ => Ok(()),
         }
     }
@@ -115,7 +122,7 @@ impl Play {
             Step::Encoding(name) => self.set_encoding(name),
             Step::Connect(_) | Step::Within(_) => Ok(self.calls.push(Call::Greet)?),
             Step::Server(_) | Step::Host(_) | Step::Refuses => Ok(()),
-            Step::Set(..) | Step::Connects => Ok(()),
+            Step::Set(..) | Step::Connects(_) | Step::Builds(_) | Step::BuildsNot(_) => Ok(()),
             Step::Welcome | Step::Sessions | Step::Lists(_) => Ok(()),
         }
     }
@@ -124,6 +131,15 @@ impl Play {
     pub fn opens_data(&self) -> bool {
         self.events.iter().any(|event| match event {
             Event::Start(call) => negotiates(call),
+            _ => false,
+        })
+    }
+
+    /// Whether a session has a method for each call of the row: for those that open a data connection, are of a transfer
+    /// or change a setting it has none that a row could make.
+    pub fn has_methods(&self) -> bool {
+        !self.events.iter().any(|event| match event {
+            Event::Start(call) => negotiates(call) || of_transfer(call) || is_local(call),
             _ => false,
         })
     }

@@ -25,7 +25,8 @@ pub fn recorded(alloc: Global, asked: &[Asked]) -> Result<Vec<String>, AllocErro
     Ok(lines)
 }
 
-/// Adds the line of a request: the address that was connected to or listened at, or the peer that came.
+/// Adds the line of a request: the address that was connected to or listened at, by the transport or by the builder, or
+/// the peer that came.
 fn add_line(
     alloc: Global,
     lines: &mut Vec<String>,
@@ -36,6 +37,7 @@ fn add_line(
         (Request::Connect(address, _limit), _) => {
             lines.push(format!(in alloc; "D: {address}")?)?;
         }
+        (Request::Build(address), _) => lines.push(format!(in alloc; "B: {address}")?)?,
         (Request::Listen(address), _) => lines.push(format!(in alloc; "L: {address}")?)?,
         (Request::Accept(_), RequestOutcome::Address(from)) => {
             lines.push(format!(in alloc; "P: {from}")?)?;

@@ -1,23 +1,24 @@
 //! How a row's session comes to its data connections: what it is set to, the ends of its control connection, and what
 //! its transport's requests come to.
 
+use crate::builder::RowBuilder;
 use crate::faces::NamedSession;
-use ftp_base::types::{ActivePeerCheck, ConnectionError, Items, Mode};
+use crate::settings::setting;
+use ftp_base::types::{ConnectionError, FtpError};
 use ftp_control::transport::{MemoryConn, MemoryTransport, Request, RequestOutcome, Supply};
-use ftp_session::session::{Settings, State};
-use row_text::{RowError, value};
+use ftp_session::session::{Setting, Settings, State};
+use row_text::{RowError, bytes_of, value};
 use std::alloc::{AllocError, Global};
 use std::io::ErrorKind;
-use std::net::{IpAddr, Ipv4Addr, SocketAddr, SocketAddrV4};
-use std::time::Duration;
+use std::net::{Ipv4Addr, SocketAddr, SocketAddrV4};
 
 /// What the next request comes to that takes one.
-#[derive(Clone, Copy)]
+#[derive(Drop)]
 enum Item {
-    /// A connect is done.
-    Connects,
-    /// An accept: a peer comes from this address.
-    Comes(SocketAddr),
+    /// A connect is done, and these bytes come on the data connection.
+    Connects(Vec<u8>),
+    /// An accept: a peer comes from this address, and these bytes on its connection.
+    Comes(SocketAddr, Vec<u8>),
     /// Either is refused.
     Refuses(ErrorKind),
 }
@@ -30,6 +31,7 @@ pub struct Setup {
     peer: SocketAddr,
     port: u16,
     items: Vec<Item>,
+    builder: Option<RowBuilder>,
 }
 
 impl Setup {
@@ -42,29 +44,52 @@ impl Setup {
             peer: unspecified,
             port: 0,
             items: Vec::new(alloc),
+            builder: None,
         }
     }
 
     /// Takes a word of a setting, an end or a supply, with what stands after it.
     pub fn take(&mut self, alloc: Global, word: &str, argument: &str) -> Result<(), RowError> {
         match word {
-            "mode" => self.settings.mode = mode(argument)?,
-            "nat" => self.settings.passive_nat_workaround = is_on(argument)?,
-            "peers" => self.settings.active_peer_check = peers(alloc, argument)?,
-            "deadline" => self.settings.active_deadline = Duration::from_secs(value(argument)?),
             "local" => self.local = value(argument)?,
             "peer" => self.peer = value(argument)?,
             "listens" => self.port = value(argument)?,
-            "comes" => self.items.push(Item::Comes(value(argument)?))?,
+            "comes" => self.comes(alloc, argument)?,
             "refuses" => self.items.push(Item::Refuses(kind(argument)?))?,
-            _ => return Err(RowError::NotUnderstood),
+            _ => self.change(setting(alloc, word, argument)?),
         }
         Ok(())
     }
 
-    /// A data connection connects.
-    pub fn connects(&mut self) -> Result<(), RowError> {
-        self.items.push(Item::Connects)?;
+    /// A setting changes.
+    fn change(&mut self, setting: Setting) {
+        match setting {
+            Setting::Mode(mode) => self.settings.mode = mode,
+            Setting::PassiveNatWorkaround(enabled) => {
+                self.settings.passive_nat_workaround = enabled;
+            }
+            Setting::ActivePeerCheck(check) => self.settings.active_peer_check = check,
+            Setting::ActiveDeadline(deadline) => self.settings.active_deadline = deadline,
+        }
+    }
+
+    /// A data connection connects, and these bytes come on it.
+    pub fn connects(&mut self, alloc: Global, bytes: &str) -> Result<(), RowError> {
+        self.items.push(Item::Connects(bytes_of(alloc, bytes)?))?;
+        Ok(())
+    }
+
+    /// The session has this builder of data connections.
+    pub fn has_builder(&mut self, builder: RowBuilder) {
+        self.settings.stream_builder = true;
+        self.builder = Some(builder);
+    }
+
+    /// A peer comes: `ADDRESS`, or `ADDRESS BYTES` with what comes on its connection.
+    fn comes(&mut self, alloc: Global, words: &str) -> Result<(), RowError> {
+        let (address, bytes) = words.split_once(' ').unwrap_or((words, ""));
+        let from = value(address)?;
+        self.items.push(Item::Comes(from, bytes_of(alloc, bytes)?))?;
         Ok(())
     }
 
@@ -86,6 +111,9 @@ impl Setup {
         session.set_passive_nat_workaround(self.settings.passive_nat_workaround);
         session.set_active_peer_check(self.settings.active_peer_check.clone()?);
         session.set_active_deadline(self.settings.active_deadline);
+        if let Some(builder) = &self.builder {
+            session.set_passive_stream_builder(builder.again()?);
+        }
         Ok(())
     }
 
@@ -95,8 +123,8 @@ impl Setup {
         transport.listens_on(self.port);
         for item in &self.items {
             transport.supply(match item {
-                Item::Connects => Supply::Connects(MemoryConn::new(alloc)),
-                Item::Comes(address) => Supply::Peer(*address, MemoryConn::new(alloc)),
+                Item::Connects(bytes) => Supply::Connects(conn_of(alloc, bytes)?),
+                Item::Comes(address, bytes) => Supply::Peer(*address, conn_of(alloc, bytes)?),
                 Item::Refuses(kind) => Supply::Refuses(*kind),
             })?;
         }
@@ -112,7 +140,7 @@ impl Setup {
         let mut outcomes = Vec::new(alloc);
         let mut taken = 0usize;
         for request in requests {
-            let (outcome, takes) = self.outcome(*request, self.items.get(taken).copied());
+            let (outcome, takes) = outcome_of(self.port, *request, self.items.get(taken));
             if takes {
                 taken = taken.saturating_add(1);
             }
@@ -121,54 +149,66 @@ impl Setup {
         Ok(outcomes)
     }
 
-    /// What a request comes to where this is the next item, and whether it takes the item.
-    fn outcome(&self, request: Request, next: Option<Item>) -> (RequestOutcome, bool) {
-        match (request, next) {
-            (Request::Connect(..), Some(Item::Connects)) => (RequestOutcome::Done, true),
-            (Request::Accept(_), Some(Item::Comes(from))) => (RequestOutcome::Address(from), true),
-            (Request::Connect(..) | Request::Accept(_), Some(Item::Refuses(kind))) => {
-                (RequestOutcome::Refused(ConnectionError::Io(kind)), true)
-            }
-            (Request::Connect(..), _) => {
-                let refused = ConnectionError::Io(ErrorKind::ConnectionRefused);
-                (RequestOutcome::Refused(refused), false)
-            }
-            (Request::Accept(_), _) => (RequestOutcome::Refused(ConnectionError::TimedOut), false),
-            (Request::Listen(mut address), _) => {
-                address.set_port(self.port);
-                (RequestOutcome::Address(address), false)
-            }
+    /// The fault that the builder gives, where it gives one.
+    pub fn fault_of_builder(&self) -> Result<Option<FtpError>, AllocError> {
+        match &self.builder {
+            Some(builder) => builder.fault(),
+            None => Ok(None),
         }
     }
-}
 
-/// A mode by its name.
-fn mode(word: &str) -> Result<Mode, RowError> {
-    match word {
-        "active" => Ok(Mode::Active),
-        "passive" => Ok(Mode::Passive),
-        "epsv" => Ok(Mode::ExtendedPassive),
-        _ => Err(RowError::NotUnderstood),
+    /// The bytes that come on the last data connection that these requests came to.
+    pub fn data(&self, requests: &[Request]) -> &[u8] {
+        let mut data: &[u8] = &[];
+        let mut taken = 0usize;
+        for request in requests {
+            if let (Request::Build(_), Some(builder)) = (request, &self.builder) {
+                data = builder.bytes();
+            }
+            let next = self.items.get(taken);
+            let (_outcome, takes) = outcome_of(self.port, *request, next);
+            if takes {
+                taken = taken.saturating_add(1);
+                data = bytes_on(next);
+            }
+        }
+        data
     }
 }
 
-/// `on` or `off`.
-fn is_on(word: &str) -> Result<bool, RowError> {
-    match word {
-        "on" => Ok(true),
-        "off" => Ok(false),
-        _ => Err(RowError::NotUnderstood),
+/// The bytes that come on the connection of an item.
+fn bytes_on(item: Option<&Item>) -> &[u8] {
+    match item {
+        Some(Item::Connects(bytes)) => bytes,
+        Some(Item::Comes(_, bytes)) => bytes,
+        Some(Item::Refuses(_)) | None => &[],
     }
 }
 
-/// `control`, `any`, or IP addresses joined by commas.
-fn peers(alloc: Global, words: &str) -> Result<ActivePeerCheck, RowError> {
-    match words {
-        "control" => Ok(ActivePeerCheck::ControlPeer),
-        "any" => Ok(ActivePeerCheck::Any),
-        _ => {
-            let all: Vec<IpAddr> = words.split(',').map(value).try_collect(alloc)?;
-            Ok(ActivePeerCheck::Allow(Items::from_vec(all)))
+/// A connection on which these bytes came.
+fn conn_of(alloc: Global, bytes: &[u8]) -> Result<MemoryConn, AllocError> {
+    let mut conn = MemoryConn::new(alloc);
+    conn.feed(bytes)?;
+    Ok(conn)
+}
+
+/// What a request comes to where this is the next item, and whether it takes the item; listeners get this port.
+fn outcome_of(port: u16, request: Request, next: Option<&Item>) -> (RequestOutcome, bool) {
+    match (request, next) {
+        (Request::Connect(..), Some(Item::Connects(_))) => (RequestOutcome::Done, true),
+        (Request::Accept(_), Some(Item::Comes(from, _))) => (RequestOutcome::Address(*from), true),
+        (Request::Connect(..) | Request::Accept(_), Some(Item::Refuses(kind))) => {
+            (RequestOutcome::Refused(ConnectionError::Io(*kind)), true)
+        }
+        (Request::Connect(..), _) => {
+            let refused = ConnectionError::Io(ErrorKind::ConnectionRefused);
+            (RequestOutcome::Refused(refused), false)
+        }
+        (Request::Accept(_), _) => (RequestOutcome::Refused(ConnectionError::TimedOut), false),
+        (Request::Build(_), _) => (RequestOutcome::Done, false),
+        (Request::Listen(mut address), _) => {
+            address.set_port(port);
+            (RequestOutcome::Address(address), false)
         }
     }
 }

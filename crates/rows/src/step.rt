@@ -16,11 +16,15 @@ pub enum Step<'a> {
     /// `within SECONDS ADDRESS`: the same of one address, within a time.
     Within(&'a str),
     /// `mode KIND`, `nat on`, `peers any`, `deadline SECONDS`, `local ADDRESS`, `peer ADDRESS`, `listens PORT`,
-    /// `comes ADDRESS`, `refuses KIND`: a setting of the session, an end of its connection, or what a request of its
+    /// `comes ADDRESS`, `comes ADDRESS BYTES`, `refuses KIND`: a setting of the session, an end of its connection, or what a request of its
     /// transport comes to.
     Set(&'a str, &'a str),
-    /// `connects`: the next data connection that is asked for connects.
-    Connects,
+    /// `connects`, `connects BYTES`: the next data connection that is asked for connects, and these bytes come on it.
+    Connects(&'a str),
+    /// `builds`, `builds BYTES`: the session has a builder of data connections, on which these bytes come.
+    Builds(&'a str),
+    /// `builds-not FAULT`: its builder gives this fault.
+    BuildsNot(&'a str),
     /// `encoding NAME`: the encoding of the session's texts.
     Encoding(&'a str),
     /// `call WORDS`: a call, made whole; among events it begins and is polled.
@@ -56,6 +60,9 @@ impl<'a> Step<'a> {
         match line.split_once(' ') {
             Some(("server", bytes)) => Ok(Step::Server(bytes)),
             Some(("host", bytes)) => Ok(Step::Host(bytes)),
+            Some(("connects", bytes)) => Ok(Step::Connects(bytes)),
+            Some(("builds", bytes)) => Ok(Step::Builds(bytes)),
+            Some(("builds-not", name)) => Ok(Step::BuildsNot(name)),
             Some(("connect", addresses)) => Ok(Step::Connect(addresses)),
             Some(("within", words)) => Ok(Step::Within(words)),
             Some(("encoding", name)) => Ok(Step::Encoding(name)),
@@ -74,7 +81,8 @@ impl<'a> Step<'a> {
     fn bare(word: &str) -> Result<Step<'a>, RowError> {
         match word {
             "refuses" => Ok(Step::Refuses),
-            "connects" => Ok(Step::Connects),
+            "connects" => Ok(Step::Connects("")),
+            "builds" => Ok(Step::Builds("")),
             "end" => Ok(Step::End),
             "poll" => Ok(Step::Poll),
             "cancel" => Ok(Step::Cancel),
@@ -91,7 +99,7 @@ impl<'a> Step<'a> {
         match self {
             Step::Server(_) | Step::Encoding(_) | Step::Call(_) => false,
             Step::Host(_) | Step::Refuses | Step::Connect(_) | Step::Within(_) => false,
-            Step::Set(..) | Step::Connects => false,
+            Step::Set(..) | Step::Connects(_) | Step::Builds(_) | Step::BuildsNot(_) => false,
             Step::Feed(_) | Step::End | Step::Room(_) | Step::Start(_) => true,
             Step::Poll | Step::Cancel | Step::Leave | Step::Later => true,
             Step::Welcome | Step::Sessions | Step::Lists(_) => false,

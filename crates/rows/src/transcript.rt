@@ -8,6 +8,8 @@ use std::alloc::{AllocError, Global};
 pub struct Standing {
     /// What its transport was asked, line by line.
     pub asked: Vec<String>,
+    /// What was uploaded on the data connections that are over, in order.
+    pub uploaded: Vec<Vec<u8>>,
     /// What went out.
     pub sent: Vec<u8>,
     /// The answers of the calls that are done.
@@ -82,6 +84,9 @@ impl Standing {
                 None => text.push_str("W: none\n")?,
             }
         }
+        for sent in &self.uploaded {
+            add_upload(alloc, text, sent)?;
+        }
         write!(text, "T: {}\n", self.taken)
     }
 }
@@ -89,6 +94,15 @@ impl Standing {
 /// The part of a list from one place to another.
 fn between<T>(all: &[T], start: usize, end: usize) -> &[T] {
     all.get(start..end).unwrap_or(&[])
+}
+
+/// A line for a data connection that is over, with what was uploaded on it, if anything.
+fn add_upload(alloc: Global, text: &mut String, sent: &[u8]) -> Result<(), AllocError> {
+    if sent.is_empty() {
+        return text.push_str("U:\n");
+    }
+    let sent = shown(alloc, sent)?;
+    write!(text, "U: {sent}\n")
 }
 
 /// A line for each line that was sent, and for what was sent of a last one.

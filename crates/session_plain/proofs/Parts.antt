@@ -1,5 +1,5 @@
 -- Lemmas on parts of dialogues: what they come to, and what is left of them.
-use Rattle.std.proofs.Common.{◌≡◌, ℕ, ◌&&◌, nat_lt, Result, Ok, Err, IfOk, true, false, subst, ap, ◌∙◌, if◌then◌else◌}
+use Rattle.std.proofs.Common.{◌≡◌, ℕ, ◌&&◌, nat_lt, None, Result, Ok, Err, IfOk, true, false, subst, ap, ◌∙◌, if◌then◌else◌}
 use Rattle.std.specs.declared.alloc.AllocError.{AllocError}
 use Rattle.std.specs.Net.Socket.{socket_port}
 use Rattle.std.specs.declared.net.socket_addr.SocketAddr.{SocketAddr}
@@ -7,6 +7,7 @@ use Rattle.ftp_answers.specs.declared.addresses.NoAddress.{NoAddress}
 use Rattle.ftp_base.specs.declared.types.reply.Response.{Response}
 use Rattle.ftp_control.specs.declared.transport.room.Room.{Room}
 use Rattle.ftp_control.specs.declared.transport.request.Request.{Request}
+use Rattle.ftp_control.specs.declared.transport.request.Request.TheVariants.{Connect}
 use Rattle.ftp_control.specs.declared.transport.request.RequestOutcome.{RequestOutcome}
 use Rattle.ftp_session.specs.declared.session.state.State.{State}
 use Rattle.ftp_session.specs.declared.model.Played.{Played}
@@ -17,7 +18,7 @@ use Rattle.ftp_calls.specs.declared.call.Call.{Call}
 use Rattle.ftp_calls.specs.declared.exchange.Turn.TheVariants.{Restart}
 use Rattle.ftp_calls.specs.Exchanges.{restarts, row_of}
 use Rattle.ftp_session.specs.Coding.{Coding}
-use Rattle.ftp_session.specs.Dialogue.{Tree, Ask, connecting_to, connecting_to_peer, doing, last_turn, restart_turn, to_address}
+use Rattle.ftp_session.specs.Dialogue.{Tree, Ask, Build, on_built, on_connection, connecting_to, connecting_to_peer, doing, last_turn, restart_turn, to_address}
 use Rattle.ftp_session.specs.Play.{play}
 use Rattle.session_plain.specs.declared.asking.Came.TheVariants.{Known, Unknown}
 use Rattle.session_plain.specs.declared.exchange.Progress.{Progress}
@@ -53,6 +54,13 @@ at_peer state reply next address told is nat =
 pub as_told : (state : State) (reply : Response) (next : Tree) (address : SocketAddr) (told : Result SocketAddr NoAddress) → told ≡ Ok address → state.settings.passive_nat_workaround ≡ false → to_address state reply next told ≡ connecting_to address state next
 as_told state reply next address told is nat =
     ap (to_address state reply next) is ∙ ap (λ b. if b then connecting_to_peer (socket_port address) state next else connecting_to address state next) nat
+
+-- who makes the connection
+pub built_here : (state : State) (address : SocketAddr) (next : Tree) → state.settings.stream_builder ≡ true → connecting_to address state next ≡ Build address (on_built state next)
+built_here state address next = ap (λ b. if b then Build address (on_built state next) else Ask (Connect address None) (on_connection state next))
+
+pub dialled_here : (state : State) (address : SocketAddr) (next : Tree) → state.settings.stream_builder ≡ false → connecting_to address state next ≡ Ask (Connect address None) (on_connection state next)
+dialled_here state address next = ap (λ b. if b then Build address (on_built state next) else Ask (Connect address None) (on_connection state next))
 
 -- an offset is told
 pub tells_offset : (coding : Coding) (call : Call) (offset : ℕ) (state : State) → (restarts call && nat_lt 0 offset) ≡ true → restart_turn coding call offset state ≡ doing coding (row_of call (Restart offset)) state (last_turn coding call)

@@ -1,10 +1,20 @@
 -- How far a part of a dialogue gets.
-use Rattle.std.specs.Prelude.{◌≡◌}
+use Rattle.std.specs.Prelude.{◌≡◌, Bool, false, List, [], ◌∷◌, Option, Some, None}
 use Rattle.ftp_control.specs.declared.transport.room.Room.{Room}
 use Rattle.ftp_session.specs.declared.session.state.State.{State}
 use Rattle.ftp_session.specs.declared.model.Played.{Played}
 use Rattle.ftp_session.specs.Dialogue.{Tree}
-use Rattle.ftp_session.specs.Play.{play, asked_then}
+use Rattle.ftp_session.specs.Deals.{answers}
+use Rattle.ftp_session.specs.Play.{play, asked_then, built_then, moved_then}
+use Rattle.ftp_calls.specs.declared.exchange.Movement.{Movement}
+use Rattle.ftp_session.specs.declared.model.DealOutcome.{DealOutcome}
+use Rattle.ftp_session.specs.declared.model.DealOutcome.TheVariants.{Answered, Built}
+use Rattle.std.specs.declared.net.socket_addr.SocketAddr.{SocketAddr}
+use Rattle.ftp_base.specs.declared.types.fault.FtpError.{FtpError}
+use Rattle.session_plain.specs.declared.building.Answered.{Answered as FromBuilder}
+use Rattle.session_plain.specs.declared.building.Answered.TheVariants as built
+use Rattle.session_plain.specs.declared.carrying.Carried.{Carried}
+use Rattle.session_plain.specs.declared.carrying.Carried.TheVariants as carried
 use Rattle.ftp_control.specs.declared.transport.request.Request.{Request}
 use Rattle.ftp_control.specs.declared.transport.request.RequestOutcome.{RequestOutcome}
 use Rattle.ftp_session.specs.declared.model.Played.TheVariants.{Pending}
@@ -26,3 +36,32 @@ AsksFor request s (Unknown here) =
     (next : RequestOutcome → Standing → Played) → asked_then s.outcomes request s next ≡ Pending Asking here
 AsksFor request s (Known outcome here) =
     (here.state ≡ s.state) × ((next : RequestOutcome → Standing → Played) → asked_then s.outcomes request s next ≡ next outcome here)
+
+-- the builder is asked: its answer isn't known, or it is the next outcome
+abbrev pub BuildsAt : SocketAddr → Standing → FromBuilder → Type 0
+BuildsAt address s (built.Unknown here) =
+    (next : Option FtpError → Standing → Played) → built_then s.outcomes address s next ≡ Pending Asking here
+BuildsAt address s (built.Known fault here) =
+    (here.state ≡ s.state) × ((next : Option FtpError → Standing → Played) → built_then s.outcomes address s next ≡ next fault here)
+
+-- the next outcome, if it is a builder's answer
+abbrev pub next_built : List DealOutcome → Option (Option FtpError)
+next_built (Built fault ∷ outcomes) = Some fault
+next_built outcomes = None
+
+-- the next outcome, if it is one of a request
+abbrev pub next_answer : List DealOutcome → Option RequestOutcome
+next_answer (Answered outcome ∷ outcomes) = Some outcome
+next_answer outcomes = None
+
+-- the next outcome is one of such a movement
+abbrev pub is_next : Movement → List DealOutcome → Bool
+is_next movement [] = false
+is_next movement (outcome ∷ outcomes) = answers movement outcome
+
+-- something is done on the data connection: its outcome isn't known, or it is the next one
+abbrev pub Moves : Movement → Standing → Carried → Type 0
+Moves movement s (carried.Unknown here) =
+    (next : DealOutcome → Standing → Played) → moved_then s.outcomes movement s next ≡ Pending Asking here
+Moves movement s (carried.Known outcome here) =
+    (here.state ≡ s.state) × ((next : DealOutcome → Standing → Played) → moved_then s.outcomes movement s next ≡ next outcome here)

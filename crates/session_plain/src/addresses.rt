@@ -1,15 +1,17 @@
 //! The address that a reply tells, and the connection to it: the replies to PASV (RFC 959, section 4.1.2) and EPSV
 //! (RFC 2428, section 3).
 
-ghost use Rattle.std.specs.Prelude.{◌≡◌, IfOk};
+ghost use Rattle.std.specs.Prelude.{◌≡◌, IfOk, None};
 ghost use Rattle.ftp_answers.specs.Addresses.{extended_port_of, passive_address_of};
+ghost use Rattle.ftp_control.specs.declared.transport.request.Request.TheVariants.{Connect};
 ghost use Rattle.ftp_control.specs.declared.transport.room.Room.{Room as Rooms};
-ghost use Rattle.ftp_session.specs.Dialogue.{Tree, at_port, connecting_to, connecting_to_peer, no_address, to_address, to_port};
+ghost use Rattle.ftp_session.specs.Dialogue.{Ask, Build, Tree, at_port, connecting_to, connecting_to_peer, no_address, on_built, on_connection, to_address, to_port};
 ghost use Rattle.ftp_session.specs.Play.{play};
 ghost use Rattle.ftp_session.specs.declared.session.state.State.{State as States};
 ghost use Rattle.session_plain.specs.Progress.{ComesTo};
 
 use crate::asking::{Came, asked};
+use crate::building::{Answered, built};
 use crate::exchange::{Progress, done};
 use ftp_answers::{NoAddress, read_extended_port, read_passive_address};
 use ftp_base::types::{ConnectionError, FtpError, Response};
@@ -82,7 +84,7 @@ fn connecting_to_peer(alloc: Global, port: u16, standing: Standing) -> Result<Pr
     connecting_to(alloc, at_port(port, peer), standing)
 }
 
-/// A connection to an address is asked for.
+/// A connection to an address is asked for: of the caller's builder, where there is one.
 #[tactic(auto, unfolding(ftp_session::specs::Play::play))]
 fn connecting_to(
     alloc: Global,
@@ -91,6 +93,36 @@ fn connecting_to(
 ) -> Result<Progress, AllocError>
     ensures { IfOk result (λ progress. (room : Rooms) (later : States → Tree) → ComesTo room later
         (play room (connecting_to address standing.state (later standing.state)) standing)
+        progress) }
+{
+    if standing.state.settings.stream_builder {
+        built_at(alloc, address, standing)
+    } else {
+        dialled(alloc, address, standing)
+    }
+}
+
+/// The builder is asked for it. Its fault is the answer.
+#[tactic(auto, unfolding(ftp_session::specs::Play::play))]
+fn built_at(alloc: Global, address: SocketAddr, standing: Standing) -> Result<Progress, AllocError>
+    ensures { IfOk result (λ progress. (room : Rooms) (later : States → Tree) → ComesTo room later
+        (play room (Build address (on_built standing.state (later standing.state))) standing)
+        progress) }
+{
+    match built(alloc, address, standing)? {
+        Answered::Unknown(here) => Ok(Progress::Stops(Played::Pending(Wait::Outcome, here))),
+        Answered::Known(fault, here) => match fault {
+            Some(fault) => Ok(done(Answer::Fault(fault), here)),
+            None => Ok(Progress::Continues(here)),
+        },
+    }
+}
+
+/// The transport is asked for it.
+#[tactic(auto, unfolding(ftp_session::specs::Play::play))]
+fn dialled(alloc: Global, address: SocketAddr, standing: Standing) -> Result<Progress, AllocError>
+    ensures { IfOk result (λ progress. (room : Rooms) (later : States → Tree) → ComesTo room later
+        (play room (Ask (Connect address None) (on_connection standing.state (later standing.state))) standing)
         progress) }
 {
     match asked(alloc, Request::Connect(address, None), standing)? {

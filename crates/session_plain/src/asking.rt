@@ -4,6 +4,7 @@ ghost use Rattle.std.specs.Prelude.{◌≡◌, IfOk};
 ghost use Rattle.ftp_session.specs.Deals.{data_after, data_meanwhile, dealing, dealt, no_traffic};
 ghost use Rattle.session_plain.specs.Progress.{AsksFor};
 
+use crate::outcomes::{next_answer, part};
 use ftp_base::types::{Bytes, Items};
 use ftp_control::transport::{Request, RequestOutcome};
 use ftp_session::model::{Dealings, Standing, Traffic};
@@ -19,7 +20,7 @@ pub(crate) enum Came {
     Known(RequestOutcome, Standing),
 }
 
-/// A request is made: the next outcome that is known is its.
+/// A request is made: the next outcome that is known is its, if it is one of a request.
 pub(crate) fn asked(
     alloc: Global,
     request: Request,
@@ -28,21 +29,22 @@ pub(crate) fn asked(
     ensures { IfOk result (λ came. AsksFor request standing came) }
 {
     let before = mem::replace(&mut standing.dealings, no_dealings(alloc));
-    let Some((outcome, others)) = standing.outcomes.as_slice().split_first() else {
+    let Some(outcome) = next_answer(standing.outcomes.as_slice()) else {
         standing.dealings = dealing(request, before)?;
         return Ok(Came::Unknown(standing));
     };
-    let outcome = *outcome;
-    let others = Vec::from_slice(alloc, others)?;
-    standing.outcomes = Items::from_vec(others);
+    let outcomes = mem::replace(&mut standing.outcomes, Items::from_vec(Vec::new(alloc)));
+    let (_answer, others) = part(outcomes);
+    standing.outcomes = others;
     standing.dealings = dealt(alloc, request, outcome, before)?;
     Ok(Came::Known(outcome, standing))
 }
 
 /// Nothing was asked, and there is no data connection.
-fn no_dealings(alloc: Global) -> Dealings {
+pub(crate) fn no_dealings(alloc: Global) -> Dealings {
     Dealings {
         asked: Items::from_vec(Vec::new(alloc)),
+        closed: Items::from_vec(Vec::new(alloc)),
         data_conn: None,
     }
 }
@@ -56,11 +58,16 @@ fn dealt(
 ) -> Result<Dealings, AllocError>
     ensures { IfOk result (λ after. after ≡ dealt request outcome before) }
 {
-    let Dealings { asked, data_conn } = before;
+    let Dealings {
+        asked,
+        closed,
+        data_conn,
+    } = before;
     let mut asked = asked.into_vec();
     asked.push(request)?;
     Ok(Dealings {
         asked: Items::from_vec(asked),
+        closed,
         data_conn: data_after(alloc, request, outcome, data_conn),
     })
 }
@@ -69,11 +76,16 @@ fn dealt(
 fn dealing(request: Request, before: Dealings) -> Result<Dealings, AllocError>
     ensures { IfOk result (λ after. after ≡ dealing request before) }
 {
-    let Dealings { asked, data_conn } = before;
+    let Dealings {
+        asked,
+        closed,
+        data_conn,
+    } = before;
     let mut asked = asked.into_vec();
     asked.push(request)?;
     Ok(Dealings {
         asked: Items::from_vec(asked),
+        closed,
         data_conn: data_meanwhile(request, data_conn),
     })
 }
@@ -97,6 +109,7 @@ fn data_after(
             RequestOutcome::Address(_) => Some(no_traffic(alloc)),
             RequestOutcome::Done | RequestOutcome::Refused(_) => None,
         },
+        Request::Build(_address) => conn,
     }
 }
 
@@ -105,13 +118,13 @@ fn data_meanwhile(request: Request, conn: Option<Traffic>) -> Option<Traffic>
     ensures { result ≡ data_meanwhile request conn }
 {
     match request {
-        Request::Connect(..) | Request::Listen(_) => conn,
+        Request::Connect(..) | Request::Listen(_) | Request::Build(_) => conn,
         Request::Accept(_deadline) => None,
     }
 }
 
 /// Nothing was read or written.
-fn no_traffic(alloc: Global) -> Traffic
+pub(crate) fn no_traffic(alloc: Global) -> Traffic
     ensures { result ≡ no_traffic }
 {
     Traffic {

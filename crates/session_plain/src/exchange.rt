@@ -1,4 +1,5 @@
-//! One row of a call on all bytes at once: a line is said, a reply is heard and accepted; or a setting changes.
+//! One row of a call on all bytes at once: a line is said, a reply is heard and accepted; or a setting changes, or bytes
+//! go over the data connection.
 
 ghost use Rattle.std.specs.Prelude.{◌≡◌, ◌++◌, [], true, IfOk, IfErr, Ok, Some, Result, drop};
 ghost use Rattle.ftp_base.specs.Command.{text_of};
@@ -6,13 +7,16 @@ ghost use Rattle.ftp_base.specs.Wire.{wire};
 ghost use Rattle.ftp_control.specs.Grammar.{left_by};
 ghost use Rattle.ftp_control.specs.Refusal.{IsRefusalOf};
 ghost use Rattle.ftp_session.specs.Coding.{coding_of};
-ghost use Rattle.ftp_session.specs.Dialogue.{Tree, accepted, armed, awaiting, concluded, doing, exchanging, expected_of, greeting_of, saying};
+ghost use Rattle.ftp_session.specs.Dialogue.{Tree, accepted, awaiting, concluded, doing, exchanging, expected_of, greeting_of, saying};
 ghost use Rattle.ftp_calls.specs.Exchanges.{row_of};
 ghost use Rattle.ftp_session.specs.Play.{fits, heard_then, play, said_then, taken};
 ghost use Rattle.session_plain.specs.Progress.{ComesTo};
 
 use crate::addresses::{to_address, to_port};
+use crate::carrying::carrying;
+use crate::finishing::{after_fault, finish_answer, finished, told_fault};
 use crate::opening::{opened, opened_answer};
+use crate::settings::{armed, set_to};
 use ftp_base::command::Command;
 use ftp_base::encoding::{Encoding, WelcomeMessage};
 use ftp_base::status::Status;
@@ -56,15 +60,9 @@ pub(crate) fn row<E: Encoding>(
     match row_at(alloc, call, turn)? {
         Row::Exchanges(made) => exchange(alloc, room, encoding, made, standing),
         Row::Arms(offset) => Ok(done(Answer::Unit, armed(offset, standing))),
+        Row::Sets(setting) => Ok(done(Answer::Unit, set_to(setting, standing))),
+        Row::Moves(movement) => carrying(alloc, movement, standing),
     }
-}
-
-/// The next transfer begins at this offset.
-pub(crate) fn armed(offset: u64, mut standing: Standing) -> Standing
-    ensures { result ≡ record standing { state = armed offset standing.state } }
-{
-    standing.state.settings.restart_offset = offset;
-    standing
 }
 
 /// One exchange.
@@ -297,7 +295,10 @@ fn concluded<E: Encoding>(
 {
     match heard {
         Ok(reply) => accepted(alloc, encoding, ending, reply, standing),
-        Err(fault) => Ok(done(Answer::Fault(fault), standing)),
+        Err(fault) => {
+            let told = told_fault(ending, fault);
+            Ok(done(Answer::Fault(told), after_fault(ending, standing)))
+        }
     }
 }
 
@@ -335,6 +336,7 @@ fn accepted<E: Encoding>(
             let played = opened(alloc, opened_answer(gives_reply, reply), standing)?;
             Ok(Progress::Stops(played))
         }
+        Ending::Finishes(close) => Ok(done(finish_answer(close), finished(standing))),
         Ending::GoesOn(status) => {
             let goes_on = reply.status.code() == status.code();
             if goes_on {

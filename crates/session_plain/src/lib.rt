@@ -4,13 +4,18 @@
 
 mod addresses;
 mod asking;
+mod building;
+mod carrying;
 mod connecting;
 mod events;
 mod exchange;
+mod finishing;
 mod negotiation;
 mod opening;
+mod outcomes;
 mod play;
 mod runs;
+mod settings;
 mod turns;
 
 pub use connecting::connect_in_turn;

@@ -1,22 +1,25 @@
-//! What a call comes to: its turns, after negotiation where it opens a data connection.
+//! What a call comes to: its turns, after negotiation where it opens a data connection, or after the close of one where
+//! it brings a transfer to its end.
 
 ghost use Rattle.std.specs.Prelude.{◌≡◌, IfOk};
 ghost use Rattle.ftp_session.specs.Coding.{coding_of};
-ghost use Rattle.ftp_session.specs.Dialogue.{dialogue, entered};
+ghost use Rattle.ftp_session.specs.Dialogue.{dialogue, entered, opened_from, uploads_beside};
 ghost use Rattle.ftp_session.specs.Play.{ended, finally, play, play_call};
 
-use crate::exchange::armed;
+use crate::finishing::{closing, left, left_by};
 use crate::negotiation::negotiating;
+use crate::settings::armed;
 use crate::turns::from_turn;
 use ftp_base::encoding::Encoding;
 use ftp_base::types::FtpError;
-use ftp_calls::exchange::{Turn, negotiates};
+use ftp_calls::exchange::{Turn, finishes, is_local, negotiates, of_transfer, uploads};
 use ftp_control::transport::Room;
 use ftp_session::model::{Played, Standing};
 use ftp_session::session::{Answer, Call, Owed};
 use std::alloc::{AllocError, Global};
 
-/// What a call comes to; once the session has failed it says and hears nothing.
+/// What a call comes to. One of a transfer comes to nothing where none is held; once the session has failed a call says
+/// and hears nothing.
 pub fn play_call<E: Encoding>(
     alloc: Global,
     room: Room,
@@ -27,9 +30,12 @@ pub fn play_call<E: Encoding>(
     ensures { IfOk result (λ played. played ≡
         play_call room (coding_of E.decoded E.encoded encoding.now) call.now standing) }
 {
-    if standing.failed {
+    if of_transfer(call) && standing.dealings.data_conn.is_none() {
+        return Ok(Played::Done(Answer::NoTransfer, standing));
+    }
+    if !is_local(call) && standing.failed {
         let fault = Answer::Fault(FtpError::SessionFailed);
-        return Ok(Played::Done(fault, standing));
+        return Ok(Played::Done(fault, left_by(alloc, call, standing)?));
     }
     Ok(finally(play_dialogue(alloc, room, encoding, call, standing)?))
 }
@@ -54,7 +60,8 @@ fn ended(mut standing: Standing) -> Standing
     standing
 }
 
-/// What the dialogue of a call comes to. One that opens a data connection takes the offset away.
+/// What the dialogue of a call comes to. One that opens a data connection takes the offset away; one that brings a
+/// transfer to its end has left it.
 pub(crate) fn play_dialogue<E: Encoding>(
     alloc: Global,
     room: Room,
@@ -68,7 +75,31 @@ pub(crate) fn play_dialogue<E: Encoding>(
 {
     if negotiates(call) {
         let offset = standing.state.settings.restart_offset;
-        return negotiating(alloc, room, encoding, call, offset, armed(0, standing));
+        let here = opened_from(call, standing);
+        return negotiating(alloc, room, encoding, call, offset, here);
+    }
+    if finishes(call) {
+        return closing(alloc, room, encoding, call, left(standing));
     }
     from_turn(alloc, room, encoding, call, Turn::First, standing)
+}
+
+/// A call that opens a data connection begins: the offset is gone, and whether the transfer is an upload is known.
+fn opened_from(call: &Call, standing: Standing) -> Standing
+    ensures { result ≡ record standing { state = opened_from call.now standing.state } }
+{
+    let mut here = armed(0, standing);
+    let owed = here.state.counts.owed();
+    here.state.uploads = uploads_beside(owed, uploads(call), here.state.uploads);
+    here
+}
+
+/// Whether a transfer is an upload, of the one that is opened, or of the one that is owed.
+fn uploads_beside(owed: Owed, opened: bool, before: bool) -> bool
+    ensures { result ≡ uploads_beside owed opened before }
+{
+    match owed {
+        Owed::Nothing => opened,
+        Owed::Live(_) | Owed::Left(_) => before,
+    }
 }

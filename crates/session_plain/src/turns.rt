@@ -56,6 +56,7 @@ fn later<E: Encoding>(
             restart_turn(alloc, room, encoding, call, offset, standing)
         }
         Turn::Restart(_offset) => last_turn(alloc, room, encoding, call, standing),
+        Turn::Closed(_close) => Ok(Played::Done(Answer::Unit, standing)),
     }
 }
 

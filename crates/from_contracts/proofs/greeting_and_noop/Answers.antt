@@ -9,10 +9,10 @@ use Rattle.from_contracts.proofs.greeting_and_noop.Goals as goal
 pub returns : goal.returns
 returns c =
     let old = c.in_ok-session.session.machine in
-    let P : Told → Type 0 = λ t. Begins (Unit {0}) t (first_net [] []) old in
+    let P : Told → Type 0 = λ t. Begins (Unit {0}) t (first_net [] [] []) old in
     let Q : Told → Type 0 = IsGiven in
-    let R : Asking → Type 0 = λ a. Begins (Unit {0}) c.feed.new.self (first_net a.answered a.ready) old in
+    let R : Asking → Type 0 = λ a. Begins (Unit {0}) c.feed.new.self (first_net a.answered a.ready a.closed) old in
     let unasked = subst R c.new.ensures c.in_ok-session.ensures.begins in
     let begins = subst P (c.in_ok-feed.ensures.ok ∙ ap (fed server) c.new-conn.ensures) unasked in
     let given = subst Q c.get_ref.ensures c.unread.ensures.given in
-    answered _ old c.run.new.self.machine _ begins given c.in_ok-answers.ensures.sound.channel (rw c.in_ok-session.ensures.encoding at c.in_ok-answers.ensures.runs)
+    answered _ _ old c.run.new.self.machine _ begins given c.in_ok-answers.ensures.sound.channel (rw c.in_ok-session.ensures.encoding at c.in_ok-answers.ensures.runs)

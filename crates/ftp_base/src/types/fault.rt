@@ -22,7 +22,7 @@ use thiserror::Error;
 pub type FtpResult<T> = Result<T, FtpError>;
 
 /// Why a call of the client failed.
-#[derive(Debug, Drop, Error)]
+#[derive(Clone, Debug, Drop, Error)]
 pub enum FtpError {
     /// A connection failed, or what went over it can't be sent or taken.
     #[error("Connection error: {0}")]

@@ -175,6 +175,14 @@ impl Network for MemoryTransport {
         self.closed.reserve(1)
     }
 
+    fn note_build(&mut self, address: SocketAddr) -> Result<(), AllocError> {
+        self.asked.reserve(1)?;
+        let request = Request::Build(address);
+        let outcome = RequestOutcome::Done;
+        self.asked.push(Asked { request, outcome }).unwrap();
+        Ok(())
+    }
+
     fn closed(&mut self, conn: MemoryConn) {
         let _ = self.closed.push(conn);
     }

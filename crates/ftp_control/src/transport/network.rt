@@ -7,14 +7,15 @@
 //! blanket impl makes the second of the first, so whatever stands above is written once. Both are passed their runtime,
 //! an `R`, which is nothing over memory.
 
-ghost use Rattle.std.specs.Prelude.{◌≡◌, ◌∷◌, ◌++◌, [], ℕ, List, OnOk, Result};
+ghost use Rattle.std.specs.Prelude.{◌≡◌, ◌∷◌, ◌++◌, [], ℕ, List, OnErr, OnOk, Result};
 ghost use Rattle.std.specs.declared.net.socket_addr.SocketAddr.{SocketAddr as Address};
 ghost use Rattle.futures.specs.declared.task.Poll.TheVariants as poll;
 ghost use Rattle.ftp_base.specs.declared.types.fault.ConnectionError.{ConnectionError as Fault};
-ghost use Rattle.ftp_control.specs.Asking.{Asks, Binds, Supplies, comes_as, connects_as, done, done_at};
+ghost use Rattle.ftp_control.specs.Asking.{Asks, Binds, Supplies, comes_as, connects_as, done, done_at, recorded};
 ghost use Rattle.ftp_control.specs.Told.{Told};
 ghost use Rattle.ftp_control.specs.declared.transport.request.Asked.{Asked};
-ghost use Rattle.ftp_control.specs.declared.transport.request.Request.TheVariants.{Accept, Connect, Listen};
+ghost use Rattle.ftp_control.specs.declared.transport.request.Request.TheVariants.{Accept, Build, Connect, Listen};
+ghost use Rattle.ftp_control.specs.declared.transport.request.RequestOutcome.TheVariants.{Done};
 ghost use Rattle.ftp_control.specs.declared.transport.supply.Supply.{Supply};
 ghost use Rattle.std.specs.Prelude.{None, Some};
 
@@ -67,6 +68,19 @@ pub trait Network: Drop {
         ensures asked { Self.asked self.new ≡ Self.asked self.old }
         ensures ready { Self.ready self.new ≡ Self.ready self.old }
         ensures closed { Self.closed self.new ≡ Self.closed self.old }
+        ensures port { Self.port self.new ≡ Self.port self.old };
+
+    /// Puts on record that the caller's builder is asked for a connection to this address.
+    ///
+    /// # Errors
+    /// Where an allocation fails, and then it isn't asked.
+    fn note_build(&mut self, address: SocketAddr) -> Result<(), AllocError>
+        ensures noted { OnOk result (Self.Conn.tells →
+            Self.asked self.new ≡ recorded (Build address) Done (Self.asked self.old)) }
+        ensures unnoted { OnErr result (Self.asked self.new ≡ Self.asked self.old) }
+        ensures ready { Self.ready self.new ≡ Self.ready self.old }
+        ensures closed { Self.closed self.new ≡ Self.closed self.old }
+        ensures room { Self.has_room self.old → Self.has_room self.new }
         ensures port { Self.port self.new ≡ Self.port self.old };
 
     /// Takes over a data connection that is over. Where room was made its record is kept, and nothing is allocated.

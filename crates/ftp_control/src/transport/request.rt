@@ -16,6 +16,8 @@ pub enum Request {
     Listen(SocketAddr),
     /// A peer's connection on the listener, by this deadline, counted from the listener's first accept.
     Accept(Duration),
+    /// A connection to this address, which the caller's builder is asked for in the transport's place.
+    Build(SocketAddr),
 }
 
 /// What a request resulted in.

@@ -115,6 +115,10 @@ impl Network for TcpTransport {
         Ok(())
     }
 
+    fn note_build(&mut self, _address: SocketAddr) -> Result<(), AllocError> {
+        Ok(())
+    }
+
     fn closed(&mut self, _conn: TcpConn) {}
 }
 

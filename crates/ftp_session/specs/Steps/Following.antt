@@ -7,7 +7,7 @@ use Rattle.ftp_base.specs.declared.types.fault.FtpError.{FtpError}
 use Rattle.ftp_base.specs.declared.types.fault.FtpError.TheVariants.{SessionFailed}
 use Rattle.ftp_control.specs.Told.{EndsAsTold}
 use Rattle.ftp_session.specs.Deals.{Deal, Deals, dealings_of, outcomes_of}
-use Rattle.ftp_control.specs.declared.transport.request.RequestOutcome.{RequestOutcome}
+use Rattle.ftp_session.specs.declared.model.DealOutcome.{DealOutcome}
 use Rattle.ftp_control.specs.declared.control.outcome.Outcome.TheVariants.{Waits}
 use Rattle.ftp_control.specs.Grammar.{outcome}
 use Rattle.ftp_control.specs.Memory.{IsGiven}
@@ -18,24 +18,25 @@ use Rattle.ftp_calls.specs.declared.call.Call.{Call}
 use Rattle.ftp_calls.specs.declared.call.Event.{Event}
 use Rattle.ftp_calls.specs.declared.call.Event.TheVariants.{Feed, Poll as Polling}
 use Rattle.ftp_calls.specs.declared.exchange.Turn.{Turn}
-use Rattle.ftp_calls.specs.declared.exchange.Turn.TheVariants.{First, Second, Passive, ExtendedPassive, Active, Restart}
+use Rattle.ftp_calls.specs.declared.exchange.Turn.TheVariants.{First, Second, Passive, ExtendedPassive, Active, Restart, Closed}
 use Rattle.ftp_session.specs.declared.session.state.State.{State}
 use Rattle.ftp_session.specs.declared.session.stage.Stage.{Stage}
-use Rattle.ftp_session.specs.declared.session.stage.Stage.TheVariants.{At, Saying, Hearing, Arming, Agreeing}
+use Rattle.ftp_session.specs.declared.session.stage.Stage.TheVariants.{At, Saying, Hearing, Arming, Agreeing, Closing}
 use Rattle.ftp_session.specs.declared.session.stage.Agreeing.TheVariants.{Negotiating}
 use Rattle.ftp_session.specs.State.{SessionValue, let_go}
 use Rattle.ftp_session.specs.Coding.{Coding}
-use Rattle.ftp_calls.specs.Exchanges.{is_read, negotiates}
+use Rattle.ftp_calls.specs.Exchanges.{finishes, is_read, negotiates}
 use Rattle.ftp_control.specs.declared.control.rule.ReplyRule.{ReplyRule}
 use Rattle.ftp_session.specs.Dialogue.{Tree, dialogue, entered}
 use Rattle.ftp_session.specs.Run.{Resumes}
-use Rattle.ftp_session.specs.Scripted.{SaysFrontOf, SaysNothing, SaysOrTakes, Stands, Reaches}
-use Rattle.ftp_session.specs.Promises.{AllRefused, Aborts, HasFault, Rests}
+use Rattle.ftp_session.specs.Scripted.{AreRefused, SaysFrontOf, SaysNothing, SaysOrTakes, Stands, Reaches}
+use Rattle.ftp_session.specs.Play.{Taken}
+use Rattle.ftp_session.specs.Promises.{Aborts, HasFault, IsRefused, Rests, refusal_of}
 use Rattle.ftp_session.specs.Steps.Stages.{remaining, begun_at, StageOf}
-use Rattle.ftp_session.specs.Steps.Moving.{HasBegun, PollsTo}
+use Rattle.ftp_session.specs.Steps.Moving.{Apart, HasBegun, PollsTo}
 use Rattle.ftp_session.specs.declared.model.Script.{Script}
-use Rattle.ftp_session.specs.Script.{unread, is_over, start_of, after_event, IsLawful, MayCancel}
-use Rattle.ftp_session.specs.Link.{over_memory}
+use Rattle.ftp_session.specs.Script.{needs_data, unread, is_over, start_of, after_event, IsLawful, MayCancel}
+use Rattle.ftp_session.specs.Link.{Builds, Link, over_memory}
 
 -- nothing was made of a call yet
 abbrev pub is_first_turn : Turn → Bool
@@ -45,6 +46,7 @@ is_first_turn (Passive offset) = false
 is_first_turn (ExtendedPassive offset) = false
 is_first_turn (Active address offset) = false
 is_first_turn (Restart offset) = false
+is_first_turn (Closed close) = false
 
 abbrev pub is_first : Stage → Bool
 is_first (At turn) = is_first_turn turn
@@ -52,10 +54,12 @@ is_first (Saying line a) = false
 is_first (Hearing a) = false
 is_first (Arming turn offset) = false
 is_first (Agreeing agreeing) = false
+is_first Closing = false
 
--- where a call begins: one that opens a data connection takes the offset with it
+-- where a call begins: one that opens a data connection takes the offset with it, and one that brings a transfer to its
+-- end closes its data connection
 abbrev pub first_stage : Call → State → Stage
-first_stage call state = if negotiates call then Agreeing (Negotiating state.settings.restart_offset) else At First
+first_stage call state = if negotiates call then Agreeing (Negotiating state.settings.restart_offset) else if finishes call then Closing else At First
 
 -- where a poll of a call begins
 abbrev pub entered_stage : Call → Stage → State → Stage
@@ -92,12 +96,13 @@ pub record UnderWay (coding : Coding) (old : SessionValue) (s : Script) (came : 
   pub going : v.channel.failed ≡ false
   pub reaches : Reaches coding old s.items came answered v s.answers call (remaining coding call v.state stage)
   pub resumes : Resumes v.channel.rule v.channel.kept (remaining coding call v.state stage)
+  pub apart : is_read call ≡ true → Apart (remaining coding call v.state stage)
   pub read : is_read call ≡ true → Stands coding old s.items came answered v s.answers
   pub since : Since coding old s.items s.answers came answered v (begun_at stage)
 
 -- a call that was polled and has waited for room since, before it hears: its first line still goes out
 pub record Unheard (coding : Coding) (old : SessionValue) (s : Script) (came : List ℕ) (answered : List Deal) (v : SessionValue) (call : Call) (stage : Stage) : Type 0 where
-  pub plain : negotiates call ≡ false
+  pub plain : needs_data call ≡ false
   pub stage_of : StageOf call stage
   pub polled : s.polled ≡ true
   pub unheard : s.heard ≡ false
@@ -119,10 +124,10 @@ Place coding old s came answered v None stage = Stands coding old s.items came a
 Place coding old s came answered v (Some call) stage = Started coding old s came answered v call stage ⊎ UnderWay coding old s came answered v call stage ⊎ Unheard coding old s came answered v call stage
 
 -- the session follows the script; of all outcomes these are left
-pub record Follows (coding : Coding) (outcomes left : List RequestOutcome) (old : SessionValue) (s : Script) (v : SessionValue) (call : Option Call) (stage : Stage) (answers : List Answer) : Type 0 where
+pub record Follows (builds : Builds) (coding : Coding) (outcomes left : List DealOutcome) (old : SessionValue) (s : Script) (v : SessionValue) (call : Option Call) (stage : Stage) (answers : List Answer) : Type 0 where
   pub came : List ℕ
   pub answered : List Deal
-  pub deals : Deals answered old.net v.net
+  pub deals : Deals builds answered old.net v.net
   pub outcomes_are : outcomes ≡ outcomes_of answered ++ left
   pub dealings : s.dealings ≡ dealings_of v.net
   pub place : Place coding old s came answered v call stage
@@ -164,32 +169,62 @@ abbrev pub polled_answer : Poll Answer → List Answer
 polled_answer (Ready answer) = answer ∷ []
 polled_answer Pending = []
 
+-- a call is polled: it begins and isn't refused, or it was begun in a session that goes on
+abbrev pub MayPollFrom : Bool → Call → SessionValue → Type 0
+MayPollFrom true call v = refusal_of call v ≡ Taken
+MayPollFrom false call v = v.channel.failed ≡ false
+
+abbrev pub MayPollAt : Stage → Call → SessionValue → Type 0
+MayPollAt stage call v = MayPollFrom (is_first stage) call v
+
+-- a call isn't made: it is refused where it begins, or its session has failed since
+abbrev pub RefusesFrom : Bool → Type 0 → Call → SessionValue → SessionValue → Answer → Type 0
+RefusesFrom true tells call v w answer = IsRefused tells call v w answer
+RefusesFrom false tells call v w answer = (v.channel.failed ≡ true) × (answer ≡ Fault SessionFailed) × (w ≡ v)
+
+-- a call that is made goes on as far as it gets
+pub record PollsOn (link : Link) (may_wait : Type 0) (coding : Coding) (call : Call) (stage stage' : Stage) (v w : SessionValue) (result : Poll Answer) : Type 0 where
+  pub may : MayPollAt stage call v
+  pub going : v.channel.failed ≡ false
+  pub polls : PollsTo link (begun_at stage) (entered_tree coding call stage v.state) (remaining coding call (entered_state call stage v.state) stage') (entered_at call stage v) w result
+  pub rests : result ≡ Pending → is_read call ≡ true → Rests link v w
+  pub begun : result ≡ Pending → HasBegun link (begun_at stage) (begun_at stage') (entered_tree coding call stage v.state) (entered_at call stage v) w
+  pub fails : w.channel.failed ≡ true → (v.channel.failed ≡ true) ⊎ HasFault (polled_answer result)
+  pub end : link.tells → may_wait → EndsAsTold v.channel.ended w.channel.ended v.channel.told
+
+-- a call that is polled isn't made, or goes on
+abbrev pub StartsTo : Link → Type 0 → Coding → Call → Stage → Stage → SessionValue → SessionValue → Poll Answer → Type 0
+StartsTo link may_wait coding call stage stage' v w result =
+    ((answer : Answer) × (result ≡ Ready answer) × RefusesFrom (is_first stage) link.tells call v w answer) ⊎ PollsOn link may_wait coding call stage stage' v w result
+
 -- what a poll over memory does, and what holds then
-pub record PollsHere (coding : Coding) (call : Call) (stage stage' : Stage) (v w : SessionValue) (result : Poll Answer) : Type 0 where
-  pub refused : v.channel.failed ≡ true → (result ≡ Ready (Fault SessionFailed)) × (w ≡ v)
-  pub polls : v.channel.failed ≡ false → PollsTo over_memory (begun_at stage) (entered_tree coding call stage v.state) (remaining coding call (entered_state call stage v.state) stage') (entered_at call stage v) w result
-  pub rests : result ≡ Pending → is_read call ≡ true → Rests over_memory v w
-  pub begun : result ≡ Pending → HasBegun over_memory (begun_at stage) (begun_at stage') (entered_tree coding call stage v.state) (entered_at call stage v) w
+pub record PollsHere (builds : Builds) (coding : Coding) (call : Call) (stage stage' : Stage) (v w : SessionValue) (result : Poll Answer) : Type 0 where
+  pub refused : is_first stage ≡ true → (refusal_of call v ≡ Taken → ⊥) → (answer : Answer) × (result ≡ Ready answer) × IsRefused (Unit {0}) call v w answer
+  pub lost : is_first stage ≡ false → v.channel.failed ≡ true → (result ≡ Ready (Fault SessionFailed)) × (w ≡ v)
+  pub polls : MayPollAt stage call v → PollsTo (over_memory builds) (begun_at stage) (entered_tree coding call stage v.state) (remaining coding call (entered_state call stage v.state) stage') (entered_at call stage v) w result
+  pub rests : result ≡ Pending → is_read call ≡ true → Rests (over_memory builds) v w
+  pub begun : result ≡ Pending → HasBegun (over_memory builds) (begun_at stage) (begun_at stage') (entered_tree coding call stage v.state) (entered_at call stage v) w
   pub fails : w.channel.failed ≡ true → (v.channel.failed ≡ true) ⊎ HasFault (polled_answer result)
   pub left_at : result ≡ Pending → StageOf call stage'
   pub end : EndsAsTold v.channel.ended w.channel.ended v.channel.told
   pub given : IsGiven w.channel.told
   pub sound : IsSound (Unit {0}) w.channel
+  pub stays : v.channel.failed ≡ true → (w.channel.failed ≡ true) × (w.channel.told.failures ≡ v.channel.told.failures) × AreRefused (polled_answer result)
 
 -- a call is aborted at this stage
-pub record AbortsCall (coding : Coding) (call : Call) (stage : Stage) (v w : SessionValue) (result : Option Answer) : Type 0 where
+pub record AbortsCall (builds : Builds) (coding : Coding) (call : Call) (stage : Stage) (v w : SessionValue) (result : Option Answer) : Type 0 where
   pub fault : FtpError
   pub is : result ≡ Some (Fault fault)
-  pub going : v.channel.failed ≡ false
+  pub going : MayPollAt stage call v
   pub last : SessionValue
-  pub aborts : Aborts over_memory (begun_at stage) (entered_tree coding call stage v.state) (Fault fault) (entered_at call stage v) last
+  pub aborts : Aborts (over_memory builds) (begun_at stage) (entered_tree coding call stage v.state) (Fault fault) (entered_at call stage v) last
   pub lets_go : w ≡ let_go last
   pub given : IsGiven w.channel.told
   pub sound : IsSound (Unit {0}) w.channel
 
 -- a session that has failed fails no more, and refuses what it answers
 abbrev pub FailedStays : SessionValue → SessionValue → Option Answer → Type 0
-FailedStays v w answer = v.channel.failed ≡ true → (w.channel.failed ≡ true) × (w.channel.told.failures ≡ v.channel.told.failures) × AllRefused (given_answer answer)
+FailedStays v w answer = v.channel.failed ≡ true → (w.channel.failed ≡ true) × (w.channel.told.failures ≡ v.channel.told.failures) × AreRefused (given_answer answer)
 
 -- only a Feed may need memory
 pub record IsFeed (event : Event) : Type 0 where
@@ -197,10 +232,10 @@ pub record IsFeed (event : Event) : Type 0 where
   pub is : event ≡ Feed bytes
 
 -- what happened beside the control connection
-abbrev pub Grows : SessionValue → SessionValue → Type 0
-Grows v w = (answered : List Deal) × Deals answered v.net w.net
+abbrev pub Grows : Builds → SessionValue → SessionValue → Type 0
+Grows builds v w = (answered : List Deal) × Deals builds answered v.net w.net
 
 -- an event of a script: the session follows it, or the call under way is aborted
-abbrev pub Happens : Coding → SessionValue → SessionValue → Option Call → Option Call → Stage → Stage → Event → Option Answer → Type 0
-Happens coding v w call call' stage stage' event result =
-    (answered : List Deal) × Deals answered v.net w.net × ((outcomes left : List RequestOutcome) (old : SessionValue) (s : Script) (answers : List Answer) → Follows coding outcomes (outcomes_of answered ++ left) old s v call stage answers → IsLawful coding (start_of old outcomes) s event → Follows coding outcomes left old (after_event coding (start_of old outcomes) s event) w call' stage' (answers ++ given_answer result) ⊎ (((under_way : Call) × (call ≡ Some under_way) × AbortsCall coding under_way stage v w result) × (call' ≡ None) × (event ≡ Polling)))
+abbrev pub Happens : Builds → Coding → SessionValue → SessionValue → Option Call → Option Call → Stage → Stage → Event → Option Answer → Type 0
+Happens builds coding v w call call' stage stage' event result =
+    (answered : List Deal) × Deals builds answered v.net w.net × ((outcomes left : List DealOutcome) (old : SessionValue) (s : Script) (answers : List Answer) → Follows builds coding outcomes (outcomes_of answered ++ left) old s v call stage answers → IsLawful coding (start_of old outcomes) s event → Follows builds coding outcomes left old (after_event coding (start_of old outcomes) s event) w call' stage' (answers ++ given_answer result) ⊎ (((under_way : Call) × (call ≡ Some under_way) × AbortsCall builds coding under_way stage v w result) × (call' ≡ None) × (event ≡ Polling)))

@@ -1,6 +1,6 @@
 -- What a step of a dialogue does: whatever the server still sends, and whatever room there is, the tree before it and
 -- the tree after it come to the same. Beside what is promised it keeps how much is kept of a reply under way.
-use Rattle.std.specs.Prelude.{◌++◌, ◌≡◌, ◌<◌, ◌≤◌, ◌+◌, ◌⊎◌, ℕ, zero, suc, Bool, true, false, ◌&&◌, if◌then◌else◌, Option, None, List, [], length, Result, Ok, Err}
+use Rattle.std.specs.Prelude.{◌++◌, ◌==◌, ◌≡◌, ◌<◌, ◌≤◌, ◌+◌, ◌⊎◌, ℕ, zero, suc, Bool, true, false, ◌&&◌, if◌then◌else◌, Option, None, List, [], length, Result, Ok, Err}
 use Rattle.futures.specs.declared.task.Poll.{Poll}
 use Rattle.futures.specs.declared.task.Poll.TheVariants as poll
 use Rattle.ftp_base.specs.declared.types.reply.Response.{Response}
@@ -15,12 +15,16 @@ use Rattle.std.specs.declared.alloc.AllocError.{AllocError}
 use Rattle.std.specs.declared.io.ErrorKind.{ErrorKind}
 use Rattle.std.specs.declared.net.socket_addr.SocketAddr.{SocketAddr}
 use Rattle.ftp_base.specs.declared.types.fault.ConnectionError.TheVariants.{Io, NoAddress, TimedOut}
-use Rattle.ftp_session.specs.Play.{play}
+use Rattle.ftp_session.specs.Play.{Taken, play}
 use Rattle.ftp_control.specs.Channel.{untaken}
 use Rattle.ftp_control.specs.Saying.{due, said}
 use Rattle.ftp_session.specs.declared.session.state.State.{State}
 use Rattle.ftp_calls.specs.declared.call.Answer.{Answer}
 use Rattle.ftp_calls.specs.declared.call.Answer.TheVariants.{Fault}
+use Rattle.ftp_calls.specs.declared.call.Answer.TheVariants as answers
+use Rattle.ftp_calls.specs.declared.call.Setting.{Setting}
+use Rattle.ftp_calls.specs.declared.exchange.Movement.TheVariants as movement
+use Rattle.ftp_session.specs.Scripted.{IsApart}
 use Rattle.ftp_calls.specs.declared.call.Call.{Call}
 use Rattle.ftp_calls.specs.declared.exchange.Ending.{Ending}
 use Rattle.ftp_calls.specs.declared.exchange.Ending.TheVariants.{GivesAddress, GivesPort, Opens}
@@ -36,13 +40,19 @@ use Rattle.ftp_session.specs.declared.session.stage.Step.{Step}
 use Rattle.ftp_session.specs.declared.session.stage.Step.TheVariants.{Next, Pending, Done}
 use Rattle.ftp_session.specs.State.{SessionValue, let_go}
 use Rattle.ftp_session.specs.Coding.{Coding}
-use Rattle.ftp_session.specs.Deals.{Deal}
+use Rattle.ftp_session.specs.Deals.{Deal, MovementIs, outcomes_of}
+use Rattle.ftp_calls.specs.declared.exchange.Movement.{Movement}
+use Rattle.ftp_session.specs.declared.model.DealOutcome.{DealOutcome}
 use Rattle.ftp_calls.specs.declared.exchange.Turn.{Turn}
+use Rattle.ftp_calls.specs.declared.exchange.Turn.TheVariants.{First}
+use Rattle.ftp_calls.specs.declared.exchange.Row.{Row}
+use Rattle.ftp_calls.specs.declared.exchange.Row.TheVariants.{Exchanges, Arms}
+use Rattle.ftp_calls.specs.declared.exchange.Row.TheVariants as row
 use Rattle.ftp_control.specs.Refusal.{IsRefusalOf}
-use Rattle.ftp_calls.specs.Exchanges.{is_read, row_of, says_of, Kind, Nothing, kind_of}
-use Rattle.ftp_session.specs.Dialogue.{Expected, End, Tree, Say, Hear, Look, Ask, Leaf, accepted, later, lets_in, with_transfer, dialogue}
+use Rattle.ftp_calls.specs.Exchanges.{is_local, is_read, row_of, says_of, Kind, Nothing, kind_of}
+use Rattle.ftp_session.specs.Dialogue.{Expected, End, Tree, Say, Hear, Look, Ask, Build, Move, Leaf, accepted, later, lets_in, moved_answer, set_to, told_fault, after_fault_of, with_transfer, dialogue}
 use Rattle.ftp_session.specs.Run.{Resumes, Silent}
-use Rattle.ftp_session.specs.Promises.{IsFault, Leads, Completes, Aborts, Fails, However, SaidOrTaken, Untouched, Rests, IsRefused, begun_by, failed_from}
+use Rattle.ftp_session.specs.Promises.{AbortsRead, IsFault, Leads, Completes, Aborts, However, SaidOrTaken, Untouched, Rests, IsRefused, begun_by, failed_from, refusal_of}
 use Rattle.ftp_session.specs.Steps.Stages.{AnswersKind, Begun, GoesOnTo, StageAfter, StepAnswers, asking_of, nodes_left, remaining, begun_at, is_later, line_of}
 use Rattle.ftp_session.specs.Link.{Link}
 
@@ -60,7 +70,20 @@ Calm (Say line next) = Unit {0}
 Calm (Hear codes next) = ⊥
 Calm (Look end next) = Unit {0}
 Calm (Ask request next) = Unit {0}
+Calm (Build address next) = Unit {0}
+Calm (Move movement next) = Unit {0}
 Calm (Leaf answer state) = Unit {0}
+
+-- the tree asks nothing of the transport, and does nothing on the data connection
+abbrev pub Apart : Tree → Type 0
+Apart (Say (Ok line) next) = Apart next
+Apart (Say (Err cause) next) = Unit {0}
+Apart (Hear codes next) = (heard : Result Response FtpError) → Apart (next heard)
+Apart (Look end next) = (address : SocketAddr) → Apart (next address)
+Apart (Ask request next) = ⊥
+Apart (Build address next) = ⊥
+Apart (Move movement next) = ⊥
+Apart (Leaf answer state) = Unit {0}
 
 -- a line is said first
 abbrev pub Speaks : Tree → Type 0
@@ -69,6 +92,8 @@ Speaks (Say (Err cause) next) = ⊥
 Speaks (Hear codes next) = ⊥
 Speaks (Look end next) = ⊥
 Speaks (Ask request next) = ⊥
+Speaks (Build address next) = ⊥
+Speaks (Move movement next) = ⊥
 Speaks (Leaf answer state) = ⊥
 
 -- the line that was said first still goes out, and that is all: what is kept of a reply doesn't matter yet
@@ -98,6 +123,7 @@ pub record Moves (link : Link) (tree tree' : Tree) (old new : SessionValue) : Ty
   pub calm : Calm tree' → Keeps (Calm tree) leads.came old new
   pub shrinks : Shrinks leads.came old new
   pub says : SaysFirst link tree tree' leads.came leads.answered old new
+  pub apart : Apart tree → (outcomes_of leads.answered ≡ []) × Apart tree'
 
 -- the same, and the session goes on
 pub record Advances (link : Link) (tree tree' : Tree) (old new : SessionValue) : Type 0 where
@@ -192,14 +218,6 @@ pub record TakesLine (link : Link) (line line' : Option (List ℕ)) (old new : S
   pub stays : line' ≡ line → NothingTouched link old new
   pub begins : line' ≡ None → (line ≡ None) ⊎ (link.tells → length (said old.channel) < length (said new.channel))
 
--- a read is aborted: the connection failed, which was counted; or memory ran out, and nothing is lost
-pub record AbortsRead (link : Link) (codes : Expected) (next : Result Response FtpError → Tree) (fault : FtpError) (old new : SessionValue) : Type 0 where
-  pub at : SessionValue
-  pub leads : Leads link (Hear codes next) (Hear codes next) old at
-  pub state : at.state ≡ old.state
-  pub going : at.channel.failed ≡ false
-  pub cause : Fails link (Hear codes next) fault at new ⊎ ((fault ≡ OutOfMemory) × (new ≡ at) × Untouched link leads.came old at)
-
 -- a reply is heard, or a fault in its place; or it is waited for, or the read is aborted
 abbrev pub Hears : Link → Expected → (Result Response FtpError → Tree) → SessionValue → SessionValue → Poll (Result Response FtpError) → Type 0
 Hears link codes next old new (poll.Ready (Ok reply)) = Advances link (Hear codes next) (next (Ok reply)) old new × Takes link (Hear codes next) old new
@@ -223,9 +241,22 @@ wants_memory DataConnectionAlreadyOpen = false
 wants_memory OutOfMemory = true
 wants_memory SessionFailed = false
 
+-- what a fault that is heard in place of a reply comes to: where memory ran out nothing more
+abbrev pub FaultLeavesIf : Bool → Ending → FtpError → State → State → FtpError → Type 0
+FaultLeavesIf true ending fault state state' told = (told ≡ fault) × (state' ≡ state)
+FaultLeavesIf false ending fault state state' told = (told ≡ told_fault ending fault) × (state' ≡ after_fault_of ending state)
+
+abbrev pub FaultLeaves : Ending → FtpError → State → State → FtpError → Type 0
+FaultLeaves ending fault state state' told = FaultLeavesIf (wants_memory fault) ending fault state state' told
+
 -- out of memory after a dialogue has begun fails the session
 abbrev pub after_fault : Bool → FtpError → SessionValue → SessionValue
 after_fault begun fault v = if wants_memory fault && begun then failed_from v else v
+
+-- a dialogue ends with a fault in place of a reply
+abbrev pub EndsFaulty : Bool → Ending → FtpError → SessionValue → SessionValue → FtpError → Type 0
+EndsFaulty begun ending fault old new told =
+    (new ≡ record (after_fault begun fault old) { state = new.state }) × FaultLeaves ending fault (after_fault begun fault old).state new.state told
 
 -- nothing was said or read, and this is left
 pub record Still (link : Link) (tree tree' : Tree) (old new : SessionValue) : Type 0 where
@@ -245,11 +276,20 @@ abbrev pub LooksUp : Link → End → SessionValue → SessionValue → Result S
 LooksUp link end old new (Ok address) = (next : SocketAddr → Tree) → Still link (Look end next) (next address) old new
 LooksUp link end old new (Err kind) = (begun : Bool) (next : SocketAddr → Tree) → Aborts link begun (Look end next) (Fault (ConnectionError (Io kind))) old new
 
+-- something was done on the data connection
+abbrev pub MovesBy : Link → Movement → SessionValue → SessionValue → DealOutcome → Type 0
+MovesBy link movement old new outcome = (next : DealOutcome → Tree) → Still link (Move movement next) (next outcome) old new
+
 -- the transport was asked, or will be again
 abbrev pub AsksFor : Link → Request → SessionValue → SessionValue → Poll (Result RequestOutcome AllocError) → Type 0
 AsksFor link request old new (poll.Ready (Ok outcome)) = (next : RequestOutcome → Tree) → Still link (Ask request next) (next outcome) old new
 AsksFor link request old new (poll.Ready (Err full)) = (tree : Tree) → Still link tree tree old new
 AsksFor link request old new poll.Pending = ((tree : Tree) → Still link tree tree old new) × link.asks_wait
+
+-- the builder was asked; or memory ran out, and it wasn't
+abbrev pub BuildsFor : Link → SocketAddr → SessionValue → SessionValue → Result (Option FtpError) AllocError → Type 0
+BuildsFor link address old new (Ok fault) = (next : Option FtpError → Tree) → Still link (Build address next) (next fault) old new
+BuildsFor link address old new (Err full) = (tree : Tree) → Still link tree tree old new
 
 -- a dialogue begins: a line that is said first is said, whatever is kept of a reply
 abbrev pub BeginsHere : Link → Tree → SessionValue → SessionValue → Type 0
@@ -325,13 +365,14 @@ Concludes coding call a reply stage old new (Done answer) = EndsWith coding call
 
 -- a call, whole, with how much is kept afterwards
 pub record IsMade (link : Link) (coding : Coding) (call : Call) (old new : SessionValue) (answer : Answer) : Type 0 where
-  pub going : old.channel.failed ≡ false
+  pub going : refusal_of call old ≡ Taken
+  pub apart : is_local call ≡ true → new.channel ≡ old.channel
   pub last : SessionValue
   pub plays : Ends link (dialogue coding call old.state) answer (begun_by call old) last ⊎ Aborts link false (dialogue coding call old.state) answer (begun_by call old) last
   pub lets_go : new ≡ let_go last
 
 abbrev pub Made : Link → Coding → Call → SessionValue → SessionValue → Answer → Type 0
-Made link coding call old new answer = IsRefused old new answer ⊎ IsMade link coding call old new answer
+Made link coding call old new answer = IsRefused link.tells call old new answer ⊎ IsMade link coding call old new answer
 
 -- why a call isn't made whose arguments found no memory
 abbrev pub withheld : SessionValue → FtpError
@@ -361,3 +402,50 @@ abbrev pub Meets : RequestOutcome → Turn → SocketAddr → ℕ → Answer →
 Meets (outcomes.Address from) turn peer left answer stage old new result = MeetsIf (lets_in old.state peer from) turn peer left answer stage old new result
 Meets (outcomes.Refused fault) turn peer left answer stage old new result = (new ≡ old) × (result ≡ Done (Fault (ConnectionError fault)))
 Meets outcomes.Done turn peer left answer stage old new result = (new ≡ old) × (result ≡ Done (Fault (ConnectionError NoAddress)))
+
+-- a setting changes; or there is no memory for a copy of it, and nothing does
+abbrev pub Sets : Setting → SessionValue → SessionValue → Answer → Type 0
+Sets setting old new answer =
+    ((answer ≡ answers.Unit) × (new ≡ record old { state = set_to setting old.state })) ⊎ ((answer ≡ Fault OutOfMemory) × (new ≡ old))
+
+-- the movement is of no byte
+abbrev pub moves_nothing : Movement → Bool
+moves_nothing (movement.Read most) = most == 0
+moves_nothing (movement.Write bytes) = length bytes == 0
+moves_nothing movement.Close = false
+
+abbrev pub nothing_moved : Movement → Answer
+nothing_moved (movement.Read most) = answers.Bytes []
+nothing_moved (movement.Write bytes) = answers.Count 0
+nothing_moved movement.Close = answers.Unit
+
+-- bytes went over the data connection, and that is the answer; or there were none to go, or no memory, and nothing
+-- happened
+pub record CarriesBy (tells : Type 0) (movement : Movement) (old new : SessionValue) (answer : Answer) : Type 0 where
+  pub outcome : DealOutcome
+  pub some : moves_nothing movement ≡ false
+  pub is : answer ≡ moved_answer outcome
+  pub beside : new ≡ record old { net = new.net }
+  pub deal : tells → MovementIs movement outcome old.net new.net
+  pub apart : IsApart (moved_answer outcome)
+
+abbrev pub Carries : Type 0 → Movement → SessionValue → SessionValue → Answer → Type 0
+Carries tells movement old new answer =
+    CarriesBy tells movement old new answer ⊎ ((moves_nothing movement ≡ true) × (answer ≡ nothing_moved movement) × (new ≡ old)) ⊎ ((answer ≡ Fault OutOfMemory) × (new ≡ old))
+
+-- what a call does that is none of the control connection
+abbrev pub DoesRow : Row → Type 0 → SessionValue → SessionValue → Answer → Type 0
+DoesRow (Exchanges exchange) tells old new answer = ⊥
+DoesRow (Arms offset) tells old new answer = ⊥
+DoesRow (row.Sets setting) tells old new answer = Sets setting old new answer
+DoesRow (row.Moves movement) tells old new answer = Carries tells movement old new answer
+
+pub record CarriedOut (tells : Type 0) (call : Call) (old new : SessionValue) (answer : Answer) : Type 0 where
+  pub going : refusal_of call old ≡ Taken
+  pub last : SessionValue
+  pub does : DoesRow (row_of call First) tells old last answer
+  pub lets_go : new ≡ let_go last
+
+-- it is refused, or carried out
+abbrev pub CarriesOut : Type 0 → Call → SessionValue → SessionValue → Answer → Type 0
+CarriesOut tells call old new answer = IsRefused tells call old new answer ⊎ CarriedOut tells call old new answer

@@ -16,11 +16,11 @@ use Rattle.ftp_calls.specs.declared.call.Call.{Call}
 use Rattle.ftp_calls.specs.declared.call.Answer.{Answer}
 use Rattle.ftp_calls.specs.declared.call.Answer.TheVariants as answer
 use Rattle.ftp_calls.specs.declared.exchange.Turn.{Turn}
-use Rattle.ftp_calls.specs.declared.exchange.Turn.TheVariants.{First, Second, Passive, ExtendedPassive, Active, Restart}
+use Rattle.ftp_calls.specs.declared.exchange.Turn.TheVariants.{First, Second, Passive, ExtendedPassive, Active, Restart, Closed}
 use Rattle.ftp_calls.specs.declared.exchange.Exchange.{Exchange}
 use Rattle.ftp_session.specs.declared.session.stage.Awaits.{Awaits}
 use Rattle.ftp_session.specs.declared.session.stage.Stage.{Stage}
-use Rattle.ftp_session.specs.declared.session.stage.Stage.TheVariants.{At, Saying, Hearing, Arming, Agreeing}
+use Rattle.ftp_session.specs.declared.session.stage.Stage.TheVariants.{At, Saying, Hearing, Arming, Agreeing, Closing}
 use Rattle.ftp_session.specs.declared.session.stage.Agreeing.{Agreeing as Way}
 use Rattle.ftp_session.specs.declared.session.stage.Agreeing.TheVariants.{Negotiating, Locating, Binding, Asking}
 use Rattle.ftp_session.specs.declared.session.stage.Asking.{Asking as Asked}
@@ -30,8 +30,8 @@ use Rattle.ftp_session.specs.declared.session.stage.Step.TheVariants as step
 use Rattle.ftp_session.specs.Coding.{Coding}
 use Rattle.ftp_session.specs.Promises.{IsFault}
 use Rattle.ftp_calls.specs.declared.exchange.Row.TheVariants.{Arms}
-use Rattle.ftp_calls.specs.Exchanges.{row_of, is_read, negotiates, next_turn, Kind, Nothing, Replies, Texts, Times, Sizes, Lists, Connections, ending_of, given_by, says_of}
-use Rattle.ftp_session.specs.Dialogue.{expected_of, Tree, Say, Look, There, Leaf, armed, awaiting, later, from_turn, negotiating, listening, listening_at, connecting_to, connecting_to_peer, accepting, strangers}
+use Rattle.ftp_calls.specs.Exchanges.{row_of, finishes, is_local, is_read, negotiates, next_turn, of_transfer, Movements, Kind, Nothing, Replies, Texts, Times, Sizes, Lists, Connections, ending_of, given_by, says_of}
+use Rattle.ftp_session.specs.Dialogue.{expected_of, Tree, Say, Look, There, Leaf, armed, awaiting, closing, later, from_turn, negotiating, listening, listening_at, connecting_to, connecting_to_peer, accepting, strangers}
 
 -- an exchange was made before
 abbrev pub is_later : Turn → Bool
@@ -41,6 +41,7 @@ is_later (Passive offset) = false
 is_later (ExtendedPassive offset) = false
 is_later (Active address offset) = false
 is_later (Restart offset) = true
+is_later (Closed close) = false
 
 -- what an outcome is awaited for, on the way to a data connection
 abbrev pub asking_of : Asked → State → Tree → Tree
@@ -73,6 +74,7 @@ remaining coding call state (Saying line a) = Say (Ok (due line)) (awaited codin
 remaining coding call state (Hearing a) = awaited coding call state a
 remaining coding call state (Arming turn offset) = Leaf answer.Unit (armed offset state)
 remaining coding call state (Agreeing agreeing) = way_of coding call state agreeing
+remaining coding call state Closing = closing coding call state
 
 -- a reply was taken on that way
 abbrev pub has_asked : Way → Bool
@@ -89,6 +91,7 @@ begun_at (Saying (Some line) a) = a.begun
 begun_at (Hearing a) = a.begun
 begun_at (Arming turn offset) = is_later turn
 begun_at (Agreeing agreeing) = has_asked agreeing
+begun_at Closing = false
 
 -- the nodes that are left
 abbrev pub nodes_from : Turn → ℕ
@@ -98,6 +101,7 @@ nodes_from (ExtendedPassive offset) = strangers + 40
 nodes_from (Active address offset) = strangers + 40
 nodes_from (Restart offset) = strangers + 30
 nodes_from Second = strangers + 20
+nodes_from (Closed close) = strangers + 20
 
 abbrev pub nodes_asked : Asked → Turn → ℕ
 nodes_asked (PeerPort port) turn = nodes_from turn - 3
@@ -117,6 +121,7 @@ nodes_left (Saying line a) = nodes_from a.turn - 1
 nodes_left (Hearing a) = nodes_from a.turn - 2
 nodes_left (Arming turn offset) = nodes_from turn - 1
 nodes_left (Agreeing agreeing) = nodes_of agreeing
+nodes_left Closing = strangers + 30
 
 -- the line of a command, where there is one
 abbrev pub line_of : Coding → Option Command → Result (List ℕ) Cause
@@ -133,6 +138,7 @@ NodeOf coding turn exchange (Saying line a) = (line_of coding exchange.says ≡ 
 NodeOf coding turn exchange (Hearing a) = (exchange.says ≡ None) × (a ≡ awaits_of turn exchange)
 NodeOf coding turn exchange (Arming other offset) = ⊥
 NodeOf coding turn exchange (Agreeing agreeing) = ⊥
+NodeOf coding turn exchange Closing = ⊥
 
 abbrev pub FirstNode : Coding → Turn → Exchange → Result Stage FtpError → Type 0
 FirstNode coding turn exchange (Ok stage) = NodeOf coding turn exchange stage
@@ -148,16 +154,21 @@ AnswersKind kind (answer.Size size) = kind ≡ Sizes
 AnswersKind kind (answer.Features features) = kind ≡ Lists
 AnswersKind kind answer.Opened = kind ≡ Connections
 AnswersKind kind (answer.OpenedWith reply) = kind ≡ Connections
+AnswersKind kind (answer.Bytes bytes) = kind ≡ Movements
+AnswersKind kind (answer.Count count) = kind ≡ Movements
+AnswersKind kind answer.NoTransfer = kind ≡ Movements
 AnswersKind kind (answer.Fault fault) = Unit {0}
 
--- the turns of a call: one that opens a data connection negotiates first, and a plain read has one exchange
+-- the turns of a call that goes over the control connection: one that opens a data connection negotiates first, one that
+-- brings a transfer to its end has closed its data connection, and a plain read has one exchange
 abbrev pub TurnOf : Call → Turn → Type 0
-TurnOf call First = negotiates call ≡ false
-TurnOf call Second = is_read call ≡ false
+TurnOf call First = (negotiates call ≡ false) × (is_local call ≡ false) × (finishes call ≡ false)
+TurnOf call Second = (is_read call ≡ false) × (is_local call ≡ false)
 TurnOf call (Passive offset) = negotiates call ≡ true
 TurnOf call (ExtendedPassive offset) = negotiates call ≡ true
 TurnOf call (Active address offset) = negotiates call ≡ true
 TurnOf call (Restart offset) = negotiates call ≡ true
+TurnOf call (Closed close) = finishes call ≡ true
 
 -- the kind of an answer is that of some exchange of the call, or it is a fault
 abbrev pub MayAnswer : Call → Answer → Type 0
@@ -183,6 +194,7 @@ StageOf call (Saying line a) = (ending_of (row_of call a.turn) ≡ Some a.ending
 StageOf call (Hearing a) = (ending_of (row_of call a.turn) ≡ Some a.ending) × (a.begun ≡ true → is_read call ≡ false) × TurnOf call a.turn
 StageOf call (Arming turn offset) = (row_of call turn ≡ Arms offset) × TurnOf call turn
 StageOf call (Agreeing agreeing) = (negotiates call ≡ true) × WayOf call agreeing
+StageOf call Closing = finishes call ≡ true
 
 -- where a call stands after a step that doesn't end it
 abbrev pub StageAfter : Call → Stage → Step → Type 0
@@ -199,9 +211,13 @@ abbrev pub PollAnswers : Call → Poll Answer → Type 0
 PollAnswers call (Ready answer) = MayAnswer call answer
 PollAnswers call Pending = Unit {0}
 
--- each exchange of a call gives this, and no data connection is opened
+-- a call says and hears, and needs no data connection
+abbrev pub IsPlain : Call → Type 0
+IsPlain call = (negotiates call ≡ false) × (is_local call ≡ false) × (of_transfer call ≡ false)
+
+-- each exchange of a call gives this, and no data connection is needed
 abbrev pub Gives : Kind → Call → Type 0
-Gives kind call = (given_by (row_of call First) ≡ kind) × (given_by (row_of call Second) ≡ kind) × (negotiates call ≡ false)
+Gives kind call = (given_by (row_of call First) ≡ kind) × (given_by (row_of call Second) ≡ kind) × IsPlain call
 
 abbrev pub GivesNothing : Call → Type 0
 GivesNothing call = Gives Nothing call

@@ -1,26 +1,40 @@
-//! How the machine asks its transport.
+//! How the machine asks its transport, and the caller's builder.
 //!
 //! Most calls ask nothing, and take no runtime; so the machine is passed what asks for it: a runtime, by which its
-//! transport is polled, or nothing, of which no contract says anything.
+//! transport is polled, with the builder, where there is one; or nothing, of which no contract says anything.
 
-ghost use Rattle.std.specs.Prelude.{◌≡◌, None};
+ghost use Rattle.std.specs.Prelude.{◌≡◌, None, Result};
+ghost use Rattle.std.specs.declared.net.socket_addr.SocketAddr.{SocketAddr as Address};
+ghost use Rattle.ftp_base.specs.declared.types.fault.FtpError.{FtpError as Faults};
+ghost use Rattle.ftp_control.specs.Told.{Told};
+ghost use Rattle.ftp_session.specs.Link.{built_by};
 ghost use Rattle.futures.specs.declared.task.Poll.TheVariants as poll;
-ghost use Rattle.ftp_control.specs.Asking.{Asks as Records, Supplies, comes_as, connects_as, done, done_at};
+ghost use Rattle.ftp_control.specs.Asking.{Asks as Records, Supplies, built_as, comes_as, connects_as, done, done_at};
 ghost use Rattle.ftp_control.specs.declared.transport.request.Request.TheVariants.{Accept, Connect, Listen};
 
-use ftp_control::transport::{Accepted, Connected, Listening, Network, PollTransport};
+use ftp_base::types::{ConnectionError, FtpError, FtpResult};
+use ftp_control::transport::{
+    Accepted, Connected, Listening, Network, PassiveStreamBuilder, PollTransport,
+};
 use futures::task::Poll;
 use std::alloc::AllocError;
 use std::net::SocketAddr;
 use std::time::Duration;
 
-/// What asks a transport for the machine.
+/// What asks a transport, and a builder, for the machine.
 pub(crate) trait Asks<Tr: Network, W> {
     /// Whether it may be used.
     ghost may_ask: { Type 0 };
 
     /// Whether a request may have to wait.
     ghost may_wait: { Type 0 };
+
+    /// What the builder may answer for an address.
+    ghost builds: { Self → Address → Result Told Faults → Type 0 };
+
+    /// Asks the builder for a connection to this address.
+    fn build(&self, address: SocketAddr) -> FtpResult<Tr::Conn>
+        ensures builds { may_ask → builds self.now address (built_as Tr.Conn.told result) };
 
     /// Asks for a connection to this address.
     fn connect(
@@ -33,7 +47,9 @@ pub(crate) trait Asks<Tr: Network, W> {
         ensures asks { may_ask → Tr.Conn.tells → Records (Connect address None) done result
             (Tr.asked transport.old) (Tr.asked transport.new) }
         ensures supplies { may_ask → Tr.Conn.tells → Supplies (connects_as Tr.Conn.told) Tr.refuses
-            result (Tr.ready transport.old) (Tr.ready transport.new) };
+            result (Tr.ready transport.old) (Tr.ready transport.new) }
+        ensures closed { Tr.closed transport.new ≡ Tr.closed transport.old }
+        ensures room { Tr.has_room transport.old → Tr.has_room transport.new };
 
     /// Asks for a listener on this address.
     fn listen(
@@ -45,7 +61,9 @@ pub(crate) trait Asks<Tr: Network, W> {
         ensures waits { may_ask → result ≡ poll.Pending → may_wait }
         ensures asks { may_ask → Tr.Conn.tells → Records (Listen address) done_at result
             (Tr.asked transport.old) (Tr.asked transport.new) }
-        ensures ready { may_ask → Tr.ready transport.new ≡ Tr.ready transport.old };
+        ensures ready { may_ask → Tr.ready transport.new ≡ Tr.ready transport.old }
+        ensures closed { Tr.closed transport.new ≡ Tr.closed transport.old }
+        ensures room { Tr.has_room transport.old → Tr.has_room transport.new };
 
     /// Asks for a peer's connection.
     fn accept(
@@ -59,17 +77,29 @@ pub(crate) trait Asks<Tr: Network, W> {
         ensures asks { may_ask → Tr.Conn.tells → Records (Accept deadline) done_at result
             (Tr.asked transport.old) (Tr.asked transport.new) }
         ensures supplies { may_ask → Tr.Conn.tells → Supplies (comes_as Tr.Conn.told)
-            Tr.accept_refuses result (Tr.ready transport.old) (Tr.ready transport.new) };
+            Tr.accept_refuses result (Tr.ready transport.old) (Tr.ready transport.new) }
+        ensures closed { Tr.closed transport.new ≡ Tr.closed transport.old }
+        ensures room { Tr.has_room transport.old → Tr.has_room transport.new };
 }
 
-/// Asks by a runtime.
+/// Asks by a runtime, and a builder, where there is one.
 #[derive(Drop)]
-pub(crate) struct By<'r, R>(pub(crate) &'r R);
+pub(crate) struct By<'r, R, B>(pub(crate) &'r R, pub(crate) &'r Option<B>);
 
-impl<'r, R, W, Tr: PollTransport<R, W>> Asks<Tr, W> for By<'r, R> {
+impl<'r, R, W, Tr: PollTransport<R, W>, B: PassiveStreamBuilder<Tr::Conn>> Asks<Tr, W>
+    for By<'r, R, B> {
     ghost may_ask = { Unit {0} };
 
     ghost may_wait = { Tr.PollTransport.may_wait };
+
+    ghost builds = { λ by. built_by B.PassiveStreamBuilder.answers by.1.now };
+
+    fn build(&self, address: SocketAddr) -> FtpResult<Tr::Conn> {
+        match self.1 {
+            Some(builder) => builder.build(address),
+            None => Err(FtpError::ConnectionError(ConnectionError::NoAddress)),
+        }
+    }
 
     fn connect(
         &self,
@@ -108,6 +138,12 @@ impl<Tr: Network, W> Asks<Tr, W> for Nothing {
     ghost may_ask = { ⊥ };
 
     ghost may_wait = { ⊥ };
+
+    ghost builds = { λ _ _ _. ⊥ };
+
+    fn build(&self, _address: SocketAddr) -> FtpResult<Tr::Conn> {
+        Err(FtpError::ConnectionError(ConnectionError::NoAddress))
+    }
 
     fn connect(
         &self,

@@ -37,7 +37,7 @@ pub struct Session<
     pub(super) machine: Machine<Tr>,
     pub(super) encoding: Chosen<E>,
     connector: Option<K>,
-    builder: Option<B>,
+    pub(super) builder: Option<B>,
 }
 
 impl<Tr: Network, K: Drop, E: Encoding, B: Drop> Session<Tr, K, E, B> {
@@ -49,9 +49,10 @@ impl<Tr: Network, K: Drop, E: Encoding, B: Drop> Session<Tr, K, E, B> {
         ensures succeeds { IsOk result }
         ensures begins { IfOk result (λ session.
             Begins Tr.Conn.tells (Tr.Conn.told conn)
-            (first_net (Tr.asked transport) (Tr.ready transport)) session.machine) }
+            (first_net (Tr.asked transport) (Tr.ready transport) (Tr.closed transport)) session.machine) }
         ensures sound { IfOk result (λ session. IsSound Tr.Conn.tells session.machine.channel) }
         ensures encoding { IfOk result (λ session. session.encoding.0 ≡ None) }
+        ensures builder { IfOk result (λ session. session.builder ≡ None) }
     {
         Ok(Session {
             machine: Machine::new(alloc, transport, conn),
@@ -73,11 +74,12 @@ impl<Tr: Network, K: Drop, E: Encoding, B: Drop> Session<Tr, K, E, B> {
     where
         Tr::Conn: Conn,
         ensures encoding { IfOk result (λ session. session.encoding.0 ≡ None) }
+        ensures builder { IfOk result (λ session. session.builder ≡ None) }
         ensures connects { MatchResult result
             (λ session. Connects (link Tr.Conn.tells Tr.Conn.blocking_read_faults Tr.Conn.blocking_write_faults Tr.Conn.end_faults) (chosen E.decoded E.encoded None) (Tr.Conn.told conn)
-            (first_net (Tr.asked transport) (Tr.ready transport)) session.machine (Ok tt))
+            (first_net (Tr.asked transport) (Tr.ready transport) (Tr.closed transport)) session.machine (Ok tt))
             (λ fault. FailsToConnect (link Tr.Conn.tells Tr.Conn.blocking_read_faults Tr.Conn.blocking_write_faults Tr.Conn.end_faults) (chosen E.decoded E.encoded None) (Tr.Conn.told conn)
-            (first_net (Tr.asked transport) (Tr.ready transport)) fault) }
+            (first_net (Tr.asked transport) (Tr.ready transport) (Tr.closed transport)) fault) }
     {
         let mut session = Session::new(alloc, transport, conn)?;
         match session.greet(alloc) {
@@ -95,6 +97,7 @@ impl<Tr: Network, K: Drop, E: Encoding, B: Drop> Session<Tr, K, E, B> {
         ensures welcome { OnOk result (self.new.machine ≡
             greeted_again (E.decoded encoding) self.old.machine) }
         ensures memory { IfErr result (λ fault. fault ≡ FtpError.OutOfMemory) }
+        ensures builder { self.new.builder ≡ self.old.builder }
         ensures unchanged { OnErr result (self.new ≡ self.old) }
     {
         if let Some(welcome) = &mut self.machine.state.welcome {

@@ -8,7 +8,6 @@ ghost use Rattle.std.specs.Prelude.{◌⊎◌, ◌≡◌, Err, IfOk, Result, tru
 ghost use Rattle.futures.specs.declared.task.Poll.TheVariants as poll;
 ghost use Rattle.ftp_base.specs.declared.types.reply.Response.{Response as Heard};
 ghost use Rattle.ftp_base.specs.declared.types.fault.FtpError.{FtpError as Faults};
-ghost use Rattle.ftp_calls.specs.Exchanges.{negotiates};
 ghost use Rattle.ftp_calls.specs.declared.call.Call.{Call as Called};
 ghost use Rattle.ftp_session.specs.Calls.{reply_answer, unit_answer};
 ghost use Rattle.ftp_session.specs.Coding.{chosen};
@@ -16,7 +15,7 @@ ghost use Rattle.ftp_session.specs.Dialogue.{Tree, expecting};
 ghost use Rattle.ftp_session.specs.Link.{link};
 ghost use Rattle.ftp_session.specs.Promises.{GivesFault, Plays, Reads};
 ghost use Rattle.ftp_session.specs.Steps.Moving.{withheld};
-ghost use Rattle.ftp_session.specs.Steps.Stages.{GivesNothing, GivesReply, MayAnswer};
+ghost use Rattle.ftp_session.specs.Steps.Stages.{GivesNothing, GivesReply, IsPlain, MayAnswer};
 
 use super::asks::Nothing;
 use super::client::Session;
@@ -36,6 +35,7 @@ where
     /// Reads the server's greeting (220).
     pub(super) fn greet(&mut self, alloc: Global) -> FtpResult<()>
         ensures encoding { self.new.encoding ≡ self.old.encoding }
+        ensures builder { self.new.builder ≡ self.old.builder }
         ensures plays { Plays (link Tr.Conn.tells Tr.Conn.blocking_read_faults Tr.Conn.blocking_write_faults Tr.Conn.end_faults) (chosen E.decoded E.encoded self.old.encoding.0) Call.Greet
             self.old.machine self.new.machine (unit_answer result) }
     {
@@ -48,8 +48,10 @@ where
     /// # Errors
     /// Those of a command and its reply: `LineBreak` where CR or LF stands in the user's name or the password.
     pub fn login(&mut self, alloc: Global, user: &str, password: &str) -> FtpResult<()>
-        ensures { Plays (link Tr.Conn.tells Tr.Conn.blocking_read_faults Tr.Conn.blocking_write_faults Tr.Conn.end_faults) (chosen E.decoded E.encoded self.old.encoding.0) (Call.Login user.now password.now)
+        ensures plays { Plays (link Tr.Conn.tells Tr.Conn.blocking_read_faults Tr.Conn.blocking_write_faults Tr.Conn.end_faults) (chosen E.decoded E.encoded self.old.encoding.0) (Call.Login user.now password.now)
             self.old.machine self.new.machine (unit_answer result) }
+        ensures encoding { self.new.encoding ≡ self.old.encoding }
+        ensures builder { self.new.builder ≡ self.old.builder }
     {
         self.perform(alloc, login_call(alloc, user, password))
     }
@@ -59,8 +61,10 @@ where
     /// # Errors
     /// Those of a command and its reply.
     pub fn cwd(&mut self, alloc: Global, path: &str) -> FtpResult<()>
-        ensures { Plays (link Tr.Conn.tells Tr.Conn.blocking_read_faults Tr.Conn.blocking_write_faults Tr.Conn.end_faults) (chosen E.decoded E.encoded self.old.encoding.0) (Call.Cwd path.now)
+        ensures plays { Plays (link Tr.Conn.tells Tr.Conn.blocking_read_faults Tr.Conn.blocking_write_faults Tr.Conn.end_faults) (chosen E.decoded E.encoded self.old.encoding.0) (Call.Cwd path.now)
             self.old.machine self.new.machine (unit_answer result) }
+        ensures encoding { self.new.encoding ≡ self.old.encoding }
+        ensures builder { self.new.builder ≡ self.old.builder }
     {
         self.perform(alloc, cwd_call(alloc, path))
     }
@@ -70,8 +74,10 @@ where
     /// # Errors
     /// Those of a command and its reply.
     pub fn cdup(&mut self, alloc: Global) -> FtpResult<()>
-        ensures { Plays (link Tr.Conn.tells Tr.Conn.blocking_read_faults Tr.Conn.blocking_write_faults Tr.Conn.end_faults) (chosen E.decoded E.encoded self.old.encoding.0) Call.Cdup
+        ensures plays { Plays (link Tr.Conn.tells Tr.Conn.blocking_read_faults Tr.Conn.blocking_write_faults Tr.Conn.end_faults) (chosen E.decoded E.encoded self.old.encoding.0) Call.Cdup
             self.old.machine self.new.machine (unit_answer result) }
+        ensures encoding { self.new.encoding ≡ self.old.encoding }
+        ensures builder { self.new.builder ≡ self.old.builder }
     {
         unit(self.call(alloc, &Call::Cdup))
     }
@@ -81,8 +87,10 @@ where
     /// # Errors
     /// Those of a command and its reply.
     pub fn noop(&mut self, alloc: Global) -> FtpResult<()>
-        ensures { Plays (link Tr.Conn.tells Tr.Conn.blocking_read_faults Tr.Conn.blocking_write_faults Tr.Conn.end_faults) (chosen E.decoded E.encoded self.old.encoding.0) Call.Noop
+        ensures plays { Plays (link Tr.Conn.tells Tr.Conn.blocking_read_faults Tr.Conn.blocking_write_faults Tr.Conn.end_faults) (chosen E.decoded E.encoded self.old.encoding.0) Call.Noop
             self.old.machine self.new.machine (unit_answer result) }
+        ensures encoding { self.new.encoding ≡ self.old.encoding }
+        ensures builder { self.new.builder ≡ self.old.builder }
     {
         unit(self.call(alloc, &Call::Noop))
     }
@@ -92,8 +100,10 @@ where
     /// # Errors
     /// Those of a command and its reply.
     pub fn eprt(&mut self, alloc: Global, address: SocketAddr) -> FtpResult<()>
-        ensures { Plays (link Tr.Conn.tells Tr.Conn.blocking_read_faults Tr.Conn.blocking_write_faults Tr.Conn.end_faults) (chosen E.decoded E.encoded self.old.encoding.0) (Call.Eprt address)
+        ensures plays { Plays (link Tr.Conn.tells Tr.Conn.blocking_read_faults Tr.Conn.blocking_write_faults Tr.Conn.end_faults) (chosen E.decoded E.encoded self.old.encoding.0) (Call.Eprt address)
             self.old.machine self.new.machine (unit_answer result) }
+        ensures encoding { self.new.encoding ≡ self.old.encoding }
+        ensures builder { self.new.builder ≡ self.old.builder }
     {
         unit(self.call(alloc, &Call::Eprt(address)))
     }
@@ -103,8 +113,10 @@ where
     /// # Errors
     /// Those of a command and its reply.
     pub fn opts(&mut self, alloc: Global, option: &str, value: Option<&str>) -> FtpResult<()>
-        ensures { Plays (link Tr.Conn.tells Tr.Conn.blocking_read_faults Tr.Conn.blocking_write_faults Tr.Conn.end_faults) (chosen E.decoded E.encoded self.old.encoding.0) (Call.Opts option.now (option_map (λ text. text.now) value.entry))
+        ensures plays { Plays (link Tr.Conn.tells Tr.Conn.blocking_read_faults Tr.Conn.blocking_write_faults Tr.Conn.end_faults) (chosen E.decoded E.encoded self.old.encoding.0) (Call.Opts option.now (option_map (λ text. text.now) value.entry))
             self.old.machine self.new.machine (unit_answer result) }
+        ensures encoding { self.new.encoding ≡ self.old.encoding }
+        ensures builder { self.new.builder ≡ self.old.builder }
     {
         self.perform(alloc, opts_call(alloc, option, value))
     }
@@ -114,8 +126,10 @@ where
     /// # Errors
     /// Those of a command and its reply.
     pub fn site(&mut self, alloc: Global, command: &str) -> FtpResult<Response>
-        ensures { Plays (link Tr.Conn.tells Tr.Conn.blocking_read_faults Tr.Conn.blocking_write_faults Tr.Conn.end_faults) (chosen E.decoded E.encoded self.old.encoding.0) (Call.Site command.now)
+        ensures plays { Plays (link Tr.Conn.tells Tr.Conn.blocking_read_faults Tr.Conn.blocking_write_faults Tr.Conn.end_faults) (chosen E.decoded E.encoded self.old.encoding.0) (Call.Site command.now)
             self.old.machine self.new.machine (reply_answer result) }
+        ensures encoding { self.new.encoding ≡ self.old.encoding }
+        ensures builder { self.new.builder ≡ self.old.builder }
     {
         self.perform_for_reply(alloc, site_call(alloc, command))
     }
@@ -125,8 +139,10 @@ where
     /// # Errors
     /// Those of a command and its reply.
     pub fn transfer_type(&mut self, alloc: Global, kind: FileType) -> FtpResult<()>
-        ensures { Plays (link Tr.Conn.tells Tr.Conn.blocking_read_faults Tr.Conn.blocking_write_faults Tr.Conn.end_faults) (chosen E.decoded E.encoded self.old.encoding.0) (Call.TransferType kind)
+        ensures plays { Plays (link Tr.Conn.tells Tr.Conn.blocking_read_faults Tr.Conn.blocking_write_faults Tr.Conn.end_faults) (chosen E.decoded E.encoded self.old.encoding.0) (Call.TransferType kind)
             self.old.machine self.new.machine (unit_answer result) }
+        ensures encoding { self.new.encoding ≡ self.old.encoding }
+        ensures builder { self.new.builder ≡ self.old.builder }
     {
         unit(self.call(alloc, &Call::TransferType(kind)))
     }
@@ -136,8 +152,10 @@ where
     /// # Errors
     /// Those of a command and its reply.
     pub fn mkdir(&mut self, alloc: Global, path: &str) -> FtpResult<()>
-        ensures { Plays (link Tr.Conn.tells Tr.Conn.blocking_read_faults Tr.Conn.blocking_write_faults Tr.Conn.end_faults) (chosen E.decoded E.encoded self.old.encoding.0) (Call.Mkdir path.now)
+        ensures plays { Plays (link Tr.Conn.tells Tr.Conn.blocking_read_faults Tr.Conn.blocking_write_faults Tr.Conn.end_faults) (chosen E.decoded E.encoded self.old.encoding.0) (Call.Mkdir path.now)
             self.old.machine self.new.machine (unit_answer result) }
+        ensures encoding { self.new.encoding ≡ self.old.encoding }
+        ensures builder { self.new.builder ≡ self.old.builder }
     {
         self.perform(alloc, mkdir_call(alloc, path))
     }
@@ -147,8 +165,10 @@ where
     /// # Errors
     /// Those of a command and its reply.
     pub fn rmdir(&mut self, alloc: Global, path: &str) -> FtpResult<()>
-        ensures { Plays (link Tr.Conn.tells Tr.Conn.blocking_read_faults Tr.Conn.blocking_write_faults Tr.Conn.end_faults) (chosen E.decoded E.encoded self.old.encoding.0) (Call.Rmdir path.now)
+        ensures plays { Plays (link Tr.Conn.tells Tr.Conn.blocking_read_faults Tr.Conn.blocking_write_faults Tr.Conn.end_faults) (chosen E.decoded E.encoded self.old.encoding.0) (Call.Rmdir path.now)
             self.old.machine self.new.machine (unit_answer result) }
+        ensures encoding { self.new.encoding ≡ self.old.encoding }
+        ensures builder { self.new.builder ≡ self.old.builder }
     {
         self.perform(alloc, rmdir_call(alloc, path))
     }
@@ -158,8 +178,10 @@ where
     /// # Errors
     /// Those of a command and its reply.
     pub fn rm(&mut self, alloc: Global, path: &str) -> FtpResult<()>
-        ensures { Plays (link Tr.Conn.tells Tr.Conn.blocking_read_faults Tr.Conn.blocking_write_faults Tr.Conn.end_faults) (chosen E.decoded E.encoded self.old.encoding.0) (Call.Rm path.now)
+        ensures plays { Plays (link Tr.Conn.tells Tr.Conn.blocking_read_faults Tr.Conn.blocking_write_faults Tr.Conn.end_faults) (chosen E.decoded E.encoded self.old.encoding.0) (Call.Rm path.now)
             self.old.machine self.new.machine (unit_answer result) }
+        ensures encoding { self.new.encoding ≡ self.old.encoding }
+        ensures builder { self.new.builder ≡ self.old.builder }
     {
         self.perform(alloc, rm_call(alloc, path))
     }
@@ -169,8 +191,10 @@ where
     /// # Errors
     /// Those of a command and its reply.
     pub fn rename(&mut self, alloc: Global, from: &str, to: &str) -> FtpResult<()>
-        ensures { Plays (link Tr.Conn.tells Tr.Conn.blocking_read_faults Tr.Conn.blocking_write_faults Tr.Conn.end_faults) (chosen E.decoded E.encoded self.old.encoding.0) (Call.Rename from.now to.now)
+        ensures plays { Plays (link Tr.Conn.tells Tr.Conn.blocking_read_faults Tr.Conn.blocking_write_faults Tr.Conn.end_faults) (chosen E.decoded E.encoded self.old.encoding.0) (Call.Rename from.now to.now)
             self.old.machine self.new.machine (unit_answer result) }
+        ensures encoding { self.new.encoding ≡ self.old.encoding }
+        ensures builder { self.new.builder ≡ self.old.builder }
     {
         self.perform(alloc, rename_call(alloc, from, to))
     }
@@ -180,8 +204,10 @@ where
     /// # Errors
     /// Those of a command and its reply.
     pub fn quit(&mut self, alloc: Global) -> FtpResult<()>
-        ensures { Plays (link Tr.Conn.tells Tr.Conn.blocking_read_faults Tr.Conn.blocking_write_faults Tr.Conn.end_faults) (chosen E.decoded E.encoded self.old.encoding.0) Call.Quit
+        ensures plays { Plays (link Tr.Conn.tells Tr.Conn.blocking_read_faults Tr.Conn.blocking_write_faults Tr.Conn.end_faults) (chosen E.decoded E.encoded self.old.encoding.0) Call.Quit
             self.old.machine self.new.machine (unit_answer result) }
+        ensures encoding { self.new.encoding ≡ self.old.encoding }
+        ensures builder { self.new.builder ≡ self.old.builder }
     {
         unit(self.call(alloc, &Call::Quit))
     }
@@ -196,8 +222,10 @@ where
         line: &str,
         expected: &[Status],
     ) -> FtpResult<Response>
-        ensures { Plays (link Tr.Conn.tells Tr.Conn.blocking_read_faults Tr.Conn.blocking_write_faults Tr.Conn.end_faults) (chosen E.decoded E.encoded self.old.encoding.0) (Call.CustomCommand line.now expected.now)
+        ensures plays { Plays (link Tr.Conn.tells Tr.Conn.blocking_read_faults Tr.Conn.blocking_write_faults Tr.Conn.end_faults) (chosen E.decoded E.encoded self.old.encoding.0) (Call.CustomCommand line.now expected.now)
             self.old.machine self.new.machine (reply_answer result) }
+        ensures encoding { self.new.encoding ≡ self.old.encoding }
+        ensures builder { self.new.builder ≡ self.old.builder }
     {
         self.perform_for_reply(alloc, custom_call(alloc, line, expected))
     }
@@ -207,8 +235,10 @@ where
     /// # Errors
     /// Those of a read of one reply.
     pub fn read_response(&mut self, alloc: Global, expected: Status) -> FtpResult<Response>
-        ensures { Plays (link Tr.Conn.tells Tr.Conn.blocking_read_faults Tr.Conn.blocking_write_faults Tr.Conn.end_faults) (chosen E.decoded E.encoded self.old.encoding.0) (Call.ReadResponse expected)
+        ensures plays { Plays (link Tr.Conn.tells Tr.Conn.blocking_read_faults Tr.Conn.blocking_write_faults Tr.Conn.end_faults) (chosen E.decoded E.encoded self.old.encoding.0) (Call.ReadResponse expected)
             self.old.machine self.new.machine (reply_answer result) }
+        ensures encoding { self.new.encoding ≡ self.old.encoding }
+        ensures builder { self.new.builder ≡ self.old.builder }
     {
         reply(self.call(alloc, &Call::ReadResponse(expected)))
     }
@@ -218,16 +248,19 @@ where
     /// # Errors
     /// Those of a read of one reply.
     pub fn read_response_in(&mut self, alloc: Global, expected: &[Status]) -> FtpResult<Response>
-        ensures { Plays (link Tr.Conn.tells Tr.Conn.blocking_read_faults Tr.Conn.blocking_write_faults Tr.Conn.end_faults) (chosen E.decoded E.encoded self.old.encoding.0) (Call.ReadResponseIn expected.now)
+        ensures plays { Plays (link Tr.Conn.tells Tr.Conn.blocking_read_faults Tr.Conn.blocking_write_faults Tr.Conn.end_faults) (chosen E.decoded E.encoded self.old.encoding.0) (Call.ReadResponseIn expected.now)
             self.old.machine self.new.machine (reply_answer result) }
+        ensures encoding { self.new.encoding ≡ self.old.encoding }
+        ensures builder { self.new.builder ≡ self.old.builder }
     {
         self.perform_for_reply(alloc, read_call(alloc, expected))
     }
 
     /// Makes a call.
     pub(super) fn call(&mut self, alloc: Global, call: &Call) -> Answer
-        requires { negotiates call.now ≡ false }
+        requires { IsPlain call.now }
         ensures encoding { self.new.encoding ≡ self.old.encoding }
+        ensures builder { self.new.builder ≡ self.old.builder }
         ensures answers { MayAnswer call.now result }
         ensures plays { Plays (link Tr.Conn.tells Tr.Conn.blocking_read_faults Tr.Conn.blocking_write_faults Tr.Conn.end_faults) (chosen E.decoded E.encoded self.old.encoding.0)
             call.now self.old.machine self.new.machine result }
@@ -239,7 +272,8 @@ where
     fn perform(&mut self, alloc: Global, call: Result<Call, AllocError>) -> FtpResult<()>
         requires { IfOk call GivesNothing }
         ensures encoding { self.new.encoding ≡ self.old.encoding }
-        ensures plays { (made : Called) → negotiates made ≡ false → IfOk call (λ c. c ≡ made) →
+        ensures builder { self.new.builder ≡ self.old.builder }
+        ensures plays { (made : Called) → IsPlain made → IfOk call (λ c. c ≡ made) →
             Plays (link Tr.Conn.tells Tr.Conn.blocking_read_faults Tr.Conn.blocking_write_faults Tr.Conn.end_faults) (chosen E.decoded E.encoded self.old.encoding.0) made
             self.old.machine self.new.machine (unit_answer result) }
     {
@@ -257,7 +291,8 @@ where
     ) -> FtpResult<Response>
         requires { IfOk call GivesReply }
         ensures encoding { self.new.encoding ≡ self.old.encoding }
-        ensures plays { (made : Called) → negotiates made ≡ false → IfOk call (λ c. c ≡ made) →
+        ensures builder { self.new.builder ≡ self.old.builder }
+        ensures plays { (made : Called) → IsPlain made → IfOk call (λ c. c ≡ made) →
             Plays (link Tr.Conn.tells Tr.Conn.blocking_read_faults Tr.Conn.blocking_write_faults Tr.Conn.end_faults) (chosen E.decoded E.encoded self.old.encoding.0) made
             self.old.machine self.new.machine (reply_answer result) }
     {
@@ -301,6 +336,8 @@ impl<Tr: Network, K: Drop, E: Encoding, B: Drop> Session<Tr, K, E, B> {
         ensures reads { self.old.machine.channel.failed ≡ false →
             (next : Result Heard Faults → Tree) →
             Reads (link Tr.Conn.tells Tr.Conn.read_faults Tr.Conn.write_faults Tr.Conn.end_faults) (expecting expected.now) next self.old.machine self.new.machine result }
+        ensures encoding { self.new.encoding ≡ self.old.encoding }
+        ensures builder { self.new.builder ≡ self.old.builder }
     {
         if self.machine.channel.failed() {
             return Poll::Ready(Err(FtpError::SessionFailed));
@@ -328,6 +365,8 @@ impl<Tr: Network, K: Drop, E: Encoding, B: Drop> Session<Tr, K, E, B> {
         ensures reads { self.old.machine.channel.failed ≡ false →
             (next : Result Heard Faults → Tree) →
             Reads (link Tr.Conn.tells Tr.Conn.read_faults Tr.Conn.write_faults Tr.Conn.end_faults) (expecting (expected ∷ [])) next self.old.machine self.new.machine result }
+        ensures encoding { self.new.encoding ≡ self.old.encoding }
+        ensures builder { self.new.builder ≡ self.old.builder }
     {
         self.poll_read_response_in(alloc, &[expected], w)
     }
@@ -448,6 +487,9 @@ fn unit(answer: Answer) -> FtpResult<()>
         Answer::Features(_) => unreachable!(),
         Answer::Opened => unreachable!(),
         Answer::OpenedWith(_) => unreachable!(),
+        Answer::Bytes(_) => unreachable!(),
+        Answer::Count(_) => unreachable!(),
+        Answer::NoTransfer => unreachable!(),
     }
 }
 
@@ -466,5 +508,8 @@ fn reply(answer: Answer) -> FtpResult<Response>
         Answer::Features(_) => unreachable!(),
         Answer::Opened => unreachable!(),
         Answer::OpenedWith(_) => unreachable!(),
+        Answer::Bytes(_) => unreachable!(),
+        Answer::Count(_) => unreachable!(),
+        Answer::NoTransfer => unreachable!(),
     }
 }

@@ -38,11 +38,12 @@ where
     where
         Tr: Transport<R>,
         ensures encoding { IfOk result (λ session. session.encoding.0 ≡ None) }
+        ensures builder { IfOk result (λ session. session.builder ≡ None) }
         ensures nowhere { length addresses.now ≡ 0 →
             result ≡ Err (FtpError.ConnectionError faults.NoAddress) }
         ensures connects { MatchResult result
-            (λ session. ConnectsBy (link Tr.Conn.tells Tr.Conn.blocking_read_faults Tr.Conn.blocking_write_faults Tr.Conn.end_faults) (chosen E.decoded E.encoded None) Tr.refuses (connects_to None addresses.now) faults.NoAddress (Tr.ready transport) (Tr.asked transport) session.machine (Ok tt))
-            (λ fault. FailsToConnectBy (link Tr.Conn.tells Tr.Conn.blocking_read_faults Tr.Conn.blocking_write_faults Tr.Conn.end_faults) (chosen E.decoded E.encoded None) Tr.refuses (connects_to None addresses.now) faults.NoAddress (Tr.ready transport) (Tr.asked transport) fault) }
+            (λ session. ConnectsBy (link Tr.Conn.tells Tr.Conn.blocking_read_faults Tr.Conn.blocking_write_faults Tr.Conn.end_faults) (chosen E.decoded E.encoded None) Tr.refuses (connects_to None addresses.now) faults.NoAddress (Tr.ready transport) (Tr.closed transport) (Tr.asked transport) session.machine (Ok tt))
+            (λ fault. FailsToConnectBy (link Tr.Conn.tells Tr.Conn.blocking_read_faults Tr.Conn.blocking_write_faults Tr.Conn.end_faults) (chosen E.decoded E.encoded None) Tr.refuses (connects_to None addresses.now) faults.NoAddress (Tr.ready transport) (Tr.closed transport) (Tr.asked transport) fault) }
     {
         Session::connect_in_turn(
             alloc,
@@ -70,11 +71,12 @@ where
     where
         Tr: Transport<R>,
         ensures encoding { IfOk result (λ session. session.encoding.0 ≡ None) }
+        ensures builder { IfOk result (λ session. session.builder ≡ None) }
         ensures no_time { as_nanos limit ≡ 0 →
             result ≡ Err (FtpError.ConnectionError faults.TimedOut) }
         ensures connects { MatchResult result
-            (λ session. ConnectsBy (link Tr.Conn.tells Tr.Conn.blocking_read_faults Tr.Conn.blocking_write_faults Tr.Conn.end_faults) (chosen E.decoded E.encoded None) Tr.refuses (connects_within limit address) faults.TimedOut (Tr.ready transport) (Tr.asked transport) session.machine (Ok tt))
-            (λ fault. FailsToConnectBy (link Tr.Conn.tells Tr.Conn.blocking_read_faults Tr.Conn.blocking_write_faults Tr.Conn.end_faults) (chosen E.decoded E.encoded None) Tr.refuses (connects_within limit address) faults.TimedOut (Tr.ready transport) (Tr.asked transport) fault) }
+            (λ session. ConnectsBy (link Tr.Conn.tells Tr.Conn.blocking_read_faults Tr.Conn.blocking_write_faults Tr.Conn.end_faults) (chosen E.decoded E.encoded None) Tr.refuses (connects_within limit address) faults.TimedOut (Tr.ready transport) (Tr.closed transport) (Tr.asked transport) session.machine (Ok tt))
+            (λ fault. FailsToConnectBy (link Tr.Conn.tells Tr.Conn.blocking_read_faults Tr.Conn.blocking_write_faults Tr.Conn.end_faults) (chosen E.decoded E.encoded None) Tr.refuses (connects_within limit address) faults.TimedOut (Tr.ready transport) (Tr.closed transport) (Tr.asked transport) fault) }
     {
         let addresses = [address];
         let count = if limit.is_zero() { 0 } else { 1 };
@@ -101,11 +103,12 @@ where
     where
         Tr: Transport<R>,
         ensures encoding { IfOk result (λ session. session.encoding.0 ≡ None) }
+        ensures builder { IfOk result (λ session. session.builder ≡ None) }
         ensures nowhere { length addresses.now ≡ 0 →
             result ≡ Err (FtpError.ConnectionError fault) }
         ensures connects { MatchResult result
-            (λ session. ConnectsBy (link Tr.Conn.tells Tr.Conn.blocking_read_faults Tr.Conn.blocking_write_faults Tr.Conn.end_faults) (chosen E.decoded E.encoded None) Tr.refuses (connects_to limit addresses.now) fault (Tr.ready transport) (Tr.asked transport) session.machine (Ok tt))
-            (λ cause. FailsToConnectBy (link Tr.Conn.tells Tr.Conn.blocking_read_faults Tr.Conn.blocking_write_faults Tr.Conn.end_faults) (chosen E.decoded E.encoded None) Tr.refuses (connects_to limit addresses.now) fault (Tr.ready transport) (Tr.asked transport) cause) }
+            (λ session. ConnectsBy (link Tr.Conn.tells Tr.Conn.blocking_read_faults Tr.Conn.blocking_write_faults Tr.Conn.end_faults) (chosen E.decoded E.encoded None) Tr.refuses (connects_to limit addresses.now) fault (Tr.ready transport) (Tr.closed transport) (Tr.asked transport) session.machine (Ok tt))
+            (λ cause. FailsToConnectBy (link Tr.Conn.tells Tr.Conn.blocking_read_faults Tr.Conn.blocking_write_faults Tr.Conn.end_faults) (chosen E.decoded E.encoded None) Tr.refuses (connects_to limit addresses.now) fault (Tr.ready transport) (Tr.closed transport) (Tr.asked transport) cause) }
     {
         let mut tried = Tried { count: 0, fault };
         match poll_connect_in_turn(

@@ -10,7 +10,8 @@ use std::alloc::Global;
 use std::marker::Model;
 
 /// A transport, the control channel on one of its connections, and the state of the dialogues. Beside them stand the
-/// listener while a data connection is waited for, and the data connection, from the moment that it was made.
+/// listener while a data connection is waited for, and the data connection, from the moment that it was made. As long as
+/// it stands there is room for its record where it is handed back to.
 #[derive(Drop)]
 pub(crate) struct Machine<Tr: Network> {
     pub(super) transport: Tr,
@@ -21,7 +22,7 @@ pub(crate) struct Machine<Tr: Network> {
 }
 
 impl<Tr: Network> Model for Machine<Tr> {
-    ghost use Rattle.std.specs.Prelude.{option_map};
+    ghost use Rattle.std.specs.Prelude.{◌≡◌, false, is_none, option_map};
     ghost use Rattle.ftp_session.specs.State.{SessionValue};
 
     ghost Value = { SessionValue };
@@ -32,9 +33,12 @@ impl<Tr: Network> Model for Machine<Tr> {
       net = record {
         asked = Tr.asked m.transport;
         ready = Tr.ready m.transport;
+        closed = Tr.closed m.transport;
         data_conn = option_map (λ conn. Tr.Conn.told conn) m.data_conn;
       };
     } };
+
+    ghost invariant = { λ m. is_none m.data_conn ≡ false → Tr.has_room m.transport };
 }
 
 impl<Tr: Network> Machine<Tr> {
@@ -48,7 +52,7 @@ impl<Tr: Network> Machine<Tr> {
     /// A machine on a connection. Nothing is read and nothing is sent.
     pub(super) fn new(alloc: Global, transport: Tr, conn: Tr::Conn) -> Machine<Tr>
         ensures begins { Begins Tr.Conn.tells (Tr.Conn.told conn)
-            (first_net (Tr.asked transport) (Tr.ready transport)) result }
+            (first_net (Tr.asked transport) (Tr.ready transport) (Tr.closed transport)) result }
         ensures sound { IsSound Tr.Conn.tells result.channel }
     {
         Machine {

@@ -4,14 +4,13 @@
 //! Addresses are looked up on the control connection; the transport is asked to connect, or to listen and to accept.
 //! What it makes stays in the machine. Each function is one node of a call's dialogue.
 
-ghost use Rattle.std.specs.Prelude.{◌≡◌, true, false, None};
+ghost use Rattle.std.specs.Prelude.{◌≡◌, true, false};
 ghost use Rattle.ftp_calls.specs.Exchanges.{negotiates};
-ghost use Rattle.ftp_control.specs.declared.transport.request.Request.TheVariants.{Accept, Connect, Listen};
 ghost use Rattle.ftp_session.specs.Coding.{Coding};
 ghost use Rattle.ftp_session.specs.Dialogue.{Here, There, at_port};
-ghost use Rattle.ftp_session.specs.Link.{asking};
+ghost use Rattle.ftp_session.specs.Link.{building};
 ghost use Rattle.ftp_session.specs.Promises.{failed_from};
-ghost use Rattle.ftp_session.specs.Steps.Moving.{AsksFor, ConnectsTo, LooksUp, Meets, TurnsAway, Walks};
+ghost use Rattle.ftp_session.specs.Steps.Moving.{ConnectsTo, LooksUp, Meets, TurnsAway, Walks};
 ghost use Rattle.ftp_session.specs.Steps.Stages.{MayAnswer, WayOf, first_by};
 
 use super::asks::Asks;
@@ -20,7 +19,7 @@ use super::stage::{Agreeing, Asking, Stage, Step, go_on, go_to};
 use super::{Answer, Call};
 use ftp_base::types::{ConnectionError, FtpError, Mode};
 use ftp_calls::exchange::Turn;
-use ftp_control::transport::{Network, PollConn, RequestOutcome, Tells};
+use ftp_control::transport::{Network, PollConn, RequestOutcome};
 use futures::task::Poll;
 use std::alloc::AllocError;
 use std::io::ErrorKind;
@@ -47,7 +46,7 @@ impl<Tr: Network> Machine<Tr> {
         requires way { WayOf call.now agreeing }
         ensures end { self.new.channel.ended ≡ self.old.channel.ended }
         ensures walks { (coding : Coding) →
-            Walks (asking Tr.Conn.tells Tr.Conn.read_faults Tr.Conn.write_faults Tr.Conn.end_faults A.may_wait) coding call.now
+            Walks (building (A.builds asker.now) Tr.Conn.tells Tr.Conn.read_faults Tr.Conn.write_faults Tr.Conn.end_faults A.may_wait) coding call.now
             (Stage.Agreeing agreeing) stage.new self.old self.new result }
     {
         match agreeing {
@@ -84,7 +83,7 @@ impl<Tr: Network> Machine<Tr> {
         requires opens { negotiates call.now ≡ true }
         ensures end { self.new.channel.ended ≡ self.old.channel.ended }
         ensures walks { (coding : Coding) →
-            Walks (asking Tr.Conn.tells Tr.Conn.read_faults Tr.Conn.write_faults Tr.Conn.end_faults A.may_wait) coding call.now
+            Walks (building (A.builds _asker.now) Tr.Conn.tells Tr.Conn.read_faults Tr.Conn.write_faults Tr.Conn.end_faults A.may_wait) coding call.now
             (Stage.Agreeing (Agreeing.Negotiating offset)) stage.new self.old self.new result }
     {
         match self.state.counts.cannot_open() {
@@ -113,7 +112,7 @@ impl<Tr: Network> Machine<Tr> {
         requires opens { negotiates _call.now ≡ true }
         ensures end { self.new.channel.ended ≡ self.old.channel.ended }
         ensures walks { (coding : Coding) →
-            Walks (asking Tr.Conn.tells Tr.Conn.read_faults Tr.Conn.write_faults Tr.Conn.end_faults A.may_wait) coding _call.now
+            Walks (building (A.builds asker.now) Tr.Conn.tells Tr.Conn.read_faults Tr.Conn.write_faults Tr.Conn.end_faults A.may_wait) coding _call.now
             (Stage.Agreeing (Agreeing.Locating offset)) stage.new self.old self.new result }
     {
         match self.look_here(asker, w) {
@@ -144,7 +143,7 @@ impl<Tr: Network> Machine<Tr> {
         requires may { A.may_ask }
         ensures end { self.new.channel.ended ≡ self.old.channel.ended }
         ensures walks { (coding : Coding) →
-            Walks (asking Tr.Conn.tells Tr.Conn.read_faults Tr.Conn.write_faults Tr.Conn.end_faults A.may_wait) coding _call.now
+            Walks (building (A.builds asker.now) Tr.Conn.tells Tr.Conn.read_faults Tr.Conn.write_faults Tr.Conn.end_faults A.may_wait) coding _call.now
             (Stage.Agreeing (Agreeing.Binding local offset)) stage.new self.old self.new result }
     {
         match self.ask_to_listen(asker, at_port(0, local), w) {
@@ -179,7 +178,7 @@ impl<Tr: Network> Machine<Tr> {
         requires opens { negotiates _call.now ≡ true }
         ensures end { self.new.channel.ended ≡ self.old.channel.ended }
         ensures walks { (coding : Coding) →
-            Walks (asking Tr.Conn.tells Tr.Conn.read_faults Tr.Conn.write_faults Tr.Conn.end_faults A.may_wait) coding _call.now
+            Walks (building (A.builds asker.now) Tr.Conn.tells Tr.Conn.read_faults Tr.Conn.write_faults Tr.Conn.end_faults A.may_wait) coding _call.now
             (Stage.Agreeing (Agreeing.Asking turn (Asking.PeerPort port))) stage.new self.old self.new result }
     {
         match self.look_there(asker, w) {
@@ -194,7 +193,7 @@ impl<Tr: Network> Machine<Tr> {
         }
     }
 
-    /// The transport connects.
+    /// A connection is made: by the caller's builder, where the session was given one, and by the transport else.
     fn reach<W, A: Asks<Tr, W>>(
         &mut self,
         asker: &A,
@@ -211,7 +210,35 @@ impl<Tr: Network> Machine<Tr> {
         requires may { A.may_ask }
         ensures end { self.new.channel.ended ≡ self.old.channel.ended }
         ensures walks { (coding : Coding) →
-            Walks (asking Tr.Conn.tells Tr.Conn.read_faults Tr.Conn.write_faults Tr.Conn.end_faults A.may_wait) coding call.now
+            Walks (building (A.builds asker.now) Tr.Conn.tells Tr.Conn.read_faults Tr.Conn.write_faults Tr.Conn.end_faults A.may_wait) coding call.now
+            (Stage.Agreeing (Agreeing.Asking turn (Asking.Connection address))) stage.new self.old self.new result }
+    {
+        if self.state.settings.stream_builder {
+            self.construct(asker, call, turn, address, stage, w)
+        } else {
+            self.dial(asker, call, turn, address, stage, w)
+        }
+    }
+
+    /// The transport connects.
+    fn dial<W, A: Asks<Tr, W>>(
+        &mut self,
+        asker: &A,
+        call: &Call,
+        turn: Turn,
+        address: SocketAddr,
+        stage: &mut Stage,
+        w: &mut W,
+    ) -> Step
+    where
+        Tr::Conn: PollConn<W>,
+        requires going { self.old.channel.failed ≡ false }
+        requires opens { negotiates call.now ≡ true }
+        requires may { A.may_ask }
+        requires alone { self.old.state.settings.stream_builder ≡ false }
+        ensures end { self.new.channel.ended ≡ self.old.channel.ended }
+        ensures walks { (coding : Coding) →
+            Walks (building (A.builds asker.now) Tr.Conn.tells Tr.Conn.read_faults Tr.Conn.write_faults Tr.Conn.end_faults A.may_wait) coding call.now
             (Stage.Agreeing (Agreeing.Asking turn (Asking.Connection address))) stage.new self.old self.new result }
     {
         match self.ask_to_connect(asker, address, w) {
@@ -224,6 +251,34 @@ impl<Tr: Network> Machine<Tr> {
                 );
                 Step::Pending
             }
+        }
+    }
+
+    /// The caller's builder makes the connection. Its fault is the call's answer as it is.
+    fn construct<W, A: Asks<Tr, W>>(
+        &mut self,
+        asker: &A,
+        call: &Call,
+        turn: Turn,
+        address: SocketAddr,
+        stage: &mut Stage,
+        w: &mut W,
+    ) -> Step
+    where
+        Tr::Conn: PollConn<W>,
+        requires going { self.old.channel.failed ≡ false }
+        requires opens { negotiates call.now ≡ true }
+        requires may { A.may_ask }
+        requires beside { self.old.state.settings.stream_builder ≡ true }
+        ensures end { self.new.channel.ended ≡ self.old.channel.ended }
+        ensures walks { (coding : Coding) →
+            Walks (building (A.builds asker.now) Tr.Conn.tells Tr.Conn.read_faults Tr.Conn.write_faults Tr.Conn.end_faults A.may_wait) coding call.now
+            (Stage.Agreeing (Agreeing.Asking turn (Asking.Connection address))) stage.new self.old self.new result }
+    {
+        match self.ask_to_build(asker, address, w) {
+            Ok(None) => go_on(call, turn, stage),
+            Ok(Some(fault)) => Step::Done(Answer::Fault(fault)),
+            Err(AllocError) => self.lack_memory(),
         }
     }
 
@@ -244,7 +299,7 @@ impl<Tr: Network> Machine<Tr> {
         requires answer { MayAnswer _call.now answer }
         ensures end { self.new.channel.ended ≡ self.old.channel.ended }
         ensures walks { (coding : Coding) →
-            Walks (asking Tr.Conn.tells Tr.Conn.read_faults Tr.Conn.write_faults Tr.Conn.end_faults A.may_wait) coding _call.now
+            Walks (building (A.builds asker.now) Tr.Conn.tells Tr.Conn.read_faults Tr.Conn.write_faults Tr.Conn.end_faults A.may_wait) coding _call.now
             (Stage.Agreeing (Agreeing.Asking turn (Asking.Peer answer))) stage.new self.old self.new result }
     {
         match self.look_there(asker, w) {
@@ -279,7 +334,7 @@ impl<Tr: Network> Machine<Tr> {
         requires answer { MayAnswer _call.now answer }
         ensures end { self.new.channel.ended ≡ self.old.channel.ended }
         ensures walks { (coding : Coding) →
-            Walks (asking Tr.Conn.tells Tr.Conn.read_faults Tr.Conn.write_faults Tr.Conn.end_faults A.may_wait) coding _call.now
+            Walks (building (A.builds asker.now) Tr.Conn.tells Tr.Conn.read_faults Tr.Conn.write_faults Tr.Conn.end_faults A.may_wait) coding _call.now
             (Stage.Agreeing (Agreeing.Asking turn (Asking.Accepting peer left answer))) stage.new self.old self.new result }
     {
         match self.ask_to_accept(asker, w) {
@@ -356,7 +411,7 @@ impl<Tr: Network> Machine<Tr> {
         Tr::Conn: PollConn<W>,
         requires going { self.old.channel.failed ≡ false }
         ensures end { self.new.channel.ended ≡ self.old.channel.ended }
-        ensures looks { LooksUp (asking Tr.Conn.tells Tr.Conn.read_faults Tr.Conn.write_faults Tr.Conn.end_faults A.may_wait) Here self.old self.new result }
+        ensures looks { LooksUp (building (A.builds _asker.now) Tr.Conn.tells Tr.Conn.read_faults Tr.Conn.write_faults Tr.Conn.end_faults A.may_wait) Here self.old self.new result }
     {
         self.channel.local_addr()
     }
@@ -371,90 +426,9 @@ impl<Tr: Network> Machine<Tr> {
         Tr::Conn: PollConn<W>,
         requires going { self.old.channel.failed ≡ false }
         ensures end { self.new.channel.ended ≡ self.old.channel.ended }
-        ensures looks { LooksUp (asking Tr.Conn.tells Tr.Conn.read_faults Tr.Conn.write_faults Tr.Conn.end_faults A.may_wait) There self.old self.new result }
+        ensures looks { LooksUp (building (A.builds _asker.now) Tr.Conn.tells Tr.Conn.read_faults Tr.Conn.write_faults Tr.Conn.end_faults A.may_wait) There self.old self.new result }
     {
         self.channel.peer_addr()
-    }
-
-    /// Asks the transport for a connection, and keeps it.
-    fn ask_to_connect<W, A: Asks<Tr, W>>(
-        &mut self,
-        asker: &A,
-        address: SocketAddr,
-        w: &mut W,
-    ) -> Poll<Result<RequestOutcome, AllocError>>
-    where
-        Tr::Conn: PollConn<W>,
-        requires may { A.may_ask }
-        ensures end { self.new.channel.ended ≡ self.old.channel.ended }
-        ensures asks { AsksFor (asking Tr.Conn.tells Tr.Conn.read_faults Tr.Conn.write_faults Tr.Conn.end_faults A.may_wait) (Connect address None) self.old self.new result }
-    {
-        match asker.connect(&mut self.transport, w, address) {
-            Poll::Ready(Ok(Ok(mut conn))) => {
-                conn.begin();
-                self.data_conn = Some(conn);
-                Poll::Ready(Ok(RequestOutcome::Done))
-            }
-            Poll::Ready(Ok(Err(fault))) => Poll::Ready(Ok(RequestOutcome::Refused(fault))),
-            Poll::Ready(Err(full)) => Poll::Ready(Err(full)),
-            Poll::Pending => Poll::Pending,
-        }
-    }
-
-    /// Asks the transport for a listener, and keeps it.
-    fn ask_to_listen<W, A: Asks<Tr, W>>(
-        &mut self,
-        asker: &A,
-        address: SocketAddr,
-        w: &mut W,
-    ) -> Poll<Result<RequestOutcome, AllocError>>
-    where
-        Tr::Conn: PollConn<W>,
-        requires may { A.may_ask }
-        ensures end { self.new.channel.ended ≡ self.old.channel.ended }
-        ensures asks { AsksFor (asking Tr.Conn.tells Tr.Conn.read_faults Tr.Conn.write_faults Tr.Conn.end_faults A.may_wait) (Listen address) self.old self.new result }
-    {
-        match asker.listen(&mut self.transport, w, address) {
-            Poll::Ready(Ok(Ok((listener, bound)))) => {
-                self.listener = Some(listener);
-                Poll::Ready(Ok(RequestOutcome::Address(bound)))
-            }
-            Poll::Ready(Ok(Err(fault))) => Poll::Ready(Ok(RequestOutcome::Refused(fault))),
-            Poll::Ready(Err(full)) => Poll::Ready(Err(full)),
-            Poll::Pending => Poll::Pending,
-        }
-    }
-
-    /// Asks the transport for a connection on the listener, and keeps it. A listener stands from the moment that the
-    /// server was told of it.
-    fn ask_to_accept<W, A: Asks<Tr, W>>(
-        &mut self,
-        asker: &A,
-        w: &mut W,
-    ) -> Poll<Result<RequestOutcome, AllocError>>
-    where
-        Tr::Conn: PollConn<W>,
-        requires may { A.may_ask }
-        ensures end { self.new.channel.ended ≡ self.old.channel.ended }
-        ensures asks { AsksFor (asking Tr.Conn.tells Tr.Conn.read_faults Tr.Conn.write_faults Tr.Conn.end_faults A.may_wait) (Accept self.old.state.settings.active_deadline) self.old self.new result }
-    {
-        let Some(listener) = &mut self.listener else {
-            return Poll::Ready(Err(AllocError));
-        };
-        let deadline = self.state.settings.active_deadline;
-        match asker.accept(&mut self.transport, w, listener, deadline) {
-            Poll::Ready(Ok(Ok((mut conn, from)))) => {
-                conn.begin();
-                self.data_conn = Some(conn);
-                Poll::Ready(Ok(RequestOutcome::Address(from)))
-            }
-            Poll::Ready(Ok(Err(fault))) => {
-                self.data_conn = None;
-                Poll::Ready(Ok(RequestOutcome::Refused(fault)))
-            }
-            Poll::Ready(Err(full)) => Poll::Ready(Err(full)),
-            Poll::Pending => Poll::Pending,
-        }
     }
 
     /// Memory ran out after a reply was taken: the session has failed.

@@ -9,10 +9,10 @@ ghost use Rattle.ftp_base.specs.declared.types.reply.Response.{Response as Heard
 ghost use Rattle.ftp_base.specs.declared.types.fault.FtpError.{FtpError as Faults};
 ghost use Rattle.ftp_control.specs.Told.{EndsAsTold};
 ghost use Rattle.ftp_session.specs.Coding.{Coding, coding_of};
-ghost use Rattle.ftp_session.specs.Dialogue.{Tree, expected_of, expecting, opened_answer};
+ghost use Rattle.ftp_session.specs.Dialogue.{Tree, expected_of, expecting, finish_answer, opened_answer};
 ghost use Rattle.ftp_session.specs.declared.session.state.State.{State as States};
-ghost use Rattle.ftp_session.specs.Link.{asking};
-ghost use Rattle.ftp_session.specs.Steps.Moving.{Accepts, AnswersAs, Hears, SaysNode, TakesLine, step_of};
+ghost use Rattle.ftp_session.specs.Link.{building};
+ghost use Rattle.ftp_session.specs.Steps.Moving.{Accepts, AnswersAs, FaultLeaves, Hears, SaysNode, TakesLine, step_of, wants_memory};
 
 use super::answers::{features_answer, line_answer, path_answer, size_answer, time_answer};
 use super::asks::Asks;
@@ -22,12 +22,13 @@ use super::{Answer, State};
 use ftp_answers::{NoAddress, read_extended_port, read_passive_address};
 use ftp_base::encoding::{Encoding, WelcomeMessage};
 use ftp_base::status::Status;
-use ftp_base::types::{FtpError, FtpResult, Mode, Response};
+use ftp_base::types::{ConnectionError, FtpError, FtpResult, Mode, Response};
 use ftp_calls::exchange::{Codes, Ending};
 use ftp_control::control::{ReplyForm, WireLine, form_of};
 use ftp_control::transport::{Network, PollConn};
 use futures::task::Poll;
 use std::alloc::{AllocError, Global};
+use std::io::ErrorKind;
 
 impl<Tr: Network> Machine<Tr> {
     /// Sends a line, after the unsent tail of the one before.
@@ -46,9 +47,9 @@ impl<Tr: Network> Machine<Tr> {
             (fault : Faults) × (answer ≡ Answer.Fault fault) }
         ensures end { Tr.Conn.tells → Tr.Conn.may_wait →
             EndsAsTold self.old.channel.ended self.new.channel.ended self.old.channel.told }
-        ensures takes { TakesLine (asking Tr.Conn.tells Tr.Conn.read_faults Tr.Conn.write_faults Tr.Conn.end_faults A.may_wait) line.old line.new self.old
+        ensures takes { TakesLine (building (A.builds _asker.now) Tr.Conn.tells Tr.Conn.read_faults Tr.Conn.write_faults Tr.Conn.end_faults A.may_wait) line.old line.new self.old
             self.new result }
-        ensures says { SaysNode (asking Tr.Conn.tells Tr.Conn.read_faults Tr.Conn.write_faults Tr.Conn.end_faults A.may_wait) line.old line.new self.old self.new result }
+        ensures says { SaysNode (building (A.builds _asker.now) Tr.Conn.tells Tr.Conn.read_faults Tr.Conn.write_faults Tr.Conn.end_faults A.may_wait) line.old line.new self.old self.new result }
     {
         step_of(self.channel.poll_perform(line, w))
     }
@@ -69,7 +70,7 @@ impl<Tr: Network> Machine<Tr> {
         ensures end { Tr.Conn.tells → Tr.Conn.may_wait →
             EndsAsTold self.old.channel.ended self.new.channel.ended self.old.channel.told }
         ensures hears { (next : Result Heard Faults → Tree) →
-            Hears (asking Tr.Conn.tells Tr.Conn.read_faults Tr.Conn.write_faults Tr.Conn.end_faults A.may_wait) (expecting expected.now) next self.old self.new result }
+            Hears (building (A.builds asker.now) Tr.Conn.tells Tr.Conn.read_faults Tr.Conn.write_faults Tr.Conn.end_faults A.may_wait) (expecting expected.now) next self.old self.new result }
     {
         self.hear_reply_of(asker, alloc, form_of(expected), expected, w)
     }
@@ -91,7 +92,7 @@ impl<Tr: Network> Machine<Tr> {
         ensures end { Tr.Conn.tells → Tr.Conn.may_wait →
             EndsAsTold self.old.channel.ended self.new.channel.ended self.old.channel.told }
         ensures hears { (next : Result Heard Faults → Tree) →
-            Hears (asking Tr.Conn.tells Tr.Conn.read_faults Tr.Conn.write_faults Tr.Conn.end_faults A.may_wait) (record { form = form; statuses = expected.now })
+            Hears (building (A.builds _asker.now) Tr.Conn.tells Tr.Conn.read_faults Tr.Conn.write_faults Tr.Conn.end_faults A.may_wait) (record { form = form; statuses = expected.now })
             next self.old self.new result }
     {
         self.channel.poll_read_reply(alloc, form, expected, w)
@@ -113,7 +114,7 @@ impl<Tr: Network> Machine<Tr> {
         ensures end { Tr.Conn.tells → Tr.Conn.may_wait →
             EndsAsTold self.old.channel.ended self.new.channel.ended self.old.channel.told }
         ensures hears { (next : Result Heard Faults → Tree) →
-            Hears (asking Tr.Conn.tells Tr.Conn.read_faults Tr.Conn.write_faults Tr.Conn.end_faults A.may_wait) (expected_of codes.now) next self.old self.new result }
+            Hears (building (A.builds asker.now) Tr.Conn.tells Tr.Conn.read_faults Tr.Conn.write_faults Tr.Conn.end_faults A.may_wait) (expected_of codes.now) next self.old self.new result }
     {
         match codes {
             Codes::One(status) => self.hear(asker, alloc, &[*status], w),
@@ -176,6 +177,10 @@ pub(crate) fn accept<E: Encoding>(
         Ending::GivesAddress => Ok(address_told(reply, state)),
         Ending::GivesPort => Ok(port_told(reply)),
         Ending::Opens(gives_reply) => Ok(opens(gives_reply, reply, state)),
+        Ending::Finishes(close) => {
+            state.counts.finish();
+            Ok(Accepted::Done(finish_answer(close)))
+        }
         Ending::GoesOn(status) => {
             if reply.status.code() == status.code() {
                 Ok(Accepted::GoesOn)
@@ -231,6 +236,43 @@ fn opened(gives_reply: bool, reply: Response) -> Answer
     } else {
         Answer::Opened
     }
+}
+
+/// The answer of a transfer that has come to its end, after this fault of its close, if it is told.
+fn finish_answer(close: Option<ErrorKind>) -> Answer
+    ensures { result ≡ finish_answer close }
+{
+    match close {
+        None => Answer::Unit,
+        Some(kind) => Answer::Fault(FtpError::ConnectionError(ConnectionError::Io(kind))),
+    }
+}
+
+/// What is told in place of a reply that a fault was heard for, and what it leaves. Where memory ran out nothing
+/// changes.
+pub(crate) fn conclude_fault(ending: Ending, fault: FtpError, state: &mut State) -> FtpError
+    ensures { FaultLeaves ending fault state.old state.new result }
+{
+    if wants_memory(&fault) {
+        return fault;
+    }
+    match ending {
+        Ending::Finishes(close) => {
+            state.counts.finish();
+            match close {
+                None => fault,
+                Some(kind) => FtpError::ConnectionError(ConnectionError::Io(kind)),
+            }
+        }
+        _ => fault,
+    }
+}
+
+/// Whether memory ran out.
+pub(super) fn wants_memory(fault: &FtpError) -> bool
+    ensures { result ≡ wants_memory fault.now }
+{
+    matches!(fault, FtpError::OutOfMemory)
 }
 
 /// The command was accepted: the data connection stands, or the server opens it now.

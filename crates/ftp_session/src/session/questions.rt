@@ -31,8 +31,10 @@ where
     /// # Errors
     /// Those of a command and its reply; `UnexpectedResponse` where the reply has fewer than two quotes.
     pub fn pwd(&mut self, alloc: Global) -> FtpResult<String>
-        ensures { Plays (link Tr.Conn.tells Tr.Conn.blocking_read_faults Tr.Conn.blocking_write_faults Tr.Conn.end_faults) (chosen E.decoded E.encoded self.old.encoding.0) Call.Pwd
+        ensures plays { Plays (link Tr.Conn.tells Tr.Conn.blocking_read_faults Tr.Conn.blocking_write_faults Tr.Conn.end_faults) (chosen E.decoded E.encoded self.old.encoding.0) Call.Pwd
             self.old.machine self.new.machine (text_answer result) }
+        ensures encoding { self.new.encoding ≡ self.old.encoding }
+        ensures builder { self.new.builder ≡ self.old.builder }
     {
         text(self.call(alloc, &Call::Pwd))
     }
@@ -43,8 +45,10 @@ where
     /// # Errors
     /// Those of a command and its reply; `BadResponse` where the second line is absent or empty.
     pub fn mlst(&mut self, alloc: Global, path: Option<&str>) -> FtpResult<String>
-        ensures { Plays (link Tr.Conn.tells Tr.Conn.blocking_read_faults Tr.Conn.blocking_write_faults Tr.Conn.end_faults) (chosen E.decoded E.encoded self.old.encoding.0) (Call.Mlst (option_map (λ text. text.now) path.entry))
+        ensures plays { Plays (link Tr.Conn.tells Tr.Conn.blocking_read_faults Tr.Conn.blocking_write_faults Tr.Conn.end_faults) (chosen E.decoded E.encoded self.old.encoding.0) (Call.Mlst (option_map (λ text. text.now) path.entry))
             self.old.machine self.new.machine (text_answer result) }
+        ensures encoding { self.new.encoding ≡ self.old.encoding }
+        ensures builder { self.new.builder ≡ self.old.builder }
     {
         match mlst_call(alloc, path) {
             Ok(call) => text(self.call(alloc, &call)),
@@ -58,8 +62,10 @@ where
     /// # Errors
     /// Those of a command and its reply; `BadResponse` where the reply isn't UTF-8 or tells no date and time.
     pub fn mdtm(&mut self, alloc: Global, path: &str) -> FtpResult<DateTime>
-        ensures { Plays (link Tr.Conn.tells Tr.Conn.blocking_read_faults Tr.Conn.blocking_write_faults Tr.Conn.end_faults) (chosen E.decoded E.encoded self.old.encoding.0) (Call.Mdtm path.now)
+        ensures plays { Plays (link Tr.Conn.tells Tr.Conn.blocking_read_faults Tr.Conn.blocking_write_faults Tr.Conn.end_faults) (chosen E.decoded E.encoded self.old.encoding.0) (Call.Mdtm path.now)
             self.old.machine self.new.machine (time_answer result) }
+        ensures encoding { self.new.encoding ≡ self.old.encoding }
+        ensures builder { self.new.builder ≡ self.old.builder }
     {
         match mdtm_call(alloc, path) {
             Ok(call) => time(self.call(alloc, &call)),
@@ -73,8 +79,10 @@ where
     /// Those of a command and its reply; `BadResponse` where the reply isn't UTF-8 or its last word is no number below
     /// 2^64.
     pub fn size(&mut self, alloc: Global, path: &str) -> FtpResult<usize>
-        ensures { Plays (link Tr.Conn.tells Tr.Conn.blocking_read_faults Tr.Conn.blocking_write_faults Tr.Conn.end_faults) (chosen E.decoded E.encoded self.old.encoding.0) (Call.Size path.now)
+        ensures plays { Plays (link Tr.Conn.tells Tr.Conn.blocking_read_faults Tr.Conn.blocking_write_faults Tr.Conn.end_faults) (chosen E.decoded E.encoded self.old.encoding.0) (Call.Size path.now)
             self.old.machine self.new.machine (size_answer result) }
+        ensures encoding { self.new.encoding ≡ self.old.encoding }
+        ensures builder { self.new.builder ≡ self.old.builder }
     {
         match size_call(alloc, path) {
             Ok(call) => size(self.call(alloc, &call)),
@@ -89,8 +97,10 @@ where
     /// Those of a command and its reply, the list being part of the reply; `BadResponse` where a line of the list
     /// doesn't begin with a space.
     pub fn feat(&mut self, alloc: Global) -> FtpResult<Features>
-        ensures { Plays (link Tr.Conn.tells Tr.Conn.blocking_read_faults Tr.Conn.blocking_write_faults Tr.Conn.end_faults) (chosen E.decoded E.encoded self.old.encoding.0) Call.Feat
+        ensures plays { Plays (link Tr.Conn.tells Tr.Conn.blocking_read_faults Tr.Conn.blocking_write_faults Tr.Conn.end_faults) (chosen E.decoded E.encoded self.old.encoding.0) Call.Feat
             self.old.machine self.new.machine (features_answer result) }
+        ensures encoding { self.new.encoding ≡ self.old.encoding }
+        ensures builder { self.new.builder ≡ self.old.builder }
     {
         features(self.call(alloc, &Call::Feat))
     }
@@ -134,6 +144,9 @@ fn text(answer: Answer) -> FtpResult<String>
         Answer::Features(_) => unreachable!(),
         Answer::Opened => unreachable!(),
         Answer::OpenedWith(_) => unreachable!(),
+        Answer::Bytes(_) => unreachable!(),
+        Answer::Count(_) => unreachable!(),
+        Answer::NoTransfer => unreachable!(),
         Answer::Fault(fault) => Err(fault),
     }
 }
@@ -152,6 +165,9 @@ fn time(answer: Answer) -> FtpResult<DateTime>
         Answer::Features(_) => unreachable!(),
         Answer::Opened => unreachable!(),
         Answer::OpenedWith(_) => unreachable!(),
+        Answer::Bytes(_) => unreachable!(),
+        Answer::Count(_) => unreachable!(),
+        Answer::NoTransfer => unreachable!(),
         Answer::Fault(fault) => Err(fault),
     }
 }
@@ -170,6 +186,9 @@ fn size(answer: Answer) -> FtpResult<usize>
         Answer::Features(_) => unreachable!(),
         Answer::Opened => unreachable!(),
         Answer::OpenedWith(_) => unreachable!(),
+        Answer::Bytes(_) => unreachable!(),
+        Answer::Count(_) => unreachable!(),
+        Answer::NoTransfer => unreachable!(),
         Answer::Fault(fault) => Err(fault),
     }
 }
@@ -188,6 +207,9 @@ fn features(answer: Answer) -> FtpResult<Features>
         Answer::Features(features) => Ok(features),
         Answer::Opened => unreachable!(),
         Answer::OpenedWith(_) => unreachable!(),
+        Answer::Bytes(_) => unreachable!(),
+        Answer::Count(_) => unreachable!(),
+        Answer::NoTransfer => unreachable!(),
         Answer::Fault(fault) => Err(fault),
     }
 }

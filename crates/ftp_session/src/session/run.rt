@@ -5,9 +5,10 @@
 
 ghost use Rattle.std.specs.Prelude.{◌≡◌, IfOk, IfErr, OnErr, length};
 ghost use Rattle.ftp_session.specs.Coding.{chosen, coding_of};
-ghost use Rattle.ftp_session.specs.Link.{link};
+ghost use Rattle.ftp_session.specs.Link.{building, built_by};
 ghost use Rattle.ftp_session.specs.Promises.{FailsWith, Runs};
 ghost use Rattle.ftp_session.specs.Sound.{Sound};
+ghost use Rattle.ftp_session.specs.Steps.Moving.{Made};
 
 use super::asks::By;
 use super::client::Session;
@@ -15,10 +16,11 @@ use super::machine::Machine;
 use super::{Answer, Call};
 use ftp_base::encoding::Encoding;
 use ftp_base::types::{FtpError, FtpResult};
-use ftp_control::transport::{Conn, Network, Transport};
+use ftp_calls::exchange::is_local;
+use ftp_control::transport::{Conn, Network, PassiveStreamBuilder, Transport};
 use std::alloc::Global;
 
-impl<Tr: Network, K: Drop, E: Encoding, B: Drop> Session<Tr, K, E, B>
+impl<Tr: Network, K: Drop, E: Encoding, B: PassiveStreamBuilder<Tr::Conn>> Session<Tr, K, E, B>
 where
     Tr::Conn: Conn,
 {
@@ -31,18 +33,21 @@ where
     where
         Tr: Transport<R>,
         ensures runs { IfOk result (λ answers.
-            Runs (link Tr.Conn.tells Tr.Conn.blocking_read_faults Tr.Conn.blocking_write_faults Tr.Conn.end_faults) (chosen E.decoded E.encoded self.old.encoding.0) calls.now
+            Runs (building (built_by B.answers self.old.builder) Tr.Conn.tells Tr.Conn.blocking_read_faults Tr.Conn.blocking_write_faults Tr.Conn.end_faults ⊥) (chosen E.decoded E.encoded self.old.encoding.0) calls.now
             self.old.machine self.new.machine answers.items) }
         ensures count { IfOk result (λ answers. length answers.items ≡ length calls.now) }
         ensures fails { IfOk result (λ answers.
             FailsWith self.old.machine self.new.machine answers.items) }
         ensures encoding { self.new.encoding ≡ self.old.encoding }
+        ensures builder { self.new.builder ≡ self.old.builder }
         ensures memory { IfErr result (λ fault. fault ≡ FtpError.OutOfMemory) }
         ensures unchanged { OnErr result (self.new ≡ self.old) }
         ensures sound { Sound Tr.Conn.tells self.new.machine.channel
             self.new.machine.state.counts }
     {
-        let answers = self.machine.run(alloc, rt, &self.encoding, calls);
+        let answers = self
+            .machine
+            .run(alloc, rt, &self.builder, &self.encoding, calls);
         self.machine.holds();
         answers
     }
@@ -52,18 +57,40 @@ impl<Tr: Network> Machine<Tr>
 where
     Tr::Conn: Conn,
 {
-    /// Makes these calls.
-    fn run<R, E: Encoding>(
+    /// Makes a call.
+    fn make<R, E: Encoding, B: PassiveStreamBuilder<Tr::Conn>>(
         &mut self,
         alloc: Global,
         rt: &R,
+        builder: &Option<B>,
+        encoding: &E,
+        call: &Call,
+    ) -> Answer
+    where
+        Tr: Transport<R>,
+        ensures made { Made (building (built_by B.answers builder.now) Tr.Conn.tells Tr.Conn.blocking_read_faults Tr.Conn.blocking_write_faults Tr.Conn.end_faults ⊥) (coding_of E.decoded E.encoded encoding.now) call.now
+            self.old self.new result }
+    {
+        if is_local(call) {
+            self.carry(alloc, call)
+        } else {
+            self.call(&By(rt, builder), alloc, encoding, call)
+        }
+    }
+
+    /// Makes these calls.
+    fn run<R, E: Encoding, B: PassiveStreamBuilder<Tr::Conn>>(
+        &mut self,
+        alloc: Global,
+        rt: &R,
+        builder: &Option<B>,
         encoding: &E,
         calls: &[Call],
     ) -> FtpResult<Vec<Answer>>
     where
         Tr: Transport<R>,
         ensures runs { IfOk result (λ answers.
-            Runs (link Tr.Conn.tells Tr.Conn.blocking_read_faults Tr.Conn.blocking_write_faults Tr.Conn.end_faults) (coding_of E.decoded E.encoded encoding.now) calls.now self.old
+            Runs (building (built_by B.answers builder.now) Tr.Conn.tells Tr.Conn.blocking_read_faults Tr.Conn.blocking_write_faults Tr.Conn.end_faults ⊥) (coding_of E.decoded E.encoded encoding.now) calls.now self.old
             self.new answers.items) }
         ensures fails { IfOk result (λ answers. FailsWith self.old self.new answers.items) }
         ensures count { IfOk result (λ answers. length answers.items ≡ length calls.now) }
@@ -72,7 +99,7 @@ where
     {
         let mut answers = Vec::with_capacity(alloc, calls.len())?;
         for call in calls {
-            let answer = self.call(&By(rt), alloc, encoding, call);
+            let answer = self.make(alloc, rt, builder, encoding, call);
             answers.push(answer).unwrap();
         }
         Ok(answers)

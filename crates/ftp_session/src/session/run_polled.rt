@@ -6,9 +6,12 @@
 
 ghost use Rattle.std.specs.Prelude.{◌≡◌, ◌<◌, ◌≤◌, ◌++◌, IfOk, IfErr, OnErr, option_map, Some, vec_len, vec_capacity};
 ghost use Rattle.futures.specs.declared.task.Poll.TheVariants as poll;
+ghost use Rattle.std.specs.Prelude.{true};
+ghost use Rattle.ftp_calls.specs.Exchanges.{is_local};
 ghost use Rattle.ftp_control.specs.Channel.{IsSound};
 ghost use Rattle.ftp_control.specs.Memory.{IsGiven};
 ghost use Rattle.ftp_session.specs.Coding.{chosen, coding_of};
+ghost use Rattle.ftp_session.specs.Link.{built_by};
 ghost use Rattle.ftp_session.specs.Promises.{FailsWith};
 ghost use Rattle.ftp_session.specs.Scripted.{IsScripted, Stops};
 ghost use Rattle.ftp_session.specs.Sound.{Sound, SoundCounts};
@@ -22,12 +25,12 @@ use super::stage::Stage;
 use super::{Answer, Call, Event};
 use ftp_base::encoding::Encoding;
 use ftp_base::types::{FtpError, FtpResult};
-use ftp_calls::exchange::Turn;
-use ftp_control::transport::MemoryTransport;
+use ftp_calls::exchange::{Turn, is_local};
+use ftp_control::transport::{MemoryConn, MemoryTransport, PassiveStreamBuilder};
 use futures::task::Poll;
 use std::alloc::{AllocError, Global};
 
-impl<K: Drop, E: Encoding, B: Drop> Session<MemoryTransport, K, E, B> {
+impl<K: Drop, E: Encoding, B: PassiveStreamBuilder<MemoryConn>> Session<MemoryTransport, K, E, B> {
     /// Lets these events happen, one after another, and returns the answers of the calls that were completed, in
     /// order. A `Start` while a call is under way, a `Poll` or `Cancel` without one, and a `Feed` after the end
     /// change nothing. A call under way at the end is dropped, as by `Cancel`.
@@ -37,20 +40,23 @@ impl<K: Drop, E: Encoding, B: Drop> Session<MemoryTransport, K, E, B> {
     /// and the events before it have happened.
     pub fn run_polled(&mut self, alloc: Global, events: &[Event]) -> FtpResult<Vec<Answer>>
         ensures scripted { IfOk result (λ answers.
-            IsScripted (chosen E.decoded E.encoded self.old.encoding.0) self.old.machine
+            IsScripted (built_by B.answers self.old.builder) (chosen E.decoded E.encoded self.old.encoding.0) self.old.machine
             events.now self.new.machine answers.items) }
         ensures encoding { self.new.encoding ≡ self.old.encoding }
+        ensures builder { self.new.builder ≡ self.old.builder }
         ensures memory { IfErr result (λ fault. fault ≡ FtpError.OutOfMemory) }
-        ensures stops { OnErr result (Stops (chosen E.decoded E.encoded self.old.encoding.0)
+        ensures stops { OnErr result (Stops (built_by B.answers self.old.builder) (chosen E.decoded E.encoded self.old.encoding.0)
             self.old.machine events.now self.new.machine) }
-        ensures grows { Grows self.old.machine self.new.machine }
+        ensures grows { Grows (built_by B.answers self.old.builder) self.old.machine self.new.machine }
         ensures fails { IfOk result (λ answers.
             FailsWith self.old.machine self.new.machine answers.items) }
         ensures sound { Sound (Unit {0}) self.new.machine.channel
             self.new.machine.state.counts }
     {
         self.machine.holds_memory();
-        let answers = self.machine.let_happen(alloc, &self.encoding, events);
+        let answers = self
+            .machine
+            .let_happen(alloc, &self.builder, &self.encoding, events);
         self.machine.holds_memory();
         answers
     }
@@ -58,37 +64,39 @@ impl<K: Drop, E: Encoding, B: Drop> Session<MemoryTransport, K, E, B> {
 
 impl Machine<MemoryTransport> {
     /// Lets these events happen.
-    fn let_happen<E: Encoding>(
+    fn let_happen<E: Encoding, B: PassiveStreamBuilder<MemoryConn>>(
         &mut self,
         alloc: Global,
+        builder: &Option<B>,
         encoding: &E,
         events: &[Event],
     ) -> FtpResult<Vec<Answer>>
         requires given { IsGiven self.old.channel.told }
         requires sound { IsSound (Unit {0}) self.old.channel }
         ensures scripted { IfOk result (λ answers.
-            IsScripted (coding_of E.decoded E.encoded encoding.now) self.old events.now self.new
+            IsScripted (built_by B.answers builder.now) (coding_of E.decoded E.encoded encoding.now) self.old events.now self.new
             answers.items) }
-        ensures grows { Grows self.old self.new }
+        ensures grows { Grows (built_by B.answers builder.now) self.old self.new }
         ensures fails { IfOk result (λ answers. FailsWith self.old self.new answers.items) }
         ensures memory { IfErr result (λ fault. fault ≡ FtpError.OutOfMemory) }
-        ensures stops { OnErr result (Stops (coding_of E.decoded E.encoded encoding.now) self.old
+        ensures stops { OnErr result (Stops (built_by B.answers builder.now) (coding_of E.decoded E.encoded encoding.now) self.old
             events.now self.new) }
     {
         let mut answers = Vec::with_capacity(alloc, events.len())?;
         let mut under_way = None;
         let mut stage = Stage::At(Turn::First);
         for event in events {
-            let answer = self.happen(alloc, encoding, event, &mut under_way, &mut stage)?;
+            let answer = self.happen(alloc, builder, encoding, event, &mut under_way, &mut stage)?;
             note(&mut answers, answer);
         }
         Ok(answers)
     }
 
     /// Lets one event happen, and returns the answer of the call that it completed, if it did.
-    fn happen<'e, E: Encoding>(
+    fn happen<'e, E: Encoding, B: PassiveStreamBuilder<MemoryConn>>(
         &mut self,
         alloc: Global,
+        builder: &Option<B>,
         encoding: &E,
         event: &'e Event,
         under_way: &mut Option<&'e Call>,
@@ -100,7 +108,7 @@ impl Machine<MemoryTransport> {
         ensures failed { IfOk result (λ answer. FailedStays self.old self.new answer) }
         ensures fails { IfOk result (λ answer. FailsWith self.old self.new (given_answer answer)) }
         ensures happens { IfOk result (λ answer.
-            Happens (coding_of E.decoded E.encoded encoding.now) self.old self.new
+            Happens (built_by B.answers builder.now) (coding_of E.decoded E.encoded encoding.now) self.old self.new
             (option_map (λ c. c.now) under_way.old) (option_map (λ c. c.now) under_way.new)
             stage.old stage.new event.now answer) }
     {
@@ -109,7 +117,9 @@ impl Machine<MemoryTransport> {
             Event::End => self.channel.end_input(),
             Event::Room(more) => self.channel.allow(*more),
             Event::Start(call) => start(call, under_way, stage),
-            Event::Poll => return Ok(self.poll_under_way(alloc, encoding, under_way, stage)),
+            Event::Poll => return Ok(self.poll_under_way(
+                alloc, builder, encoding, under_way, stage,
+            )),
             Event::Cancel => *under_way = None,
             Event::Leave => {}
         }
@@ -118,9 +128,10 @@ impl Machine<MemoryTransport> {
     }
 
     /// Polls the call under way, if any, and returns its answer once it has one.
-    fn poll_under_way<'e, E: Encoding>(
+    fn poll_under_way<'e, E: Encoding, B: PassiveStreamBuilder<MemoryConn>>(
         &mut self,
         alloc: Global,
+        builder: &Option<B>,
         encoding: &E,
         under_way: &mut Option<&'e Call>,
         stage: &mut Stage,
@@ -129,14 +140,14 @@ impl Machine<MemoryTransport> {
         ensures stage { StageIn (option_map (λ c. c.now) under_way.new) stage.new }
         ensures failed { FailedStays self.old self.new result }
         ensures fails { FailsWith self.old self.new (given_answer result) }
-        ensures happens { Happens (coding_of E.decoded E.encoded encoding.now) self.old self.new
+        ensures happens { Happens (built_by B.answers builder.now) (coding_of E.decoded E.encoded encoding.now) self.old self.new
             (option_map (λ c. c.now) under_way.old) (option_map (λ c. c.now) under_way.new)
             stage.old stage.new Event.Poll result }
     {
         let Some(call) = *under_way else {
             return None;
         };
-        match self.poll_here(alloc, encoding, call, stage) {
+        match self.poll_here(alloc, builder, encoding, call, stage) {
             Poll::Ready(answer) => {
                 *under_way = None;
                 Some(answer)
@@ -146,21 +157,45 @@ impl Machine<MemoryTransport> {
     }
 
     /// Polls a call over memory.
-    fn poll_here<E: Encoding>(
+    fn poll_here<E: Encoding, B: PassiveStreamBuilder<MemoryConn>>(
         &mut self,
         alloc: Global,
+        builder: &Option<B>,
         encoding: &E,
         call: &Call,
         stage: &mut Stage,
     ) -> Poll<Answer>
         requires { StageIn (Some call.now) stage.old }
         ensures stage { result ≡ poll.Pending → StageOf call.now stage.new }
-        ensures polled { PollsHere (coding_of E.decoded E.encoded encoding.now) call.now stage.old
+        ensures polled { PollsHere (built_by B.answers builder.now) (coding_of E.decoded E.encoded encoding.now) call.now stage.old
             stage.new self.old self.new result }
     {
-        let polled = self.poll_started(&By(&()), alloc, encoding, call, stage, &mut ());
+        if is_local(call) {
+            return self.carry_here(alloc, builder, encoding, call, stage);
+        }
+        let polled = self.poll_started(&By(&(), builder), alloc, encoding, call, stage, &mut ());
         self.holds_memory();
         polled
+    }
+
+    /// Makes a call over memory that is none of the control connection.
+    fn carry_here<E: Encoding, B: PassiveStreamBuilder<MemoryConn>>(
+        &mut self,
+        alloc: Global,
+        _builder: &Option<B>,
+        _encoding: &E,
+        call: &Call,
+        _stage: &mut Stage,
+    ) -> Poll<Answer>
+        requires stage { StageIn (Some call.now) _stage.old }
+        requires local { is_local call.now ≡ true }
+        ensures done { result ≡ poll.Pending → ⊥ }
+        ensures polled { PollsHere (built_by B.answers _builder.now) (coding_of E.decoded E.encoded _encoding.now) call.now _stage.old
+            _stage.new self.old self.new result }
+    {
+        let answer = self.carry(alloc, call);
+        self.holds_memory();
+        Poll::Ready(answer)
     }
 
     /// What always holds of a machine over memory.

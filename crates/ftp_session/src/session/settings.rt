@@ -3,7 +3,7 @@
 //! Settings say how later data connections come about (RFC 959, section 3.2; RFC 2428) and where the next transfer
 //! begins. They stay as they were set whatever a call comes to, but for the offset, which is of one transfer.
 
-ghost use Rattle.std.specs.Prelude.{◌≡◌, IfErr, OnOk, OnErr, false, true};
+ghost use Rattle.std.specs.Prelude.{◌≡◌, IfErr, OnOk, OnErr, Some, false, true};
 ghost use Rattle.ftp_base.specs.declared.types.mode.Mode.TheVariants as modes;
 ghost use Rattle.ftp_session.specs.State.{with_settings};
 
@@ -19,6 +19,7 @@ impl<Tr: Network, K: Drop, E: Encoding, B: Drop> Session<Tr, K, E, B> {
         ensures set { self.new.machine ≡
             with_settings (λ s. record s { mode = mode }) self.old.machine }
         ensures encoding { self.new.encoding ≡ self.old.encoding }
+        ensures builder { self.new.builder ≡ self.old.builder }
     {
         self.machine.state.settings.mode = mode;
     }
@@ -29,6 +30,7 @@ impl<Tr: Network, K: Drop, E: Encoding, B: Drop> Session<Tr, K, E, B> {
         ensures set { self.new.machine ≡
             with_settings (λ s. record s { passive_nat_workaround = enabled }) self.old.machine }
         ensures encoding { self.new.encoding ≡ self.old.encoding }
+        ensures builder { self.new.builder ≡ self.old.builder }
     {
         self.machine.state.settings.passive_nat_workaround = enabled;
     }
@@ -38,6 +40,7 @@ impl<Tr: Network, K: Drop, E: Encoding, B: Drop> Session<Tr, K, E, B> {
         ensures set { self.new.machine ≡
             with_settings (λ s. record s { active_peer_check = check }) self.old.machine }
         ensures encoding { self.new.encoding ≡ self.old.encoding }
+        ensures builder { self.new.builder ≡ self.old.builder }
     {
         self.machine.state.settings.active_peer_check = check;
     }
@@ -47,6 +50,7 @@ impl<Tr: Network, K: Drop, E: Encoding, B: Drop> Session<Tr, K, E, B> {
         ensures set { self.new.machine ≡
             with_settings (λ s. record s { active_deadline = deadline }) self.old.machine }
         ensures encoding { self.new.encoding ≡ self.old.encoding }
+        ensures builder { self.new.builder ≡ self.old.builder }
     {
         self.machine.state.settings.active_deadline = deadline;
     }
@@ -56,9 +60,34 @@ impl<Tr: Network, K: Drop, E: Encoding, B: Drop> Session<Tr, K, E, B> {
         ensures set { result.machine ≡
             with_settings (λ s. record s { mode = modes.Active; active_deadline = deadline }) self.machine }
         ensures encoding { result.encoding ≡ self.encoding }
+        ensures builder { result.builder ≡ self.builder }
     {
         self.machine.state.settings.mode = Mode::Active;
         self.machine.state.settings.active_deadline = deadline;
+        self
+    }
+
+    /// Lets this builder make passive data connections from now on, in the transport's place, each to the address that
+    /// the transport would have been asked for. Its fault is answered as it is, and the session goes on.
+    pub fn set_passive_stream_builder(&mut self, builder: B)
+        ensures set { self.new.machine ≡
+            with_settings (λ s. record s { stream_builder = true }) self.old.machine }
+        ensures builder { self.new.builder ≡ Some builder }
+        ensures encoding { self.new.encoding ≡ self.old.encoding }
+    {
+        self.machine.state.settings.stream_builder = true;
+        self.builder = Some(builder);
+    }
+
+    /// The session with this builder of passive data connections, as `set_passive_stream_builder` sets it.
+    pub fn passive_stream_builder(mut self, builder: B) -> Session<Tr, K, E, B>
+        ensures set { result.machine ≡
+            with_settings (λ s. record s { stream_builder = true }) self.machine }
+        ensures builder { result.builder ≡ Some builder }
+        ensures encoding { result.encoding ≡ self.encoding }
+    {
+        self.machine.state.settings.stream_builder = true;
+        self.builder = Some(builder);
         self
     }
 
@@ -73,6 +102,7 @@ impl<Tr: Network, K: Drop, E: Encoding, B: Drop> Session<Tr, K, E, B> {
             (fault ≡ FtpError.SessionFailed) × (self.old.machine.channel.failed ≡ true)) }
         ensures unchanged { OnErr result (self.new ≡ self.old) }
         ensures encoding { self.new.encoding ≡ self.old.encoding }
+        ensures builder { self.new.builder ≡ self.old.builder }
     {
         if self.machine.channel.failed() {
             return Err(FtpError::SessionFailed);

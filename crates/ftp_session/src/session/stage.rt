@@ -34,6 +34,8 @@ pub(crate) enum Stage {
     Arming(Turn, u64),
     /// The way to a data connection, beside the exchanges.
     Agreeing(Agreeing),
+    /// The transfer's data connection is closed.
+    Closing,
 }
 
 /// How far the way to a data connection was gone.
@@ -122,6 +124,7 @@ pub(super) fn begin<E: Encoding>(
     match row_at(alloc, call, turn)? {
         Row::Exchanges(exchange) => first_node(alloc, encoding, turn, exchange),
         Row::Arms(offset) => Ok(Stage::Arming(turn, offset)),
+        Row::Sets(_) | Row::Moves(_) => unreachable!(),
     }
 }
 
@@ -160,7 +163,11 @@ pub(super) fn is_later(turn: Turn) -> bool
 {
     match turn {
         Turn::Second | Turn::Restart(_) => true,
-        Turn::First | Turn::Passive(_) | Turn::ExtendedPassive(_) | Turn::Active(..) => false,
+        Turn::First
+        | Turn::Passive(_)
+        | Turn::ExtendedPassive(_)
+        | Turn::Active(..)
+        | Turn::Closed(_) => false,
     }
 }
 

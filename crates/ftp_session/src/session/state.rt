@@ -4,7 +4,7 @@
 //! that was opened was finished, aborted or drained, or is owed.
 
 ghost use Rattle.std.specs.Prelude.{◌≡◌};
-ghost use Rattle.ftp_session.specs.Sound.{SoundCounts, cannot_open, no_transfers, one_more};
+ghost use Rattle.ftp_session.specs.Sound.{SoundCounts, cannot_open, left_behind, no_transfers, one_finished, one_more};
 ghost use Rattle.ftp_session.specs.State.{IsFirst};
 
 use ftp_base::encoding::WelcomeMessage;
@@ -32,6 +32,8 @@ pub struct Settings {
     pub secure: bool,
     /// Where the next transfer begins, in bytes (RFC 3659, section 5).
     pub restart_offset: u64,
+    /// Whether the caller's builder makes passive data connections, in the transport's place.
+    pub stream_builder: bool,
 }
 
 /// The transfer whose last reply hasn't been read.
@@ -120,6 +122,28 @@ impl Counts {
         }
     }
 
+    /// The transfer that is owed has come to its end, if there is one: its last reply was read, or its read failed.
+    pub fn finish(&mut self)
+        ensures { self.new ≡ one_finished self.old }
+    {
+        match self.owed {
+            Owed::Nothing => {}
+            Owed::Live(_) | Owed::Left(_) => {
+                self.finished += 1;
+                self.owed = Owed::Nothing;
+            }
+        }
+    }
+
+    /// The transfer that is live, if there is one, is left: its last reply is still owed.
+    pub fn leave(&mut self)
+        ensures { self.new ≡ left_behind self.old }
+    {
+        if let Owed::Live(number) = self.owed {
+            self.owed = Owed::Left(number);
+        }
+    }
+
     /// The transfer whose last reply hasn't been read.
     pub fn owed(&self) -> Owed
         ensures { result ≡ self.now.owed }
@@ -143,6 +167,8 @@ pub struct State {
     pub settings: Settings,
     /// The transfers that it counted.
     pub counts: Counts,
+    /// Whether the transfer that is live, or that was opened last, is an upload.
+    pub uploads: bool,
     /// What the server greeted with, once the greeting was taken.
     pub welcome: Option<WelcomeMessage>,
 }
@@ -161,8 +187,10 @@ impl State {
                 text: true,
                 secure: false,
                 restart_offset: 0,
+                stream_builder: false,
             },
             counts: Counts::new(),
+            uploads: false,
             welcome: None,
         }
     }

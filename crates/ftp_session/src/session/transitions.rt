@@ -3,26 +3,26 @@
 //! `step` does one node and is the only function that does I/O; `poll_call` makes steps until the call has its answer
 //! or the connection waits. A step that waits may be dropped and made again.
 
-ghost use Rattle.std.specs.Prelude.{◌≡◌, ◌<◌, ◌⊎◌, Some, true, false};
+ghost use Rattle.std.specs.Prelude.{◌≡◌, ◌<◌, ◌⊎◌, None, Some, true, false};
 ghost use Rattle.futures.specs.declared.task.Poll.TheVariants as poll;
 ghost use Rattle.ftp_control.specs.Told.{EndsAsTold};
 ghost use Rattle.ftp_session.specs.Coding.{Coding, coding_of};
 ghost use Rattle.ftp_session.specs.Dialogue.{Tree, armed, dialogue};
-ghost use Rattle.ftp_calls.specs.Exchanges.{is_read, negotiates};
-ghost use Rattle.ftp_session.specs.Link.{asking};
+ghost use Rattle.ftp_calls.specs.Exchanges.{finishes, is_local, is_read, negotiates, of_transfer};
+ghost use Rattle.ftp_session.specs.Link.{building};
 ghost use Rattle.ftp_session.specs.Promises.{HasFault, Rests, begun_by};
-ghost use Rattle.ftp_session.specs.Steps.Following.{StageIn, entered_at, entered_stage, entered_state, entered_tree, first_stage, is_first, polled_answer};
-ghost use Rattle.ftp_session.specs.Steps.Moving.{BeginsExchange, Concludes, HasBegun, Made, PollSteps, PollsTo, Quiet, Steps, Tracks, after_fault, wants_memory};
+ghost use Rattle.ftp_session.specs.Steps.Following.{MayPollAt, RefusesFrom, StageIn, StartsTo, entered_at, entered_stage, entered_state, entered_tree, first_stage, is_first, polled_answer};
+ghost use Rattle.ftp_session.specs.Steps.Moving.{BeginsExchange, Concludes, EndsFaulty, HasBegun, Made, PollSteps, PollsTo, Quiet, Steps, Tracks, after_fault, wants_memory};
 ghost use Rattle.ftp_session.specs.Steps.Stages.{MayAnswer, PollAnswers, StageAfter, StageOf, StepAnswers, begun_at, nodes_left, remaining};
 
 use super::asks::Asks;
 use super::machine::Machine;
-use super::nodes::{Accepted, accept};
+use super::nodes::{Accepted, accept, conclude_fault, wants_memory};
 use super::stage::{Agreeing, Awaits, Stage, Step, begin, go_on, go_to, is_later};
-use super::{Answer, Call};
+use super::{Answer, Call, Owed};
 use ftp_base::encoding::Encoding;
 use ftp_base::types::{FtpError, Response};
-use ftp_calls::exchange::{Turn, negotiates};
+use ftp_calls::exchange::{Ending, Turn, finishes, negotiates, uploads};
 use ftp_control::control::WireLine;
 use ftp_control::transport::{Conn, Network, NeverWaits, PollConn};
 use futures::task::Poll;
@@ -47,22 +47,22 @@ impl<Tr: Network> Machine<Tr> {
         requires may { negotiates call.now ≡ true → A.may_ask }
         ensures stage { StageAfter call.now stage.new result }
         ensures waits { result ≡ Step.Pending → Tr.Conn.may_wait ⊎ A.may_wait }
-        ensures net { negotiates call.now ≡ false → self.new.net ≡ self.old.net }
+        ensures net { negotiates call.now ≡ false → finishes call.now ≡ false → self.new.net ≡ self.old.net }
         ensures end { Tr.Conn.tells → Tr.Conn.may_wait →
             EndsAsTold self.old.channel.ended self.new.channel.ended self.old.channel.told }
         ensures answers { StepAnswers call.now result }
         ensures fewer { result ≡ Step.Next → nodes_left stage.new < nodes_left stage.old }
         ensures steps { let coding = coding_of E.decoded E.encoded encoding.now in
-            Steps (asking Tr.Conn.tells Tr.Conn.read_faults Tr.Conn.write_faults Tr.Conn.end_faults A.may_wait) (begun_at stage.old)
+            Steps (building (A.builds asker.now) Tr.Conn.tells Tr.Conn.read_faults Tr.Conn.write_faults Tr.Conn.end_faults A.may_wait) (begun_at stage.old)
             (remaining coding call.now self.old.state stage.old)
             (remaining coding call.now self.old.state stage.new) self.old self.new result }
-        ensures quiet { Quiet (asking Tr.Conn.tells Tr.Conn.read_faults Tr.Conn.write_faults Tr.Conn.end_faults A.may_wait) (coding_of E.decoded E.encoded encoding.now) call.now stage.old
+        ensures quiet { Quiet (building (A.builds asker.now) Tr.Conn.tells Tr.Conn.read_faults Tr.Conn.write_faults Tr.Conn.end_faults A.may_wait) (coding_of E.decoded E.encoded encoding.now) call.now stage.old
             stage.new self.old self.new result }
         ensures begun { let coding = coding_of E.decoded E.encoded encoding.now in
-            Tracks (asking Tr.Conn.tells Tr.Conn.read_faults Tr.Conn.write_faults Tr.Conn.end_faults A.may_wait) (begun_at stage.old) (begun_at stage.new)
+            Tracks (building (A.builds asker.now) Tr.Conn.tells Tr.Conn.read_faults Tr.Conn.write_faults Tr.Conn.end_faults A.may_wait) (begun_at stage.old) (begun_at stage.new)
             (remaining coding call.now self.old.state stage.old) self.old self.new result }
         ensures rests { result ≡ Step.Pending → is_read call.now ≡ true →
-            Rests (asking Tr.Conn.tells Tr.Conn.read_faults Tr.Conn.write_faults Tr.Conn.end_faults A.may_wait) self.old self.new }
+            Rests (building (A.builds asker.now) Tr.Conn.tells Tr.Conn.read_faults Tr.Conn.write_faults Tr.Conn.end_faults A.may_wait) self.old self.new }
     {
         match mem::replace(stage, Stage::At(Turn::First)) {
             Stage::At(turn) => self.begin_exchange(alloc, encoding, call, turn, stage),
@@ -72,6 +72,7 @@ impl<Tr: Network> Machine<Tr> {
             ),
             Stage::Arming(_turn, offset) => self.arm(offset),
             Stage::Agreeing(agreeing) => self.walk(asker, call, agreeing, stage, w),
+            Stage::Closing => self.close(asker, call, stage, w),
         }
     }
 
@@ -136,11 +137,11 @@ impl<Tr: Network> Machine<Tr> {
         ensures answers { (call : Call) → StepAnswers call result }
         ensures fewer { result ≡ Step.Next →
             nodes_left stage.new < nodes_left (Stage.Saying line awaits) }
-        ensures steps { (coding : Coding) (call : Call) → Steps (asking Tr.Conn.tells Tr.Conn.read_faults Tr.Conn.write_faults Tr.Conn.end_faults A.may_wait)
+        ensures steps { (coding : Coding) (call : Call) → Steps (building (A.builds asker.now) Tr.Conn.tells Tr.Conn.read_faults Tr.Conn.write_faults Tr.Conn.end_faults A.may_wait)
             (begun_at (Stage.Saying line awaits)) (remaining coding call self.old.state (Stage.Saying line awaits))
             (remaining coding call self.old.state stage.new) self.old self.new result }
         ensures goes_on { result ≡ Step.Next → begun_at stage.new ≡ true }
-        ensures begun { (tree : Tree) → Tracks (asking Tr.Conn.tells Tr.Conn.read_faults Tr.Conn.write_faults Tr.Conn.end_faults A.may_wait) (begun_at (Stage.Saying line awaits))
+        ensures begun { (tree : Tree) → Tracks (building (A.builds asker.now) Tr.Conn.tells Tr.Conn.read_faults Tr.Conn.write_faults Tr.Conn.end_faults A.may_wait) (begun_at (Stage.Saying line awaits))
             (begun_at stage.new) tree self.old self.new result }
     {
         match self.say(asker, &mut line, w) {
@@ -180,22 +181,22 @@ impl<Tr: Network> Machine<Tr> {
         ensures fewer { result ≡ Step.Next →
             nodes_left stage.new < nodes_left (Stage.Hearing awaits) }
         ensures steps { let coding = coding_of E.decoded E.encoded encoding.now in
-            Steps (asking Tr.Conn.tells Tr.Conn.read_faults Tr.Conn.write_faults Tr.Conn.end_faults A.may_wait) awaits.begun
+            Steps (building (A.builds asker.now) Tr.Conn.tells Tr.Conn.read_faults Tr.Conn.write_faults Tr.Conn.end_faults A.may_wait) awaits.begun
             (remaining coding call.now self.old.state (Stage.Hearing awaits))
             (remaining coding call.now self.old.state stage.new) self.old self.new result }
         ensures goes_on { result ≡ Step.Next → begun_at stage.new ≡ true }
         ensures begun { let coding = coding_of E.decoded E.encoded encoding.now in
-            Tracks (asking Tr.Conn.tells Tr.Conn.read_faults Tr.Conn.write_faults Tr.Conn.end_faults A.may_wait) awaits.begun (begun_at stage.new)
+            Tracks (building (A.builds asker.now) Tr.Conn.tells Tr.Conn.read_faults Tr.Conn.write_faults Tr.Conn.end_faults A.may_wait) awaits.begun (begun_at stage.new)
             (remaining coding call.now self.old.state (Stage.Hearing awaits)) self.old self.new result }
-        ensures rests { result ≡ Step.Pending → Rests (asking Tr.Conn.tells Tr.Conn.read_faults Tr.Conn.write_faults Tr.Conn.end_faults A.may_wait) self.old self.new }
+        ensures rests { result ≡ Step.Pending → Rests (building (A.builds asker.now) Tr.Conn.tells Tr.Conn.read_faults Tr.Conn.write_faults Tr.Conn.end_faults A.may_wait) self.old self.new }
     {
         match self.hear_codes(asker, alloc, &awaits.hears, w) {
             Poll::Ready(Ok(reply)) => self.accept_reply(
                 alloc, encoding, call, awaits, reply, stage,
             ),
             Poll::Ready(Err(fault)) => {
-                self.abort_dialogue(awaits.begun, &fault);
-                Step::Done(Answer::Fault(fault))
+                let told = self.end_dialogue(awaits.begun, awaits.ending, fault);
+                Step::Done(Answer::Fault(told))
             }
             Poll::Pending => {
                 go_to(stage, Stage::Hearing(awaits));
@@ -252,6 +253,14 @@ impl<Tr: Network> Machine<Tr> {
         }
     }
 
+    /// A dialogue ends with a fault in place of a reply: what is told, and what it leaves.
+    fn end_dialogue(&mut self, begun: bool, ending: Ending, fault: FtpError) -> FtpError
+        ensures { EndsFaulty begun ending fault self.old self.new result }
+    {
+        self.abort_dialogue(begun, &fault);
+        conclude_fault(ending, fault, &mut self.state)
+    }
+
     /// Goes on with a call as far as it gets.
     pub(super) fn poll_call<W, E: Encoding, A: Asks<Tr, W>>(
         &mut self,
@@ -269,18 +278,18 @@ impl<Tr: Network> Machine<Tr> {
         requires may { negotiates call.now ≡ true → A.may_ask }
         ensures stage { result ≡ poll.Pending → StageOf call.now stage.new }
         ensures waits { result ≡ poll.Pending → Tr.Conn.may_wait ⊎ A.may_wait }
-        ensures net { negotiates call.now ≡ false → self.new.net ≡ self.old.net }
+        ensures net { negotiates call.now ≡ false → finishes call.now ≡ false → self.new.net ≡ self.old.net }
         ensures end { Tr.Conn.tells → Tr.Conn.may_wait →
             EndsAsTold self.old.channel.ended self.new.channel.ended self.old.channel.told }
         ensures answers { PollAnswers call.now result }
         ensures rests { result ≡ poll.Pending → is_read call.now ≡ true →
-            Rests (asking Tr.Conn.tells Tr.Conn.read_faults Tr.Conn.write_faults Tr.Conn.end_faults A.may_wait) self.old self.new }
+            Rests (building (A.builds asker.now) Tr.Conn.tells Tr.Conn.read_faults Tr.Conn.write_faults Tr.Conn.end_faults A.may_wait) self.old self.new }
         ensures begun { result ≡ poll.Pending →
             let coding = coding_of E.decoded E.encoded encoding.now in
-            HasBegun (asking Tr.Conn.tells Tr.Conn.read_faults Tr.Conn.write_faults Tr.Conn.end_faults A.may_wait) (begun_at stage.old) (begun_at stage.new)
+            HasBegun (building (A.builds asker.now) Tr.Conn.tells Tr.Conn.read_faults Tr.Conn.write_faults Tr.Conn.end_faults A.may_wait) (begun_at stage.old) (begun_at stage.new)
             (remaining coding call.now self.old.state stage.old) self.old self.new }
         ensures polls { let coding = coding_of E.decoded E.encoded encoding.now in
-            PollSteps (asking Tr.Conn.tells Tr.Conn.read_faults Tr.Conn.write_faults Tr.Conn.end_faults A.may_wait) (begun_at stage.old)
+            PollSteps (building (A.builds asker.now) Tr.Conn.tells Tr.Conn.read_faults Tr.Conn.write_faults Tr.Conn.end_faults A.may_wait) (begun_at stage.old)
             (remaining coding call.now self.old.state stage.old)
             (remaining coding call.now self.old.state stage.new) self.old self.new result }
     {
@@ -304,13 +313,14 @@ impl<Tr: Network> Machine<Tr> {
     where
         Tr::Conn: Conn,
         requires may { negotiates call.now ≡ true → A.may_ask }
+        requires channel { is_local call.now ≡ false }
         requires blocks { A.may_wait → ⊥ }
-        ensures answers { MayAnswer call.now result }
-        ensures made { Made (asking Tr.Conn.tells Tr.Conn.blocking_read_faults Tr.Conn.blocking_write_faults Tr.Conn.end_faults A.may_wait) (coding_of E.decoded E.encoded encoding.now) call.now
+        ensures answers { of_transfer call.now ≡ false → MayAnswer call.now result }
+        ensures made { Made (building (A.builds asker.now) Tr.Conn.tells Tr.Conn.blocking_read_faults Tr.Conn.blocking_write_faults Tr.Conn.end_faults A.may_wait) (coding_of E.decoded E.encoded encoding.now) call.now
             self.old self.new result }
     {
-        if self.channel.failed() {
-            return Answer::Fault(FtpError::SessionFailed);
+        if let Some(answer) = self.refuse(call) {
+            return answer;
         }
         let mut stage = self.enter(call);
         match self.poll_call(asker, alloc, encoding, call, &mut stage, &mut NeverWaits) {
@@ -322,8 +332,10 @@ impl<Tr: Network> Machine<Tr> {
         }
     }
 
-    /// A call begins. One that opens a data connection takes the offset with it.
+    /// A call begins. One that opens a data connection takes the offset with it; one that brings a transfer to its end
+    /// has left it.
     fn enter(&mut self, call: &Call) -> Stage
+        requires channel { is_local call.now ≡ false }
         ensures state { self.new ≡ begun_by call.now self.old }
         ensures stage { StageOf call.now result }
         ensures begun { begun_at result ≡ false }
@@ -333,7 +345,13 @@ impl<Tr: Network> Machine<Tr> {
     {
         if negotiates(call) {
             let offset = mem::replace(&mut self.state.settings.restart_offset, 0);
+            if matches!(self.state.counts.owed(), Owed::Nothing) {
+                self.state.uploads = uploads(call);
+            }
             Stage::Agreeing(Agreeing::Negotiating(offset))
+        } else if finishes(call) {
+            self.state.counts.leave();
+            Stage::Closing
         } else {
             Stage::At(Turn::First)
         }
@@ -342,6 +360,7 @@ impl<Tr: Network> Machine<Tr> {
     /// A call begins where it stands at its beginning.
     fn begin_call(&mut self, call: &Call, stage: &mut Stage)
         requires stage { StageIn (Some call.now) stage.old }
+        requires channel { is_local call.now ≡ false }
         ensures stage { StageOf call.now stage.new }
         ensures entered { self.new ≡ entered_at call.now stage.old self.old }
         ensures at { stage.new ≡ entered_stage call.now stage.old self.old.state }
@@ -355,7 +374,7 @@ impl<Tr: Network> Machine<Tr> {
         }
     }
 
-    /// Goes on with a call as far as it gets. A session that has failed refuses it.
+    /// Goes on with a call as far as it gets, unless it is refused.
     pub(super) fn poll_started<W, E: Encoding, A: Asks<Tr, W>>(
         &mut self,
         asker: &A,
@@ -369,28 +388,76 @@ impl<Tr: Network> Machine<Tr> {
         Tr::Conn: PollConn<W>,
         requires stage { StageIn (Some call.now) stage.old }
         requires may { negotiates call.now ≡ true → A.may_ask }
+        requires channel { is_local call.now ≡ false }
         ensures stage { result ≡ poll.Pending → StageOf call.now stage.new }
-        ensures refused { self.old.channel.failed ≡ true →
-            (result ≡ poll.Ready (Answer.Fault FtpError.SessionFailed)) × (self.new ≡ self.old) }
-        ensures polls { self.old.channel.failed ≡ false →
-            let coding = coding_of E.decoded E.encoded encoding.now in
-            PollsTo (asking Tr.Conn.tells Tr.Conn.read_faults Tr.Conn.write_faults Tr.Conn.end_faults A.may_wait) (begun_at stage.old)
+        ensures starts { StartsTo (building (A.builds asker.now) Tr.Conn.tells Tr.Conn.read_faults Tr.Conn.write_faults Tr.Conn.end_faults A.may_wait) Tr.Conn.may_wait (coding_of E.decoded E.encoded encoding.now) call.now stage.old
+            stage.new self.old self.new result }
+    {
+        if let Some(answer) = self.refuse_at(call, stage) {
+            return Poll::Ready(answer);
+        }
+        self.poll_taken(asker, alloc, encoding, call, stage, w)
+    }
+
+    /// The answer of a call that isn't made: where it begins it is refused, later its session has failed.
+    fn refuse_at(&mut self, call: &Call, stage: &Stage) -> Option<Answer>
+        requires channel { is_local call.now ≡ false }
+        ensures taken { result ≡ None → (MayPollAt stage.now call.now self.old) ×
+            (self.old.channel.failed ≡ false) × (self.new ≡ self.old) }
+        ensures refused { (answer : Answer) → result ≡ Some answer →
+            RefusesFrom (is_first stage.now) Tr.Conn.tells call.now self.old self.new answer }
+    {
+        if !is_first(stage) {
+            return self.failed_since();
+        }
+        self.refuse(call)
+    }
+
+    /// The answer of a call whose session has failed since it began.
+    fn failed_since(&self) -> Option<Answer>
+        ensures none { result ≡ None → self.now.channel.failed ≡ false }
+        ensures some { (answer : Answer) → result ≡ Some answer →
+            (self.now.channel.failed ≡ true) × (answer ≡ Answer.Fault FtpError.SessionFailed) }
+    {
+        if self.channel.failed() {
+            Some(Answer::Fault(FtpError::SessionFailed))
+        } else {
+            None
+        }
+    }
+
+    /// Goes on with a call that isn't refused.
+    fn poll_taken<W, E: Encoding, A: Asks<Tr, W>>(
+        &mut self,
+        asker: &A,
+        alloc: Global,
+        encoding: &E,
+        call: &Call,
+        stage: &mut Stage,
+        w: &mut W,
+    ) -> Poll<Answer>
+    where
+        Tr::Conn: PollConn<W>,
+        requires stage { StageIn (Some call.now) stage.old }
+        requires may { negotiates call.now ≡ true → A.may_ask }
+        requires channel { is_local call.now ≡ false }
+        requires going { self.old.channel.failed ≡ false }
+        ensures stage { result ≡ poll.Pending → StageOf call.now stage.new }
+        ensures polls { let coding = coding_of E.decoded E.encoded encoding.now in
+            PollsTo (building (A.builds asker.now) Tr.Conn.tells Tr.Conn.read_faults Tr.Conn.write_faults Tr.Conn.end_faults A.may_wait) (begun_at stage.old)
             (entered_tree coding call.now stage.old self.old.state)
             (remaining coding call.now (entered_state call.now stage.old self.old.state) stage.new)
             (entered_at call.now stage.old self.old) self.new result }
         ensures rests { result ≡ poll.Pending → is_read call.now ≡ true →
-            Rests (asking Tr.Conn.tells Tr.Conn.read_faults Tr.Conn.write_faults Tr.Conn.end_faults A.may_wait) self.old self.new }
+            Rests (building (A.builds asker.now) Tr.Conn.tells Tr.Conn.read_faults Tr.Conn.write_faults Tr.Conn.end_faults A.may_wait) self.old self.new }
         ensures begun { result ≡ poll.Pending →
             let coding = coding_of E.decoded E.encoded encoding.now in
-            HasBegun (asking Tr.Conn.tells Tr.Conn.read_faults Tr.Conn.write_faults Tr.Conn.end_faults A.may_wait) (begun_at stage.old) (begun_at stage.new)
+            HasBegun (building (A.builds asker.now) Tr.Conn.tells Tr.Conn.read_faults Tr.Conn.write_faults Tr.Conn.end_faults A.may_wait) (begun_at stage.old) (begun_at stage.new)
             (entered_tree coding call.now stage.old self.old.state) (entered_at call.now stage.old self.old) self.new }
         ensures fails { self.new.channel.failed ≡ true → (self.old.channel.failed ≡ true) ⊎ HasFault (polled_answer result) }
         ensures end { Tr.Conn.tells → Tr.Conn.may_wait →
             EndsAsTold self.old.channel.ended self.new.channel.ended self.old.channel.told }
     {
-        if self.channel.failed() {
-            return Poll::Ready(Answer::Fault(FtpError::SessionFailed));
-        }
         self.begin_call(call, stage);
         match self.poll_call(asker, alloc, encoding, call, stage, w) {
             Poll::Ready(answer) => {
@@ -412,19 +479,16 @@ fn begun(awaits: Awaits) -> Awaits
     }
 }
 
-/// Whether memory ran out.
-fn wants_memory(fault: &FtpError) -> bool
-    ensures { result ≡ wants_memory fault.now }
-{
-    matches!(fault, FtpError::OutOfMemory)
-}
-
 /// Whether nothing was made of a call yet.
 fn is_first(stage: &Stage) -> bool
     ensures { result ≡ is_first stage.now }
 {
     match stage {
         Stage::At(turn) => matches!(turn, Turn::First),
-        Stage::Saying(..) | Stage::Hearing(_) | Stage::Arming(..) | Stage::Agreeing(_) => false,
+        Stage::Saying(..)
+        | Stage::Hearing(_)
+        | Stage::Arming(..)
+        | Stage::Agreeing(_)
+        | Stage::Closing => false,
     }
 }

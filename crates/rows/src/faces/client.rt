@@ -2,6 +2,7 @@
 
 use super::methods::{Opening, greeted};
 use crate::answers::{features, reply, size, text, texts_of, time, unit};
+use crate::builder::RowBuilder;
 use crate::encodings::Named;
 use crate::play::Play;
 use crate::requests::recorded;
@@ -15,7 +16,7 @@ use std::sync::Wait;
 use suppaftp::ImplFtpStream;
 
 /// A blocking client over memory whose encoding a row may choose.
-type Client = ImplFtpStream<MemoryTransport, NoTlsConnector, Named>;
+type Client = ImplFtpStream<MemoryTransport, NoTlsConnector, Named, RowBuilder>;
 
 /// Whether the client has a method for each of these calls. It reads a reply alone only where it is the greeting,
 /// which a session has read before the client is made.
@@ -102,7 +103,11 @@ fn make<R: Wait + AllocGlobal>(rt: &R, client: &Client, call: &Call) -> Result<A
         Call::RetrAsStream(_)
         | Call::PutWithStream(_)
         | Call::AppendWithStream(_)
-        | Call::CustomDataCommand(..) => {
+        | Call::CustomDataCommand(..)
+        | Call::Set(_)
+        | Call::Read(_)
+        | Call::Write(_)
+        | Call::Finish => {
             return Err(RowError::NotUnderstood);
         }
     })
@@ -121,6 +126,7 @@ fn stands<R: Wait + AllocGlobal>(
     let failed = matches!(client.noop(rt), Err(FtpError::SessionFailed));
     Ok(Standing {
         asked: Vec::new(rt.alloc()),
+        uploaded: Vec::new(rt.alloc()),
         sent,
         answers,
         taken,

@@ -1,6 +1,7 @@
 //! What the definitions of runs say.
 
 use crate::answers::texts_of;
+use crate::beside::{answers_of, next_outcome, of_requests, uploaded, waiting};
 use crate::dial::Dial;
 use crate::encodings::Named;
 use crate::play::Play;
@@ -9,18 +10,18 @@ use crate::transcript::Standing;
 use ftp_base::types::{Bytes, Items};
 use ftp_control::control::{ReplyForm, ReplyRule};
 use ftp_control::transport::{RequestOutcome, Room};
-use ftp_session::model::{self, Dealings, Played, Ran, Script, Wait};
+use ftp_session::model::{self, DealOutcome, Dealings, Played, Ran, Script, Wait};
 use ftp_session::session::{Answer, Call, Event, State};
 use row_text::RowError;
 use session_plain::{connect_in_turn, run, run_polled};
 use std::alloc::{AllocError, Global};
 
-/// A run that begins: these are all bytes of the server, and this is what its requests come to.
+/// A run that begins: these are all bytes of the server, and this is what happens beside them.
 fn first(
     alloc: Global,
     input: &[u8],
     play: &Play,
-    outcomes: &[RequestOutcome],
+    outcomes: &[DealOutcome],
 ) -> Result<model::Standing, AllocError> {
     let (local, peer) = play.setup.ends();
     Ok(model::Standing {
@@ -34,14 +35,24 @@ fn first(
         dealings: no_dealings(alloc),
         bytes: Bytes::from_slice(alloc, input)?,
         ended: true,
-        outcomes: Items::from_vec(Vec::from_slice(alloc, outcomes)?),
+        outcomes: copy_of(alloc, outcomes)?,
     })
+}
+
+/// These outcomes again.
+fn copy_of(alloc: Global, outcomes: &[DealOutcome]) -> Result<Items<DealOutcome>, AllocError> {
+    let mut all = Vec::new(alloc);
+    for outcome in outcomes {
+        all.push(outcome.clone()?)?;
+    }
+    Ok(Items::from_vec(all))
 }
 
 /// Nothing was asked, and there is no data connection.
 fn no_dealings(alloc: Global) -> Dealings {
     Dealings {
         asked: Items::from_vec(Vec::new(alloc)),
+        closed: Items::from_vec(Vec::new(alloc)),
         data_conn: None,
     }
 }
@@ -81,7 +92,8 @@ pub fn ran(alloc: Global, calls: &[Call], play: &Play) -> Result<Standing, RowEr
     }
     let outcomes = outcomes_of(alloc, calls, play)?;
     let end = played(alloc, calls, play, &outcomes)?;
-    stands_after(alloc, &end, &outcomes, play.input.len())
+    let answers = of_requests(alloc, &outcomes)?;
+    stands_after(alloc, &end, &answers, play.input.len())
 }
 
 /// Where this run stands, whose requests came to these outcomes.
@@ -99,17 +111,16 @@ fn stands_after(
     }
 }
 
-/// What the requests of these calls come to. They are played again for each request, with one outcome more.
-fn outcomes_of(
-    alloc: Global,
-    calls: &[Call],
-    play: &Play,
-) -> Result<Vec<RequestOutcome>, RowError> {
+/// What happens beside these calls. They are played again with one outcome more, as long as one is waited for.
+fn outcomes_of(alloc: Global, calls: &[Call], play: &Play) -> Result<Vec<DealOutcome>, RowError> {
     let mut outcomes = Vec::new(alloc);
     for _ in 0..u64::MAX {
         match played(alloc, calls, play, &outcomes)? {
-            Ran::Waiting(_, Wait::Outcome, here) => {
-                outcomes = play.setup.outcomes(alloc, here.dealings.asked.as_slice())?;
+            Ran::Waiting(answers, Wait::Outcome, here) => {
+                let Some(call) = calls.get(answers.as_slice().len()) else {
+                    return Err(RowError::NotUnderstood);
+                };
+                outcomes.push(next_outcome(alloc, &play.setup, call, &here.dealings)?)?;
             }
             Ran::Finished(..) | Ran::Waiting(..) => return Ok(outcomes),
         }
@@ -117,12 +128,12 @@ fn outcomes_of(
     Err(RowError::NotUnderstood)
 }
 
-/// What these calls come to, where their requests come to these outcomes.
+/// What these calls come to, where these outcomes are known.
 fn played(
     alloc: Global,
     calls: &[Call],
     play: &Play,
-    outcomes: &[RequestOutcome],
+    outcomes: &[DealOutcome],
 ) -> Result<Ran, AllocError> {
     let begun = first(alloc, &play.input, play, outcomes)?;
     run(alloc, Room::Any, &encoding_of(play), calls, begun)
@@ -150,7 +161,7 @@ fn connected(
     outcomes: &[RequestOutcome],
 ) -> Result<Played, AllocError> {
     let requests = dial.requests(alloc)?;
-    let begun = first(alloc, &play.input, play, outcomes)?;
+    let begun = first(alloc, &play.input, play, &answers_of(alloc, outcomes)?)?;
     connect_in_turn(
         alloc,
         Room::Any,
@@ -191,6 +202,7 @@ fn stands(
     let welcome = welcome(alloc, &here.state)?;
     Ok(Standing {
         asked,
+        uploaded: uploaded(alloc, &here.dealings)?,
         sent: Vec::from_slice(alloc, here.said.as_slice())?,
         answers,
         taken: came.saturating_sub(here.bytes.len()),
@@ -208,61 +220,49 @@ pub fn welcome(alloc: Global, state: &State) -> Result<Option<String>, AllocErro
     }
 }
 
-/// What playing events came to.
-#[derive(Drop)]
-enum Attempt {
-    /// Where the session stands: it made no request whose outcome wasn't given.
-    Stands(Standing),
-    /// What the requests that it made come to: there are more than were given.
-    Asks(Vec<RequestOutcome>),
+/// Where these events lead to.
+pub fn scripted(alloc: Global, events: &[Event], play: &Play) -> Result<Standing, RowError> {
+    let outcomes = script_outcomes(alloc, events, play)?;
+    let begun = first(alloc, b"", play, &outcomes)?;
+    let script = script_from(alloc, events, play, &begun)?;
+    stands_in(alloc, &script, &of_requests(alloc, &outcomes)?)
 }
 
-/// Where these events lead to. They happen again for each request, with one outcome more.
-pub fn scripted(alloc: Global, events: &[Event], play: &Play) -> Result<Standing, RowError> {
+/// What happens beside these events: after each Poll that leaves a call waiting for an outcome, it comes.
+fn script_outcomes(
+    alloc: Global,
+    events: &[Event],
+    play: &Play,
+) -> Result<Vec<DealOutcome>, RowError> {
     let mut outcomes = Vec::new(alloc);
-    for _ in 0..u64::MAX {
-        match attempted(alloc, events, play, &outcomes)? {
-            Attempt::Stands(standing) => return Ok(standing),
-            Attempt::Asks(more) => outcomes = more,
+    if !play.opens_data() {
+        return Ok(outcomes);
+    }
+    for place in 0..events.len() {
+        if let (Some(Event::Poll), Some(so_far)) = (events.get(place), events.get(..=place)) {
+            add_outcomes(alloc, so_far, play, &mut outcomes)?;
         }
     }
-    Err(RowError::NotUnderstood)
+    Ok(outcomes)
 }
 
-/// What these events come to, where the requests come to these outcomes.
-fn attempted(
+/// Adds the outcomes that are waited for after these events, the last of which is a Poll. The events happen again with
+/// one outcome more, as long as one is waited for.
+fn add_outcomes(
     alloc: Global,
     events: &[Event],
     play: &Play,
-    outcomes: &[RequestOutcome],
-) -> Result<Attempt, RowError> {
-    let script = script_of(alloc, events, play, outcomes)?;
-    attempt_of(alloc, &script, play, outcomes)
-}
-
-/// What a script came to whose requests were given these outcomes.
-fn attempt_of(
-    alloc: Global,
-    script: &Script,
-    play: &Play,
-    outcomes: &[RequestOutcome],
-) -> Result<Attempt, RowError> {
-    let asked = script.dealings.asked.as_slice();
-    if asked.len() > outcomes.len() {
-        return Ok(Attempt::Asks(play.setup.outcomes(alloc, asked)?));
+    outcomes: &mut Vec<DealOutcome>,
+) -> Result<(), RowError> {
+    for _ in 0..u64::MAX {
+        let begun = first(alloc, b"", play, outcomes)?;
+        let script = script_from(alloc, events, play, &begun)?;
+        let Some(call) = waiting(&script, outcomes) else {
+            return Ok(());
+        };
+        outcomes.push(next_outcome(alloc, &play.setup, call, &script.dealings)?)?;
     }
-    Ok(Attempt::Stands(stands_in(alloc, script, outcomes)?))
-}
-
-/// The script of these events, where the requests come to these outcomes.
-fn script_of(
-    alloc: Global,
-    events: &[Event],
-    play: &Play,
-    outcomes: &[RequestOutcome],
-) -> Result<Script, AllocError> {
-    let begun = first(alloc, b"", play, outcomes)?;
-    script_from(alloc, events, play, &begun)
+    Err(RowError::NotUnderstood)
 }
 
 /// The script of these events, whose runs begin here.
@@ -291,6 +291,7 @@ fn stands_in(
     let welcome = welcome(alloc, &script.state)?;
     Ok(Standing {
         asked: lines_of(alloc, script.dealings.asked.as_slice(), outcomes)?,
+        uploaded: uploaded(alloc, &script.dealings)?,
         sent: Vec::from_slice(alloc, script.sent.as_slice())?,
         answers,
         taken: script.bytes.len().saturating_sub(script.untaken.len()),

@@ -125,7 +125,11 @@ fn make(alloc: Global, session: &mut NamedSession, call: &Call) -> Result<Answer
         Call::RetrAsStream(_)
         | Call::PutWithStream(_)
         | Call::AppendWithStream(_)
-        | Call::CustomDataCommand(..) => {
+        | Call::CustomDataCommand(..)
+        | Call::Set(_)
+        | Call::Read(_)
+        | Call::Write(_)
+        | Call::Finish => {
             return Err(RowError::NotUnderstood);
         }
     })

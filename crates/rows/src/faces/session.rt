@@ -2,6 +2,7 @@
 
 use super::definition::welcome;
 use crate::answers::texts_of;
+use crate::builder::RowBuilder;
 use crate::dial::fed;
 use crate::encodings::Named;
 use crate::play::Play;
@@ -12,8 +13,8 @@ use ftp_session::session::{Answer, Call, Event, NoTlsConnector, Session};
 use row_text::RowError;
 use std::alloc::{AllocError, Global};
 
-/// A session over memory whose encoding a row may choose.
-pub type NamedSession = Session<MemoryTransport, NoTlsConnector, Named>;
+/// A session over memory whose encoding and builder a row may choose.
+pub type NamedSession = Session<MemoryTransport, NoTlsConnector, Named, RowBuilder>;
 
 /// A connection between the row's ends on which nothing came.
 fn bare(alloc: Global, play: &Play) -> MemoryConn {
@@ -117,6 +118,7 @@ pub fn stands(
     let welcome = welcome(alloc, session.state())?;
     Ok(Standing {
         asked: recorded(alloc, session.transport().asked())?,
+        uploaded: uploaded(alloc, session.transport().uploaded())?,
         sent: Vec::from_slice(alloc, conn.sent())?,
         answers,
         taken: conn.received().saturating_sub(session.untaken()),
@@ -124,4 +126,13 @@ pub fn stands(
         failed: session.failed(),
         welcome,
     })
+}
+
+/// What was uploaded on these data connections, one after another.
+fn uploaded(alloc: Global, conns: &[MemoryConn]) -> Result<Vec<Vec<u8>>, AllocError> {
+    let mut uploaded = Vec::new(alloc);
+    for conn in conns {
+        uploaded.push(Vec::from_slice(alloc, conn.sent())?)?;
+    }
+    Ok(uploaded)
 }

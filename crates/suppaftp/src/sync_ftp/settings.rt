@@ -37,6 +37,18 @@ impl<Tr: Network, K: Drop, E: Encoding, B: Drop> ImplFtpStream<Tr, K, E, B> {
         self
     }
 
+    /// Lets this builder make passive data connections from now on, in the transport's place, each to the address that
+    /// the transport would have been asked for. Its fault is answered as it is.
+    pub fn set_passive_stream_builder<R: Wait>(&self, rt: &R, builder: B) {
+        self.session.lock(rt).set_passive_stream_builder(builder);
+    }
+
+    /// The client with this builder of passive data connections.
+    pub fn passive_stream_builder<R: Wait>(self, rt: &R, builder: B) -> Self {
+        self.set_passive_stream_builder(rt, builder);
+        self
+    }
+
     /// The next transfer begins at this offset, in bytes (`REST`; RFC 3659, section 5). 0 takes an earlier offset away.
     ///
     /// # Errors

@@ -19,6 +19,7 @@ loop-call-preserved c =
     let taken = ap (λ l. Greet ∷ l) (ap (λ a. take i calls ++ a ∷ []) is ∙ sym (take_more calls i call less)) in
     record {
       encoding = ap (λ e. e.0) c.in_ok-push_made-2.ensures.encoding ∙ c.loop-call.invariant.encoding;
+      builder = c.in_ok-push_made-2.ensures.builder ∙ c.loop-call.invariant.builder;
       made = (
         begun,
         begins,

@@ -10,5 +10,6 @@ use Rattle.ftp_script.proofs.player.transcript_of.Given as goal
 abbrev pub invariant-loop-call : goal.invariant-loop-call
 invariant-loop-call l = record {
   encoding : l.session.encoding.0 ≡ None;
-  made : (begun : SessionValue) × Begins (Unit {0}) (closed_memory (fed l.script.server fresh_memory)) (first_net [] []) begun × Makes (Greet ∷ take l.call-index l.script.calls) begun l.session.machine l.text.items;
+  builder : l.session.builder ≡ None;
+  made : (begun : SessionValue) × Begins (Unit {0}) (closed_memory (fed l.script.server fresh_memory)) (first_net [] [] []) begun × Makes (Greet ∷ take l.call-index l.script.calls) begun l.session.machine l.text.items;
 }

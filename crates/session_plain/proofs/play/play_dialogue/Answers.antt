@@ -4,4 +4,5 @@ use Rattle.session_plain.proofs.play.play_dialogue.Goals as goal
 pub returns : goal.returns
 returns g c =
     let plain = sym c.negotiates.ensures ∙ c.if-negotiates.false in
-    rw plain c.from_turn.ensures
+    let going = sym c.finishes.ensures ∙ c.if-finishes.false in
+    rw (plain, going) c.from_turn.ensures

@@ -5,4 +5,4 @@ pub returns-in-Ok-clause-plays : goal.returns-in-Ok-clause-plays
 returns-in-Ok-clause-plays g c = λ made plain is. rw c.reply.ensures (copied_plays _ _ c.args.call c.in-Ok.call made _ _ _ c.in-Ok.is is c.call.ensures.plays)
 
 pub returns-in-Err-clause-plays : goal.returns-in-Err-clause-plays
-returns-in-Err-clause-plays g c = λ made plain is. rw c.withheld.ensures (withheld_plays _ _ made _)
+returns-in-Err-clause-plays g c = λ made plain is. rw c.withheld.ensures (withheld_plays _ _ made _ plain)

@@ -1,5 +1,5 @@
 use Rattle.std.proofs.Common.{inl}
-use Rattle.ftp_session.proofs.Transitions.{nothing_so_far, next_step, last_step, waits_step, begun_on, end_on}
+use Rattle.ftp_session.proofs.Transitions.{nothing_so_far, next_step, last_step, waits_step, begun_on, end_on, rests_from}
 use Rattle.ftp_session.proofs.session.machine.Machine.poll_call.Goals as goal
 
 pub loop-answer-init : goal.loop-answer-init
@@ -32,3 +32,6 @@ pub returns-in-Done-clause-polls : goal.returns-in-Done-clause-polls
 returns-in-Done-clause-polls g c =
     let made = rw c.in-Done.is at c.step.ensures.steps in
     last_step _ _ _ _ _ _ _ c.loop-answer.invariant.so_far c.step.new.stage c.step.new.self c.in-Done.answer made
+
+pub returns-in-Pending-clause-rests : goal.returns-in-Pending-clause-rests
+returns-in-Pending-clause-rests g c = λ waits read. rests_from _ _ _ _ _ _ _ c.loop-answer.invariant.so_far c.step.new.self read (c.step.ensures.rests c.in-Pending.is read)

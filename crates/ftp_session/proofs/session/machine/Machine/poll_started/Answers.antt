@@ -1,35 +1,12 @@
-use Rattle.std.proofs.Common.{refl}
-use Rattle.futures.specs.declared.task.Poll.TheVariants.{Ready, Pending}
-use Rattle.ftp_session.specs.Coding.{coding_of}
-use Rattle.ftp_session.specs.Link.{Link, asking}
-use Rattle.ftp_session.proofs.Transitions.{begun_entered, polls_entered, rests_entered}
+use Rattle.std.proofs.Common.{inl, inr, refl}
+use Rattle.ftp_session.proofs.Polling.{starts_on}
 use Rattle.ftp_session.proofs.session.machine.Machine.poll_started.Goals as goal
 
-pub returns-in-Ready-clause-polls : goal.returns-in-Ready-clause-polls
-returns-in-Ready-clause-polls g c = λ going.
-    let link : Link = asking g.Tr.Conn.Tells.tells g.Tr.Conn.PollConn.read_faults g.Tr.Conn.PollConn.write_faults g.Tr.Conn.Tells.end_faults g.A.Asks.may_wait in
-    let coding = coding_of g.E.Encoding.decoded g.E.Encoding.encoded c.args.encoding.now in
-    let begins = c.begin_call.ensures in
-    let made = rw c.in-Ready.is at c.poll_call.ensures.polls in
-    let polls = polls_entered link coding c.args.call.now c.args.stage.now c.begin_call.new.stage c.poll_call.new.stage c.args.self.now c.begin_call.new.self c.poll_call.new.self (Ready c.in-Ready.answer) begins.entered begins.begun (begins.enters coding) made in
-    (c.poll_call.new.self, polls, c.let_go.ensures)
+pub returns-in-Some-clause-starts : goal.returns-in-Some-clause-starts
+returns-in-Some-clause-starts g c = inl (c.in-Some.answer, refl, c.refuse_at.ensures.refused c.in-Some.answer c.in-Some.is)
 
-pub returns-in-Pending-clause-begun : goal.returns-in-Pending-clause-begun
-returns-in-Pending-clause-begun g c = λ waits.
-    let link : Link = asking g.Tr.Conn.Tells.tells g.Tr.Conn.PollConn.read_faults g.Tr.Conn.PollConn.write_faults g.Tr.Conn.Tells.end_faults g.A.Asks.may_wait in
-    let coding = coding_of g.E.Encoding.decoded g.E.Encoding.encoded c.args.encoding.now in
-    let begins = c.begin_call.ensures in
-    begun_entered link coding c.args.call.now c.args.stage.now c.begin_call.new.stage c.poll_call.new.stage c.args.self.now c.begin_call.new.self c.poll_call.new.self c.poll_call.result begins.entered begins.begun (begins.enters coding) (c.poll_call.ensures.begun c.in-Pending.is)
-
-pub returns-in-Pending-clause-polls : goal.returns-in-Pending-clause-polls
-returns-in-Pending-clause-polls g c = λ going.
-    let link : Link = asking g.Tr.Conn.Tells.tells g.Tr.Conn.PollConn.read_faults g.Tr.Conn.PollConn.write_faults g.Tr.Conn.Tells.end_faults g.A.Asks.may_wait in
-    let coding = coding_of g.E.Encoding.decoded g.E.Encoding.encoded c.args.encoding.now in
-    let begins = c.begin_call.ensures in
-    let made = rw c.in-Pending.is at c.poll_call.ensures.polls in
-    (c.poll_call.new.self, polls_entered link coding c.args.call.now c.args.stage.now c.begin_call.new.stage c.poll_call.new.stage c.args.self.now c.begin_call.new.self c.poll_call.new.self Pending begins.entered begins.begun (begins.enters coding) made, refl)
-
-pub returns-in-Pending-clause-rests : goal.returns-in-Pending-clause-rests
-returns-in-Pending-clause-rests g c = λ waits read.
-    let link : Link = asking g.Tr.Conn.Tells.tells g.Tr.Conn.PollConn.read_faults g.Tr.Conn.PollConn.write_faults g.Tr.Conn.Tells.end_faults g.A.Asks.may_wait in
-    rests_entered link c.args.call.now c.args.stage.now c.args.self.now c.begin_call.new.self c.poll_call.new.self read c.begin_call.ensures.entered (c.poll_call.ensures.rests c.in-Pending.is read)
+pub returns-clause-starts : goal.returns-clause-starts
+returns-clause-starts g c =
+    let taken = c.refuse_at.ensures.taken c.in_default.is in
+    let made = c.poll_taken.ensures in
+    inr (starts_on _ _ _ c.args.call.now c.args.stage.now c.poll_taken.new.stage c.args.self.now c.refuse_at.new.self c.poll_taken.new.self c.poll_taken.result taken.0 taken.1 taken.2 made.polls made.rests made.begun made.fails made.end)

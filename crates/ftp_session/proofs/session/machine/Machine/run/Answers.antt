@@ -10,11 +10,11 @@ loop-call-init g c =
 pub loop-call-preserved : goal.loop-call-preserved
 loop-call-preserved g c =
     let held = c.loop-call.invariant in
-    let pushed : c.push.new.self.items ≡ c.loop-call.answers.items ++ c.call-answer.result ∷ [] = rw c.unwrap.ensures at c.push.ensures.items in
-    let longer = ap length pushed ∙ length-append c.loop-call.answers.items (c.call-answer.result ∷ []) in
+    let pushed : c.push.new.self.items ≡ c.loop-call.answers.items ++ c.make-answer.result ∷ [] = rw c.unwrap.ensures at c.push.ensures.items in
+    let longer = ap length pushed ∙ length-append c.loop-call.answers.items (c.make-answer.result ∷ []) in
     record {
-      so_far = next_of _ _ c.args.calls.now c.loop-call.call-index c.call-item.result _ _ _ _ _ _ c.loop-call-test.true c.call-item.is pushed held.so_far c.call-answer.ensures.made;
-      fails = fails_more c.args.self.now c.loop-call.self c.call-answer.new.self c.loop-call.answers.items (c.call-answer.result ∷ []) _ pushed held.fails (made_fails _ _ _ _ _ _ c.call-answer.ensures.made);
+      so_far = next_of _ _ c.args.calls.now c.loop-call.call-index c.call-item.result _ _ _ _ _ _ c.loop-call-test.true c.call-item.is pushed held.so_far c.make-answer.ensures.made;
+      fails = fails_more c.args.self.now c.loop-call.self c.make-answer.new.self c.loop-call.answers.items (c.make-answer.result ∷ []) _ pushed held.fails (made_fails _ _ _ _ _ _ c.make-answer.ensures.made);
       count = omega (arith, longer, held.count);
       room = omega (arith, held.room, c.push.ensures.capacity);
     }

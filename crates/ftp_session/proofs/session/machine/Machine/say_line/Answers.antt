@@ -1,5 +1,7 @@
-use Rattle.std.proofs.Common.{◌≡◌, true, false, sym, ap, subst, ◌∙◌}
-use Rattle.ftp_session.specs.Steps.Stages.{awaited, begun_at}
+use Rattle.std.proofs.Common.{◌≡◌, true, false, inr, sym, ap, subst, ◌∙◌}
+use Rattle.ftp_calls.specs.declared.call.Answer.{Answer}
+use Rattle.ftp_calls.specs.declared.exchange.Turn.TheVariants.{First}
+use Rattle.ftp_session.specs.Steps.Stages.{MayAnswer, awaited, begun_at}
 use Rattle.ftp_session.specs.declared.session.stage.Stage.TheVariants.{Saying}
 use Rattle.ftp_session.proofs.Stages.{line_begins, line_gone}
 use Rattle.ftp_session.proofs.session.machine.Machine.say_line.Goals as goal
@@ -22,3 +24,9 @@ returns-in-Pending-clause-steps g c = λ coding call.
 
 pub returns-in-Pending-clause-begun : goal.returns-in-Pending-clause-begun
 returns-in-Pending-clause-begun g c = λ tree. rw c.go_to-in-Pending.ensures (line_begins _ c.args.line _ c.args.awaits _ _ _ c.say.ensures.takes tree)
+
+pub returns-in-Done-clause-answers : goal.returns-in-Done-clause-answers
+returns-in-Done-clause-answers g c = λ call.
+    let fault = c.say.ensures.answer c.in-Done.answer c.in-Done.is in
+    let P : Answer → Type 0 = λ a. MayAnswer call a in
+    subst P (sym fault.1) (First, inr tt, tt)

@@ -1,5 +1,5 @@
 use Rattle.ftp_session.specs.Coding.{coding_of}
-use Rattle.ftp_session.specs.Link.{asking}
+use Rattle.ftp_session.specs.Link.{building}
 use Rattle.ftp_session.specs.Dialogue.{from_turn}
 use Rattle.ftp_session.specs.Steps.Stages.{remaining}
 use Rattle.ftp_session.specs.declared.session.stage.Stage.TheVariants.{Saying}
@@ -21,7 +21,7 @@ returns-in-At-clause-quiet g c =
 pub returns-in-At-clause-begun : goal.returns-in-At-clause-begun
 returns-in-At-clause-begun g c =
     let is = c.in-At.ensures.value in
-    rw (← is) (exchange_tracks (asking g.Tr.Conn.Tells.tells g.Tr.Conn.PollConn.read_faults g.Tr.Conn.PollConn.write_faults g.Tr.Conn.Tells.end_faults g.A.Asks.may_wait) (coding_of g.E.Encoding.decoded g.E.Encoding.encoded c.args.encoding.now) c.args.call.now c.in-At.turn _ (from_turn (coding_of g.E.Encoding.decoded g.E.Encoding.encoded c.args.encoding.now) c.args.call.now c.in-At.turn c.args.self.now.state) _ _ _ c.begin_exchange.ensures.begins)
+    rw (← is) (exchange_tracks (building (g.A.Asks.builds c.args.asker.now) g.Tr.Conn.Tells.tells g.Tr.Conn.PollConn.read_faults g.Tr.Conn.PollConn.write_faults g.Tr.Conn.Tells.end_faults g.A.Asks.may_wait) (coding_of g.E.Encoding.decoded g.E.Encoding.encoded c.args.encoding.now) c.args.call.now c.in-At.turn _ (from_turn (coding_of g.E.Encoding.decoded g.E.Encoding.encoded c.args.encoding.now) c.args.call.now c.in-At.turn c.args.self.now.state) _ _ _ c.begin_exchange.ensures.begins)
 
 pub returns-in-Saying-clause-answers : goal.returns-in-Saying-clause-answers
 returns-in-Saying-clause-answers g c = c.say_line.ensures.answers c.args.call.now
@@ -84,3 +84,32 @@ pub returns-in-Agreeing-clause-begun : goal.returns-in-Agreeing-clause-begun
 returns-in-Agreeing-clause-begun g c =
     let is = c.in-Agreeing.ensures.value in
     rw (← is) (c.walk.ensures.walks (coding_of g.E.Encoding.decoded g.E.Encoding.encoded c.args.encoding.now)).begun
+
+pub returns-in-Closing-clause-stage : goal.returns-in-Closing-clause-stage
+returns-in-Closing-clause-stage g c = (c.close.ensures.walks (coding_of g.E.Encoding.decoded g.E.Encoding.encoded c.args.encoding.now)).stage_of
+
+pub returns-in-Closing-clause-waits : goal.returns-in-Closing-clause-waits
+returns-in-Closing-clause-waits g c = λ waits. inr ((c.close.ensures.walks (coding_of g.E.Encoding.decoded g.E.Encoding.encoded c.args.encoding.now)).waits waits)
+
+pub returns-in-Closing-clause-answers : goal.returns-in-Closing-clause-answers
+returns-in-Closing-clause-answers g c = (c.close.ensures.walks (coding_of g.E.Encoding.decoded g.E.Encoding.encoded c.args.encoding.now)).answers
+
+pub returns-in-Closing-clause-fewer : goal.returns-in-Closing-clause-fewer
+returns-in-Closing-clause-fewer g c =
+    let is = c.in-Closing.ensures.value in
+    rw (← is) (c.close.ensures.walks (coding_of g.E.Encoding.decoded g.E.Encoding.encoded c.args.encoding.now)).fewer
+
+pub returns-in-Closing-clause-steps : goal.returns-in-Closing-clause-steps
+returns-in-Closing-clause-steps g c =
+    let is = c.in-Closing.ensures.value in
+    rw (← is) (c.close.ensures.walks (coding_of g.E.Encoding.decoded g.E.Encoding.encoded c.args.encoding.now)).steps
+
+pub returns-in-Closing-clause-quiet : goal.returns-in-Closing-clause-quiet
+returns-in-Closing-clause-quiet g c =
+    let is = c.in-Closing.ensures.value in
+    rw (← is) (c.close.ensures.walks (coding_of g.E.Encoding.decoded g.E.Encoding.encoded c.args.encoding.now)).quiet
+
+pub returns-in-Closing-clause-begun : goal.returns-in-Closing-clause-begun
+returns-in-Closing-clause-begun g c =
+    let is = c.in-Closing.ensures.value in
+    rw (← is) (c.close.ensures.walks (coding_of g.E.Encoding.decoded g.E.Encoding.encoded c.args.encoding.now)).begun

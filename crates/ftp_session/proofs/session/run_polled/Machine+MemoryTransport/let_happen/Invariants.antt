@@ -4,6 +4,7 @@ use Rattle.ftp_session.specs.Steps.Following.{StageIn}
 use Rattle.ftp_session.specs.Promises.{FailsWith}
 use Rattle.ftp_session.proofs.Scripts.{Happened}
 use Rattle.ftp_session.proofs.session.run_polled.Machine+MemoryTransport.let_happen.Given as goal
+use Rattle.ftp_session.specs.Link.{built_by}
 
 -- the events so far
 abbrev pub invariant-loop-event : goal.invariant-loop-event
@@ -13,5 +14,5 @@ invariant-loop-event g l =
       count : length l.answers.items ≤ l.event-index;
       fails : FailsWith l.fn.self l.self l.answers.items;
       room : length l.events ≤ vec_capacity l.answers;
-      so_far : (depth : ℕ) → Happened (coding_of g.E.Encoding.decoded g.E.Encoding.encoded l.encoding) depth l.fn.self (take l.event-index l.events) l.self (option_map (λ c. c.now) l.under_way) l.stage l.answers.items;
+      so_far : (depth : ℕ) → Happened (built_by g.B.PassiveStreamBuilder.answers l.builder) (coding_of g.E.Encoding.decoded g.E.Encoding.encoded l.encoding) depth l.fn.self (take l.event-index l.events) l.self (option_map (λ c. c.now) l.under_way) l.stage l.answers.items;
     }

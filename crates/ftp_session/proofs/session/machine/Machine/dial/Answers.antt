@@ -1,17 +1,16 @@
-use Rattle.std.proofs.Common.{None, refl, inr}
-use Rattle.ftp_control.specs.declared.transport.request.Request.TheVariants.{Connect}
+use Rattle.std.proofs.Common.{inr}
 use Rattle.ftp_calls.specs.declared.exchange.Turn.TheVariants.{First}
-use Rattle.ftp_session.specs.Dialogue.{connecting_to, later, on_connection}
+use Rattle.ftp_session.specs.Dialogue.{connecting_to, later}
 use Rattle.ftp_session.specs.declared.session.stage.Agreeing.TheVariants.{Asking}
 use Rattle.ftp_session.specs.declared.session.stage.Asking.TheVariants.{Connection}
-use Rattle.ftp_session.proofs.Negotiation.{connects_walks, still_fails, walks_end, walks_wait}
-use Rattle.ftp_session.proofs.session.machine.Machine.reach.Goals as goal
+use Rattle.ftp_session.proofs.Negotiation.{connects_walks, dial_waits, still_fails, walks_end}
+use Rattle.ftp_session.proofs.session.machine.Machine.dial.Goals as goal
 
 pub returns-in-Ready-Ok-clause-walks : goal.returns-in-Ready-Ok-clause-walks
 returns-in-Ready-Ok-clause-walks g c = λ coding.
     let asked = rw (c.in-Ready-Ok.is, c.in-Ready-Ok.field-0-is) at c.ask_to_connect.ensures.asks in
     let connects = rw c.in-Ready-Ok.field-0-is at c.connected.ensures.connects in
-    connects_walks _ coding _ c.args.turn c.args.address _ _ _ _ _ c.requires.opens asked connects
+    connects_walks _ coding _ c.args.turn c.args.address _ _ _ _ _ c.requires.opens c.requires.alone asked connects
 
 pub returns-in-Ready-Err-clause-walks : goal.returns-in-Ready-Err-clause-walks
 returns-in-Ready-Err-clause-walks g c = λ coding.
@@ -21,6 +20,5 @@ returns-in-Ready-Err-clause-walks g c = λ coding.
 
 pub returns-in-Pending-clause-walks : goal.returns-in-Pending-clause-walks
 returns-in-Pending-clause-walks g c = λ coding.
-    let state = c.args.self.now.state in
     let waits = rw c.in-Pending.is at c.ask_to_connect.ensures.asks in
-    rw c.go_to.ensures (walks_wait _ coding _ (Asking c.args.turn (Connection c.args.address)) c.requires.opens (Connect c.args.address None) (on_connection state (later coding c.args.call.now c.args.turn state)) _ _ refl waits.0 waits.1 (c.requires.opens, tt))
+    rw c.go_to.ensures (dial_waits _ coding _ c.args.turn c.args.address _ _ c.requires.opens c.requires.alone waits.0 waits.1)

@@ -1,0 +1,225 @@
+-- Which calls go over the control connection, which open a data connection, and which bring a transfer to its end.
+use Rattle.std.proofs.Common.{◌≡◌, Bool, true, false, ◌&&◌, is_none, refl, ap, sym, ◌∙◌}
+use Rattle.ftp_calls.specs.declared.call.Call.{Call}
+use Rattle.ftp_calls.specs.declared.call.Call.TheVariants.{Greet, Login, Cwd, Cdup, Pwd, Noop, Eprt, Opts, Site, TransferType, Mkdir, Rmdir, Rm, Rename, Quit, Mlst, Mdtm, Size, Feat, CustomCommand, ReadResponse, ReadResponseIn, ResumeTransfer, RetrAsStream, PutWithStream, AppendWithStream, CustomDataCommand, Set, Read, Write, Finish}
+use Rattle.ftp_calls.specs.declared.exchange.Ending.{Ending}
+use Rattle.ftp_calls.specs.declared.exchange.Ending.TheVariants.{Done, GivesReply, Greets, GivesPath, GivesSecondLine, GivesTime, GivesSize, GivesFeatures, SetsText, GoesOn, Continues, GivesAddress, GivesPort, Opens, Finishes}
+use Rattle.ftp_calls.specs.declared.exchange.Row.{Row}
+use Rattle.ftp_calls.specs.declared.exchange.Row.TheVariants.{Exchanges, Arms, Sets, Moves}
+use Rattle.ftp_calls.specs.declared.exchange.Turn.{Turn}
+use Rattle.ftp_calls.specs.declared.exchange.Turn.TheVariants.{First, Second, Passive, ExtendedPassive, Active, Restart, Closed}
+use Rattle.ftp_calls.specs.Exchanges.{finishes, finishing_row, gives_reply, is_finishing, is_local, is_opening, is_read, local_row, moving_row, negotiates, of_transfer, opens, reads, row_of}
+use Rattle.ftp_session.specs.declared.session.stage.Stage.{Stage}
+use Rattle.ftp_session.specs.declared.session.stage.Stage.TheVariants.{At, Saying, Hearing, Arming, Agreeing, Closing}
+use Rattle.ftp_session.specs.Steps.Stages.{StageOf, TurnOf}
+
+-- Endings
+
+finishing_gives_none : (e : Ending) → is_finishing e ≡ true → gives_reply e ≡ false
+finishing_gives_none Done is = refl
+finishing_gives_none GivesReply is = let clash : false ≡ true = is in cc
+finishing_gives_none Greets is = refl
+finishing_gives_none GivesPath is = refl
+finishing_gives_none GivesSecondLine is = refl
+finishing_gives_none GivesTime is = refl
+finishing_gives_none GivesSize is = refl
+finishing_gives_none GivesFeatures is = refl
+finishing_gives_none (SetsText text) is = refl
+finishing_gives_none (GoesOn status) is = refl
+finishing_gives_none Continues is = refl
+finishing_gives_none GivesAddress is = refl
+finishing_gives_none GivesPort is = refl
+finishing_gives_none (Opens replies) is = refl
+finishing_gives_none (Finishes close) is = refl
+
+finishing_opens_none : (e : Ending) → is_finishing e ≡ true → is_opening e ≡ false
+finishing_opens_none Done is = refl
+finishing_opens_none GivesReply is = refl
+finishing_opens_none Greets is = refl
+finishing_opens_none GivesPath is = refl
+finishing_opens_none GivesSecondLine is = refl
+finishing_opens_none GivesTime is = refl
+finishing_opens_none GivesSize is = refl
+finishing_opens_none GivesFeatures is = refl
+finishing_opens_none (SetsText text) is = refl
+finishing_opens_none (GoesOn status) is = refl
+finishing_opens_none Continues is = refl
+finishing_opens_none GivesAddress is = refl
+finishing_opens_none GivesPort is = refl
+finishing_opens_none (Opens replies) is = let clash : false ≡ true = is in cc
+finishing_opens_none (Finishes close) is = refl
+
+pub reply_ending : (e : Ending) → gives_reply e ≡ true → e ≡ GivesReply
+reply_ending Done is = let clash : false ≡ true = is in cc
+reply_ending GivesReply is = refl
+reply_ending Greets is = let clash : false ≡ true = is in cc
+reply_ending GivesPath is = let clash : false ≡ true = is in cc
+reply_ending GivesSecondLine is = let clash : false ≡ true = is in cc
+reply_ending GivesTime is = let clash : false ≡ true = is in cc
+reply_ending GivesSize is = let clash : false ≡ true = is in cc
+reply_ending GivesFeatures is = let clash : false ≡ true = is in cc
+reply_ending (SetsText text) is = let clash : false ≡ true = is in cc
+reply_ending (GoesOn status) is = let clash : false ≡ true = is in cc
+reply_ending Continues is = let clash : false ≡ true = is in cc
+reply_ending GivesAddress is = let clash : false ≡ true = is in cc
+reply_ending GivesPort is = let clash : false ≡ true = is in cc
+reply_ending (Opens replies) is = let clash : false ≡ true = is in cc
+reply_ending (Finishes close) is = let clash : false ≡ true = is in cc
+
+-- Rows
+
+row_finishes_unread : (r : Row) → finishing_row r ≡ true → reads r ≡ false
+row_finishes_unread (Exchanges e) is = ap (λ b. b && is_none e.says) (finishing_gives_none e.ending is)
+row_finishes_unread (Arms offset) is = refl
+row_finishes_unread (Sets setting) is = refl
+row_finishes_unread (Moves movement) is = refl
+
+row_finishes_abroad : (r : Row) → finishing_row r ≡ true → local_row r ≡ false
+row_finishes_abroad (Exchanges e) is = refl
+row_finishes_abroad (Arms offset) is = refl
+row_finishes_abroad (Sets setting) is = let clash : false ≡ true = is in cc
+row_finishes_abroad (Moves movement) is = let clash : false ≡ true = is in cc
+
+row_finishes_opens : (r : Row) → finishing_row r ≡ true → opens r ≡ false
+row_finishes_opens (Exchanges e) is = finishing_opens_none e.ending is
+row_finishes_opens (Arms offset) is = refl
+row_finishes_opens (Sets setting) is = refl
+row_finishes_opens (Moves movement) is = refl
+
+row_finishes_moves : (r : Row) → finishing_row r ≡ true → moving_row r ≡ true
+row_finishes_moves (Exchanges e) is = is
+row_finishes_moves (Arms offset) is = let clash : false ≡ true = is in cc
+row_finishes_moves (Sets setting) is = let clash : false ≡ true = is in cc
+row_finishes_moves (Moves movement) is = refl
+
+row_opens_abroad : (r : Row) → opens r ≡ true → local_row r ≡ false
+row_opens_abroad (Exchanges e) is = refl
+row_opens_abroad (Arms offset) is = refl
+row_opens_abroad (Sets setting) is = let clash : false ≡ true = is in cc
+row_opens_abroad (Moves movement) is = let clash : false ≡ true = is in cc
+
+row_reads_abroad : (r : Row) → reads r ≡ true → local_row r ≡ false
+row_reads_abroad (Exchanges e) is = refl
+row_reads_abroad (Arms offset) is = refl
+row_reads_abroad (Sets setting) is = let clash : false ≡ true = is in cc
+row_reads_abroad (Moves movement) is = let clash : false ≡ true = is in cc
+
+row_local_opens : (r : Row) → local_row r ≡ true → opens r ≡ false
+row_local_opens (Exchanges e) is = let clash : false ≡ true = is in cc
+row_local_opens (Arms offset) is = refl
+row_local_opens (Sets setting) is = refl
+row_local_opens (Moves movement) is = refl
+
+row_local_finishes : (r : Row) → local_row r ≡ true → finishing_row r ≡ false
+row_local_finishes (Exchanges e) is = let clash : false ≡ true = is in cc
+row_local_finishes (Arms offset) is = refl
+row_local_finishes (Sets setting) is = refl
+row_local_finishes (Moves movement) is = refl
+
+row_unheld : (r : Row) → local_row r ≡ false → finishing_row r ≡ false → moving_row r ≡ false
+row_unheld (Exchanges e) abroad ends = ends
+row_unheld (Arms offset) abroad ends = refl
+row_unheld (Sets setting) abroad ends = refl
+row_unheld (Moves movement) abroad ends = let clash : true ≡ false = abroad in cc
+
+-- Calls
+
+pub unheld_call : (call : Call) → is_local call ≡ false → finishes call ≡ false → of_transfer call ≡ false
+unheld_call call abroad ends = row_unheld (row_of call First) abroad ends
+
+pub finishing_no_read : (call : Call) → finishes call ≡ true → is_read call ≡ false
+finishing_no_read call is = row_finishes_unread (row_of call First) is
+
+pub finishing_no_local : (call : Call) → finishes call ≡ true → is_local call ≡ false
+finishing_no_local call is = row_finishes_abroad (row_of call First) is
+
+pub finishing_opens : (call : Call) → finishes call ≡ true → negotiates call ≡ false
+finishing_opens call is = row_finishes_opens (row_of call First) is
+
+pub finishing_moves : (call : Call) → finishes call ≡ true → of_transfer call ≡ true
+finishing_moves call is = row_finishes_moves (row_of call First) is
+
+pub opens_no_local : (call : Call) → negotiates call ≡ true → is_local call ≡ false
+opens_no_local call is = row_opens_abroad (row_of call First) is
+
+pub read_no_local : (call : Call) → is_read call ≡ true → is_local call ≡ false
+read_no_local call is = row_reads_abroad (row_of call First) is
+
+pub local_opens_none : (call : Call) → is_local call ≡ true → negotiates call ≡ false
+local_opens_none call is = row_local_opens (row_of call First) is
+
+pub local_finishes_none : (call : Call) → is_local call ≡ true → finishes call ≡ false
+local_finishes_none call is = row_local_finishes (row_of call First) is
+
+-- a call that finishes is no read
+pub read_finishes_none : (call : Call) → is_read call ≡ true → finishes call ≡ false
+read_finishes_none call read = go (finishes call) refl
+  where
+    go : (b : Bool) → finishes call ≡ b → finishes call ≡ false
+    go true is = let clash : true ≡ false = sym read ∙ finishing_no_read call is in cc
+    go false is = is
+
+-- Stages
+
+pub turn_no_local : (call : Call) (turn : Turn) → TurnOf call turn → is_local call ≡ false
+turn_no_local call First of = of.1
+turn_no_local call Second of = of.1
+turn_no_local call (Passive offset) of = opens_no_local call of
+turn_no_local call (ExtendedPassive offset) of = opens_no_local call of
+turn_no_local call (Active address offset) of = opens_no_local call of
+turn_no_local call (Restart offset) of = opens_no_local call of
+turn_no_local call (Closed close) of = finishing_no_local call of
+
+pub stage_no_local : (call : Call) (stage : Stage) → StageOf call stage → is_local call ≡ false
+stage_no_local call (At turn) of = turn_no_local call turn of
+stage_no_local call (Saying line a) of = turn_no_local call a.turn of.2
+stage_no_local call (Hearing a) of = turn_no_local call a.turn of.2
+stage_no_local call (Arming turn offset) of = turn_no_local call turn of.1
+stage_no_local call (Agreeing way) of = opens_no_local call of.0
+stage_no_local call Closing of = finishing_no_local call of
+
+-- Rows of calls that are none of the control connection
+
+-- the last row of a call is of the sort of its first
+local_alike : (call : Call) → local_row (row_of call Second) ≡ is_local call
+local_alike Greet = refl
+local_alike (Login u p) = refl
+local_alike (Cwd p) = refl
+local_alike Cdup = refl
+local_alike Pwd = refl
+local_alike Noop = refl
+local_alike (Eprt a) = refl
+local_alike (Opts n v) = refl
+local_alike (Site w) = refl
+local_alike (TransferType k) = refl
+local_alike (Mkdir p) = refl
+local_alike (Rmdir p) = refl
+local_alike (Rm p) = refl
+local_alike (Rename a b) = refl
+local_alike Quit = refl
+local_alike (Mlst p) = refl
+local_alike (Mdtm p) = refl
+local_alike (Size p) = refl
+local_alike Feat = refl
+local_alike (CustomCommand l c) = refl
+local_alike (ReadResponse s) = refl
+local_alike (ReadResponseIn c) = refl
+local_alike (ResumeTransfer o) = refl
+local_alike (RetrAsStream p) = refl
+local_alike (PutWithStream p) = refl
+local_alike (AppendWithStream p) = refl
+local_alike (CustomDataCommand l c) = refl
+local_alike (Set s) = refl
+local_alike (Read n) = refl
+local_alike (Write b) = refl
+local_alike Finish = refl
+
+-- a turn of a call that goes over the control connection changes no setting, and moves no bytes
+pub turn_abroad : (call : Call) (turn : Turn) (row : Row) → row_of call turn ≡ row → local_row row ≡ true → TurnOf call turn → ⊥
+turn_abroad call First row is local of = let clash : true ≡ false = sym local ∙ sym (ap local_row is) ∙ of.1 in cc
+turn_abroad call Second row is local of = let clash : true ≡ false = sym local ∙ sym (ap local_row is) ∙ local_alike call ∙ of.1 in cc
+turn_abroad call (Passive offset) row is local of = let clash : true ≡ false = sym local ∙ sym (ap local_row is) in cc
+turn_abroad call (ExtendedPassive offset) row is local of = let clash : true ≡ false = sym local ∙ sym (ap local_row is) in cc
+turn_abroad call (Active address offset) row is local of = let clash : true ≡ false = sym local ∙ sym (ap local_row is) in cc
+turn_abroad call (Restart offset) row is local of = let clash : true ≡ false = sym local ∙ sym (ap local_row is) in cc
+turn_abroad call (Closed close) row is local of = let clash : true ≡ false = sym local ∙ sym (ap local_row is) in cc

@@ -1,0 +1,112 @@
+//! What happens beside the control connection, over memory: what requests come to, and what is done on a data
+//! connection.
+
+use crate::setup::Setup;
+use ftp_base::types::Bytes;
+use ftp_control::transport::{Request, RequestOutcome};
+use ftp_session::model::{DealOutcome, Dealings, Script};
+use ftp_session::session::Call;
+use row_text::RowError;
+use std::alloc::{AllocError, Global};
+
+/// The outcome that this call waits for. A read gives as much as is left and wanted, a write takes all bytes, and a close
+/// is done.
+pub fn next_outcome(
+    alloc: Global,
+    setup: &Setup,
+    call: &Call,
+    dealings: &Dealings,
+) -> Result<DealOutcome, RowError> {
+    match call {
+        Call::Read(most) => Ok(DealOutcome::Read(unread(alloc, setup, *most, dealings)?)),
+        Call::Write(bytes) => Ok(DealOutcome::Wrote(bytes.as_slice().len())),
+        Call::Finish => Ok(DealOutcome::Closed),
+        _ => {
+            let asked = dealings.asked.as_slice();
+            if let Some(Request::Build(_)) = asked.last() {
+                return Ok(DealOutcome::Built(setup.fault_of_builder()?));
+            }
+            let outcomes = setup.outcomes(alloc, asked)?;
+            match outcomes.last() {
+                Some(outcome) => Ok(DealOutcome::Answered(*outcome)),
+                None => Err(RowError::NotUnderstood),
+            }
+        }
+    }
+}
+
+/// What is left to read of the data connection, at most so many bytes.
+fn unread(
+    alloc: Global,
+    setup: &Setup,
+    most: usize,
+    dealings: &Dealings,
+) -> Result<Bytes, AllocError> {
+    let all = setup.data(dealings.asked.as_slice());
+    let read = match &dealings.data_conn {
+        Some(traffic) => traffic.received.len(),
+        None => 0,
+    };
+    let left = all.get(read..).unwrap_or(&[]);
+    Bytes::from_slice(alloc, left.get(..most).unwrap_or(left))
+}
+
+/// The call under way, where it waits for an outcome, and these are known.
+pub fn waiting<'a>(script: &'a Script, known: &[DealOutcome]) -> Option<&'a Call> {
+    let Some(call) = &script.call else {
+        return None;
+    };
+    let waits = match call {
+        Call::Read(_) | Call::Write(_) => script.polled,
+        Call::Finish => script.polled && script.dealings.data_conn.is_some(),
+        _ => script.dealings.asked.as_slice().len() > answered(known),
+    };
+    if waits { Some(call) } else { None }
+}
+
+/// How many of these outcomes are those of requests, or a builder's answers.
+fn answered(outcomes: &[DealOutcome]) -> usize {
+    outcomes.iter().filter(|outcome| is_answer(outcome)).count()
+}
+
+/// Whether an outcome is one of a request, or a builder's answer.
+fn is_answer(outcome: &DealOutcome) -> bool {
+    matches!(outcome, DealOutcome::Answered(_) | DealOutcome::Built(_))
+}
+
+/// Those of these outcomes that are requests'; a request of the builder is done, whatever it answered.
+pub fn of_requests(
+    alloc: Global,
+    outcomes: &[DealOutcome],
+) -> Result<Vec<RequestOutcome>, AllocError> {
+    let mut answers = Vec::new(alloc);
+    for outcome in outcomes {
+        match outcome {
+            DealOutcome::Answered(answer) => answers.push(*answer)?,
+            DealOutcome::Built(_) => answers.push(RequestOutcome::Done)?,
+            _ => {}
+        }
+    }
+    Ok(answers)
+}
+
+/// These outcomes of requests, as such of what happens.
+pub fn answers_of(
+    alloc: Global,
+    outcomes: &[RequestOutcome],
+) -> Result<Vec<DealOutcome>, AllocError> {
+    let mut all = Vec::new(alloc);
+    for outcome in outcomes {
+        all.push(DealOutcome::Answered(*outcome))?;
+    }
+    Ok(all)
+}
+
+/// What was uploaded on the data connections that are over, one after another.
+pub fn uploaded(alloc: Global, dealings: &Dealings) -> Result<Vec<Vec<u8>>, AllocError> {
+    let mut uploaded = Vec::new(alloc);
+    for traffic in dealings.closed.as_slice() {
+        uploaded.push(Vec::from_slice(alloc, traffic.sent.as_slice())?)?;
+    }
+    Ok(uploaded)
+}

@@ -1,0 +1,94 @@
+//! A connection that the caller's builder is asked for, on all outcomes at once.
+
+ghost use Rattle.std.specs.Prelude.{◌≡◌, IfOk};
+ghost use Rattle.ftp_session.specs.Deals.{constructed, constructing, data_built};
+ghost use Rattle.session_plain.specs.Progress.{BuildsAt};
+
+use crate::asking::{no_dealings, no_traffic};
+use crate::outcomes::{next_built, part};
+use ftp_base::types::{FtpError, Items};
+use ftp_control::transport::Request;
+use ftp_session::model::{Dealings, Standing, Traffic};
+use std::alloc::{AllocError, Global};
+use std::mem;
+use std::net::SocketAddr;
+
+/// What the builder comes to.
+#[derive(Drop)]
+pub(crate) enum Answered {
+    /// Its answer isn't known.
+    Unknown(Standing),
+    /// It made a connection; or gave this fault.
+    Known(Option<FtpError>, Standing),
+}
+
+/// The builder is asked: the next outcome that is known is its answer, if it is one of a builder.
+pub(crate) fn built(
+    alloc: Global,
+    address: SocketAddr,
+    mut standing: Standing,
+) -> Result<Answered, AllocError>
+    ensures { IfOk result (λ built. BuildsAt address standing built) }
+{
+    let before = mem::replace(&mut standing.dealings, no_dealings(alloc));
+    let Some(fault) = next_built(standing.outcomes.as_slice())? else {
+        standing.dealings = constructing(address, before)?;
+        return Ok(Answered::Unknown(standing));
+    };
+    let outcomes = mem::replace(&mut standing.outcomes, Items::from_vec(Vec::new(alloc)));
+    let (_answer, others) = part(outcomes);
+    standing.outcomes = others;
+    standing.dealings = constructed(alloc, address, &fault, before)?;
+    Ok(Answered::Known(fault, standing))
+}
+
+/// What the builder's answer makes of what stands beside the control connection.
+fn constructed(
+    alloc: Global,
+    address: SocketAddr,
+    fault: &Option<FtpError>,
+    before: Dealings,
+) -> Result<Dealings, AllocError>
+    ensures { IfOk result (λ after. after ≡ constructed address fault.now before) }
+{
+    let Dealings {
+        asked,
+        closed,
+        data_conn,
+    } = before;
+    let mut asked = asked.into_vec();
+    asked.push(Request::Build(address))?;
+    Ok(Dealings {
+        asked: Items::from_vec(asked),
+        closed,
+        data_conn: data_built(alloc, fault, data_conn),
+    })
+}
+
+/// What a question that isn't answered makes of it.
+fn constructing(address: SocketAddr, before: Dealings) -> Result<Dealings, AllocError>
+    ensures { IfOk result (λ after. after ≡ constructing address before) }
+{
+    let Dealings {
+        asked,
+        closed,
+        data_conn,
+    } = before;
+    let mut asked = asked.into_vec();
+    asked.push(Request::Build(address))?;
+    Ok(Dealings {
+        asked: Items::from_vec(asked),
+        closed,
+        data_conn,
+    })
+}
+
+/// The data connection after the builder's answer.
+fn data_built(alloc: Global, fault: &Option<FtpError>, conn: Option<Traffic>) -> Option<Traffic>
+    ensures { result ≡ data_built fault.now conn }
+{
+    match fault {
+        None => Some(no_traffic(alloc)),
+        Some(_) => conn,
+    }
+}

@@ -1,0 +1,204 @@
+//! What is done on the data connection, on all outcomes at once: bytes are read or written, or it is closed.
+
+ghost use Rattle.std.specs.Prelude.{◌≡◌, IfOk, option_map};
+ghost use Rattle.ftp_control.specs.declared.transport.room.Room.{Room};
+ghost use Rattle.ftp_session.specs.Deals.{moved, parted, read_more, written_more};
+ghost use Rattle.ftp_session.specs.Dialogue.{Leaf, Move, Tree, carrying, moved_answer};
+ghost use Rattle.ftp_session.specs.Play.{play};
+ghost use Rattle.ftp_session.specs.declared.session.state.State.{State};
+ghost use Rattle.session_plain.specs.Progress.{ComesTo, Moves};
+
+use crate::asking::no_dealings;
+use crate::exchange::{Progress, done};
+use crate::outcomes::{is_next, part};
+use ftp_base::types::{Bytes, ConnectionError, FtpError, Items};
+use ftp_calls::exchange::Movement;
+use ftp_session::model::{DealOutcome, Dealings, Played, Standing, Traffic, Wait};
+use ftp_session::session::Answer;
+use std::alloc::{AllocError, Global};
+use std::mem;
+
+/// What a movement comes to.
+#[derive(Drop)]
+pub(crate) enum Carried {
+    /// No outcome of it is known.
+    Unknown(Standing),
+    /// This outcome.
+    Known(DealOutcome, Standing),
+}
+
+/// Bytes go over the data connection; a read or a write of nothing asks nothing.
+#[tactic(auto, unfolding(ftp_session::specs::Play::play))]
+pub(crate) fn carrying(
+    alloc: Global,
+    movement: Movement,
+    standing: Standing,
+) -> Result<Progress, AllocError>
+    ensures { IfOk result (λ progress. (room : Room) (later : State → Tree) → ComesTo room later
+        (play room (carrying movement standing.state) standing) progress) }
+{
+    match movement {
+        Movement::Read(most) => {
+            if most == 0 {
+                Ok(done(Answer::Bytes(Bytes::new(alloc)), standing))
+            } else {
+                moving(alloc, Movement::Read(most), standing)
+            }
+        }
+        Movement::Write(bytes) => {
+            if bytes.as_slice().is_empty() {
+                Ok(done(Answer::Count(0), standing))
+            } else {
+                moving(alloc, Movement::Write(bytes), standing)
+            }
+        }
+        Movement::Close => moving(alloc, Movement::Close, standing),
+    }
+}
+
+/// What is done is the answer.
+#[tactic(auto, unfolding(ftp_session::specs::Play::play))]
+fn moving(alloc: Global, movement: Movement, standing: Standing) -> Result<Progress, AllocError>
+    ensures { IfOk result (λ progress. (room : Room) (later : State → Tree) → ComesTo room later
+        (play room (Move movement (λ came. Leaf (moved_answer came) standing.state)) standing)
+        progress) }
+{
+    match moved_by(alloc, movement, standing)? {
+        Carried::Unknown(here) => Ok(Progress::Stops(Played::Pending(Wait::Outcome, here))),
+        Carried::Known(outcome, here) => Ok(done(moved_answer(outcome), here)),
+    }
+}
+
+/// What was done on a data connection is the answer.
+fn moved_answer(outcome: DealOutcome) -> Answer
+    ensures { result ≡ moved_answer outcome }
+{
+    match outcome {
+        DealOutcome::Answered(_) | DealOutcome::Built(_) | DealOutcome::Closed => Answer::Unit,
+        DealOutcome::Read(bytes) => Answer::Bytes(bytes),
+        DealOutcome::Wrote(count) => Answer::Count(count as u64),
+        DealOutcome::Failed(kind) => {
+            Answer::Fault(FtpError::ConnectionError(ConnectionError::Io(kind)))
+        }
+    }
+}
+
+/// Something is done on the data connection: the next outcome that is known is its, if it is one of such a movement.
+pub(crate) fn moved_by(
+    alloc: Global,
+    movement: Movement,
+    mut standing: Standing,
+) -> Result<Carried, AllocError>
+    ensures { IfOk result (λ came. Moves movement standing came) }
+{
+    if !is_next(&movement, standing.outcomes.as_slice()) {
+        return Ok(Carried::Unknown(standing));
+    }
+    let outcomes = mem::replace(&mut standing.outcomes, Items::from_vec(Vec::new(alloc)));
+    let (outcome, others) = part(outcomes);
+    standing.outcomes = others;
+    let before = mem::replace(&mut standing.dealings, no_dealings(alloc));
+    standing.dealings = moved(movement, &outcome, before)?;
+    Ok(Carried::Known(outcome, standing))
+}
+
+/// What a movement makes of what stands beside the control connection.
+fn moved(
+    movement: Movement,
+    outcome: &DealOutcome,
+    before: Dealings,
+) -> Result<Dealings, AllocError>
+    ensures { IfOk result (λ after. after ≡ moved movement outcome.now before) }
+{
+    let Dealings {
+        asked,
+        closed,
+        data_conn,
+    } = before;
+    match movement {
+        Movement::Read(_most) => Ok(Dealings {
+            asked,
+            closed,
+            data_conn: read_on(outcome, data_conn)?,
+        }),
+        Movement::Write(bytes) => Ok(Dealings {
+            asked,
+            closed,
+            data_conn: written_on(bytes.as_slice(), outcome, data_conn)?,
+        }),
+        Movement::Close => parted(Dealings {
+            asked,
+            closed,
+            data_conn,
+        }),
+    }
+}
+
+/// The data connection is closed and handed back.
+pub(crate) fn parted(before: Dealings) -> Result<Dealings, AllocError>
+    ensures { IfOk result (λ after. after ≡ parted before) }
+{
+    let Dealings {
+        asked,
+        closed,
+        data_conn,
+    } = before;
+    let mut closed = closed.into_vec();
+    if let Some(traffic) = data_conn {
+        closed.push(traffic)?;
+    }
+    Ok(Dealings {
+        asked,
+        closed: Items::from_vec(closed),
+        data_conn: None,
+    })
+}
+
+/// What a read makes of the data connection, where there is one.
+fn read_on(outcome: &DealOutcome, conn: Option<Traffic>) -> Result<Option<Traffic>, AllocError>
+    ensures { IfOk result (λ after. after ≡ option_map (read_more outcome.now) conn) }
+{
+    match conn {
+        Some(traffic) => Ok(Some(read_more(outcome, traffic)?)),
+        None => Ok(None),
+    }
+}
+
+/// What was read goes to what was received.
+fn read_more(outcome: &DealOutcome, mut traffic: Traffic) -> Result<Traffic, AllocError>
+    ensures { IfOk result (λ after. after ≡ read_more outcome.now traffic) }
+{
+    if let DealOutcome::Read(bytes) = outcome {
+        traffic.received.extend_from_slice(bytes.as_slice())?;
+    }
+    Ok(traffic)
+}
+
+/// What a write of these bytes makes of the data connection, where there is one.
+fn written_on(
+    bytes: &[u8],
+    outcome: &DealOutcome,
+    conn: Option<Traffic>,
+) -> Result<Option<Traffic>, AllocError>
+    ensures { IfOk result (λ after. after ≡ option_map (written_more bytes.now outcome.now) conn) }
+{
+    match conn {
+        Some(traffic) => Ok(Some(written_more(bytes, outcome, traffic)?)),
+        None => Ok(None),
+    }
+}
+
+/// What was written of these bytes goes to what was sent.
+fn written_more(
+    bytes: &[u8],
+    outcome: &DealOutcome,
+    mut traffic: Traffic,
+) -> Result<Traffic, AllocError>
+    ensures { IfOk result (λ after. after ≡ written_more bytes.now outcome.now traffic) }
+{
+    if let DealOutcome::Wrote(count) = outcome {
+        let taken = (*count).min(bytes.len());
+        traffic.sent.extend_from_slice(&bytes[..taken])?;
+    }
+    Ok(traffic)
+}

@@ -1,0 +1,136 @@
+//! The end of a transfer: its data connection is closed, and its last reply is heard; or it is left.
+
+ghost use Rattle.std.specs.Prelude.{◌≡◌, IfOk, if◌then◌else◌};
+ghost use Rattle.ftp_calls.specs.Exchanges.{finishes};
+ghost use Rattle.ftp_session.specs.Coding.{coding_of};
+ghost use Rattle.ftp_session.specs.Dialogue.{after_fault_of, closing, finish_answer, finish_fault, told_fault, told_of_close, with_finished, with_left};
+ghost use Rattle.ftp_session.specs.Play.{leaving, play};
+
+use crate::asking::no_dealings;
+use crate::carrying::{Carried, moved_by, parted};
+use crate::turns::from_turn;
+use ftp_base::encoding::Encoding;
+use ftp_base::types::{ConnectionError, FtpError};
+use ftp_calls::exchange::{Ending, Movement, Turn, finishes};
+use ftp_control::transport::Room;
+use ftp_session::model::{DealOutcome, Played, Standing, Wait};
+use ftp_session::session::{Answer, Call};
+use std::alloc::{AllocError, Global};
+use std::io::ErrorKind;
+use std::mem;
+
+/// The data connection is closed, and the transfer's last reply is heard.
+#[tactic(auto, unfolding(ftp_session::specs::Play::play))]
+pub(crate) fn closing<E: Encoding>(
+    alloc: Global,
+    room: Room,
+    encoding: &E,
+    call: &Call,
+    standing: Standing,
+) -> Result<Played, AllocError>
+    ensures { IfOk result (λ played. played ≡ play room (closing
+        (coding_of E.decoded E.encoded encoding.now) call.now standing.state) standing) }
+{
+    match moved_by(alloc, Movement::Close, standing)? {
+        Carried::Unknown(here) => Ok(Played::Pending(Wait::Outcome, here)),
+        Carried::Known(outcome, here) => {
+            let close = told_of_close(here.state.uploads, outcome);
+            from_turn(alloc, room, encoding, call, Turn::Closed(close), here)
+        }
+    }
+}
+
+/// The fault of an upload's close is told before the reply's.
+fn told_of_close(uploads: bool, outcome: DealOutcome) -> Option<ErrorKind>
+    ensures { result ≡ told_of_close uploads outcome }
+{
+    if !uploads {
+        return None;
+    }
+    match outcome {
+        DealOutcome::Failed(kind) => Some(kind),
+        _ => None,
+    }
+}
+
+/// The answer of a transfer that has come to its end.
+pub(crate) fn finish_answer(close: Option<ErrorKind>) -> Answer
+    ensures { result ≡ finish_answer close }
+{
+    match close {
+        None => Answer::Unit,
+        Some(kind) => Answer::Fault(FtpError::ConnectionError(ConnectionError::Io(kind))),
+    }
+}
+
+/// What is told where this fault was heard in place of the last reply.
+fn finish_fault(close: Option<ErrorKind>, fault: FtpError) -> FtpError
+    ensures { result ≡ finish_fault close fault }
+{
+    match close {
+        None => fault,
+        Some(kind) => FtpError::ConnectionError(ConnectionError::Io(kind)),
+    }
+}
+
+/// What is told where this fault was heard in place of a reply.
+pub(crate) fn told_fault(ending: Ending, fault: FtpError) -> FtpError
+    ensures { result ≡ told_fault ending fault }
+{
+    match ending {
+        Ending::Finishes(close) => finish_fault(close, fault),
+        _ => fault,
+    }
+}
+
+/// What a fault in place of a reply leaves.
+pub(crate) fn after_fault(ending: Ending, standing: Standing) -> Standing
+    ensures { result ≡ record standing { state = after_fault_of ending standing.state } }
+{
+    match ending {
+        Ending::Finishes(_) => finished(standing),
+        _ => standing,
+    }
+}
+
+/// The transfer has come to its end.
+pub(crate) fn finished(mut standing: Standing) -> Standing
+    ensures { result ≡ record standing { state = with_finished standing.state } }
+{
+    standing.state.counts.finish();
+    standing
+}
+
+/// The transfer is left.
+pub(crate) fn left(mut standing: Standing) -> Standing
+    ensures { result ≡ record standing { state = with_left standing.state } }
+{
+    standing.state.counts.leave();
+    standing
+}
+
+/// A call that isn't made: the transfer that it would bring to its end is left, and its data connection is closed.
+pub(crate) fn left_by(
+    alloc: Global,
+    call: &Call,
+    standing: Standing,
+) -> Result<Standing, AllocError>
+    ensures { IfOk result (λ here. here ≡
+        (if finishes call.now then leaving standing else standing)) }
+{
+    if finishes(call) {
+        leaving(alloc, standing)
+    } else {
+        Ok(standing)
+    }
+}
+
+/// The transfer is left, and its data connection is closed.
+fn leaving(alloc: Global, standing: Standing) -> Result<Standing, AllocError>
+    ensures { IfOk result (λ here. here ≡ leaving standing) }
+{
+    let mut here = left(standing);
+    let before = mem::replace(&mut here.dealings, no_dealings(alloc));
+    here.dealings = parted(before)?;
+    Ok(here)
+}

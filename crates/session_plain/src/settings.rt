@@ -1,0 +1,35 @@
+//! Settings: what a session is told to do.
+
+ghost use Rattle.std.specs.Prelude.{◌≡◌};
+ghost use Rattle.ftp_session.specs.Dialogue.{armed, changed, set_to};
+
+use ftp_session::model::Standing;
+use ftp_session::session::{Setting, Settings};
+
+/// A setting changes.
+pub(crate) fn set_to(setting: Setting, mut standing: Standing) -> Standing
+    ensures { result ≡ record standing { state = set_to setting standing.state } }
+{
+    change(setting, &mut standing.state.settings);
+    standing
+}
+
+/// A setting changes.
+fn change(setting: Setting, settings: &mut Settings)
+    ensures { settings.new ≡ changed setting settings.old }
+{
+    match setting {
+        Setting::Mode(mode) => settings.mode = mode,
+        Setting::PassiveNatWorkaround(enabled) => settings.passive_nat_workaround = enabled,
+        Setting::ActivePeerCheck(check) => settings.active_peer_check = check,
+        Setting::ActiveDeadline(deadline) => settings.active_deadline = deadline,
+    }
+}
+
+/// The next transfer begins at this offset.
+pub(crate) fn armed(offset: u64, mut standing: Standing) -> Standing
+    ensures { result ≡ record standing { state = armed offset standing.state } }
+{
+    standing.state.settings.restart_offset = offset;
+    standing
+}
