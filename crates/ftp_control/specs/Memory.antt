@@ -23,6 +23,7 @@ fresh_between local peer = record {
   received = [];
   ended = false;
   sent = [];
+  closed_here = false;
   failures = 0;
   last_fault = None;
   given = record { bytes = []; closed = false; room = Any; local = local; peer = peer };

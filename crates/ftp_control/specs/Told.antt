@@ -17,11 +17,13 @@ pub record Given : Type 0 where
   pub peer : SocketAddr
 
 -- what went over a connection since its channel began: the bytes that reads gave, whether one met the end, the
--- bytes that writes took; how many calls failed, and the last with which fault; and what is at hand
+-- bytes that writes took; whether this end closed it; how many calls failed, and the last with which fault; and what is
+-- at hand
 pub record Told : Type 0 where
   pub received : List ℕ
   pub ended : Bool
   pub sent : List ℕ
+  pub closed_here : Bool
   pub failures : ℕ
   pub last_fault : Option ErrorKind
   pub given : Given
@@ -46,6 +48,7 @@ begun t = record {
   received = [];
   ended = false;
   sent = [];
+  closed_here = t.closed_here;
   failures = t.failures;
   last_fault = t.last_fault;
   given = record t.given { bytes = drop (length t.received) t.given.bytes; room = room_after (length t.sent) t.given.room };
@@ -59,6 +62,9 @@ after_end t = record t { ended = true }
 
 abbrev pub after_write : List ℕ → Told → Told
 after_write bytes t = record t { sent = t.sent ++ bytes }
+
+abbrev pub after_close : Told → Told
+after_close t = record t { closed_here = true }
 
 -- nothing is there to read, and more may come
 pub record IsDry (t : Told) : Type 0 where
@@ -129,7 +135,7 @@ abbrev pub AddressTells : SocketAddr → Result SocketAddr ErrorKind → Told �
 AddressTells address (Ok answer) t u = (answer ≡ address) × (u ≡ t)
 AddressTells address (Err kind) t u = HasFailed kind t u
 
--- what a close tells: nothing, or a failure
+-- what a close tells: that this end closed the connection, and a failure, if it met one
 abbrev pub CloseTells : Result (Unit {0}) ErrorKind → Told → Told → Type 0
-CloseTells (Ok done) t u = u ≡ t
-CloseTells (Err kind) t u = HasFailed kind t u
+CloseTells (Ok done) t u = u ≡ after_close t
+CloseTells (Err kind) t u = HasFailed kind (after_close t) u

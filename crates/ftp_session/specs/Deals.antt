@@ -6,7 +6,7 @@ use Rattle.ftp_calls.specs.declared.exchange.Movement.{Movement}
 use Rattle.ftp_calls.specs.declared.exchange.Movement.TheVariants as movement
 use Rattle.ftp_base.specs.declared.types.fault.FtpError.{FtpError}
 use Rattle.ftp_control.specs.Asking.{recorded, requests_of}
-use Rattle.ftp_control.specs.Told.{Told, HasFailed, after_end, after_read, after_write, begun}
+use Rattle.ftp_control.specs.Told.{Told, HasFailed, after_close, after_end, after_read, after_write, begun}
 use Rattle.ftp_control.specs.declared.transport.request.Asked.{Asked}
 use Rattle.ftp_control.specs.declared.transport.request.Request.{Request}
 use Rattle.ftp_control.specs.declared.transport.request.Request.TheVariants.{Connect, Listen, Accept, Build}
@@ -188,10 +188,10 @@ WriteIs bytes (Wrote count) t u = (0 < count) × (count ≤ length bytes) × (u 
 WriteIs bytes (Failed kind) t u = HasFailed kind t u
 WriteIs bytes other t u = ⊥
 
--- a close was done, or failed
+-- this end closed the connection, and the close was done, or failed
 abbrev pub CloseIs : DealOutcome → Told → Told → Type 0
-CloseIs Closed t u = u ≡ t
-CloseIs (Failed kind) t u = HasFailed kind t u
+CloseIs Closed t u = u ≡ after_close t
+CloseIs (Failed kind) t u = HasFailed kind (after_close t) u
 CloseIs other t u = ⊥
 
 -- the data connection tells more, and nothing else has changed

@@ -31,6 +31,7 @@ pub struct MemoryConn {
     local: SocketAddr,
     peer: SocketAddr,
     sent: Vec<u8>,
+    closed_here: bool,
     failures: u64,
     last_fault: Option<ErrorKind>,
 }
@@ -45,6 +46,7 @@ impl Model for MemoryConn {
       received = drop c.begun (take c.read c.input.items);
       ended = c.ended;
       sent = c.sent.items;
+      closed_here = c.closed_here;
       failures = c.failures;
       last_fault = c.last_fault;
       given = record {
@@ -83,6 +85,7 @@ impl MemoryConn {
             local,
             peer,
             sent: Vec::new(alloc),
+            closed_here: false,
             failures: 0,
             last_fault: None,
         }
@@ -244,6 +247,7 @@ impl Tells for MemoryConn {
     }
 
     fn close(&mut self) -> Result<(), ErrorKind> {
+        self.closed_here = true;
         Ok(())
     }
 }
