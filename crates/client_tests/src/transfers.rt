@@ -102,26 +102,52 @@ fn a_download_of_the_active_mode_is_read_to_its_end(rt: HostRuntime) -> Result<(
     Ok(())
 }
 
+/// The calls of an upload in two writes.
+fn upload_calls(alloc: Global) -> Result<Vec<Call>, AllocError> {
+    let mut calls = Vec::new(alloc);
+    calls.push(Call::PutWithStream(Text::from_str(alloc, "b.txt")?))?;
+    calls.push(write_call(alloc, b"ab")?)?;
+    calls.push(write_call(alloc, b"c")?)?;
+    calls.push(Call::Finish)?;
+    Ok(calls)
+}
+
+/// A write of these bytes.
+fn write_call(alloc: Global, bytes: &[u8]) -> Result<Call, AllocError> {
+    Ok(Call::Write(Items::from_vec(Vec::from_slice(alloc, bytes)?)))
+}
+
+/// What a server says of an upload to this port.
+fn upload_replies(alloc: Global, port: u16) -> Result<String, AllocError> {
+    let (high, low) = (port / 256, port % 256);
+    format!(in alloc; "227 ok (127,0,0,2,{high},{low})\r\n150 ok\r\n226 ok\r\n")
+}
+
+/// What an upload answers, to a server whose data connections come to this port.
+fn uploaded<R>(rt: &R, port: u16) -> Result<String, Fail>
+where
+    R: Net<Listener = TcpListener, Stream = TcpStream> + Clock + AllocGlobal,
+{
+    let replies = upload_replies(rt.alloc(), port)?;
+    let (mut session, mut server) = connected(rt, Mode::Passive)?;
+    server.write_all(replies.as_bytes())?;
+    let calls = upload_calls(rt.alloc())?;
+    ran(rt, &mut session, calls.as_slice())
+}
+
+/// What arrives on the next connection, to its end.
+fn arrived(alloc: Global, data: &TcpListener) -> Result<String, Fail> {
+    let (mut stream, _peer) = data.accept()?;
+    let mut text = String::new(alloc);
+    stream.read_to_string(&mut text)?;
+    Ok(text)
+}
+
 #[test]
 fn an_upload_arrives_whole(rt: HostRuntime) -> Result<(), Fail> {
     let data = TcpListener::bind(&rt, "127.0.0.2:0")?;
     let port = data.local_addr()?.port();
-    let (high, low) = (port / 256, port % 256);
-    let replies = format!(in rt.alloc();
-        "227 ok (127,0,0,2,{high},{low})\r\n150 ok\r\n226 ok\r\n"
-    )?;
-    let (mut session, mut server) = connected(&rt, Mode::Passive)?;
-    server.write_all(replies.as_bytes())?;
-    let calls = [
-        Call::PutWithStream(Text::from_str(rt.alloc(), "b.txt")?),
-        Call::Write(Items::from_vec(vec![in rt.alloc(); b'a', b'b']?)),
-        Call::Write(Items::from_vec(vec![in rt.alloc(); b'c']?)),
-        Call::Finish,
-    ];
-    assert_eq!(rt; ran(&rt, &mut session, &calls)?.as_str(), "open 2 1 unit ");
-    let (mut stream, _peer) = data.accept()?;
-    let mut text = String::new(rt.alloc());
-    stream.read_to_string(&mut text)?;
-    assert_eq!(rt; text.as_str(), "abc");
+    assert_eq!(rt; uploaded(&rt, port)?.as_str(), "open 2 1 unit ");
+    assert_eq!(rt; arrived(rt.alloc(), &data)?.as_str(), "abc");
     Ok(())
 }

@@ -1,9 +1,9 @@
 -- Which calls open a data connection.
 use Rattle.std.proofs.Common.{◌≡◌, Bool, true, false, ◌&&◌, refl}
 use Rattle.ftp_calls.specs.declared.call.Call.{Call}
-use Rattle.ftp_calls.specs.declared.call.Call.TheVariants.{Greet, Login, Cwd, Cdup, Pwd, Noop, Eprt, Opts, Site, TransferType, Mkdir, Rmdir, Rm, Rename, Quit, Mlst, Mdtm, Size, Feat, CustomCommand, ReadResponse, ReadResponseIn, ResumeTransfer, RetrAsStream, PutWithStream, AppendWithStream, CustomDataCommand, Set, Read, Write, Finish}
+use Rattle.ftp_calls.specs.declared.call.Call.TheVariants.{Greet, Login, Cwd, Cdup, Pwd, Noop, Eprt, Opts, Site, TransferType, Mkdir, Rmdir, Rm, Rename, Quit, Mlst, Mdtm, Size, Feat, CustomCommand, ReadResponse, ReadResponseIn, ResumeTransfer, RetrAsStream, PutWithStream, AppendWithStream, CustomDataCommand, Set, Read, Write, Finish, Leave, Drain}
 use Rattle.ftp_calls.specs.declared.exchange.Turn.TheVariants.{Second}
-use Rattle.ftp_calls.specs.Exchanges.{is_read, negotiates, opens, row_of}
+use Rattle.ftp_calls.specs.Exchanges.{drains, is_read, negotiates, opens, row_of}
 
 -- the last turn of a call opens a data connection where the first does
 pub opens_alike : (call : Call) → opens (row_of call Second) ≡ negotiates call
@@ -38,6 +38,8 @@ opens_alike (Set s) = refl
 opens_alike (Read n) = refl
 opens_alike (Write b) = refl
 opens_alike Finish = refl
+opens_alike Leave = refl
+opens_alike Drain = refl
 
 -- a plain read opens none
 pub read_opens_none : (call : Call) → negotiates call ≡ true → is_read call ≡ false
@@ -72,3 +74,41 @@ read_opens_none (Set s) opens = let clash : false ≡ true = opens in cc
 read_opens_none (Read n) opens = let clash : false ≡ true = opens in cc
 read_opens_none (Write b) opens = let clash : false ≡ true = opens in cc
 read_opens_none Finish opens = let clash : false ≡ true = opens in cc
+read_opens_none Leave opens = let clash : false ≡ true = opens in cc
+read_opens_none Drain opens = let clash : false ≡ true = opens in cc
+
+-- a call that reads the last reply of a transfer that was left is a plain read
+pub draining_reads : (call : Call) → drains call ≡ true → is_read call ≡ true
+draining_reads Greet is = let clash : false ≡ true = is in cc
+draining_reads (Login u p) is = let clash : false ≡ true = is in cc
+draining_reads (Cwd p) is = let clash : false ≡ true = is in cc
+draining_reads Cdup is = let clash : false ≡ true = is in cc
+draining_reads Pwd is = let clash : false ≡ true = is in cc
+draining_reads Noop is = let clash : false ≡ true = is in cc
+draining_reads (Eprt a) is = let clash : false ≡ true = is in cc
+draining_reads (Opts n v) is = let clash : false ≡ true = is in cc
+draining_reads (Site w) is = let clash : false ≡ true = is in cc
+draining_reads (TransferType k) is = let clash : false ≡ true = is in cc
+draining_reads (Mkdir p) is = let clash : false ≡ true = is in cc
+draining_reads (Rmdir p) is = let clash : false ≡ true = is in cc
+draining_reads (Rm p) is = let clash : false ≡ true = is in cc
+draining_reads (Rename a b) is = let clash : false ≡ true = is in cc
+draining_reads Quit is = let clash : false ≡ true = is in cc
+draining_reads (Mlst p) is = let clash : false ≡ true = is in cc
+draining_reads (Mdtm p) is = let clash : false ≡ true = is in cc
+draining_reads (Size p) is = let clash : false ≡ true = is in cc
+draining_reads Feat is = let clash : false ≡ true = is in cc
+draining_reads (CustomCommand l c) is = let clash : false ≡ true = is in cc
+draining_reads (ReadResponse s) is = let clash : false ≡ true = is in cc
+draining_reads (ReadResponseIn c) is = let clash : false ≡ true = is in cc
+draining_reads (ResumeTransfer o) is = let clash : false ≡ true = is in cc
+draining_reads (RetrAsStream p) is = let clash : false ≡ true = is in cc
+draining_reads (PutWithStream p) is = let clash : false ≡ true = is in cc
+draining_reads (AppendWithStream p) is = let clash : false ≡ true = is in cc
+draining_reads (CustomDataCommand l c) is = let clash : false ≡ true = is in cc
+draining_reads (Set s) is = let clash : false ≡ true = is in cc
+draining_reads (Read n) is = let clash : false ≡ true = is in cc
+draining_reads (Write b) is = let clash : false ≡ true = is in cc
+draining_reads Finish is = let clash : false ≡ true = is in cc
+draining_reads Leave is = let clash : false ≡ true = is in cc
+draining_reads Drain is = refl

@@ -1,7 +1,7 @@
 -- What each call says and hears, one row an exchange: RFC 959, sections 4.1, 5.4 and 6; RFC 2389, sections
 -- 3 (FEAT) and 4 (OPTS); RFC 2428, sections 2 (EPRT) and 3 (EPSV); RFC 3659, sections 3 (MDTM), 4 (SIZE), 5 (REST) and 7
 -- (MLST). All that a call does follows from its rows.
-use Rattle.std.specs.Prelude.{Bool, true, false, ◌&&◌, nat_lt, ℕ, if◌then◌else◌, List, [], ◌∷◌, Option, Some, None, is_none}
+use Rattle.std.specs.Prelude.{Bool, true, false, ◌&&◌, ◌||◌, nat_lt, ℕ, if◌then◌else◌, List, [], ◌∷◌, Option, Some, None, is_none}
 use Rattle.ftp_base.specs.declared.status.Status.{Status}
 use Rattle.ftp_base.specs.declared.status.Status.TheVariants.{AlreadyOpen, AboutToSend, CommandOk, System, File, Ready, Closing, ClosingDataConnection, PassiveMode, ExtendedPassiveMode, LoggedIn, RequestedFileActionOk, PathCreated, NeedPassword, RequestFilePending}
 use Rattle.ftp_base.specs.declared.types.file_type.FileType.{FileType}
@@ -9,13 +9,13 @@ use Rattle.ftp_base.specs.declared.types.file_type.FileType.TheVariants.{Ascii, 
 use Rattle.ftp_base.specs.declared.command.Command.{Command}
 use Rattle.ftp_base.specs.declared.command.Command.TheVariants as command
 use Rattle.ftp_calls.specs.declared.call.Call.{Call}
-use Rattle.ftp_calls.specs.declared.call.Call.TheVariants.{Greet, Login, Cwd, Cdup, Pwd, Noop, Eprt, Opts, Site, TransferType, Mkdir, Rmdir, Rm, Rename, Quit, Mlst, Mdtm, Size, Feat, CustomCommand, ReadResponse, ReadResponseIn, ResumeTransfer, RetrAsStream, PutWithStream, AppendWithStream, CustomDataCommand, Set, Read, Write, Finish}
+use Rattle.ftp_calls.specs.declared.call.Call.TheVariants.{Greet, Login, Cwd, Cdup, Pwd, Noop, Eprt, Opts, Site, TransferType, Mkdir, Rmdir, Rm, Rename, Quit, Mlst, Mdtm, Size, Feat, CustomCommand, ReadResponse, ReadResponseIn, ResumeTransfer, RetrAsStream, PutWithStream, AppendWithStream, CustomDataCommand, Set, Read, Write, Finish, Leave, Drain}
 use Rattle.ftp_calls.specs.declared.exchange.Turn.{Turn}
 use Rattle.ftp_calls.specs.declared.exchange.Turn.TheVariants.{First, Second, Passive, ExtendedPassive, Active, Restart, Closed}
 use Rattle.ftp_calls.specs.declared.exchange.Codes.{Codes}
 use Rattle.ftp_calls.specs.declared.exchange.Codes.TheVariants.{One, Either, Given, Features}
 use Rattle.ftp_calls.specs.declared.exchange.Ending.{Ending}
-use Rattle.ftp_calls.specs.declared.exchange.Ending.TheVariants.{Done, GivesReply, Greets, GivesPath, GivesSecondLine, GivesTime, GivesSize, GivesFeatures, SetsText, GoesOn, Continues, GivesAddress, GivesPort, Opens, Finishes}
+use Rattle.ftp_calls.specs.declared.exchange.Ending.TheVariants.{Done, GivesReply, Greets, GivesPath, GivesSecondLine, GivesTime, GivesSize, GivesFeatures, SetsText, GoesOn, Continues, GivesAddress, GivesPort, Opens, Finishes, Drains}
 use Rattle.ftp_calls.specs.declared.exchange.Row.{Row}
 use Rattle.ftp_calls.specs.declared.exchange.Row.TheVariants.{Exchanges, Arms, Sets, Moves}
 use Rattle.ftp_calls.specs.declared.exchange.Movement.TheVariants as movement
@@ -79,6 +79,8 @@ own_row (Set setting) first = Sets setting
 own_row (Read most) first = Moves (movement.Read most)
 own_row (Write bytes) first = Moves (movement.Write bytes)
 own_row Finish first = hears (Either ClosingDataConnection RequestedFileActionOk) (Finishes None)
+own_row Leave first = Moves movement.Close
+own_row Drain first = hears (Either ClosingDataConnection RequestedFileActionOk) Drains
 
 -- what a call does at this turn. Before the command that opens a data connection the server is asked where to connect,
 -- or told where the client listens, and told the offset; after a data connection was closed the transfer's last reply
@@ -120,6 +122,7 @@ kind_of GivesAddress = Nothing
 kind_of GivesPort = Nothing
 kind_of (Opens gives_reply) = Connections
 kind_of (Finishes fault) = Nothing
+kind_of Drains = Nothing
 
 -- a reply is the answer
 abbrev pub gives_reply : Ending → Bool
@@ -138,6 +141,12 @@ gives_reply GivesAddress = false
 gives_reply GivesPort = false
 gives_reply (Opens replies) = false
 gives_reply (Finishes fault) = false
+gives_reply Drains = false
+
+-- the end of a transfer that was left is heard
+abbrev pub is_draining : Ending → Bool
+is_draining Drains = true
+is_draining other = false
 
 -- the ending of a row that is an exchange
 abbrev pub ending_of : Row → Option Ending
@@ -160,9 +169,12 @@ given_by (Arms offset) = Nothing
 given_by (Sets setting) = Nothing
 given_by (Moves movement) = Movements
 
--- a plain read: a reply is its answer, and nothing is said
+-- a plain read: a reply is its answer, or ends a transfer that was left, and nothing is said
+abbrev pub only_reads : Ending → Bool
+only_reads ending = gives_reply ending || is_draining ending
+
 abbrev pub reads : Row → Bool
-reads (Exchanges exchange) = gives_reply exchange.ending && is_none exchange.says
+reads (Exchanges exchange) = only_reads exchange.ending && is_none exchange.says
 reads (Arms offset) = false
 reads (Sets setting) = false
 reads (Moves movement) = false
@@ -231,9 +243,19 @@ finishing_row (Moves movement) = false
 abbrev pub finishes : Call → Bool
 finishes call = finishing_row (row_of call First)
 
--- a call is of a transfer that the session holds
+-- a call reads the last reply of a transfer that was left
+abbrev pub draining_row : Row → Bool
+draining_row (Exchanges exchange) = is_draining exchange.ending
+draining_row (Arms offset) = false
+draining_row (Sets setting) = false
+draining_row (Moves movement) = false
+
+abbrev pub drains : Call → Bool
+drains call = draining_row (row_of call First)
+
+-- a call is of a transfer: one that the session holds, or one that was left
 abbrev pub moving_row : Row → Bool
-moving_row (Exchanges exchange) = is_finishing exchange.ending
+moving_row (Exchanges exchange) = is_finishing exchange.ending || is_draining exchange.ending
 moving_row (Arms offset) = false
 moving_row (Sets setting) = false
 moving_row (Moves movement) = true

@@ -90,6 +90,11 @@ pub enum Call {
     Write(Items<u8>),
     /// The data connection is closed, and the transfer's last reply is read (226, 250).
     Finish,
+    /// The transfer is left: its data connection is closed, and its last reply is still owed. A session that has failed
+    /// takes it, too.
+    Leave,
+    /// The last reply of a transfer that was left is read (226, 250); a reply of another status ends it as well.
+    Drain,
 }
 
 /// The answer of a call in a run.
@@ -115,7 +120,7 @@ pub enum Answer {
     Bytes(Bytes),
     /// So many bytes were written to the data connection.
     Count(u64),
-    /// A call of a transfer, where the session holds none; nothing happened.
+    /// A call of a transfer, where the session holds none, or, for `Drain`, owes none that was left; nothing happened.
     NoTransfer,
     /// The call failed.
     Fault(FtpError),

@@ -5,7 +5,7 @@
 //! of `Call`, a row of `own_row`, and its row in the definition.
 
 ghost use Rattle.std.specs.Prelude.{◌≡◌, Bool, IfOk};
-ghost use Rattle.ftp_calls.specs.Exchanges.{finishes, hears, is_local, negotiates, next_turn, of_transfer, own_row, restarted, restarts, row_of, says, uploads};
+ghost use Rattle.ftp_calls.specs.Exchanges.{drains, finishes, hears, is_local, negotiates, next_turn, of_transfer, own_row, restarted, restarts, row_of, says, uploads};
 
 use crate::active::port_command;
 use crate::call::{Call, Setting};
@@ -81,6 +81,8 @@ pub enum Ending {
     Opens(bool),
     /// The transfer has come to its end; the fault of an upload's close is told before the reply's.
     Finishes(Option<ErrorKind>),
+    /// The transfer that was left has come to its end, whatever the reply's status is.
+    Drains,
 }
 
 /// One command and its reply, or one reply.
@@ -181,7 +183,10 @@ pub fn next_turn(call: &Call, turn: Turn) -> Option<Turn>
 pub fn is_local(call: &Call) -> bool
     ensures { result ≡ is_local call.now }
 {
-    matches!(call, Call::Set(_) | Call::Read(_) | Call::Write(_))
+    matches!(
+        call,
+        Call::Set(_) | Call::Read(_) | Call::Write(_) | Call::Leave
+    )
 }
 
 /// Whether a call brings a transfer to its end.
@@ -191,11 +196,21 @@ pub fn finishes(call: &Call) -> bool
     matches!(call, Call::Finish)
 }
 
-/// Whether a call is of a transfer that the session holds.
+/// Whether a call reads the last reply of a transfer that was left.
+pub fn drains(call: &Call) -> bool
+    ensures { result ≡ drains call.now }
+{
+    matches!(call, Call::Drain)
+}
+
+/// Whether a call is of a transfer: one that the session holds, or one that was left.
 pub fn of_transfer(call: &Call) -> bool
     ensures { result ≡ of_transfer call.now }
 {
-    matches!(call, Call::Read(_) | Call::Write(_) | Call::Finish)
+    matches!(
+        call,
+        Call::Read(_) | Call::Write(_) | Call::Finish | Call::Leave | Call::Drain
+    )
 }
 
 /// Whether the transfer that a call opens is an upload.
@@ -296,6 +311,8 @@ fn own_row(call: Call, first: bool) -> Row
         Call::Read(most) => Row::Moves(Movement::Read(most)),
         Call::Write(bytes) => Row::Moves(Movement::Write(bytes)),
         Call::Finish => last_reply(None),
+        Call::Leave => Row::Moves(Movement::Close),
+        Call::Drain => hears(ended(), Ending::Drains),
     }
 }
 
@@ -303,8 +320,14 @@ fn own_row(call: Call, first: bool) -> Row
 fn last_reply(fault: Option<ErrorKind>) -> Row
     ensures { result ≡ row_of Call.Finish (Turn.Closed fault) }
 {
-    let codes = Codes::Either(Status::ClosingDataConnection, Status::RequestedFileActionOk);
-    hears(codes, Ending::Finishes(fault))
+    hears(ended(), Ending::Finishes(fault))
+}
+
+/// 226 or 250.
+fn ended() -> Codes
+    ensures { result ≡ Codes.Either Status.ClosingDataConnection Status.RequestedFileActionOk }
+{
+    Codes::Either(Status::ClosingDataConnection, Status::RequestedFileActionOk)
 }
 
 /// `USER`, and after 331 `PASS`.

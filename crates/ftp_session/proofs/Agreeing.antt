@@ -3,7 +3,7 @@ use Rattle.std.proofs.Common.{◌≡◌, ◌<◌, ◌-◌, Bool, true, false, Op
 use Rattle.ftp_calls.proofs.Openings.{opens_alike}
 use Rattle.ftp_calls.specs.declared.call.Answer.{Answer}
 use Rattle.ftp_calls.specs.declared.call.Call.{Call}
-use Rattle.ftp_calls.specs.declared.call.Call.TheVariants.{Greet, Login, Cwd, Cdup, Pwd, Noop, Eprt, Opts, Site, TransferType, Mkdir, Rmdir, Rm, Rename, Quit, Mlst, Mdtm, Size, Feat, CustomCommand, ReadResponse, ReadResponseIn, ResumeTransfer, RetrAsStream, PutWithStream, AppendWithStream, CustomDataCommand, Set, Read, Write, Finish}
+use Rattle.ftp_calls.specs.declared.call.Call.TheVariants.{Greet, Login, Cwd, Cdup, Pwd, Noop, Eprt, Opts, Site, TransferType, Mkdir, Rmdir, Rm, Rename, Quit, Mlst, Mdtm, Size, Feat, CustomCommand, ReadResponse, ReadResponseIn, ResumeTransfer, RetrAsStream, PutWithStream, AppendWithStream, CustomDataCommand, Set, Read, Write, Finish, Leave, Drain}
 use Rattle.ftp_calls.specs.declared.exchange.Ending.{Ending}
 use Rattle.ftp_calls.specs.declared.exchange.Ending.TheVariants.{Finishes}
 use Rattle.ftp_session.proofs.Sorts.{finishing_moves}
@@ -57,6 +57,8 @@ own_agrees (Set s) first = refl
 own_agrees (Read n) first = refl
 own_agrees (Write b) first = refl
 own_agrees Finish first = refl
+own_agrees Leave first = refl
+own_agrees Drain first = refl
 
 unfoldable some_ending : Ending → Option Ending → Ending
 some_ending other None = other

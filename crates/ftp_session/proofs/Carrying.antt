@@ -8,17 +8,17 @@ use Rattle.ftp_control.specs.declared.control.rule.ReplyRule.{ReplyRule}
 use Rattle.ftp_calls.specs.declared.call.Answer.{Answer}
 use Rattle.ftp_calls.specs.declared.call.Answer.TheVariants.{Unit, Fault, NoTransfer}
 use Rattle.ftp_calls.specs.declared.call.Call.{Call}
-use Rattle.ftp_calls.specs.declared.call.Call.TheVariants.{Set, Read, Write}
+use Rattle.ftp_calls.specs.declared.call.Call.TheVariants.{Set, Read, Write, Leave}
 use Rattle.ftp_calls.specs.declared.call.Setting.{Setting}
 use Rattle.ftp_calls.specs.declared.exchange.Ending.{Ending}
-use Rattle.ftp_calls.specs.declared.exchange.Ending.TheVariants.{GivesReply}
+use Rattle.ftp_calls.specs.declared.exchange.Ending.TheVariants.{GivesReply, Drains}
 use Rattle.ftp_calls.specs.declared.exchange.Exchange.{Exchange}
 use Rattle.ftp_calls.specs.declared.exchange.Movement.{Movement}
 use Rattle.ftp_calls.specs.declared.exchange.Movement.TheVariants as movement
 use Rattle.ftp_calls.specs.declared.exchange.Row.{Row}
 use Rattle.ftp_calls.specs.declared.exchange.Row.TheVariants.{Exchanges, Arms, Sets, Moves}
 use Rattle.ftp_calls.specs.declared.exchange.Turn.TheVariants.{First, Second, Passive, ExtendedPassive, Active, Restart, Closed}
-use Rattle.ftp_calls.specs.Exchanges.{finishes, gives_reply, is_local, is_read, local_row, negotiates, of_transfer, reads, row_of}
+use Rattle.ftp_calls.specs.Exchanges.{drains, finishes, is_local, is_read, local_row, negotiates, of_transfer, only_reads, reads, row_of}
 use Rattle.ftp_session.specs.declared.model.DealOutcome.{DealOutcome}
 use Rattle.ftp_session.specs.declared.session.stage.Stage.{Stage}
 use Rattle.ftp_session.specs.declared.session.stage.Stage.TheVariants.{At, Saying, Hearing, Arming, Agreeing, Closing}
@@ -33,15 +33,16 @@ use Rattle.ftp_session.proofs.Deals.{dealings_parted}
 use Rattle.ftp_session.specs.Deals.{answers, Deal, Deals, MovedIs, MovementIs, Net, Parted, outcomes_of, traffic_of}
 use Rattle.ftp_session.specs.Dialogue.{Tree, Move, Leaf, accepted, awaiting, carrying, closing, concluded, dialogue, doing, entered, expected_of, from_turn, later, moved_answer, negotiating, opened_from, saying, set_to, told_of_close, with_left}
 use Rattle.ftp_session.specs.Link.{Link}
-use Rattle.ftp_session.specs.Play.{Refusal, Taken, Lacking, Failing, finally, leaving, play, play_call, play_unless, refusal, refused_if_failed}
-use Rattle.ftp_session.specs.Promises.{Aborts, Goes, IsFault, IsRefusal, IsRefused, IsSuccess, standing, LeavesIf, Refuses, begun_by, refusal_of}
+use Rattle.ftp_session.specs.Play.{Refusal, Taken, Lacking, Failing, finally, leaving, play, play_call, play_unless, lacks, refusal, refused_if_failed}
+use Rattle.ftp_session.specs.Promises.{Aborts, Goes, IsFault, IsRefusal, IsRefused, IsSuccess, standing, LeavesIf, Refuses, begun_by, lacks_of, refusal_of}
 use Rattle.ftp_session.specs.Run.{Resumes}
 use Rattle.ftp_session.specs.Script.{needs_data}
+use Rattle.ftp_session.specs.Sound.{Transfers, left_behind}
 use Rattle.ftp_session.specs.State.{SessionValue, let_go}
 use Rattle.ftp_session.specs.Scripted.{IsApart}
 use Rattle.std.specs.declared.io.ErrorKind.{ErrorKind}
 use Rattle.ftp_session.specs.declared.model.DealOutcome.TheVariants as came
-use Rattle.ftp_session.specs.Steps.Moving.{Apart, CarriedOut, Carries, CarriesBy, CarriesOut, DoesRow, Ends, Made, Sets as SetsTo, Walks, moves_nothing, nothing_moved}
+use Rattle.ftp_session.specs.Steps.Moving.{Apart, CarriedOut, Carries, CarriesBy, CarriesOut, DoesRow, Ends, Made, Sets as SetsTo, Walks, answer_moved, moves_nothing, nothing_moved, state_moved}
 use Rattle.ftp_session.specs.Steps.Following.{MayPollAt}
 use Rattle.ftp_session.specs.Steps.Stages.{IsPlain, MayAnswer, StageOf}
 use Rattle.ftp_session.proofs.Sorts.{unheld_call, finishing_moves, finishing_no_read, local_finishes_none, local_opens_none, read_finishes_none, reply_ending}
@@ -65,7 +66,7 @@ pub failing_refuses : (tells : Type 0) (call : Call) (v : SessionValue) → IsPl
 failing_refuses tells call v plain failed =
     let R : Refusal → Type 0 = λ r. Refuses r tells call v v (Fault SessionFailed) in
     let L : Bool → Type 0 = λ b. LeavesIf b tells v v in
-    let P : Bool → Type 0 = λ t. R (cond (t && is_none v.net.data_conn) Lacking (refused_if_failed (is_local call) v.channel.failed)) in
+    let P : Bool → Type 0 = λ t. R (cond (t && lacks_of call v) Lacking (refused_if_failed (is_local call) v.channel.failed)) in
     let Q : Bool → Type 0 = λ l. R (refused_if_failed l v.channel.failed) in
     let F : Bool → Type 0 = λ f. R (refused_if_failed false f) in
     let here : R Failing = (refl, subst L (sym (plain_finishes_none call plain.2)) refl) in
@@ -102,19 +103,19 @@ plain_taken call failed lacks unheld going =
     subst P (sym unheld) (subst Q (sym going) (elim (is_local call) as (λ l. refused_if_failed l false ≡ Taken) [ true ↦ refl | false ↦ refl ]))
 
 -- a call that was begun goes on in a session that goes on
-pub may_go_on : (call : Call) (stage : Stage) (v : SessionValue) → StageOf call stage → v.channel.failed ≡ false → MayPollAt stage call v
-may_go_on call (At First) v of going = plain_taken call v.channel.failed (is_none v.net.data_conn) (unheld_call call of.1 of.2) going
-may_go_on call (At Second) v of going = going
-may_go_on call (At (Passive offset)) v of going = going
-may_go_on call (At (ExtendedPassive offset)) v of going = going
-may_go_on call (At (Active address offset)) v of going = going
-may_go_on call (At (Restart offset)) v of going = going
-may_go_on call (At (Closed close)) v of going = going
-may_go_on call (Saying line a) v of going = going
-may_go_on call (Hearing a) v of going = going
-may_go_on call (Arming turn offset) v of going = going
-may_go_on call (Agreeing way) v of going = going
-may_go_on call Closing v of going = going
+pub may_go_on : (call : Call) (stage : Stage) (v : SessionValue) → drains call ≡ false → StageOf call stage → v.channel.failed ≡ false → MayPollAt stage call v
+may_go_on call (At First) v undrained of going = plain_taken call v.channel.failed (lacks_of call v) (unheld_call call of.1 of.2 undrained) going
+may_go_on call (At Second) v undrained of going = going
+may_go_on call (At (Passive offset)) v undrained of going = going
+may_go_on call (At (ExtendedPassive offset)) v undrained of going = going
+may_go_on call (At (Active address offset)) v undrained of going = going
+may_go_on call (At (Restart offset)) v undrained of going = going
+may_go_on call (At (Closed close)) v undrained of going = going
+may_go_on call (Saying line a) v undrained of going = going
+may_go_on call (Hearing a) v undrained of going = going
+may_go_on call (Arming turn offset) v undrained of going = going
+may_go_on call (Agreeing way) v undrained of going = going
+may_go_on call Closing v undrained of going = going
 
 -- Where a call begins
 
@@ -168,25 +169,28 @@ read_apart coding call state read =
     both true b is = (refl, is)
     both false b is = let clash : false ≡ true = is in cc
 
-    heard : (e : Ending) → e ≡ GivesReply → (h : Result Response FtpError) → Apart (concluded coding e state (later coding call First) h)
-    heard e is (Ok reply) =
+    heard : (e : Ending) → (e ≡ GivesReply) ⊎ (e ≡ Drains) → (h : Result Response FtpError) → Apart (concluded coding e state (later coding call First) h)
+    heard e (inl is) (Ok reply) =
+        let A : Ending → Type 0 = λ x. Apart (accepted coding x state reply (later coding call First)) in
+        subst A (sym is) tt
+    heard e (inr is) (Ok reply) =
         let A : Ending → Type 0 = λ x. Apart (accepted coding x state reply (later coding call First)) in
         subst A (sym is) tt
     heard e is (Err fault) = tt
 
-    saying_none : (e : Exchange) → e.ending ≡ GivesReply → (says : Option Command) → is_none says ≡ true → Apart (saying coding says (awaiting coding (expected_of e.hears) e.ending state (later coding call First)))
+    saying_none : (e : Exchange) → (e.ending ≡ GivesReply) ⊎ (e.ending ≡ Drains) → (says : Option Command) → is_none says ≡ true → Apart (saying coding says (awaiting coding (expected_of e.hears) e.ending state (later coding call First)))
     saying_none e gives None none = λ h. heard e.ending gives h
     saying_none e gives (Some command) none = let clash : false ≡ true = none in cc
 
     row : (r : Row) → reads r ≡ true → Apart (doing coding r state (later coding call First))
     row (Exchanges e) is =
-        let two = both (gives_reply e.ending) (is_none e.says) is in
+        let two = both (only_reads e.ending) (is_none e.says) is in
         saying_none e (reply_ending e.ending two.0) e.says two.1
     row (Arms offset) is = tt
     row (Sets setting) is = let clash : false ≡ true = is in cc
     row (Moves moves) is = let clash : false ≡ true = is in cc
 
-pub carrying_is : (moves : Movement) (state : State) → carrying moves state ≡ cond (moves_nothing moves) (Leaf (nothing_moved moves) state) (Move moves (λ came. Leaf (moved_answer came) state))
+pub carrying_is : (moves : Movement) (state : State) → carrying moves state ≡ cond (moves_nothing moves) (Leaf (nothing_moved moves) state) (Move moves (λ came. Leaf (answer_moved moves came) (state_moved moves state)))
 carrying_is (movement.Read most) state = refl
 carrying_is (movement.Write bytes) state = refl
 carrying_is movement.Close state = refl
@@ -194,7 +198,7 @@ carrying_is movement.Close state = refl
 pub carrying_resumes : (rule : ReplyRule) (kept : List ℕ) (moves : Movement) (state : State) → Resumes rule kept (carrying moves state)
 carrying_resumes rule kept moves state =
     let P : Tree → Type 0 = λ t. Resumes rule kept t in
-    let next : Tree = Move moves (λ came. Leaf (moved_answer came) state) in
+    let next : Tree = Move moves (λ came. Leaf (answer_moved moves came) (state_moved moves state)) in
     subst P (sym (carrying_is moves state)) (elim (moves_nothing moves) as (λ b. P (cond b (Leaf (nothing_moved moves) state) next)) [
       | true ↦ tt
       | false ↦ λ came. tt
@@ -215,24 +219,24 @@ module _ (link : Link) (moves : Movement) (old new : SessionValue) where
   Carried_so answer = Ends link (carrying moves old.state) answer old new ⊎ Aborts link false (carrying moves old.state) answer old new
 
   -- bytes went over the data connection
-  moved_ends : (net' : Net) (outcome : DealOutcome) → moves_nothing moves ≡ false → (link.tells → MovementIs moves outcome old.net net') → Ends link (carrying moves old.state) (moved_answer outcome) old (record old { net = net' })
+  moved_ends : (net' : Net) (outcome : DealOutcome) → moves_nothing moves ≡ false → (link.tells → MovementIs moves outcome old.net net') → Ends link (carrying moves old.state) (answer_moved moves outcome) old (record old { state = state_moved moves old.state; net = net' })
   moved_ends net' outcome some tie =
-      let next : DealOutcome → Tree = λ came. Leaf (moved_answer came) old.state in
+      let next : DealOutcome → Tree = λ came. Leaf (answer_moved moves came) (state_moved moves old.state) in
       let still = moved_still link old net' moves outcome tie next in
       let is : carrying moves old.state ≡ Move moves next = carrying_is moves old.state ∙ ap (λ b. cond b (Leaf (nothing_moved moves) old.state) (Move moves next)) some in
-      let T : Tree → Type 0 = λ t. Ends link t (moved_answer outcome) old (record old { net = net' }) in
-      subst T (sym is) (leaf_ends link (Move moves next) (moved_answer outcome) old (record old { net = net' }) (record old { net = net' }) still.advances.moves (λ f. inl f) refl refl)
+      let T : Tree → Type 0 = λ t. Ends link t (answer_moved moves outcome) old (record old { state = state_moved moves old.state; net = net' }) in
+      subst T (sym is) (leaf_ends link (Move moves next) (answer_moved moves outcome) old (record old { net = net' }) (record old { state = state_moved moves old.state; net = net' }) still.advances.moves (λ f. inl f) refl refl)
 
   carried_by : (answer : Answer) → CarriesBy link.tells moves old new answer → Carried_so answer
   carried_by answer made =
       let V : SessionValue → Type 0 = λ v. Ends link (carrying moves old.state) answer old v in
-      let A : Answer → Type 0 = λ a. Ends link (carrying moves old.state) a old (record old { net = new.net }) in
+      let A : Answer → Type 0 = λ a. Ends link (carrying moves old.state) a old (record old { state = state_moved moves old.state; net = new.net }) in
       inl (subst V (sym made.beside) (subst A (sym made.is) (moved_ends new.net made.outcome made.some made.deal)))
 
   nothing_carried : (answer : Answer) → (moves_nothing moves ≡ true) × (answer ≡ nothing_moved moves) × (new ≡ old) → Carried_so answer
   nothing_carried answer (none, is, same) =
       let leaf : Tree = Leaf (nothing_moved moves) old.state in
-      let at : carrying moves old.state ≡ leaf = carrying_is moves old.state ∙ ap (λ b. cond b leaf (Move moves (λ came. Leaf (moved_answer came) old.state))) none in
+      let at : carrying moves old.state ≡ leaf = carrying_is moves old.state ∙ ap (λ b. cond b leaf (Move moves (λ came. Leaf (answer_moved moves came) (state_moved moves old.state)))) none in
       let V : SessionValue → Type 0 = λ v. Ends link (carrying moves old.state) answer old v in
       let A : Answer → Type 0 = λ a. Ends link (carrying moves old.state) a old old in
       let T : Tree → Type 0 = λ t. Ends link t (nothing_moved moves) old old in
@@ -310,9 +314,9 @@ closed_walks link coding call old new outcome told stage' ends beside tie told_i
 
 -- What is carried out
 
-pub carried_through : (tells : Type 0) (moves : Movement) (outcome : DealOutcome) (view old : SessionValue) (net' : Net) → view ≡ old → moves_nothing moves ≡ false → answers moves outcome ≡ true → (tells → MovedIs moves outcome view.net net') → IsApart (moved_answer outcome) → Carries tells moves old (record view { net = net' }) (moved_answer outcome)
+pub carried_through : (tells : Type 0) (moves : Movement) (outcome : DealOutcome) (view old : SessionValue) (net' : Net) → view ≡ old → moves_nothing moves ≡ false → answers moves outcome ≡ true → (tells → MovedIs moves outcome view.net net') → IsApart (answer_moved moves outcome) → Carries tells moves old (record view { state = state_moved moves view.state; net = net' }) (answer_moved moves outcome)
 carried_through tells moves outcome view old net' is some fits tie apart =
-    let P : SessionValue → Type 0 = λ v. Carries tells moves v (record view { net = net' }) (moved_answer outcome) in
+    let P : SessionValue → Type 0 = λ v. Carries tells moves v (record view { state = state_moved moves view.state; net = net' }) (answer_moved moves outcome) in
     subst P is (inl (record { outcome = outcome; some = some; is = refl; beside = refl; deal = λ h. (fits, tie h); apart = apart }))
 
 pub read_apart_answer : (most : ℕ) (outcome : DealOutcome) → answers (movement.Read most) outcome ≡ true → IsApart (moved_answer outcome)
@@ -352,6 +356,18 @@ pub did_write : (tells : Type 0) (call : Call) (bytes : List ℕ) (old mid last'
 did_write tells call bytes old mid last' last new answer' answer is taken same does =
     let P : Call → Type 0 = λ c. DoesRow (row_of c First) tells mid last' answer' in
     did_row tells call old mid last' last new answer' answer taken same (subst P (sym is) does)
+
+pub did_leave : (tells : Type 0) (call : Call) (old mid last' last new : SessionValue) (answer' answer : Answer) → call ≡ Leave → refusal_of call old ≡ Taken → mid ≡ old → Carries tells movement.Close mid last' answer' → last ≡ last' → answer ≡ answer' → new ≡ let_go last → CarriesOut tells call old new answer
+did_leave tells call old mid last' last new answer' answer is taken same does =
+    let P : Call → Type 0 = λ c. DoesRow (row_of c First) tells mid last' answer' in
+    did_row tells call old mid last' last new answer' answer taken same (subst P (sym is) does)
+
+-- the data connection was closed, and the transfer is left
+pub left_so : (tells : Type 0) (outcome : DealOutcome) (counts : Transfers) (old view new : SessionValue) → view ≡ old → counts ≡ left_behind view.state.counts → new ≡ record view { state = record view.state { counts = counts }; net = new.net } → (tells → MovementIs movement.Close outcome view.net new.net) → Carries tells movement.Close old new Unit
+left_so tells outcome counts old view new is left beside tie =
+    let P : SessionValue → Type 0 = λ v. Carries tells movement.Close v new Unit in
+    let N : Transfers → SessionValue = λ t. record view { state = record view.state { counts = t }; net = new.net } in
+    subst P is (inl (record { outcome = outcome; some = refl; is = refl; beside = beside ∙ ap N left; deal = tie; apart = tt }))
 
 -- a row that was carried out is played
 row_done : (link : Link) (coding : Coding) (r : Row) (later : State → Tree) (old new : SessionValue) (answer : Answer) → DoesRow r link.tells old new answer → Ends link (doing coding r old.state later) answer old new ⊎ Aborts link false (doing coding r old.state later) answer old new
@@ -457,7 +473,7 @@ lacking_transfer call v is = go (of_transfer call) refl is
     unlike false true made = let clash : Failing ≡ Lacking = made in cc
     unlike false false made = let clash : Taken ≡ Lacking = made in cc
 
-    go : (b : Bool) → of_transfer call ≡ b → cond (b && is_none v.net.data_conn) Lacking (refused_if_failed (is_local call) v.channel.failed) ≡ Lacking → of_transfer call ≡ true
+    go : (b : Bool) → of_transfer call ≡ b → cond (b && lacks_of call v) Lacking (refused_if_failed (is_local call) v.channel.failed) ≡ Lacking → of_transfer call ≡ true
     go true held made = held
     go false held made = absurd (unlike (is_local call) v.channel.failed made)
 
@@ -466,10 +482,10 @@ module _ (builds : Builds) (tells : Type 0) (coding : Coding) (call : Call) (v w
   refused_by : (r : Refusal) → refusal_of call v ≡ r → (room : Room) (more : List ℕ) (ended : Bool) (outcomes : List DealOutcome) → play_call room coding call (standing v more ended outcomes) ≡ play_unless r room coding call (standing v more ended outcomes)
   refused_by r is room more ended outcomes =
       let s : Standing = standing v more ended outcomes in
-      ap (λ x. play_unless x room coding call s) (ap (λ l. refusal call v.channel.failed l) (lacks_alike traffic_of v.net.data_conn) ∙ is)
+      ap (λ x. play_unless x room coding call s) (ap (λ n. refusal call v.channel.failed (lacks call n v.state.counts.owed)) (lacks_alike traffic_of v.net.data_conn) ∙ is)
 
   failing_failed : refusal_of call v ≡ Failing → v.channel.failed ≡ true
-  failing_failed is = go (of_transfer call && is_none v.net.data_conn) is
+  failing_failed is = go (of_transfer call && lacks_of call v) is
     where
       last : (l f : Bool) → refused_if_failed l f ≡ Failing → f ≡ true
       last true f made = let clash : Taken ≡ Failing = made in cc
@@ -553,7 +569,7 @@ module _ (builds : Builds) (tells : Type 0) (coding : Coding) (call : Call) (v w
 pub taken_plays : (coding : Coding) (room : Room) (call : Call) (v : SessionValue) (more : List ℕ) (ended : Bool) (outcomes : List DealOutcome) → refusal_of call v ≡ Taken → (let s : Standing = standing v more ended outcomes in play_call room coding call s ≡ finally (play room (dialogue coding call s.state) (record s { state = entered call s.state })))
 taken_plays coding room call v more ended outcomes taken =
     let s : Standing = standing v more ended outcomes in
-    ap (λ x. play_unless x room coding call s) (ap (λ l. refusal call v.channel.failed l) (lacks_alike traffic_of v.net.data_conn) ∙ taken)
+    ap (λ x. play_unless x room coding call s) (ap (λ n. refusal call v.channel.failed (lacks call n v.state.counts.owed)) (lacks_alike traffic_of v.net.data_conn) ∙ taken)
 
 -- what is left of a reply is resumed by a call that is taken
 pub taken_resumes : (rule : ReplyRule) (kept : List ℕ) (coding : Coding) (call : Call) (v : SessionValue) → refusal_of call v ≡ Taken → (v.channel.failed ≡ false → Resumes rule kept (dialogue coding call v.state)) → Resumes rule kept (dialogue coding call v.state)
@@ -561,7 +577,7 @@ taken_resumes rule kept coding call v taken resumes = go (is_local call) refl
   where
     go : (b : Bool) → is_local call ≡ b → Resumes rule kept (dialogue coding call v.state)
     go true local = local_resumes rule kept coding call v.state local
-    go false abroad = resumes (taken_going call v.channel.failed (is_none v.net.data_conn) taken abroad)
+    go false abroad = resumes (taken_going call v.channel.failed (lacks_of call v) taken abroad)
 
 -- a session that goes on after a call that was taken went on before it
 pub taken_goes_on : (call : Call) (v w : SessionValue) → refusal_of call v ≡ Taken → (is_local call ≡ true → w.channel ≡ v.channel) → w.channel.failed ≡ false → v.channel.failed ≡ false
@@ -569,7 +585,7 @@ taken_goes_on call v w taken apart going = go (is_local call) refl
   where
     go : (b : Bool) → is_local call ≡ b → v.channel.failed ≡ false
     go true local = sym (ap (λ c. c.failed) (apart local)) ∙ going
-    go false abroad = taken_going call v.channel.failed (is_none v.net.data_conn) taken abroad
+    go false abroad = taken_going call v.channel.failed (lacks_of call v) taken abroad
 
 -- a refusal of a call that needs no transfer is one of a session that has failed
 pub refused_answer : (tells : Type 0) (call : Call) (v w : SessionValue) (answer : Answer) → of_transfer call ≡ false → IsRefused tells call v w answer → MayAnswer call answer

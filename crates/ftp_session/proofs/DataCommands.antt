@@ -38,12 +38,12 @@ use Rattle.ftp_control.specs.declared.transport.request.Request.TheVariants.{Con
 use Rattle.ftp_control.specs.declared.transport.request.RequestOutcome.{RequestOutcome}
 use Rattle.ftp_control.specs.declared.transport.request.RequestOutcome.TheVariants.{Done as Made, Address, Refused}
 use Rattle.ftp_control.specs.declared.transport.room.Room.{Room}
-use Rattle.ftp_session.proofs.Sorts.{finishing_opens, opens_no_local, unheld_call}
+use Rattle.ftp_session.proofs.Sorts.{finishing_opens, opens_drains_none, opens_no_local, unheld_call}
 use Rattle.ftp_session.specs.Coding.{Coding}
 use Rattle.ftp_session.specs.Deals.{answers, constructed, constructing, dealing, dealt, kept_for, moved}
 use Rattle.ftp_session.specs.Dialogue.{Here, There, Tree, Say, Hear, Look, Ask, Build, Move, Leaf, accepting, admitting, agreeing, at_port, awaiting, closing, concluded, connecting_to, connecting_to_peer, dialogue, doing, entered, expected_of, from_turn, last_turn, later, lets_in, negotiating, negotiating_unless, on_address, on_built, on_connection, opened_answer, opened_from, opening, restart_turn, saying, strangers, to_address, to_port, with_left}
 use Rattle.ftp_session.specs.Laws.{AsksPeerAlone, LeadsTo, UsesPeerHost, offset_after, reached}
-use Rattle.ftp_session.specs.Play.{Lacking, asked_then, built_then, finally, fits, heard_then, leaving, moved_then, play, play_call, play_unless, refusal, refused_if_failed, taken}
+use Rattle.ftp_session.specs.Play.{Lacking, asked_then, built_then, finally, fits, heard_then, lacks, leaving, moved_then, play, play_call, play_unless, refusal, refused_if_failed, taken}
 use Rattle.ftp_session.specs.Sound.{cannot_beside, cannot_open}
 use Rattle.ftp_session.specs.declared.model.Dealings.{Dealings}
 use Rattle.ftp_session.specs.declared.model.DealOutcome.{DealOutcome}
@@ -316,7 +316,7 @@ module _ (coding : Coding) (call : Call) (opens_is : negotiates call ≡ true) w
   -- so it is refused by a session that has failed, and by no other
   refused_as : (failed lacks : Bool) → refusal call failed lacks ≡ refused_if_failed false failed
   refused_as failed lacks =
-      ap (λ held. cond (held && lacks) Lacking (refused_if_failed (is_local call) failed)) (unheld_call call abroad ends_none)
+      ap (λ held. cond (held && lacks) Lacking (refused_if_failed (is_local call) failed)) (unheld_call call abroad ends_none (opens_drains_none call opens_is))
       ∙ ap (λ local. refused_if_failed local failed) abroad
 
   data_dialogue : (state : State) → dialogue coding call state ≡ negotiating coding call state.settings.restart_offset (opened_from call state)
@@ -329,7 +329,7 @@ module _ (coding : Coding) (call : Call) (opens_is : negotiates call ≡ true) w
   -- it is made where the session goes on
   goes_on : (room : Room) (s : Standing) → s.failed ≡ false → play_call room coding call s ≡ finally (play room (negotiating coding call s.state.settings.restart_offset (opened_from call s.state)) (record s { state = opened_from call s.state }))
   goes_on room s going =
-      ap (λ r. play_unless r room coding call s) (refused_as s.failed (is_none s.dealings.data_conn) ∙ ap (refused_if_failed false) going)
+      ap (λ r. play_unless r room coding call s) (refused_as s.failed (lacks call (is_none s.dealings.data_conn) s.state.counts.owed) ∙ ap (refused_if_failed false) going)
       ∙ ap (λ tree. finally (play room tree (record s { state = entered call s.state }))) (data_dialogue s.state)
       ∙ ap (λ state. finally (play room (negotiating coding call s.state.settings.restart_offset (opened_from call s.state)) (record s { state = state }))) (data_entered s.state)
 
@@ -395,7 +395,7 @@ module _ (coding : Coding) (call : Call) (opens_is : negotiates call ≡ true) w
       -- a session that has failed asks for nothing
       failing : s.failed ≡ true → play_call room coding call s ≡ Done (Fault SessionFailed) s
       failing is =
-          ap (λ r. play_unless r room coding call s) (refused_as s.failed (is_none s.dealings.data_conn) ∙ ap (refused_if_failed false) is)
+          ap (λ r. play_unless r room coding call s) (refused_as s.failed (lacks call (is_none s.dealings.data_conn) s.state.counts.owed) ∙ ap (refused_if_failed false) is)
           ∙ ap (λ ends. Done (Fault SessionFailed) (cond ends (leaving s) s)) ends_none
 
       go : (f : Bool) → s.failed ≡ f → AsksPeerAlone s (play_call room coding call s)

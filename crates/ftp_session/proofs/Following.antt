@@ -47,14 +47,14 @@ use Rattle.ftp_session.specs.Coding.{Coding}
 use Rattle.ftp_calls.specs.declared.exchange.Exchange.{Exchange}
 use Rattle.ftp_calls.specs.declared.exchange.Row.{Row}
 use Rattle.ftp_calls.specs.declared.exchange.Row.TheVariants.{Exchanges, Arms, Sets, Moves}
-use Rattle.ftp_calls.specs.Exchanges.{finishes, is_local, negotiates, is_read, row_of}
+use Rattle.ftp_calls.specs.Exchanges.{drains, finishes, is_local, negotiates, is_read, row_of}
 use Rattle.std.specs.Net.Socket.{socket_port}
 use Rattle.ftp_session.specs.Sound.{cannot_open}
 use Rattle.ftp_session.specs.Dialogue.{agreeing, at_port, closing, entered, opened_from, told_of_close, with_left, from_turn, negotiating, negotiating_unless, on_address, Expected, expected_of, Tree, Say, Hear, saying, awaiting, doing, later, dialogue}
 use Rattle.ftp_session.specs.Play.{ended, finally, play, fits, heard_then}
 use Rattle.ftp_session.specs.declared.model.Played.{Played}
 use Rattle.ftp_session.specs.Run.{run, before, and_then, Resumes, Silent}
-use Rattle.ftp_session.specs.Promises.{refusal_of, begun_by, failed_from, standing, before_all, However, Fails, LacksMemory, Touched, Untouched, Goes, Leads, Rests, Aborts}
+use Rattle.ftp_session.specs.Promises.{lacks_of, refusal_of, begun_by, failed_from, standing, before_all, However, Fails, LacksMemory, Touched, Untouched, Goes, Leads, Rests, Aborts}
 use Rattle.ftp_session.specs.Script.{unread, is_over, start_of, front, seen_at, form_at, first_form, heard_form, polled_as, run_with, poll_script, HearsNothing, MayCancel, MayPoll, needs_data}
 use Rattle.ftp_session.specs.Scripted.{MayGoOn, SaysFrontOf, SaysNothing, Stands, SaysOrTakes, CallHasBegun, Reaches, LeftOf, entering}
 use Rattle.ftp_session.specs.Steps.Stages.{StageOf, remaining, begun_at}
@@ -65,7 +65,8 @@ use Rattle.ftp_session.proofs.Moving.{Finishes, finishes as finishes_by, goes_af
 use Rattle.ftp_session.proofs.Hearing.{play-Hear}
 use Rattle.ftp_session.proofs.Unheard.{LacksRoomFor, lacks_room, says_no_read}
 use Rattle.ftp_session.proofs.Carrying.{RefusedSo, beside_goes, carrying_resumes, local_resumes, may_go_on, needs_none, plain_dialogue, plain_entered, plain_finishes_none, read_apart, refused_so, taken_going, taken_plays}
-use Rattle.ftp_session.proofs.Sorts.{stage_no_local}
+use Rattle.ftp_session.proofs.Sorts.{stage_no_local, unheld_drains_none}
+use Rattle.ftp_calls.proofs.Openings.{draining_reads}
 use Rattle.ftp_session.specs.Play.{Refusal, Taken, Lacking, Failing}
 use Rattle.ftp_session.proofs.Running.{run-nil, run-cons, before_all-snoc, before_all-Finished, before_all-Waiting, plays_on}
 use Rattle.ftp_session.specs.Link.{Builds, over_memory}
@@ -706,7 +707,7 @@ module _ (builds : Builds) (coding : Coding) (outcomes : List DealOutcome) where
 
         go : (b : Bool) → is_local call ≡ b → Goes_on old s f.came f.answered v call (At First) ⊎ Kept old s f.came f.answered v call (At First)
         go true local = begun_anew started taken (inl (local_resumes v.channel.rule v.channel.kept coding call v.state local))
-        go false abroad = begun_anew started taken (add abroad (agreed started.unheard (taken_going call v.channel.failed (is_none v.net.data_conn) taken abroad)))
+        go false abroad = begun_anew started taken (add abroad (agreed started.unheard (taken_going call v.channel.failed (lacks_of call v) taken abroad)))
 
     placed : MayPollAt stage call v → Goes_on old s f.came f.answered v call stage ⊎ Kept old s f.came f.answered v call stage
     placed may_poll = go f.place
@@ -725,10 +726,14 @@ module _ (builds : Builds) (coding : Coding) (outcomes : List DealOutcome) where
     stands_unpolled : (MayPollAt stage call v → ⊥) → Stands coding old s.items f.came f.answered v s.answers
     stands_unpolled none = go f.place
       where
+        polled : (b : Bool) → drains call ≡ b → UnderWay coding old s f.came f.answered v call stage → Stands coding old s.items f.came f.answered v s.answers
+        polled true drains_is u = u.read (draining_reads call drains_is)
+        polled false drains_none u = absurd (none (may_go_on call stage v drains_none u.stage_of u.going))
+
         go : Place coding old s f.came f.answered v (Some call) stage → Stands coding old s.items f.came f.answered v s.answers
         go (inl started) = started.stands
-        go (inr (inl u)) = absurd (none (may_go_on call stage v u.stage_of u.going))
-        go (inr (inr u)) = absurd (none (may_go_on call stage v u.stage_of u.going))
+        go (inr (inl u)) = polled (drains call) refl u
+        go (inr (inr u)) = absurd (none (may_go_on call stage v (unheld_drains_none call (needs_none call u.plain).1) u.stage_of u.going))
 
   -- where a poll ends
   carry : (came : List ℕ) (answered : List Deal) (v w : SessionValue) (call : Call) (stage stage' : Stage) (result : Poll Answer) → IsSound (Unit {0}) v.channel → PollsHere builds coding call stage stage' v w result → Goes (over_memory builds) came answered (entered_at call stage v) w → Carried builds v w came answered
@@ -871,7 +876,7 @@ poll_happens builds coding call stage stage' v w result here =
         goes_on : MayPollAt stage call v → v.channel.failed ≡ false
         goes_on may =
             elim (is_first stage) as (λ b. MayPollFrom b call v → v.channel.failed ≡ false) [
-              | true ↦ λ taken. taken_going call v.channel.failed (is_none v.net.data_conn) taken (stage_no_local call stage' (here.left_at refl))
+              | true ↦ λ taken. taken_going call v.channel.failed (lacks_of call v) taken (stage_no_local call stage' (here.left_at refl))
               | false ↦ λ on. on
             ] may
 

@@ -217,17 +217,17 @@ module _ (link : Link) (state : State) (net : Net) (t : Told) (kept ahead unsent
       let takes : Takes link (Hear codes next) old (new u false) = λ h resumes. omega (arith, reads.takes resumes, length-append (kept ++ ahead) reads.came, ap length (ap (λ x. x.received) (told h)), length-append t.received reads.came) in
       elim (is_among codes.statuses (status_of code)) as (λ among. Moves link (Hear codes next) (next (cond among (Ok answer) (Err (fault.UnexpectedResponse answer)))) old (new u false) → Hears link codes next old (new u false) (Ready (cond among (Ok answer) (Err (fault.UnexpectedResponse answer))))) [
         | true ↦ λ m. (record { moves = m; failed = refl }, takes)
-        | false ↦ λ m. inl (m, λ e. let clash : fault.UnexpectedResponse answer ≡ fault.OutOfMemory = e in cc)
+        | false ↦ λ m. inl (m, record { other = λ e. (let clash : fault.UnexpectedResponse answer ≡ fault.OutOfMemory = e in cc); goes_on = λ reply' e. refl })
       ] moves
   hears u (Ok (Bad line)) may was reads =
       let told : link.tells → u ≡ after_input reads.came ended t = λ h. tells_input (Bad line) reads.came ended t u (reads.told h) in
-      inl (settles u reads.came reads.over was false (Bad line) (Err fault.BadResponse) told reads.leaves.0 reads.past (λ s k. refl) reads.stays, λ e. let clash : fault.BadResponse ≡ fault.OutOfMemory = e in cc)
+      inl (settles u reads.came reads.over was false (Bad line) (Err fault.BadResponse) told reads.leaves.0 reads.past (λ s k. refl) reads.stays, record { other = λ e. (let clash : fault.BadResponse ≡ fault.OutOfMemory = e in cc); goes_on = λ reply' e. (let clash : fault.BadResponse ≡ fault.UnexpectedResponse reply' = e in cc) })
   hears u (Ok TooLarge) may was reads =
       let told : link.tells → u ≡ after_input reads.came ended t = λ h. tells_input TooLarge reads.came ended t u (reads.told h) in
-      inl (settles u reads.came reads.over was true TooLarge (Err (fault.ConnectionError connection.ReplyTooLarge)) told reads.leaves.0 reads.past (λ s k. refl) reads.stays, λ e. let clash : fault.ConnectionError connection.ReplyTooLarge ≡ fault.OutOfMemory = e in cc)
+      inl (settles u reads.came reads.over was true TooLarge (Err (fault.ConnectionError connection.ReplyTooLarge)) told reads.leaves.0 reads.past (λ s k. refl) reads.stays, record { other = λ e. (let clash : fault.ConnectionError connection.ReplyTooLarge ≡ fault.OutOfMemory = e in cc); goes_on = λ reply' e. (let clash : fault.ConnectionError connection.ReplyTooLarge ≡ fault.UnexpectedResponse reply' = e in cc) })
   hears u (Ok Ended) may was reads =
       let told : link.tells → u ≡ after_input reads.came ended t = λ h. tells_input Ended reads.came ended t u (reads.told h) in
-      inl (settles u reads.came reads.over was true Ended (Err (fault.ConnectionError connection.UnexpectedEof)) told reads.leaves.0 reads.past (λ s k. refl) reads.stays, λ e. let clash : fault.ConnectionError connection.UnexpectedEof ≡ fault.OutOfMemory = e in cc)
+      inl (settles u reads.came reads.over was true Ended (Err (fault.ConnectionError connection.UnexpectedEof)) told reads.leaves.0 reads.past (λ s k. refl) reads.stays, record { other = λ e. (let clash : fault.ConnectionError connection.UnexpectedEof ≡ fault.OutOfMemory = e in cc); goes_on = λ reply' e. (let clash : fault.ConnectionError connection.UnexpectedEof ≡ fault.UnexpectedResponse reply' = e in cc) })
   hears u (Ok Waits) may was reads =
       let told : link.tells → u ≡ after_input reads.came ended t = λ h. tells_input Waits reads.came ended t u (reads.told h) in
       waits_on u reads.came reads.over was told reads.leaves.0 reads.leaves.1 (reads.unended refl)

@@ -5,11 +5,13 @@ pub mod Connecting
 pub mod DataCommands
 pub mod Deals
 pub mod Events
+pub mod Faults
 pub mod Following
 pub mod Hearing
 pub mod Sorts
 pub mod Moving
 pub mod Negotiation
+pub mod Nexts
 pub mod Polling
 pub mod Running
 pub mod Scripts

@@ -23,7 +23,7 @@ use Rattle.ftp_session.specs.declared.model.DealOutcome.{DealOutcome}
 use Rattle.ftp_session.specs.Play.{Taken, play_call}
 use Rattle.ftp_session.proofs.Carrying.{beside_goes, refused_so, taken_going, taken_goes_on, taken_plays, taken_resumes}
 use Rattle.ftp_session.specs.Run.{run, before, and_then, OneView, Silent}
-use Rattle.ftp_session.specs.Promises.{begun_by, Goes, FailsWith, HasFault, IsFault, standing, before_all, Completes, Agrees, AllRefused, Makes, RanTo, RunsTo, RunAborts, Runs, Aborts, Plays, Wired, IsSuccess, IsRefusal, IsRefused, IsPlayed, IsWithheld, refusal_of}
+use Rattle.ftp_session.specs.Promises.{begun_by, lacks_of, Goes, FailsWith, HasFault, IsFault, standing, before_all, Completes, Agrees, AllRefused, Makes, RanTo, RunsTo, RunAborts, Runs, Aborts, Plays, Wired, IsSuccess, IsRefusal, IsRefused, IsPlayed, IsWithheld, refusal_of}
 use Rattle.ftp_session.specs.Steps.Moving.{Keeps, Ends, Made}
 use Rattle.ftp_session.proofs.Hearing.{nothing_resumes}
 use Rattle.ftp_session.proofs.Wired.{wired}
@@ -286,7 +286,7 @@ aborted_more link coding calls to_make call old mid new answers answer broke pla
         apart : (b : Bool) → is_local call ≡ b → (new.channel ≡ broke.after.channel) × AllRefused (broke.made ++ call ∷ []) (broke.later ++ answer ∷ [])
         apart true local = (played.apart local ∙ so_far.0, all_snoc broke.made broke.later call answer so_far.1 (λ abroad. (let clash : true ≡ false = sym local ∙ abroad in cc)))
         apart false abroad =
-            let clash : true ≡ false = sym failed ∙ sym (ap (λ c. c.failed) so_far.0) ∙ taken_going call mid.channel.failed (is_none mid.net.data_conn) played.going abroad in
+            let clash : true ≡ false = sym failed ∙ sym (ap (λ c. c.failed) so_far.0) ∙ taken_going call mid.channel.failed (lacks_of call mid) played.going abroad in
             cc
     go (inr (inr none)) failed so_far =
         let clash : true ≡ false = sym failed ∙ sym (ap (λ c. c.failed) so_far.0) ∙ none.going in

@@ -1,21 +1,21 @@
 -- Which calls go over the control connection, which open a data connection, and which bring a transfer to its end.
-use Rattle.std.proofs.Common.{◌≡◌, Bool, true, false, ◌&&◌, is_none, refl, ap, sym, ◌∙◌}
+use Rattle.std.proofs.Common.{◌≡◌, ◌⊎◌, inl, inr, Bool, true, false, ◌&&◌, ◌||◌, is_none, refl, ap, sym, ◌∙◌}
 use Rattle.ftp_calls.specs.declared.call.Call.{Call}
-use Rattle.ftp_calls.specs.declared.call.Call.TheVariants.{Greet, Login, Cwd, Cdup, Pwd, Noop, Eprt, Opts, Site, TransferType, Mkdir, Rmdir, Rm, Rename, Quit, Mlst, Mdtm, Size, Feat, CustomCommand, ReadResponse, ReadResponseIn, ResumeTransfer, RetrAsStream, PutWithStream, AppendWithStream, CustomDataCommand, Set, Read, Write, Finish}
+use Rattle.ftp_calls.specs.declared.call.Call.TheVariants.{Greet, Login, Cwd, Cdup, Pwd, Noop, Eprt, Opts, Site, TransferType, Mkdir, Rmdir, Rm, Rename, Quit, Mlst, Mdtm, Size, Feat, CustomCommand, ReadResponse, ReadResponseIn, ResumeTransfer, RetrAsStream, PutWithStream, AppendWithStream, CustomDataCommand, Set, Read, Write, Finish, Leave, Drain}
 use Rattle.ftp_calls.specs.declared.exchange.Ending.{Ending}
-use Rattle.ftp_calls.specs.declared.exchange.Ending.TheVariants.{Done, GivesReply, Greets, GivesPath, GivesSecondLine, GivesTime, GivesSize, GivesFeatures, SetsText, GoesOn, Continues, GivesAddress, GivesPort, Opens, Finishes}
+use Rattle.ftp_calls.specs.declared.exchange.Ending.TheVariants.{Done, GivesReply, Greets, GivesPath, GivesSecondLine, GivesTime, GivesSize, GivesFeatures, SetsText, GoesOn, Continues, GivesAddress, GivesPort, Opens, Finishes, Drains}
 use Rattle.ftp_calls.specs.declared.exchange.Row.{Row}
 use Rattle.ftp_calls.specs.declared.exchange.Row.TheVariants.{Exchanges, Arms, Sets, Moves}
 use Rattle.ftp_calls.specs.declared.exchange.Turn.{Turn}
 use Rattle.ftp_calls.specs.declared.exchange.Turn.TheVariants.{First, Second, Passive, ExtendedPassive, Active, Restart, Closed}
-use Rattle.ftp_calls.specs.Exchanges.{finishes, finishing_row, gives_reply, is_finishing, is_local, is_opening, is_read, local_row, moving_row, negotiates, of_transfer, opens, reads, row_of}
+use Rattle.ftp_calls.specs.Exchanges.{draining_row, drains, finishes, finishing_row, is_draining, is_finishing, is_local, is_opening, is_read, local_row, moving_row, negotiates, of_transfer, only_reads, opens, reads, row_of}
 use Rattle.ftp_session.specs.declared.session.stage.Stage.{Stage}
 use Rattle.ftp_session.specs.declared.session.stage.Stage.TheVariants.{At, Saying, Hearing, Arming, Agreeing, Closing}
 use Rattle.ftp_session.specs.Steps.Stages.{StageOf, TurnOf}
 
 -- Endings
 
-finishing_gives_none : (e : Ending) → is_finishing e ≡ true → gives_reply e ≡ false
+finishing_gives_none : (e : Ending) → is_finishing e ≡ true → only_reads e ≡ false
 finishing_gives_none Done is = refl
 finishing_gives_none GivesReply is = let clash : false ≡ true = is in cc
 finishing_gives_none Greets is = refl
@@ -31,6 +31,7 @@ finishing_gives_none GivesAddress is = refl
 finishing_gives_none GivesPort is = refl
 finishing_gives_none (Opens replies) is = refl
 finishing_gives_none (Finishes close) is = refl
+finishing_gives_none Drains is = let clash : false ≡ true = is in cc
 
 finishing_opens_none : (e : Ending) → is_finishing e ≡ true → is_opening e ≡ false
 finishing_opens_none Done is = refl
@@ -48,10 +49,11 @@ finishing_opens_none GivesAddress is = refl
 finishing_opens_none GivesPort is = refl
 finishing_opens_none (Opens replies) is = let clash : false ≡ true = is in cc
 finishing_opens_none (Finishes close) is = refl
+finishing_opens_none Drains is = refl
 
-pub reply_ending : (e : Ending) → gives_reply e ≡ true → e ≡ GivesReply
+pub reply_ending : (e : Ending) → only_reads e ≡ true → (e ≡ GivesReply) ⊎ (e ≡ Drains)
 reply_ending Done is = let clash : false ≡ true = is in cc
-reply_ending GivesReply is = refl
+reply_ending GivesReply is = inl refl
 reply_ending Greets is = let clash : false ≡ true = is in cc
 reply_ending GivesPath is = let clash : false ≡ true = is in cc
 reply_ending GivesSecondLine is = let clash : false ≡ true = is in cc
@@ -65,6 +67,25 @@ reply_ending GivesAddress is = let clash : false ≡ true = is in cc
 reply_ending GivesPort is = let clash : false ≡ true = is in cc
 reply_ending (Opens replies) is = let clash : false ≡ true = is in cc
 reply_ending (Finishes close) is = let clash : false ≡ true = is in cc
+reply_ending Drains is = inr refl
+
+opening_drains_none : (e : Ending) → is_opening e ≡ true → is_draining e ≡ false
+opening_drains_none Done is = refl
+opening_drains_none GivesReply is = refl
+opening_drains_none Greets is = refl
+opening_drains_none GivesPath is = refl
+opening_drains_none GivesSecondLine is = refl
+opening_drains_none GivesTime is = refl
+opening_drains_none GivesSize is = refl
+opening_drains_none GivesFeatures is = refl
+opening_drains_none (SetsText text) is = refl
+opening_drains_none (GoesOn status) is = refl
+opening_drains_none Continues is = refl
+opening_drains_none GivesAddress is = refl
+opening_drains_none GivesPort is = refl
+opening_drains_none (Opens replies) is = refl
+opening_drains_none (Finishes close) is = refl
+opening_drains_none Drains is = let clash : false ≡ true = is in cc
 
 -- Rows
 
@@ -87,7 +108,7 @@ row_finishes_opens (Sets setting) is = refl
 row_finishes_opens (Moves movement) is = refl
 
 row_finishes_moves : (r : Row) → finishing_row r ≡ true → moving_row r ≡ true
-row_finishes_moves (Exchanges e) is = is
+row_finishes_moves (Exchanges e) is = ap (λ b. b || is_draining e.ending) is
 row_finishes_moves (Arms offset) is = let clash : false ≡ true = is in cc
 row_finishes_moves (Sets setting) is = let clash : false ≡ true = is in cc
 row_finishes_moves (Moves movement) is = refl
@@ -116,16 +137,48 @@ row_local_finishes (Arms offset) is = refl
 row_local_finishes (Sets setting) is = refl
 row_local_finishes (Moves movement) is = refl
 
-row_unheld : (r : Row) → local_row r ≡ false → finishing_row r ≡ false → moving_row r ≡ false
-row_unheld (Exchanges e) abroad ends = ends
-row_unheld (Arms offset) abroad ends = refl
-row_unheld (Sets setting) abroad ends = refl
-row_unheld (Moves movement) abroad ends = let clash : true ≡ false = abroad in cc
+row_opens_drains : (r : Row) → opens r ≡ true → draining_row r ≡ false
+row_opens_drains (Exchanges e) is = opening_drains_none e.ending is
+row_opens_drains (Arms offset) is = refl
+row_opens_drains (Sets setting) is = refl
+row_opens_drains (Moves movement) is = refl
+
+row_local_drains : (r : Row) → local_row r ≡ true → draining_row r ≡ false
+row_local_drains (Exchanges e) is = let clash : false ≡ true = is in cc
+row_local_drains (Arms offset) is = refl
+row_local_drains (Sets setting) is = refl
+row_local_drains (Moves movement) is = refl
+
+row_unheld : (r : Row) → local_row r ≡ false → finishing_row r ≡ false → draining_row r ≡ false → moving_row r ≡ false
+row_unheld (Exchanges e) abroad ends drains = ap (λ b. b || is_draining e.ending) ends ∙ drains
+row_unheld (Arms offset) abroad ends drains = refl
+row_unheld (Sets setting) abroad ends drains = refl
+row_unheld (Moves movement) abroad ends drains = let clash : true ≡ false = abroad in cc
 
 -- Calls
 
-pub unheld_call : (call : Call) → is_local call ≡ false → finishes call ≡ false → of_transfer call ≡ false
-unheld_call call abroad ends = row_unheld (row_of call First) abroad ends
+pub unheld_call : (call : Call) → is_local call ≡ false → finishes call ≡ false → drains call ≡ false → of_transfer call ≡ false
+unheld_call call abroad ends drains = row_unheld (row_of call First) abroad ends drains
+
+pub opens_drains_none : (call : Call) → negotiates call ≡ true → drains call ≡ false
+opens_drains_none call is = row_opens_drains (row_of call First) is
+
+pub local_drains_none : (call : Call) → is_local call ≡ true → drains call ≡ false
+local_drains_none call is = row_local_drains (row_of call First) is
+
+-- a call that needs no transfer hears the end of none
+pub unheld_drains_none : (call : Call) → of_transfer call ≡ false → drains call ≡ false
+unheld_drains_none call unheld = go (row_of call First) unheld
+  where
+    either : (a b : Bool) → a || b ≡ false → b ≡ false
+    either true b none = let clash : true ≡ false = none in cc
+    either false b none = none
+
+    go : (r : Row) → moving_row r ≡ false → draining_row r ≡ false
+    go (Exchanges e) none = either (is_finishing e.ending) (is_draining e.ending) none
+    go (Arms offset) none = refl
+    go (Sets setting) none = refl
+    go (Moves movement) none = refl
 
 pub finishing_no_read : (call : Call) → finishes call ≡ true → is_read call ≡ false
 finishing_no_read call is = row_finishes_unread (row_of call First) is
@@ -213,6 +266,44 @@ local_alike (Set s) = refl
 local_alike (Read n) = refl
 local_alike (Write b) = refl
 local_alike Finish = refl
+local_alike Leave = refl
+local_alike Drain = refl
+
+-- and hears the end of a transfer that was left where it does
+pub drains_alike : (call : Call) → draining_row (row_of call Second) ≡ drains call
+drains_alike Greet = refl
+drains_alike (Login u p) = refl
+drains_alike (Cwd p) = refl
+drains_alike Cdup = refl
+drains_alike Pwd = refl
+drains_alike Noop = refl
+drains_alike (Eprt a) = refl
+drains_alike (Opts n v) = refl
+drains_alike (Site w) = refl
+drains_alike (TransferType k) = refl
+drains_alike (Mkdir p) = refl
+drains_alike (Rmdir p) = refl
+drains_alike (Rm p) = refl
+drains_alike (Rename a b) = refl
+drains_alike Quit = refl
+drains_alike (Mlst p) = refl
+drains_alike (Mdtm p) = refl
+drains_alike (Size p) = refl
+drains_alike Feat = refl
+drains_alike (CustomCommand l c) = refl
+drains_alike (ReadResponse s) = refl
+drains_alike (ReadResponseIn c) = refl
+drains_alike (ResumeTransfer o) = refl
+drains_alike (RetrAsStream p) = refl
+drains_alike (PutWithStream p) = refl
+drains_alike (AppendWithStream p) = refl
+drains_alike (CustomDataCommand l c) = refl
+drains_alike (Set s) = refl
+drains_alike (Read n) = refl
+drains_alike (Write b) = refl
+drains_alike Finish = refl
+drains_alike Leave = refl
+drains_alike Drain = refl
 
 -- a turn of a call that goes over the control connection changes no setting, and moves no bytes
 pub turn_abroad : (call : Call) (turn : Turn) (row : Row) → row_of call turn ≡ row → local_row row ≡ true → TurnOf call turn → ⊥

@@ -12,7 +12,7 @@ use Rattle.ftp_session.specs.declared.session.stage.Stage.TheVariants.{At, Sayin
 use Rattle.ftp_session.specs.Coding.{Coding}
 use Rattle.ftp_calls.specs.declared.exchange.Exchange.{Exchange}
 use Rattle.ftp_calls.specs.declared.exchange.Row.TheVariants.{Exchanges, Arms}
-use Rattle.ftp_calls.specs.Exchanges.{ending_of, gives_reply, is_read, reads, row_of}
+use Rattle.ftp_calls.specs.Exchanges.{ending_of, is_read, only_reads, reads, row_of}
 use Rattle.ftp_calls.proofs.Openings.{read_opens_none}
 use Rattle.ftp_session.proofs.Sorts.{finishing_no_read}
 use Rattle.ftp_session.specs.Dialogue.{expected_of, Tree, Say, saying, awaiting, doing, later}
@@ -64,7 +64,7 @@ said_first coding (Some command) line next some is =
 
 -- a call that says something is no plain read
 pub no_read : (call : Call) (turn : Turn) (exchange : Exchange) → row_of call turn ≡ Exchanges exchange → TurnOf call turn → is_none exchange.says ≡ false → is_read call ≡ false
-no_read call First exchange row of some = ap reads row ∙ ap (λ b. gives_reply exchange.ending && b) some ∙ and_false (gives_reply exchange.ending)
+no_read call First exchange row of some = ap reads row ∙ ap (λ b. only_reads exchange.ending && b) some ∙ and_false (only_reads exchange.ending)
 no_read call Second exchange row of some = of.0
 no_read call (Passive offset) exchange row of some = read_opens_none call of
 no_read call (ExtendedPassive offset) exchange row of some = read_opens_none call of

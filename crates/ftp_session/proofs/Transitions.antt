@@ -32,16 +32,17 @@ use Rattle.ftp_calls.specs.declared.exchange.Row.TheVariants as row
 use Rattle.ftp_calls.specs.Exchanges.{finishes, is_local, is_read, negotiates, row_of, says_of}
 use Rattle.ftp_session.proofs.Sorts.{read_finishes_none}
 use Rattle.ftp_session.proofs.Carrying.{failing_refuses, plain_entered}
+use Rattle.ftp_session.proofs.Faults.{told_failure, told_fails}
 use Rattle.ftp_session.specs.Play.{Taken}
 use Rattle.ftp_calls.proofs.Openings.{read_opens_none}
 use Rattle.ftp_session.proofs.Stages.{later_is_no_read}
-use Rattle.ftp_session.specs.Dialogue.{Expected, expected_of, Tree, Say, Hear, Leaf, saying, after_fault_of, armed, awaiting, concluded, doing, accepted, later, from_turn, opened_from, told_fault, with_left, dialogue}
+use Rattle.ftp_session.specs.Dialogue.{Expected, expected_of, Tree, Say, Hear, Leaf, saying, after_fault_of, answer_to_fault, armed, awaiting, concluded, doing, accepted, later, from_turn, opened_from, with_left, dialogue}
 use Rattle.ftp_session.specs.Promises.{AbortsRead, FailsRead, IsFault, HasFault, Aborts, Fails, SaidOrTaken, Touched, Untouched, LacksMemory, Plays, GivesFault, Reads, Rests, begun_by, failed_from, refusal_of}
 use Rattle.ftp_control.specs.Channel.{untaken}
 use Rattle.ftp_session.specs.Run.{Resumes}
 use Rattle.ftp_session.specs.Steps.Following.{StageIn, entered_at, entered_state, entered_tree, is_first, is_first_turn}
 use Rattle.ftp_session.specs.Steps.Stages.{IsPlain, is_later, remaining, awaited, begun_at, StageOf, line_of}
-use Rattle.ftp_session.specs.Steps.Moving.{Moves, Advances, Ends, Steps, PollSteps, Hears, BeginsExchange, Concludes, Made, NothingTouched, NothingYet, Quiet, Still, HasBegun, BeginsHere, EndsFaulty, FaultLeaves, FaultLeavesIf, Speaks, Takes, Tracks, wants_memory, withheld, after_fault}
+use Rattle.ftp_session.specs.Steps.Moving.{Moves, Advances, Ends, Steps, PollSteps, Hears, BeginsExchange, Concludes, Made, NothingTouched, NothingYet, Quiet, Still, HasBegun, HeardFault, BeginsHere, EndsFaulty, FaultLeaves, FaultLeavesIf, Speaks, Takes, Tracks, wants_memory, withheld, after_fault}
 use Rattle.ftp_session.proofs.Moving.{advances_on, leads_on, leaf_ends, refused_line, lacks_memory_first, lacks_memory_at, stays_put, ends_on, aborts_on, said_or_taken_on, untouched, untouched_after}
 use Rattle.ftp_session.proofs.Negotiation.{still_on, unchanged_still}
 use Rattle.ftp_session.specs.Link.{Link}
@@ -153,25 +154,26 @@ not_memory OutOfMemory other = absurd (other refl)
 not_memory SessionFailed other = refl
 
 -- a read that ends with a fault
-module _ (link : Link) (coding : Coding) (codes : Expected) (ending : Ending) (later : State → Tree) (begun : Bool) (fault told : FtpError) (old mid new : SessionValue) (going : old.channel.failed ≡ false) where
+module _ (link : Link) (coding : Coding) (codes : Expected) (ending : Ending) (later : State → Tree) (begun : Bool) (fault : FtpError) (told : Answer) (old mid new : SessionValue) (going : old.channel.failed ≡ false) where
   abbrev heard_next : Result Response FtpError → Tree
   heard_next = concluded coding ending old.state later
 
   abbrev Ending_so : Type 0
-  Ending_so = Ends link (Hear codes heard_next) (Fault told) old new ⊎ Aborts link begun (Hear codes heard_next) (Fault told) old new
+  Ending_so = Ends link (Hear codes heard_next) told old new ⊎ Aborts link begun (Hear codes heard_next) told old new
 
   -- what is left, by whether memory ran out
   abbrev LeftBy : Bool → Type 0
   LeftBy memory = FaultLeavesIf memory ending fault (cond (memory && begun) (failed_from mid) mid).state new.state told × (new ≡ record (cond (memory && begun) (failed_from mid) mid) { state = new.state })
 
-  fault_heard : Moves link (Hear codes heard_next) (heard_next (Err fault)) old mid → LeftBy false → Ending_so
-  fault_heard moves left =
+  fault_heard : Moves link (Hear codes heard_next) (heard_next (Err fault)) old mid → HeardFault fault old mid → LeftBy false → Ending_so
+  fault_heard moves heard left =
       let T : Tree → Type 0 = λ t. Moves link (Hear codes heard_next) t old mid in
-      let is : heard_next (Err fault) ≡ Leaf (Fault told) new.state =
-      ap (λ f. Leaf (Fault f) (after_fault_of ending old.state)) (sym left.0.0)
-      ∙ ap (λ s. Leaf (Fault told) (after_fault_of ending s)) (sym moves.state)
-      ∙ ap (λ s. Leaf (Fault told) s) (sym left.0.1) in
-      inl (leaf_ends link (Hear codes heard_next) (Fault told) old mid new (subst T is moves) (λ f. inr tt) (ap (λ v. v.channel) left.1) (ap (λ v. v.net) left.1))
+      let A : Answer → Type 0 = λ a. (old.channel.failed ≡ true) ⊎ IsFault a in
+      let is : heard_next (Err fault) ≡ Leaf told new.state =
+      ap (λ a. Leaf a (after_fault_of ending old.state)) (sym left.0.0)
+      ∙ ap (λ s. Leaf told (after_fault_of ending s)) (sym moves.state)
+      ∙ ap (λ s. Leaf told s) (sym left.0.1) in
+      inl (leaf_ends link (Hear codes heard_next) told old mid new (subst T is moves) (λ f. subst A (sym left.0.0) (told_fails ending fault old mid heard f)) (ap (λ v. v.channel) left.1) (ap (λ v. v.net) left.1))
 
   fault_failed : (aborts : AbortsRead link codes heard_next fault old mid) → FailsRead link fault aborts.at mid → LeftBy false → Ending_so
   fault_failed aborts fails left =
@@ -187,11 +189,11 @@ module _ (link : Link) (coding : Coding) (codes : Expected) (ending : Ending) (l
         leads = aborts.leads;
         state = aborts.state;
         going = aborts.going ∙ sym going;
-        fault = told;
-        is = refl;
+        fault = (told_failure ending fails.kind).0;
+        is = left.0.0 ∙ ap (λ f. answer_to_fault ending f) fails.is ∙ (told_failure ending fails.kind).1;
         cause = inl (record {
           kind = fails.kind;
-          is = ap Fault (left.0.0 ∙ ap (λ f. told_fault ending f) fails.is);
+          is = sym (told_failure ending fails.kind).1;
           may = fails.may;
           same = left.1 ∙ ap S fails.same ∙ ap (λ t. V new.state t) (sym channel) ∙ ap (λ s. V s new.channel.told) state;
           failed = subst F (sym channel) fails.failed;
@@ -200,17 +202,17 @@ module _ (link : Link) (coding : Coding) (codes : Expected) (ending : Ending) (l
 
   fault_lacks : (aborts : AbortsRead link codes heard_next fault old mid) → (fault ≡ OutOfMemory) × (mid ≡ aborts.at) × Untouched link aborts.leads.came old aborts.at → LeftBy true → Ending_so
   fault_lacks aborts lacks left =
-      let P : SessionValue → Type 0 = λ v. Aborts link begun (Hear codes heard_next) (Fault told) old v in
+      let P : SessionValue → Type 0 = λ v. Aborts link begun (Hear codes heard_next) told old v in
       let S : State → SessionValue = λ s. record (cond begun (failed_from mid) mid) { state = s } in
       let same : new ≡ cond begun (failed_from mid) mid = left.1 ∙ ap S left.0.1 in
-      let is : told ≡ OutOfMemory = left.0.0 ∙ lacks.0 in
-      inr (subst P (sym same) (elim begun as (λ b. Aborts link b (Hear codes heard_next) (Fault told) old (cond b (failed_from mid) mid)) [
-        | true ↦ record { place = Hear codes heard_next; at = aborts.at; leads = aborts.leads; state = aborts.state; going = aborts.going ∙ sym going; fault = told; is = refl; cause = inr (record { is = is; leaves = inr (ap failed_from lacks.1, inl refl) }) }
-        | false ↦ record { place = Hear codes heard_next; at = aborts.at; leads = aborts.leads; state = aborts.state; going = aborts.going ∙ sym going; fault = told; is = refl; cause = inr (record { is = is; leaves = inl (lacks.1, refl, lacks.2) }) }
+      let is : told ≡ Fault OutOfMemory = left.0.0 ∙ ap Fault lacks.0 in
+      inr (subst P (sym same) (elim begun as (λ b. Aborts link b (Hear codes heard_next) told old (cond b (failed_from mid) mid)) [
+        | true ↦ record { place = Hear codes heard_next; at = aborts.at; leads = aborts.leads; state = aborts.state; going = aborts.going ∙ sym going; fault = OutOfMemory; is = is; cause = inr (record { is = refl; leaves = inr (ap failed_from lacks.1, inl refl) }) }
+        | false ↦ record { place = Hear codes heard_next; at = aborts.at; leads = aborts.leads; state = aborts.state; going = aborts.going ∙ sym going; fault = OutOfMemory; is = is; cause = inr (record { is = refl; leaves = inl (lacks.1, refl, lacks.2) }) }
       ]))
 
   pub fault_ends : Hears link codes heard_next old mid (poll.Ready (Err fault)) → FaultLeaves ending fault (after_fault begun fault mid).state new.state told → new ≡ record (after_fault begun fault mid) { state = new.state } → Ending_so
-  fault_ends (inl (moves, other)) leaves same = fault_heard moves (subst LeftBy (not_memory fault other) (leaves, same))
+  fault_ends (inl (moves, heard)) leaves same = fault_heard moves heard (subst LeftBy (not_memory fault heard.other) (leaves, same))
   fault_ends (inr aborts) leaves same = go aborts.cause
     where
       go : FailsRead link fault aborts.at mid ⊎ ((fault ≡ OutOfMemory) × (mid ≡ aborts.at) × Untouched link aborts.leads.came old aborts.at) → Ending_so
@@ -218,7 +220,7 @@ module _ (link : Link) (coding : Coding) (codes : Expected) (ending : Ending) (l
       go (inr lacks) = fault_lacks aborts lacks (subst LeftBy (ap wants_memory lacks.0) (leaves, same))
 
 -- the same of the reply that a call awaits
-pub fault_awaited : (link : Link) (coding : Coding) (call : Call) (a : Awaits) (fault told : FtpError) (old mid new : SessionValue) → old.channel.failed ≡ false → EndsFaulty a.begun a.ending fault mid new told → Hears link (expected_of a.hears) (concluded coding a.ending old.state (later coding call a.turn)) old mid (poll.Ready (Err fault)) → Ends link (awaited coding call old.state a) (Fault told) old new ⊎ Aborts link a.begun (awaited coding call old.state a) (Fault told) old new
+pub fault_awaited : (link : Link) (coding : Coding) (call : Call) (a : Awaits) (fault : FtpError) (told : Answer) (old mid new : SessionValue) → old.channel.failed ≡ false → EndsFaulty a.begun a.ending fault mid new told → Hears link (expected_of a.hears) (concluded coding a.ending old.state (later coding call a.turn)) old mid (poll.Ready (Err fault)) → Ends link (awaited coding call old.state a) told old new ⊎ Aborts link a.begun (awaited coding call old.state a) told old new
 fault_awaited link coding call a fault told old mid new going ends heard =
     fault_ends link coding (expected_of a.hears) a.ending (later coding call a.turn) a.begun fault told old mid new going heard ends.1 ends.0
 

@@ -43,7 +43,7 @@ use Rattle.ftp_session.specs.declared.model.Played.{Played}
 use Rattle.ftp_session.specs.declared.model.Played.TheVariants.{Done, Pending}
 use Rattle.ftp_session.specs.declared.model.Script.{Script}
 use Rattle.ftp_session.specs.Coding.{Coding}
-use Rattle.ftp_session.specs.Dialogue.{Expected, expected_of, Tree, Say, Hear, Look, Ask, Build, Move, Leaf, saying, after_fault_of, awaiting, armed, doing, exchanging, concluded, later, set_to, told_fault, dialogue}
+use Rattle.ftp_session.specs.Dialogue.{Expected, expected_of, Tree, Say, Hear, Look, Ask, Build, Move, Leaf, saying, after_fault_of, awaiting, armed, doing, exchanging, concluded, later, set_to, answer_to_fault, dialogue}
 use Rattle.ftp_session.specs.declared.model.DealOutcome.{DealOutcome}
 use Rattle.ftp_session.specs.declared.model.DealOutcome.TheVariants as came
 use Rattle.ftp_session.specs.Deals.{answers as answers_to, constructed, dealt, moved}
@@ -237,7 +237,7 @@ module _ (coding : Coding) (room : Room) (script : Script) (s : Standing) (untak
       k = λ heard u. play room (concluded coding ending state after heard) u
 
       fails : (cause : FtpError) (u : Standing) → k (Err cause) u ≡ Pending how t → ⊥
-      fails cause u e = let clash : Done (Fault (told_fault ending cause)) (record u { state = after_fault_of ending state }) ≡ Pending how t = sym (play-Leaf room (Fault (told_fault ending cause)) (after_fault_of ending state) u) ∙ e in cc
+      fails cause u e = let clash : Done (answer_to_fault ending cause) (record u { state = after_fault_of ending state }) ≡ Pending how t = sym (play-Leaf room (answer_to_fault ending cause) (after_fault_of ending state) u) ∙ e in cc
 
       go : (o : Outcome) → outcome s.rule codes.form s.bytes s.ended ≡ o → heard_then o codes here k ≡ Pending how t → ⊥
       go (Whole reply code) is e =

@@ -31,15 +31,17 @@ use Rattle.ftp_session.specs.State.{SessionValue, let_go}
 use Rattle.ftp_session.specs.Coding.{Coding}
 use Rattle.ftp_calls.specs.declared.exchange.Row.{Row}
 use Rattle.ftp_calls.specs.declared.exchange.Row.TheVariants.{Exchanges, Arms, Sets, Moves}
-use Rattle.ftp_calls.specs.Exchanges.{ending_of, finishes, negotiates, row_of}
+use Rattle.ftp_calls.specs.Exchanges.{draining_row, drains, ending_of, finishes, is_draining, negotiates, row_of}
+use Rattle.ftp_session.proofs.Faults.{told_undrained}
+use Rattle.ftp_session.proofs.Sorts.{drains_alike}
 use Rattle.ftp_session.proofs.Agreeing.{first_plain, row_agrees, second_plain}
 use Rattle.ftp_session.specs.Steps.Moving.{agrees}
 use Rattle.ftp_calls.specs.declared.exchange.Movement.{Movement}
 use Rattle.ftp_session.specs.declared.model.Wait.TheVariants as wait
 use Rattle.ftp_session.specs.Deals.{answers, moved as beside}
 use Rattle.ftp_session.proofs.Carrying.{carrying_is}
-use Rattle.ftp_session.specs.Steps.Moving.{moves_nothing, nothing_moved}
-use Rattle.ftp_session.specs.Dialogue.{Expected, expected_of, Tree, Say, Move, Leaf, saying, after_fault_of, told_fault, awaiting, carrying, closing, concluded, accepted, exchanging, armed, doing, entered, finish_answer, from_turn, later, moved_answer, negotiating, opened_from, set_to, with_finished, with_left, dialogue}
+use Rattle.ftp_session.specs.Steps.Moving.{answer_moved, moves_nothing, nothing_moved, state_moved}
+use Rattle.ftp_session.specs.Dialogue.{Expected, expected_of, Tree, Say, Move, Leaf, saying, after_fault_of, answer_to_fault, awaiting, carrying, closing, concluded, accepted, exchanging, armed, doing, entered, finish_answer, from_turn, later, negotiating, opened_from, set_to, with_drained, with_finished, with_left, dialogue}
 use Rattle.ftp_session.specs.Play.{play, heard_then, moved_then}
 use Rattle.ftp_session.specs.Promises.{standing, begun_by, Completes, IsSuccess, Says, Exchanged, ExchangedIf, IsSilent, Succeeds, SucceedsBy, SucceedsUnless, Wired, goes_on_with}
 use Rattle.ftp_session.proofs.Moving.{play-Say, play-Leaf, play-Refused}
@@ -68,12 +70,15 @@ pub record HeardOne (coding : Coding) (codes : Expected) (how : Ending) (state :
   pub among : is_among codes.statuses reply.status ≡ true
   pub goes : play Any (accepted coding how state reply next) (record s { bytes = left_by (Whole reply.body code) s.bytes }) ≡ Done answer t
 
-module _ (coding : Coding) (codes : Expected) (how : Ending) (state : State) (next : State → Tree) (answer : Answer) (s t : Standing) (success : IsSuccess answer) where
+module _ (coding : Coding) (codes : Expected) (how : Ending) (state : State) (next : State → Tree) (answer : Answer) (s t : Standing) (undrained : is_draining how ≡ false) (success : IsSuccess answer) where
   abbrev k : Result Response FtpError → Standing → Played
   k a x = play Any (concluded coding how state next a) x
 
   found : (fault : FtpError) (x : Standing) → k (Err fault) x ≡ Done answer t → ⊥
-  found fault x is = no_success (told_fault how fault) answer (record x { state = after_fault_of how state }) t (sym (play-Leaf Any (Fault (told_fault how fault)) (after_fault_of how state) x) ∙ is) success
+  found fault x is =
+      let told = told_undrained how fault undrained in
+      let D : Answer → Type 0 = λ a. Done a (record x { state = after_fault_of how state }) ≡ Done answer t in
+      no_success told.0 answer (record x { state = after_fault_of how state }) t (subst D told.1 (sym (play-Leaf Any (answer_to_fault how fault) (after_fault_of how state) x) ∙ is)) success
 
   pub one_reply : play Any (awaiting coding codes how state next) s ≡ Done answer t → HeardOne coding codes how state next answer s t
   one_reply is = go (outcome s.rule codes.form s.bytes s.ended) refl (sym (play-Hear Any codes (concluded coding how state next) s) ∙ is)
@@ -98,12 +103,12 @@ pub record ExchangedOne (coding : Coding) (exchange : Exchange) (state : State) 
   pub exchanged : Exchanged coding exchange reply s between
   pub goes : play Any (accepted coding exchange.ending state reply next) between ≡ Done answer t
 
-pub one_exchange : (coding : Coding) (exchange : Exchange) (state : State) (next : State → Tree) (answer : Answer) (s t : Standing) → IsSuccess answer → play Any (exchanging coding exchange state next) s ≡ Done answer t → ExchangedOne coding exchange state next answer s t
-one_exchange coding exchange state next answer s t success is = go exchange.says refl is
+pub one_exchange : (coding : Coding) (exchange : Exchange) (state : State) (next : State → Tree) (answer : Answer) (s t : Standing) → is_draining exchange.ending ≡ false → IsSuccess answer → play Any (exchanging coding exchange state next) s ≡ Done answer t → ExchangedOne coding exchange state next answer s t
+one_exchange coding exchange state next answer s t undrained success is = go exchange.says refl is
   where
     go : (command : Option Command) → exchange.says ≡ command → play Any (saying coding command (awaiting coding (expected_of exchange.hears) exchange.ending state next)) s ≡ Done answer t → ExchangedOne coding exchange state next answer s t
     go None says done =
-        let one = one_reply coding (expected_of exchange.hears) exchange.ending state next answer s t success done in
+        let one = one_reply coding (expected_of exchange.hears) exchange.ending state next answer s t undrained success done in
         let here : Standing = record s { bytes = left_by (Whole one.reply.body one.code) s.bytes } in
         let P : Option Command → Type 0 = λ c. Says coding c s here in
         record {
@@ -118,7 +123,7 @@ one_exchange coding exchange state next answer s t success is = go exchange.says
         line (Err cause) refused done = absurd (no_success (fault.ConnectionError cause) answer s t (sym (play-Refused Any cause (awaiting coding (expected_of exchange.hears) exchange.ending state next) s) ∙ done) success)
         line (Ok bytes) wired done =
             let there : Standing = record s { said = s.said ++ s.unsent ++ bytes; unsent = [] } in
-            let one = one_reply coding (expected_of exchange.hears) exchange.ending state next answer there t success (sym (play-Say Any bytes (awaiting coding (expected_of exchange.hears) exchange.ending state next) s) ∙ done) in
+            let one = one_reply coding (expected_of exchange.hears) exchange.ending state next answer there t undrained success (sym (play-Say Any bytes (awaiting coding (expected_of exchange.hears) exchange.ending state next) s) ∙ done) in
             let here : Standing = record there { bytes = left_by (Whole one.reply.body one.code) s.bytes } in
             let P : Option Command → Type 0 = λ c. Says coding c s here in
             record {
@@ -144,6 +149,7 @@ accepted_leaf coding ending.GivesAddress state reply plain = let clash : true �
 accepted_leaf coding ending.GivesPort state reply plain = let clash : true ≡ false = plain in cc
 accepted_leaf coding (ending.Opens replies) state reply plain = let clash : true ≡ false = plain in cc
 accepted_leaf coding (ending.Finishes close) state reply plain = (finish_answer close, with_finished state, refl)
+accepted_leaf coding ending.Drains state reply plain = (Unit, with_drained state, refl)
 accepted_leaf coding (ending.GoesOn status) state reply plain = (Unit, state, same (eqb (code_of reply.status) (code_of status)))
   where
     same : (b : Bool) → cond b (Leaf Unit state) (Leaf Unit state) ≡ Leaf Unit state
@@ -155,7 +161,7 @@ says_state coding None s t state says = says
 says_state coding (Some command) s t state says = says
 
 -- a call that succeeded
-module _ (coding : Coding) (call : Call) (answer : Answer) (s t : Standing) (state : State) (success : IsSuccess answer) (none : negotiates call ≡ false) where
+module _ (coding : Coding) (call : Call) (answer : Answer) (s t : Standing) (state : State) (success : IsSuccess answer) (none : negotiates call ≡ false) (undrained : drains call ≡ false) where
   -- nothing was said or heard
   stays : (m : Standing) (a : Answer) (new : State) → play Any (Leaf a new) m ≡ Done answer t → IsSilent m t
   stays m a new done =
@@ -163,25 +169,25 @@ module _ (coding : Coding) (call : Call) (answer : Answer) (s t : Standing) (sta
       (ap (λ x. x.said) same, ap (λ x. x.unsent) same, ap (λ x. x.bytes) same)
 
   -- bytes went over the data connection
-  moved : (moves : Movement) (m : Standing) → play Any (Move moves (λ came. Leaf (moved_answer came) state)) m ≡ Done answer t → IsSilent m t
+  moved : (moves : Movement) (m : Standing) → play Any (Move moves (λ came. Leaf (answer_moved moves came) (state_moved moves state))) m ≡ Done answer t → IsSilent m t
   unfolding play
   moved moves m done = go m.outcomes done
     where
       k : DealOutcome → Standing → Played
-      k = λ came u. play Any (Leaf (moved_answer came) state) u
+      k = λ came u. play Any (Leaf (answer_moved moves came) (state_moved moves state)) u
 
       go : (o : List DealOutcome) → moved_then o moves m k ≡ Done answer t → IsSilent m t
       go [] e = let clash : Pending wait.Outcome m ≡ Done answer t = e in cc
       go (outcome ∷ outcomes) e =
           let after : Standing = record m { dealings = beside moves outcome m.dealings; outcomes = outcomes } in
           elim (answers moves outcome) as (λ b. cond b (k outcome after) (Pending wait.Outcome m) ≡ Done answer t → IsSilent m t) [
-            | true ↦ λ f. (let same = leaf_at (moved_answer outcome) answer state after t f in (ap (λ x. x.said) same, ap (λ x. x.unsent) same, ap (λ x. x.bytes) same))
+            | true ↦ λ f. (let same = leaf_at (answer_moved moves outcome) answer (state_moved moves state) after t f in (ap (λ x. x.said) same, ap (λ x. x.unsent) same, ap (λ x. x.bytes) same))
             | false ↦ λ f. (let clash : Pending wait.Outcome m ≡ Done answer t = f in cc)
           ] e
 
   carried : (moves : Movement) (m : Standing) → play Any (carrying moves state) m ≡ Done answer t → IsSilent m t
   carried moves m done =
-      let next : Tree = Move moves (λ came. Leaf (moved_answer came) state) in
+      let next : Tree = Move moves (λ came. Leaf (answer_moved moves came) (state_moved moves state)) in
       let P : Tree → Type 0 = λ x. play Any x m ≡ Done answer t in
       elim (moves_nothing moves) as (λ b. P (cond b (Leaf (nothing_moved moves) state) next) → IsSilent m t) [
         | true ↦ λ e. stays m (nothing_moved moves) state e
@@ -189,12 +195,12 @@ module _ (coding : Coding) (call : Call) (answer : Answer) (s t : Standing) (sta
       ] (subst P (carrying_is moves state) done)
 
   -- the second row
-  last : (r : Row) (m : Standing) → row_agrees (ending_of r) ≡ false → play Any (doing coding r state (λ x. Leaf Unit x)) m ≡ Done answer t → ExchangedIf true coding r m t
-  last (Arms offset) m plain done = stays m Unit (armed offset state) done
-  last (Sets setting) m plain done = stays m Unit (set_to setting state) done
-  last (Moves moves) m plain done = carried moves m done
-  last (Exchanges e) m plain done =
-      let two = one_exchange coding e state (λ x. Leaf Unit x) answer m t success done in
+  last : (r : Row) (m : Standing) → row_agrees (ending_of r) ≡ false → draining_row r ≡ false → play Any (doing coding r state (λ x. Leaf Unit x)) m ≡ Done answer t → ExchangedIf true coding r m t
+  last (Arms offset) m plain undrained' done = stays m Unit (armed offset state) done
+  last (Sets setting) m plain undrained' done = stays m Unit (set_to setting state) done
+  last (Moves moves) m plain undrained' done = carried moves m done
+  last (Exchanges e) m plain undrained' done =
+      let two = one_exchange coding e state (λ x. Leaf Unit x) answer m t undrained' success done in
       let leaf = accepted_leaf coding e.ending state two.reply plain in
       let L : Tree → Type 0 = λ x. play Any x two.between ≡ Done answer t in
       let same = leaf_at leaf.0 answer leaf.1 two.between t (subst L leaf.2 two.goes) in
@@ -223,38 +229,42 @@ module _ (coding : Coding) (call : Call) (answer : Answer) (s t : Standing) (sta
   next (ending.SetsText text) reply m plain done = stays m _ _ done
   next (ending.GoesOn status) reply m plain done =
       elim (eqb (code_of reply.status) (code_of status)) as (λ b. play Any (cond b (later coding call First state) (Leaf Unit state)) m ≡ Done answer t → ExchangedIf b coding (row_of call Second) m t) [
-        | true ↦ λ done. last (row_of call Second) m (second_plain call none) done
+        | true ↦ λ done. last (row_of call Second) m (second_plain call none) (drains_alike call ∙ undrained) done
         | false ↦ λ done. stays m Unit state done
       ] done
-  next ending.Continues reply m plain done = last (row_of call Second) m (second_plain call none) done
+  next ending.Continues reply m plain done = last (row_of call Second) m (second_plain call none) (drains_alike call ∙ undrained) done
   next ending.GivesAddress reply m plain done = let clash : true ≡ false = plain in cc
   next ending.GivesPort reply m plain done = let clash : true ≡ false = plain in cc
   next (ending.Opens replies) reply m plain done = let clash : true ≡ false = plain in cc
   next (ending.Finishes close) reply m plain done = stays m _ _ done
+  next ending.Drains reply m plain done = stays m _ _ done
 
   -- the first row
-  by_row : (r : Row) → row_agrees (ending_of r) ≡ false → play Any (doing coding r state (later coding call First)) s ≡ Done answer t → SucceedsBy coding r (row_of call Second) s t
-  by_row (Arms offset) plain done = stays s Unit (armed offset state) done
-  by_row (Sets setting) plain done = stays s Unit (set_to setting state) done
-  by_row (Moves moves) plain done = carried moves s done
-  by_row (Exchanges e) plain done =
-      let one = one_exchange coding e state (later coding call First) answer s t success done in
+  by_row : (r : Row) → row_agrees (ending_of r) ≡ false → draining_row r ≡ false → play Any (doing coding r state (later coding call First)) s ≡ Done answer t → SucceedsBy coding r (row_of call Second) s t
+  by_row (Arms offset) plain undrained' done = stays s Unit (armed offset state) done
+  by_row (Sets setting) plain undrained' done = stays s Unit (set_to setting state) done
+  by_row (Moves moves) plain undrained' done = carried moves s done
+  by_row (Exchanges e) plain undrained' done =
+      let one = one_exchange coding e state (later coding call First) answer s t undrained' success done in
       record { reply = one.reply; between = one.between; first = one.exchanged; second = next e.ending one.reply one.between plain one.goes }
 
 pub call_succeeds : (coding : Coding) (call : Call) (answer : Answer) (s t : Standing) (state : State) → IsSuccess answer → play Any (dialogue coding call state) s ≡ Done answer t → Succeeds coding call s t
 call_succeeds coding call answer s t state success is =
-    elim (negotiates call) as (λ b. negotiates call ≡ b → play Any (cond b (negotiating coding call state.settings.restart_offset (opened_from call state)) (cond (finishes call) (closing coding call (with_left state)) (from_turn coding call First state))) s ≡ Done answer t → SucceedsUnless (b || finishes call) coding call s t) [
+    elim (negotiates call) as (λ b. negotiates call ≡ b → play Any (cond b (negotiating coding call state.settings.restart_offset (opened_from call state)) (cond (finishes call) (closing coding call (with_left state)) (from_turn coding call First state))) s ≡ Done answer t → SucceedsUnless (b || finishes call || drains call) coding call s t) [
       | true ↦ λ opens e. tt
-      | false ↦ λ none e. (elim (finishes call) as (λ f. play Any (cond f (closing coding call (with_left state)) (from_turn coding call First state)) s ≡ Done answer t → SucceedsUnless f coding call s t) [
+      | false ↦ λ none e. (elim (finishes call) as (λ f. play Any (cond f (closing coding call (with_left state)) (from_turn coding call First state)) s ≡ Done answer t → SucceedsUnless (f || drains call) coding call s t) [
         | true ↦ λ e. tt
-        | false ↦ λ e. by_row coding call answer s t state success none (row_of call First) (first_plain call none) e
+        | false ↦ λ e. (elim (drains call) as (λ d. drains call ≡ d → SucceedsUnless d coding call s t) [
+          | true ↦ λ d. tt
+          | false ↦ λ d. by_row coding call answer s t state success none d (row_of call First) (first_plain call none) d e
+        ] refl)
       ] e)
     ] refl is
 
 -- where a call began doesn't matter to what it did on the wire
 begun_succeeds : (coding : Coding) (call : Call) (s t : Standing) (state : State) → Succeeds coding call (record s { state = state }) t → Succeeds coding call s t
 begun_succeeds coding call s t state =
-    elim (negotiates call || finishes call) as (λ b. SucceedsUnless b coding call (record s { state = state }) t → SucceedsUnless b coding call s t) [
+    elim (negotiates call || finishes call || drains call) as (λ b. SucceedsUnless b coding call (record s { state = state }) t → SucceedsUnless b coding call s t) [
       | true ↦ λ e. tt
       | false ↦ λ e. by_row (row_of call First) e
     ]

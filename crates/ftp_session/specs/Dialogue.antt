@@ -46,7 +46,7 @@ use Rattle.ftp_session.specs.declared.session.state.Owed.TheVariants as owed
 use Rattle.ftp_calls.specs.declared.exchange.Turn.{Turn}
 use Rattle.ftp_calls.specs.declared.exchange.Turn.TheVariants.{First, Second, Passive, ExtendedPassive, Active, Restart, Closed}
 use Rattle.ftp_calls.specs.declared.exchange.Ending.{Ending}
-use Rattle.ftp_calls.specs.declared.exchange.Ending.TheVariants.{Done, GivesReply, Greets, GivesPath, GivesSecondLine, GivesTime, GivesSize, GivesFeatures, SetsText, GoesOn, Continues, GivesAddress, GivesPort, Opens, Finishes}
+use Rattle.ftp_calls.specs.declared.exchange.Ending.TheVariants.{Done, GivesReply, Greets, GivesPath, GivesSecondLine, GivesTime, GivesSize, GivesFeatures, SetsText, GoesOn, Continues, GivesAddress, GivesPort, Opens, Finishes, Drains}
 use Rattle.ftp_calls.specs.declared.exchange.Exchange.{Exchange}
 use Rattle.ftp_calls.specs.declared.exchange.Row.{Row}
 use Rattle.ftp_calls.specs.declared.exchange.Row.TheVariants.{Exchanges, Arms, Sets, Moves}
@@ -59,7 +59,7 @@ use Rattle.ftp_answers.specs.Times.{time_of}
 use Rattle.ftp_answers.specs.Addresses.{passive_address_of, extended_port_of}
 use Rattle.ftp_answers.specs.declared.addresses.NoAddress.{NoAddress}
 use Rattle.ftp_answers.specs.declared.addresses.NoAddress.TheVariants.{Absent, Unreadable}
-use Rattle.ftp_session.specs.Sound.{cannot_open, left_behind, one_finished, one_more}
+use Rattle.ftp_session.specs.Sound.{cannot_open, left_behind, one_drained, one_finished, one_more}
 
 -- a reply that is awaited: its form, and the statuses that are accepted
 pub record Expected : Type 0 where
@@ -213,21 +213,25 @@ moved_answer (came.Wrote count) = answer.Count count
 moved_answer came.Closed = Unit
 moved_answer (came.Failed kind) = Fault (Connection (Io kind))
 
--- bytes go over the data connection; a read or a write of nothing asks nothing
+-- the transfer is left
+abbrev pub with_left : State → State
+with_left state = record state { counts = left_behind state.counts }
+
+-- bytes go over the data connection; a read or a write of nothing asks nothing; or it is closed, and the transfer is left
 abbrev pub carrying : Movement → State → Tree
 carrying (movement.Read most) state =
     if most == 0 then Leaf (answer.Bytes []) state else Move (movement.Read most) (λ came. Leaf (moved_answer came) state)
 carrying (movement.Write bytes) state =
     if length bytes == 0 then Leaf (answer.Count 0) state else Move (movement.Write bytes) (λ came. Leaf (moved_answer came) state)
-carrying movement.Close state = Move movement.Close (λ came. Leaf (moved_answer came) state)
+carrying movement.Close state = Move movement.Close (λ came. Leaf Unit (with_left state))
 
 -- the transfer has come to its end
 abbrev pub with_finished : State → State
 with_finished state = record state { counts = one_finished state.counts }
 
--- the transfer is left
-abbrev pub with_left : State → State
-with_left state = record state { counts = left_behind state.counts }
+-- the transfer that was left has come to its end
+abbrev pub with_drained : State → State
+with_drained state = record state { counts = one_drained state.counts }
 
 -- the fault of a close
 abbrev pub fault_of_close : DealOutcome → Option ErrorKind
@@ -246,13 +250,20 @@ abbrev pub finish_fault : Option ErrorKind → FtpError → FtpError
 finish_fault None fault = fault
 finish_fault (Some kind) fault = Connection (Io kind)
 
--- a fault is heard in place of a reply: what is told, and in which state
-abbrev pub told_fault : Ending → FtpError → FtpError
-told_fault (Finishes close) fault = finish_fault close fault
-told_fault other fault = fault
+-- a reply of another status ends a transfer that was left as well
+abbrev pub drain_answer : FtpError → Answer
+drain_answer (UnexpectedResponse reply) = Unit
+drain_answer fault = Fault fault
+
+-- a fault is heard in place of a reply: what is answered, and in which state
+abbrev pub answer_to_fault : Ending → FtpError → Answer
+answer_to_fault (Finishes close) fault = Fault (finish_fault close fault)
+answer_to_fault Drains fault = drain_answer fault
+answer_to_fault other fault = Fault fault
 
 abbrev pub after_fault_of : Ending → State → State
 after_fault_of (Finishes close) state = with_finished state
+after_fault_of Drains state = with_drained state
 after_fault_of other state = state
 
 -- Exchanges
@@ -274,11 +285,12 @@ accepted coding GivesAddress state reply later = to_address state reply (later s
 accepted coding GivesPort state reply later = to_port state reply (later state) (extended_port_of reply.body)
 accepted coding (Opens gives_reply) state reply later = opening state.settings.mode (opened_answer gives_reply reply) state
 accepted coding (Finishes close) state reply later = Leaf (finish_answer close) (with_finished state)
+accepted coding Drains state reply later = Leaf Unit (with_drained state)
 
 -- a reply is accepted, or a fault is the answer
 abbrev pub concluded : Coding → Ending → State → (State → Tree) → Result Response FtpError → Tree
 concluded coding ending state later (Ok reply) = accepted coding ending state reply later
-concluded coding ending state later (Err fault) = Leaf (Fault (told_fault ending fault)) (after_fault_of ending state)
+concluded coding ending state later (Err fault) = Leaf (answer_to_fault ending fault) (after_fault_of ending state)
 
 -- a reply is awaited
 abbrev pub awaiting : Coding → Expected → Ending → State → (State → Tree) → Tree

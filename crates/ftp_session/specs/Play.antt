@@ -18,7 +18,9 @@ use Rattle.ftp_session.specs.declared.model.DealOutcome.{DealOutcome}
 use Rattle.std.specs.declared.net.socket_addr.SocketAddr.{SocketAddr}
 use Rattle.ftp_calls.specs.declared.call.Answer.TheVariants.{Fault, NoTransfer}
 use Rattle.ftp_calls.specs.declared.exchange.Movement.{Movement}
-use Rattle.ftp_calls.specs.Exchanges.{finishes, is_local, of_transfer}
+use Rattle.ftp_calls.specs.Exchanges.{drains, finishes, is_local, of_transfer}
+use Rattle.ftp_session.specs.declared.session.state.Owed.{Owed}
+use Rattle.ftp_session.specs.Sound.{none_left}
 use Rattle.ftp_session.specs.declared.model.DealOutcome.TheVariants.{Answered, Built}
 use Rattle.ftp_calls.specs.declared.call.Call.{Call}
 use Rattle.ftp_session.specs.declared.model.Standing.{Standing}
@@ -101,8 +103,15 @@ abbrev pub finally : Played → Played
 finally (Done answer s) = Done answer (ended s)
 finally (Pending wait s) = Pending wait s
 
--- why a call isn't made: it is of a transfer, and none is held; or it goes over the control connection, and the session
--- has failed
+-- a call lacks its transfer: none is held; or, where it hears the end of one that was left, none was
+abbrev pub lacks_beside : Bool → Bool → Owed → Bool
+lacks_beside true none owed = none_left owed
+lacks_beside false none owed = none
+
+abbrev pub lacks : Call → Bool → Owed → Bool
+lacks call none owed = lacks_beside (drains call) none owed
+
+-- why a call isn't made: it lacks its transfer; or it goes over the control connection, and the session has failed
 pub data Refusal : Type 0 where
   Taken : Refusal
   Lacking : Refusal
@@ -128,4 +137,4 @@ play_unless Lacking room coding call s = Done NoTransfer s
 play_unless Failing room coding call s = Done (Fault fault.SessionFailed) (if finishes call then leaving s else s)
 
 abbrev pub play_call : Rooms → Coding → Call → Standing → Played
-play_call room coding call s = play_unless (refusal call s.failed (is_none s.dealings.data_conn)) room coding call s
+play_call room coding call s = play_unless (refusal call s.failed (lacks call (is_none s.dealings.data_conn) s.state.counts.owed)) room coding call s

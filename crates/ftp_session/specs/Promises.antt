@@ -27,7 +27,7 @@ use Rattle.ftp_calls.specs.declared.call.Answer.TheVariants.{Fault}
 use Rattle.ftp_calls.specs.declared.call.Answer.TheVariants as answers
 use Rattle.ftp_calls.specs.declared.exchange.Turn.TheVariants.{First, Second}
 use Rattle.ftp_calls.specs.declared.exchange.Ending.{Ending}
-use Rattle.ftp_calls.specs.declared.exchange.Ending.TheVariants.{Done, GivesReply, Greets, GivesPath, GivesSecondLine, GivesTime, GivesSize, GivesFeatures, SetsText, GoesOn, Continues, GivesAddress, GivesPort, Opens, Finishes}
+use Rattle.ftp_calls.specs.declared.exchange.Ending.TheVariants.{Done, GivesReply, Greets, GivesPath, GivesSecondLine, GivesTime, GivesSize, GivesFeatures, SetsText, GoesOn, Continues, GivesAddress, GivesPort, Opens, Finishes, Drains}
 use Rattle.ftp_calls.specs.declared.exchange.Exchange.{Exchange}
 use Rattle.ftp_calls.specs.declared.exchange.Row.{Row}
 use Rattle.ftp_calls.specs.declared.exchange.Row.TheVariants.{Exchanges, Arms, Sets, Moves}
@@ -40,9 +40,9 @@ use Rattle.ftp_session.specs.State.{SessionValue, let_go}
 use Rattle.ftp_session.specs.Coding.{Coding}
 use Rattle.ftp_session.specs.Deals.{Deal, Deals, PartedIs, dealings_of, outcomes_of}
 use Rattle.ftp_session.specs.declared.session.state.State.{State}
-use Rattle.ftp_calls.specs.Exchanges.{row_of, finishes, is_local, negotiates}
+use Rattle.ftp_calls.specs.Exchanges.{row_of, drains, finishes, is_local, negotiates}
 use Rattle.ftp_session.specs.Dialogue.{Expected, expected_of, Tree, Say, Hear, Look, Ask, Build, Move, Leaf, dialogue, entered, with_left}
-use Rattle.ftp_session.specs.Play.{Refusal, Taken, Lacking, Failing, play, refusal}
+use Rattle.ftp_session.specs.Play.{Refusal, Taken, Lacking, Failing, lacks, play, refusal}
 use Rattle.ftp_session.specs.Run.{run, before, OneView, Resumes}
 use Rattle.ftp_session.specs.Link.{Link}
 
@@ -93,6 +93,7 @@ goes_on_with GivesAddress reply = true
 goes_on_with GivesPort reply = true
 goes_on_with (Opens replies) reply = false
 goes_on_with (Finishes close) reply = false
+goes_on_with Drains reply = false
 
 -- nothing was said or consumed
 abbrev pub IsSilent : Standing → Standing → Type 0
@@ -120,13 +121,13 @@ SucceedsBy coding (Arms offset) next s t = IsSilent s t
 SucceedsBy coding (Sets setting) next s t = IsSilent s t
 SucceedsBy coding (Moves movement) next s t = IsSilent s t
 
--- of a call that opens a data connection, or brings a transfer to its end, the dialogue alone says what it did
+-- of a call that opens a data connection, or hears the end of a transfer, the dialogue alone says what it did
 abbrev pub SucceedsUnless : Bool → Coding → Call → Standing → Standing → Type 0
 SucceedsUnless true coding call s t = Unit {0}
 SucceedsUnless false coding call s t = SucceedsBy coding (row_of call First) (row_of call Second) s t
 
 abbrev pub Succeeds : Coding → Call → Standing → Standing → Type 0
-Succeeds coding call s t = SucceedsUnless (negotiates call || finishes call) coding call s t
+Succeeds coding call s t = SucceedsUnless (negotiates call || finishes call || drains call) coding call s t
 
 -- a call failed
 abbrev pub IsFault : Answer → Type 0
@@ -287,8 +288,11 @@ Refuses Taken tells call old new answer = ⊥
 Refuses Lacking tells call old new answer = (answer ≡ answers.NoTransfer) × (new ≡ old)
 Refuses Failing tells call old new answer = (answer ≡ Fault SessionFailed) × LeavesIf (finishes call) tells old new
 
+abbrev pub lacks_of : Call → SessionValue → Bool
+lacks_of call v = lacks call (is_none v.net.data_conn) v.state.counts.owed
+
 abbrev pub refusal_of : Call → SessionValue → Refusal
-refusal_of call v = refusal call v.channel.failed (is_none v.net.data_conn)
+refusal_of call v = refusal call v.channel.failed (lacks_of call v)
 
 abbrev pub IsRefused : Type 0 → Call → SessionValue → SessionValue → Answer → Type 0
 IsRefused tells call old new answer = Refuses (refusal_of call old) tells call old new answer

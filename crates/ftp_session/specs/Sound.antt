@@ -1,5 +1,5 @@
 -- What always holds of a session.
-use Rattle.std.specs.Prelude.{◌≡◌, ℕ, ◌+◌, ◌==◌, Option, Some, None, if◌then◌else◌}
+use Rattle.std.specs.Prelude.{◌≡◌, ℕ, ◌+◌, ◌==◌, Bool, true, false, Option, Some, None, if◌then◌else◌}
 use Rattle.ftp_base.specs.declared.types.fault.FtpError.{FtpError}
 use Rattle.ftp_base.specs.declared.types.fault.FtpError.TheVariants.{DataConnectionAlreadyOpen, SessionFailed}
 use Rattle.ftp_control.specs.Channel.{Channel, IsSound}
@@ -13,6 +13,12 @@ pub record Transfers : Type 0 where
   pub aborted : ℕ
   pub drained : ℕ
   pub owed : Owed
+
+-- no transfer was left
+abbrev pub none_left : Owed → Bool
+none_left Nothing = true
+none_left (Live number) = true
+none_left (Left number) = false
 
 abbrev pub owed_count : Owed → ℕ
 owed_count Nothing = 0
@@ -55,6 +61,15 @@ finished_with (Left number) c = record c { finished = c.finished + 1; owed = Not
 
 abbrev pub one_finished : Transfers → Transfers
 one_finished c = finished_with c.owed c
+
+-- the transfer that was left has come to its end
+abbrev pub drained_with : Owed → Transfers → Transfers
+drained_with Nothing c = c
+drained_with (Live number) c = record c { drained = c.drained + 1; owed = Nothing }
+drained_with (Left number) c = record c { drained = c.drained + 1; owed = Nothing }
+
+abbrev pub one_drained : Transfers → Transfers
+one_drained c = drained_with c.owed c
 
 -- the transfer that is live is left, and its last reply is still owed
 abbrev pub left_of : Owed → Owed

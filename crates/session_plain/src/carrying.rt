@@ -2,6 +2,7 @@
 
 ghost use Rattle.std.specs.Prelude.{◌≡◌, IfOk, option_map};
 ghost use Rattle.ftp_control.specs.declared.transport.room.Room.{Room};
+ghost use Rattle.ftp_calls.specs.declared.exchange.Movement.TheVariants as movement;
 ghost use Rattle.ftp_session.specs.Deals.{moved, parted, read_more, written_more};
 ghost use Rattle.ftp_session.specs.Dialogue.{Leaf, Move, Tree, carrying, moved_answer};
 ghost use Rattle.ftp_session.specs.Play.{play};
@@ -10,6 +11,7 @@ ghost use Rattle.session_plain.specs.Progress.{ComesTo, Moves};
 
 use crate::asking::no_dealings;
 use crate::exchange::{Progress, done};
+use crate::finishing::left;
 use crate::outcomes::{is_next, part};
 use ftp_base::types::{Bytes, ConnectionError, FtpError, Items};
 use ftp_calls::exchange::Movement;
@@ -27,7 +29,8 @@ pub(crate) enum Carried {
     Known(DealOutcome, Standing),
 }
 
-/// Bytes go over the data connection; a read or a write of nothing asks nothing.
+/// Bytes go over the data connection; a read or a write of nothing asks nothing; or it is closed, and the transfer is
+/// left.
 #[tactic(auto, unfolding(ftp_session::specs::Play::play))]
 pub(crate) fn carrying(
     alloc: Global,
@@ -52,9 +55,27 @@ pub(crate) fn carrying(
                 moving(alloc, Movement::Write(bytes), standing)
             }
         }
-        Movement::Close => moving(alloc, Movement::Close, standing),
+        Movement::Close => leaving(alloc, standing),
     }
 }
+
+/// The data connection is closed, and the transfer is left.
+#[tactic(auto, unfolding(ftp_session::specs::Play::play))]
+fn leaving(alloc: Global, standing: Standing) -> Result<Progress, AllocError>
+    ensures { IfOk result (λ progress. (room : Room) (later : State → Tree) → ComesTo room later
+        (play room (carrying movement.Close standing.state) standing) progress) }
+{
+    match moved_by(alloc, Movement::Close, standing)? {
+        Carried::Unknown(here) => Ok(Progress::Stops(Played::Pending(Wait::Outcome, here))),
+        Carried::Known(outcome, here) => {
+            pass_over(outcome);
+            Ok(done(Answer::Unit, left(here)))
+        }
+    }
+}
+
+/// What a close came to is told to nobody.
+fn pass_over(_outcome: DealOutcome) {}
 
 /// What is done is the answer.
 #[tactic(auto, unfolding(ftp_session::specs::Play::play))]

@@ -14,7 +14,7 @@ ghost use Rattle.session_plain.specs.Progress.{ComesTo};
 
 use crate::addresses::{to_address, to_port};
 use crate::carrying::carrying;
-use crate::finishing::{after_fault, finish_answer, finished, told_fault};
+use crate::finishing::{after_fault, answer_to_fault, drained, finish_answer, finished};
 use crate::opening::{opened, opened_answer};
 use crate::settings::{armed, set_to};
 use ftp_base::command::Command;
@@ -296,8 +296,8 @@ fn concluded<E: Encoding>(
     match heard {
         Ok(reply) => accepted(alloc, encoding, ending, reply, standing),
         Err(fault) => {
-            let told = told_fault(ending, fault);
-            Ok(done(Answer::Fault(told), after_fault(ending, standing)))
+            let answer = answer_to_fault(ending, fault);
+            Ok(done(answer, after_fault(ending, standing)))
         }
     }
 }
@@ -337,6 +337,7 @@ fn accepted<E: Encoding>(
             Ok(Progress::Stops(played))
         }
         Ending::Finishes(close) => Ok(done(finish_answer(close), finished(standing))),
+        Ending::Drains => Ok(done(Answer::Unit, drained(standing))),
         Ending::GoesOn(status) => {
             let goes_on = reply.status.code() == status.code();
             if goes_on {

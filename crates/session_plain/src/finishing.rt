@@ -3,7 +3,7 @@
 ghost use Rattle.std.specs.Prelude.{◌≡◌, IfOk, if◌then◌else◌};
 ghost use Rattle.ftp_calls.specs.Exchanges.{finishes};
 ghost use Rattle.ftp_session.specs.Coding.{coding_of};
-ghost use Rattle.ftp_session.specs.Dialogue.{after_fault_of, closing, finish_answer, finish_fault, told_fault, told_of_close, with_finished, with_left};
+ghost use Rattle.ftp_session.specs.Dialogue.{after_fault_of, answer_to_fault, closing, drain_answer, finish_answer, finish_fault, told_of_close, with_drained, with_finished, with_left};
 ghost use Rattle.ftp_session.specs.Play.{leaving, play};
 
 use crate::asking::no_dealings;
@@ -73,13 +73,24 @@ fn finish_fault(close: Option<ErrorKind>, fault: FtpError) -> FtpError
     }
 }
 
-/// What is told where this fault was heard in place of a reply.
-pub(crate) fn told_fault(ending: Ending, fault: FtpError) -> FtpError
-    ensures { result ≡ told_fault ending fault }
+/// The answer where this fault was heard in place of a reply.
+pub(crate) fn answer_to_fault(ending: Ending, fault: FtpError) -> Answer
+    ensures { result ≡ answer_to_fault ending fault }
 {
     match ending {
-        Ending::Finishes(close) => finish_fault(close, fault),
-        _ => fault,
+        Ending::Finishes(close) => Answer::Fault(finish_fault(close, fault)),
+        Ending::Drains => drain_answer(fault),
+        _ => Answer::Fault(fault),
+    }
+}
+
+/// A reply of another status ends a transfer that was left as well.
+fn drain_answer(fault: FtpError) -> Answer
+    ensures { result ≡ drain_answer fault }
+{
+    match fault {
+        FtpError::UnexpectedResponse(_reply) => Answer::Unit,
+        fault => Answer::Fault(fault),
     }
 }
 
@@ -89,6 +100,7 @@ pub(crate) fn after_fault(ending: Ending, standing: Standing) -> Standing
 {
     match ending {
         Ending::Finishes(_) => finished(standing),
+        Ending::Drains => drained(standing),
         _ => standing,
     }
 }
@@ -98,6 +110,14 @@ pub(crate) fn finished(mut standing: Standing) -> Standing
     ensures { result ≡ record standing { state = with_finished standing.state } }
 {
     standing.state.counts.finish();
+    standing
+}
+
+/// The transfer that was left has come to its end.
+pub(crate) fn drained(mut standing: Standing) -> Standing
+    ensures { result ≡ record standing { state = with_drained standing.state } }
+{
+    standing.state.counts.drain();
     standing
 }
 

@@ -1,10 +1,10 @@
 //! What a call comes to: its turns, after negotiation where it opens a data connection, or after the close of one where
 //! it brings a transfer to its end.
 
-ghost use Rattle.std.specs.Prelude.{◌≡◌, IfOk};
+ghost use Rattle.std.specs.Prelude.{◌≡◌, IfOk, is_none};
 ghost use Rattle.ftp_session.specs.Coding.{coding_of};
 ghost use Rattle.ftp_session.specs.Dialogue.{dialogue, entered, opened_from, uploads_beside};
-ghost use Rattle.ftp_session.specs.Play.{ended, finally, play, play_call};
+ghost use Rattle.ftp_session.specs.Play.{ended, finally, lacks, play, play_call};
 
 use crate::finishing::{closing, left, left_by};
 use crate::negotiation::negotiating;
@@ -12,13 +12,13 @@ use crate::settings::armed;
 use crate::turns::from_turn;
 use ftp_base::encoding::Encoding;
 use ftp_base::types::FtpError;
-use ftp_calls::exchange::{Turn, finishes, is_local, negotiates, of_transfer, uploads};
+use ftp_calls::exchange::{Turn, drains, finishes, is_local, negotiates, of_transfer, uploads};
 use ftp_control::transport::Room;
 use ftp_session::model::{Played, Standing};
 use ftp_session::session::{Answer, Call, Owed};
 use std::alloc::{AllocError, Global};
 
-/// What a call comes to. One of a transfer comes to nothing where none is held; once the session has failed a call says
+/// What a call comes to. One of a transfer comes to nothing where it lacks it; once the session has failed a call says
 /// and hears nothing.
 pub fn play_call<E: Encoding>(
     alloc: Global,
@@ -30,7 +30,7 @@ pub fn play_call<E: Encoding>(
     ensures { IfOk result (λ played. played ≡
         play_call room (coding_of E.decoded E.encoded encoding.now) call.now standing) }
 {
-    if of_transfer(call) && standing.dealings.data_conn.is_none() {
+    if of_transfer(call) && lacks(call, &standing) {
         return Ok(Played::Done(Answer::NoTransfer, standing));
     }
     if !is_local(call) && standing.failed {
@@ -38,6 +38,17 @@ pub fn play_call<E: Encoding>(
         return Ok(Played::Done(fault, left_by(alloc, call, standing)?));
     }
     Ok(finally(play_dialogue(alloc, room, encoding, call, standing)?))
+}
+
+/// A call lacks its transfer: none is held; or, where it hears the end of one that was left, none was.
+fn lacks(call: &Call, standing: &Standing) -> bool
+    ensures { result ≡ lacks call.now (is_none standing.now.dealings.data_conn) standing.now.state.counts.owed }
+{
+    if drains(call) {
+        !matches!(standing.state.counts.owed(), Owed::Left(_))
+    } else {
+        standing.dealings.data_conn.is_none()
+    }
 }
 
 /// A call that has its answer lets a data connection go that carries no transfer.

@@ -49,8 +49,8 @@ use Rattle.ftp_calls.specs.declared.exchange.Row.{Row}
 use Rattle.ftp_calls.specs.declared.exchange.Row.TheVariants.{Exchanges, Arms}
 use Rattle.ftp_calls.specs.declared.exchange.Row.TheVariants as row
 use Rattle.ftp_control.specs.Refusal.{IsRefusalOf}
-use Rattle.ftp_calls.specs.Exchanges.{is_local, is_read, row_of, says_of, Kind, Nothing, kind_of}
-use Rattle.ftp_session.specs.Dialogue.{Expected, End, Tree, Say, Hear, Look, Ask, Build, Move, Leaf, accepted, later, lets_in, moved_answer, set_to, told_fault, after_fault_of, with_transfer, dialogue}
+use Rattle.ftp_calls.specs.Exchanges.{is_draining, is_local, is_read, row_of, says_of, Kind, Nothing, kind_of}
+use Rattle.ftp_session.specs.Dialogue.{Expected, End, Tree, Say, Hear, Look, Ask, Build, Move, Leaf, accepted, later, lets_in, moved_answer, set_to, answer_to_fault, after_fault_of, with_left, with_transfer, dialogue}
 use Rattle.ftp_session.specs.Run.{Resumes, Silent}
 use Rattle.ftp_session.specs.Promises.{AbortsRead, IsFault, Leads, Completes, Aborts, However, SaidOrTaken, Untouched, Rests, IsRefused, begun_by, failed_from, refusal_of}
 use Rattle.ftp_session.specs.Steps.Stages.{AnswersKind, Begun, GoesOnTo, StageAfter, StepAnswers, asking_of, nodes_left, remaining, begun_at, is_later, line_of}
@@ -218,11 +218,17 @@ pub record TakesLine (link : Link) (line line' : Option (List ℕ)) (old new : S
   pub stays : line' ≡ line → NothingTouched link old new
   pub begins : line' ≡ None → (line ≡ None) ⊎ (link.tells → length (said old.channel) < length (said new.channel))
 
+-- a fault that was heard in place of a reply: memory didn't run out, and after a reply of another status the session goes
+-- on
+pub record HeardFault (fault : FtpError) (old new : SessionValue) : Type 0 where
+  pub other : fault ≡ OutOfMemory → ⊥
+  pub goes_on : (reply : Response) → fault ≡ UnexpectedResponse reply → new.channel.failed ≡ old.channel.failed
+
 -- a reply is heard, or a fault in its place; or it is waited for, or the read is aborted
 abbrev pub Hears : Link → Expected → (Result Response FtpError → Tree) → SessionValue → SessionValue → Poll (Result Response FtpError) → Type 0
 Hears link codes next old new (poll.Ready (Ok reply)) = Advances link (Hear codes next) (next (Ok reply)) old new × Takes link (Hear codes next) old new
 Hears link codes next old new (poll.Ready (Err fault)) =
-    (Moves link (Hear codes next) (next (Err fault)) old new × (fault ≡ OutOfMemory → ⊥)) ⊎ AbortsRead link codes next fault old new
+    (Moves link (Hear codes next) (next (Err fault)) old new × HeardFault fault old new) ⊎ AbortsRead link codes next fault old new
 Hears link codes next old new poll.Pending = Advances link (Hear codes next) (Hear codes next) old new × WaitsFor link (Hear codes next) new × Rests link old new
 
 -- an accepted reply: the next exchange, or the answer with the change of state
@@ -242,11 +248,11 @@ wants_memory OutOfMemory = true
 wants_memory SessionFailed = false
 
 -- what a fault that is heard in place of a reply comes to: where memory ran out nothing more
-abbrev pub FaultLeavesIf : Bool → Ending → FtpError → State → State → FtpError → Type 0
-FaultLeavesIf true ending fault state state' told = (told ≡ fault) × (state' ≡ state)
-FaultLeavesIf false ending fault state state' told = (told ≡ told_fault ending fault) × (state' ≡ after_fault_of ending state)
+abbrev pub FaultLeavesIf : Bool → Ending → FtpError → State → State → Answer → Type 0
+FaultLeavesIf true ending fault state state' told = (told ≡ Fault fault) × (state' ≡ state)
+FaultLeavesIf false ending fault state state' told = (told ≡ answer_to_fault ending fault) × (state' ≡ after_fault_of ending state)
 
-abbrev pub FaultLeaves : Ending → FtpError → State → State → FtpError → Type 0
+abbrev pub FaultLeaves : Ending → FtpError → State → State → Answer → Type 0
 FaultLeaves ending fault state state' told = FaultLeavesIf (wants_memory fault) ending fault state state' told
 
 -- out of memory after a dialogue has begun fails the session
@@ -254,7 +260,7 @@ abbrev pub after_fault : Bool → FtpError → SessionValue → SessionValue
 after_fault begun fault v = if wants_memory fault && begun then failed_from v else v
 
 -- a dialogue ends with a fault in place of a reply
-abbrev pub EndsFaulty : Bool → Ending → FtpError → SessionValue → SessionValue → FtpError → Type 0
+abbrev pub EndsFaulty : Bool → Ending → FtpError → SessionValue → SessionValue → Answer → Type 0
 EndsFaulty begun ending fault old new told =
     (new ≡ record (after_fault begun fault old) { state = new.state }) × FaultLeaves ending fault (after_fault begun fault old).state new.state told
 
@@ -347,7 +353,7 @@ AskingAnswers kind (Accepting peer left answer) = ⊥
 
 -- the kind of an answer is its ending's
 abbrev pub AnswersAs : Ending → Accepted → Type 0
-AnswersAs ending accepts.GoesOn = kind_of ending ≡ Nothing
+AnswersAs ending accepts.GoesOn = (kind_of ending ≡ Nothing) × (is_draining ending ≡ false)
 AnswersAs ending (accepts.Asks asking) = (agrees ending ≡ true) × AskingAnswers (kind_of ending) asking
 AnswersAs ending (accepts.Done answer) = AnswersKind (kind_of ending) answer
 
@@ -419,15 +425,26 @@ nothing_moved (movement.Read most) = answers.Bytes []
 nothing_moved (movement.Write bytes) = answers.Count 0
 nothing_moved movement.Close = answers.Unit
 
--- bytes went over the data connection, and that is the answer; or there were none to go, or no memory, and nothing
--- happened
+-- what a movement answers, and leaves: after a close the transfer is left
+abbrev pub answer_moved : Movement → DealOutcome → Answer
+answer_moved (movement.Read most) outcome = moved_answer outcome
+answer_moved (movement.Write bytes) outcome = moved_answer outcome
+answer_moved movement.Close outcome = answers.Unit
+
+abbrev pub state_moved : Movement → State → State
+state_moved (movement.Read most) state = state
+state_moved (movement.Write bytes) state = state
+state_moved movement.Close state = with_left state
+
+-- bytes went over the data connection, and that is the answer; or it was closed, and the transfer is left; or there were
+-- no bytes to go, or no memory, and nothing happened
 pub record CarriesBy (tells : Type 0) (movement : Movement) (old new : SessionValue) (answer : Answer) : Type 0 where
   pub outcome : DealOutcome
   pub some : moves_nothing movement ≡ false
-  pub is : answer ≡ moved_answer outcome
-  pub beside : new ≡ record old { net = new.net }
+  pub is : answer ≡ answer_moved movement outcome
+  pub beside : new ≡ record old { state = state_moved movement old.state; net = new.net }
   pub deal : tells → MovementIs movement outcome old.net new.net
-  pub apart : IsApart (moved_answer outcome)
+  pub apart : IsApart (answer_moved movement outcome)
 
 abbrev pub Carries : Type 0 → Movement → SessionValue → SessionValue → Answer → Type 0
 Carries tells movement old new answer =

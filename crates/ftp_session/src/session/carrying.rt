@@ -9,17 +9,17 @@ ghost use Rattle.ftp_session.specs.Coding.{Coding};
 ghost use Rattle.ftp_session.specs.Deals.{MovementIs, ReadIs, WriteIs, answers};
 ghost use Rattle.ftp_session.specs.Dialogue.{moved_answer, told_of_close};
 ghost use Rattle.ftp_session.specs.Link.{building};
-ghost use Rattle.ftp_session.specs.Play.{Taken};
+ghost use Rattle.ftp_session.specs.Play.{Taken, lacks};
 ghost use Rattle.ftp_session.specs.Promises.{IsRefused, LeavesIf, refusal_of};
 ghost use Rattle.ftp_session.specs.Steps.Moving.{Carries, CarriesOut, Sets, Walks};
 
 use super::asks::Asks;
 use super::machine::Machine;
 use super::stage::{Stage, Step, go_to};
-use super::{Answer, Call, Setting};
+use super::{Answer, Call, Owed, Setting};
 use crate::model::DealOutcome;
 use ftp_base::types::{Bytes, ConnectionError, FtpError};
-use ftp_calls::exchange::{Turn, finishes, is_local, of_transfer};
+use ftp_calls::exchange::{Turn, drains, finishes, is_local, of_transfer};
 use ftp_control::transport::{Conn, Network, PollConn, Tells};
 use std::alloc::Global;
 use std::io::ErrorKind;
@@ -33,7 +33,7 @@ impl<Tr: Network> Machine<Tr> {
         ensures refused { (answer : Answer) → result ≡ Some answer →
             IsRefused Tr.Conn.tells call.now self.old self.new answer }
     {
-        if of_transfer(call) && self.data_conn.is_none() {
+        if of_transfer(call) && self.lacks(call) {
             return Some(Answer::NoTransfer);
         }
         if is_local(call) || !self.channel.failed() {
@@ -43,6 +43,17 @@ impl<Tr: Network> Machine<Tr> {
             self.leave();
         }
         Some(Answer::Fault(FtpError::SessionFailed))
+    }
+
+    /// Whether a call lacks its transfer: none is held; or, where it hears the end of one that was left, none was.
+    fn lacks(&self, call: &Call) -> bool
+        ensures { result ≡ lacks call.now (is_none self.now.net.data_conn) self.now.state.counts.owed }
+    {
+        if drains(call) {
+            !matches!(self.state.counts.owed(), Owed::Left(_))
+        } else {
+            self.data_conn.is_none()
+        }
     }
 
     /// The transfer is left, and its data connection is closed, whatever that comes to.
@@ -123,6 +134,7 @@ where
             Call::Set(setting) => self.set(setting),
             Call::Read(most) => self.read_data(alloc, *most),
             Call::Write(bytes) => self.write_data(bytes.as_slice()),
+            Call::Leave => self.leave_held(),
             _ => unreachable!(),
         };
         self.let_go();
@@ -144,6 +156,15 @@ where
             Setting::ActivePeerCheck(check) => self.state.settings.active_peer_check = check,
             Setting::ActiveDeadline(deadline) => self.state.settings.active_deadline = deadline,
         }
+        Answer::Unit
+    }
+
+    /// The transfer is left.
+    fn leave_held(&mut self) -> Answer
+        ensures leaves { Carries Tr.Conn.tells movement.Close self.old self.new result }
+    {
+        self.state.counts.leave();
+        pass_over(self.close_data());
         Answer::Unit
     }
 

@@ -9,7 +9,7 @@ ghost use Rattle.ftp_base.specs.declared.types.reply.Response.{Response as Heard
 ghost use Rattle.ftp_base.specs.declared.types.fault.FtpError.{FtpError as Faults};
 ghost use Rattle.ftp_control.specs.Told.{EndsAsTold};
 ghost use Rattle.ftp_session.specs.Coding.{Coding, coding_of};
-ghost use Rattle.ftp_session.specs.Dialogue.{Tree, expected_of, expecting, finish_answer, opened_answer};
+ghost use Rattle.ftp_session.specs.Dialogue.{Tree, drain_answer, expected_of, expecting, finish_answer, opened_answer};
 ghost use Rattle.ftp_session.specs.declared.session.state.State.{State as States};
 ghost use Rattle.ftp_session.specs.Link.{building};
 ghost use Rattle.ftp_session.specs.Steps.Moving.{Accepts, AnswersAs, FaultLeaves, Hears, SaysNode, TakesLine, step_of, wants_memory};
@@ -181,6 +181,10 @@ pub(crate) fn accept<E: Encoding>(
             state.counts.finish();
             Ok(Accepted::Done(finish_answer(close)))
         }
+        Ending::Drains => {
+            state.counts.drain();
+            Ok(Accepted::Done(Answer::Unit))
+        }
         Ending::GoesOn(status) => {
             if reply.status.code() == status.code() {
                 Ok(Accepted::GoesOn)
@@ -248,23 +252,37 @@ fn finish_answer(close: Option<ErrorKind>) -> Answer
     }
 }
 
-/// What is told in place of a reply that a fault was heard for, and what it leaves. Where memory ran out nothing
-/// changes.
-pub(crate) fn conclude_fault(ending: Ending, fault: FtpError, state: &mut State) -> FtpError
+/// The answer where a fault was heard in place of a reply, and what it leaves. Where memory ran out nothing changes.
+pub(crate) fn conclude_fault(ending: Ending, fault: FtpError, state: &mut State) -> Answer
     ensures { FaultLeaves ending fault state.old state.new result }
 {
     if wants_memory(&fault) {
-        return fault;
+        return Answer::Fault(fault);
     }
     match ending {
         Ending::Finishes(close) => {
             state.counts.finish();
             match close {
-                None => fault,
-                Some(kind) => FtpError::ConnectionError(ConnectionError::Io(kind)),
+                None => Answer::Fault(fault),
+                Some(kind) => Answer::Fault(FtpError::ConnectionError(ConnectionError::Io(kind))),
             }
         }
-        _ => fault,
+        Ending::Drains => {
+            state.counts.drain();
+            drain_answer(fault)
+        }
+        _ => Answer::Fault(fault),
+    }
+}
+
+/// The answer where a fault was heard in place of the last reply of a transfer that was left: a reply of another status
+/// ends the transfer as well.
+fn drain_answer(fault: FtpError) -> Answer
+    ensures { result ≡ drain_answer fault }
+{
+    match fault {
+        FtpError::UnexpectedResponse(_reply) => Answer::Unit,
+        fault => Answer::Fault(fault),
     }
 }
 

@@ -4,7 +4,7 @@
 //! that was opened was finished, aborted or drained, or is owed.
 
 ghost use Rattle.std.specs.Prelude.{◌≡◌};
-ghost use Rattle.ftp_session.specs.Sound.{SoundCounts, cannot_open, left_behind, no_transfers, one_finished, one_more};
+ghost use Rattle.ftp_session.specs.Sound.{SoundCounts, cannot_open, left_behind, no_transfers, one_drained, one_finished, one_more};
 ghost use Rattle.ftp_session.specs.State.{IsFirst};
 
 use ftp_base::encoding::WelcomeMessage;
@@ -130,6 +130,19 @@ impl Counts {
             Owed::Nothing => {}
             Owed::Live(_) | Owed::Left(_) => {
                 self.finished += 1;
+                self.owed = Owed::Nothing;
+            }
+        }
+    }
+
+    /// The transfer that was left has come to its end, if one is owed: its last reply was read, or its read failed.
+    pub fn drain(&mut self)
+        ensures { self.new ≡ one_drained self.old }
+    {
+        match self.owed {
+            Owed::Nothing => {}
+            Owed::Live(_) | Owed::Left(_) => {
+                self.drained += 1;
                 self.owed = Owed::Nothing;
             }
         }

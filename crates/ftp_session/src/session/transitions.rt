@@ -195,8 +195,7 @@ impl<Tr: Network> Machine<Tr> {
                 alloc, encoding, call, awaits, reply, stage,
             ),
             Poll::Ready(Err(fault)) => {
-                let told = self.end_dialogue(awaits.begun, awaits.ending, fault);
-                Step::Done(Answer::Fault(told))
+                Step::Done(self.end_dialogue(awaits.begun, awaits.ending, fault))
             }
             Poll::Pending => {
                 go_to(stage, Stage::Hearing(awaits));
@@ -253,8 +252,8 @@ impl<Tr: Network> Machine<Tr> {
         }
     }
 
-    /// A dialogue ends with a fault in place of a reply: what is told, and what it leaves.
-    fn end_dialogue(&mut self, begun: bool, ending: Ending, fault: FtpError) -> FtpError
+    /// A dialogue ends with a fault in place of a reply: what is answered, and what it leaves.
+    fn end_dialogue(&mut self, begun: bool, ending: Ending, fault: FtpError) -> Answer
         ensures { EndsFaulty begun ending fault self.old self.new result }
     {
         self.abort_dialogue(begun, &fault);

@@ -107,7 +107,9 @@ fn make<R: Wait + AllocGlobal>(rt: &R, client: &Client, call: &Call) -> Result<A
         | Call::Set(_)
         | Call::Read(_)
         | Call::Write(_)
-        | Call::Finish => {
+        | Call::Finish
+        | Call::Leave
+        | Call::Drain => {
             return Err(RowError::NotUnderstood);
         }
     })

@@ -223,8 +223,7 @@ pub fn welcome(alloc: Global, state: &State) -> Result<Option<String>, AllocErro
 /// Where these events lead to.
 pub fn scripted(alloc: Global, events: &[Event], play: &Play) -> Result<Standing, RowError> {
     let outcomes = script_outcomes(alloc, events, play)?;
-    let begun = first(alloc, b"", play, &outcomes)?;
-    let script = script_from(alloc, events, play, &begun)?;
+    let script = script_of(alloc, events, play, &outcomes)?;
     stands_in(alloc, &script, &of_requests(alloc, &outcomes)?)
 }
 
@@ -255,14 +254,50 @@ fn add_outcomes(
     outcomes: &mut Vec<DealOutcome>,
 ) -> Result<(), RowError> {
     for _ in 0..u64::MAX {
-        let begun = first(alloc, b"", play, outcomes)?;
-        let script = script_from(alloc, events, play, &begun)?;
-        let Some(call) = waiting(&script, outcomes) else {
-            return Ok(());
-        };
-        outcomes.push(next_outcome(alloc, &play.setup, call, &script.dealings)?)?;
+        match awaited(alloc, events, play, outcomes.as_slice())? {
+            Some(outcome) => outcomes.push(outcome)?,
+            None => return Ok(()),
+        }
     }
     Err(RowError::NotUnderstood)
+}
+
+/// The outcome that is waited for after these events, where these are known.
+fn awaited(
+    alloc: Global,
+    events: &[Event],
+    play: &Play,
+    known: &[DealOutcome],
+) -> Result<Option<DealOutcome>, RowError> {
+    let script = script_of(alloc, events, play, known)?;
+    awaited_in(alloc, play, &script, known)
+}
+
+/// The outcome that this script waits for, where these are known.
+fn awaited_in(
+    alloc: Global,
+    play: &Play,
+    script: &Script,
+    known: &[DealOutcome],
+) -> Result<Option<DealOutcome>, RowError> {
+    match waiting(script, known) {
+        Some(call) => {
+            let outcome = next_outcome(alloc, &play.setup, call, &script.dealings)?;
+            Ok(Some(outcome))
+        }
+        None => Ok(None),
+    }
+}
+
+/// The script of these events, whose runs begin with these outcomes.
+fn script_of(
+    alloc: Global,
+    events: &[Event],
+    play: &Play,
+    outcomes: &[DealOutcome],
+) -> Result<Script, AllocError> {
+    let begun = first(alloc, b"", play, outcomes)?;
+    script_from(alloc, events, play, &begun)
 }
 
 /// The script of these events, whose runs begin here.

@@ -129,7 +129,9 @@ fn make(alloc: Global, session: &mut NamedSession, call: &Call) -> Result<Answer
         | Call::Set(_)
         | Call::Read(_)
         | Call::Write(_)
-        | Call::Finish => {
+        | Call::Finish
+        | Call::Leave
+        | Call::Drain => {
             return Err(RowError::NotUnderstood);
         }
     })

@@ -3,6 +3,7 @@ use Rattle.ftp_session.specs.Coding.{coding_of}
 use Rattle.ftp_session.specs.State.{SessionValue}
 use Rattle.ftp_session.proofs.Agreeing.{asking_answers, asking_fewer, asks_opens, row_answers}
 use Rattle.ftp_session.proofs.Negotiation.{concludes_on}
+use Rattle.ftp_session.proofs.Nexts.{stage_after}
 use Rattle.ftp_session.proofs.session.machine.Machine.accept_reply.Goals as goal
 
 pub returns-in-Ok-Done-clause-answers : goal.returns-in-Ok-Done-clause-answers
@@ -18,6 +19,11 @@ returns-in-Ok-GoesOn-clause-concludes g c =
     let state = ap (λ v. v.state) c.self.view_is in
     let here = rw state at accepts in
     concludes_on (coding_of g.E.Encoding.decoded g.E.Encoding.encoded c.args.encoding.now) c.args.call.now c.args.awaits c.args.reply _ c.args.self.now _ _ same here c.go_on.ensures.on
+
+pub returns-in-Ok-GoesOn-clause-stage : goal.returns-in-Ok-GoesOn-clause-stage
+returns-in-Ok-GoesOn-clause-stage g c =
+    let answers = rw (c.in-Ok-GoesOn.is, c.in-Ok-GoesOn.field-0-is) at c.accept.ensures.answers in
+    stage_after c.args.call.now c.args.awaits c.go_on.new.stage c.go_on.result c.requires.stage answers.0 answers.1 c.go_on.ensures.on
 
 pub returns-in-Ok-Asks-clause-stage : goal.returns-in-Ok-Asks-clause-stage
 returns-in-Ok-Asks-clause-stage g c =

@@ -4,6 +4,7 @@ use Rattle.ftp_calls.specs.declared.call.Answer.TheVariants.{Unit}
 use Rattle.ftp_session.specs.Coding.{coding_of}
 use Rattle.ftp_session.specs.Link.{building}
 use Rattle.ftp_session.specs.Dialogue.{concluded, later}
+use Rattle.ftp_session.proofs.Faults.{fault_answers}
 use Rattle.ftp_session.proofs.Moving.{rests_untouched}
 use Rattle.ftp_session.proofs.Transitions.{concludes, accepted_begins, fault_awaited}
 use Rattle.ftp_session.proofs.session.machine.Machine.hear_reply.Goals as goal
@@ -20,7 +21,10 @@ returns-in-Ready-Err-clause-steps g c =
     let coding = coding_of g.E.Encoding.decoded g.E.Encoding.encoded c.args.encoding.now in
     let heard = rw (c.in-Ready-Err.is, c.in-Ready-Err.field-0-is) at c.hear_codes.ensures.hears in
     let next = concluded coding c.args.awaits.ending c.args.self.now.state (later coding c.args.call.now c.args.awaits.turn) in
-    fault_awaited _ coding c.args.call.now c.args.awaits c.in-Ready-Err.fault c.end_dialogue-told.result c.args.self.now c.hear_codes.new.self c.end_dialogue-told.new.self c.requires.going c.end_dialogue-told.ensures (heard next)
+    fault_awaited _ coding c.args.call.now c.args.awaits c.in-Ready-Err.fault c.end_dialogue.result c.args.self.now c.hear_codes.new.self c.end_dialogue.new.self c.requires.going c.end_dialogue.ensures (heard next)
+
+pub returns-in-Ready-Err-clause-answers : goal.returns-in-Ready-Err-clause-answers
+returns-in-Ready-Err-clause-answers g c = fault_answers c.args.call.now c.args.awaits.turn c.args.awaits.ending c.args.awaits.begun c.in-Ready-Err.fault c.hear_codes.new.self c.end_dialogue.new.self c.end_dialogue.result c.requires.stage.0 c.requires.stage.2 c.end_dialogue.ensures
 
 pub returns-in-Pending-clause-steps : goal.returns-in-Pending-clause-steps
 returns-in-Pending-clause-steps g c =

@@ -1,0 +1,5 @@
+//! Tests of transfers over memory.
+#![tactic(auto)]
+
+#[cfg(test)]
+mod values;
