@@ -37,6 +37,5 @@ returns-else-is_empty c =
 pub returns-in-Close : goal.returns-in-Close
 returns-in-Close c =
     let s = c.args.standing in
-    let next = λ (came : DealOutcome). Leaf (moved_answer came) s.state in
-    let same : carrying c.args.movement s.state ≡ Move movement.Close next = ap (λ m. carrying m s.state) c.in-Close.is in
-    comes s (λ (later : State → Tree). carrying c.args.movement s.state) (λ (later : State → Tree). Move movement.Close next) (λ later. same) c.moving-in-Close.result c.moving-in-Close.ensures
+    let same : carrying c.args.movement s.state ≡ carrying movement.Close s.state = ap (λ m. carrying m s.state) c.in-Close.is in
+    comes s (λ (later : State → Tree). carrying c.args.movement s.state) (λ (later : State → Tree). carrying movement.Close s.state) (λ later. same) c.leaving.result c.leaving.ensures
