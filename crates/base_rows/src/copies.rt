@@ -1,14 +1,15 @@
 //! Copies from sources and to writers that are interrupted, slow, or fail.
 
+use crate::sources::{Source, end_of};
 use crate::words::answered;
 use ftp_base::ascii::copy_crlf;
 use row_text::{RowError, bytes_of, value};
 use std::alloc::Global;
 use std::io;
-use std::io::{ErrorKind, Read, Write};
+use std::io::{ErrorKind, Write};
 
-/// What a copy answers, and what was written: `INTERRUPTED TEXT END INTERRUPTED AT_ONCE ROOM`. The source is
-/// interrupted so many times, gives the text, and ends or fails; the writer is interrupted so many times, takes at
+/// What a copy answers, and what was written: `INTERRUPTED TEXT END INTERRUPTED AT_ONCE ROOM`. Each read of the source is
+/// interrupted so many times, and it gives the text, and ends or fails; the writer is interrupted so many times, takes at
 /// most so many bytes at once, and fails when it has no room left.
 pub fn copied(alloc: Global, input: &str) -> Result<Vec<u8>, RowError> {
     let words: Vec<&str> = input.split(' ').collect(alloc)?;
@@ -16,11 +17,7 @@ pub fn copied(alloc: Global, input: &str) -> Result<Vec<u8>, RowError> {
         return Err(RowError::NotUnderstood);
     };
     let text = bytes_of(alloc, text)?;
-    let source = Source {
-        interrupted: value(interrupted)?,
-        text: &text,
-        end: end_of(end)?,
-    };
+    let source = Source::new(value(interrupted)?, usize::MAX, &text, end_of(end)?);
     let writer = Writer {
         interrupted: value(refused)?,
         at_once: value(at_once)?,
@@ -30,16 +27,6 @@ pub fn copied(alloc: Global, input: &str) -> Result<Vec<u8>, RowError> {
     copy(alloc, source, writer)
 }
 
-/// The end of a source.
-fn end_of(word: &str) -> Result<Option<ErrorKind>, RowError> {
-    match word {
-        "ends" => Ok(None),
-        "breaks" => Ok(Some(ErrorKind::BrokenPipe)),
-        "no_entry" => Ok(Some(ErrorKind::PermissionDenied)),
-        _ => Err(RowError::NotUnderstood),
-    }
-}
-
 /// A copy from this source to this writer.
 fn copy(alloc: Global, mut source: Source<'_>, mut writer: Writer) -> Result<Vec<u8>, RowError> {
     let answer = match copy_crlf(alloc, &mut source, &mut writer) {
@@ -47,33 +34,6 @@ fn copy(alloc: Global, mut source: Source<'_>, mut writer: Writer) -> Result<Vec
         Err(fault) => format!(in alloc; "E{} {fault}", fault.number())?,
     };
     answered(answer, &writer.written)
-}
-
-/// A source that is interrupted, gives a text, and then ends or fails.
-#[derive(Drop)]
-struct Source<'a> {
-    interrupted: usize,
-    text: &'a [u8],
-    end: Option<ErrorKind>,
-}
-
-impl Read for Source<'_> {
-    fn read(&mut self, buf: &mut [u8]) -> io::Result<usize> {
-        if self.interrupted > 0 {
-            self.interrupted -= 1;
-            return Err(ErrorKind::Interrupted.into());
-        }
-        if self.text.is_empty() {
-            return match self.end {
-                Some(kind) => Err(kind.into()),
-                None => Ok(0),
-            };
-        }
-        let n = buf.len().min(self.text.len());
-        buf[..n].copy_from_slice(&self.text[..n]);
-        self.text = &self.text[n..];
-        Ok(n)
-    }
 }
 
 /// A writer that is interrupted, takes a few bytes at once, and has room for so many.

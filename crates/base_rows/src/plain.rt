@@ -3,6 +3,9 @@
 ghost use Rattle.std.specs.Prelude.{◌≡◌, ◌<◌, ◌++◌, IfOk, OnOk, length, slice_index};
 ghost use Rattle.ftp_base.specs.Ascii.{crlf, follows_return, on_wire};
 
+mod lines;
+
+pub use lines::listing;
 use std::alloc::{AllocError, Global};
 
 /// The wire bytes of a text upload, place by place.

@@ -1,8 +1,8 @@
 //! The sets of rows, and what a row of each comes to.
 
 use crate::{
-    addresses, answers, commands, comparisons, copies, faults, features, peers, replies, scans,
-    uploads, welcomes,
+    addresses, answers, commands, comparisons, copies, faults, features, listings, peers, replies,
+    scans, uploads, welcomes,
 };
 use row_text::RowError;
 use std::alloc::Global;
@@ -40,6 +40,10 @@ pub enum Set {
     FileSizes,
     /// The bytes of a reply to FEAT, and its features.
     FeatureReplies,
+    /// The bytes of a listing in an encoding, and its lines.
+    Listings,
+    /// A stream, and the lines of its listing.
+    Streams,
     /// The bytes of a reply to PASV, and its address.
     PassiveAddresses,
     /// The bytes of a reply to EPSV, and its port.
@@ -67,7 +71,7 @@ pub enum Set {
 }
 
 /// The names of all sets, as headings write them.
-const NAMES: [(&str, Set); 27] = [
+const NAMES: [(&str, Set); 29] = [
     ("commands", Set::Commands),
     ("statuses", Set::Statuses),
     ("comparisons", Set::Comparisons),
@@ -83,6 +87,8 @@ const NAMES: [(&str, Set); 27] = [
     ("times", Set::Times),
     ("file_sizes", Set::FileSizes),
     ("feature_replies", Set::FeatureReplies),
+    ("listings", Set::Listings),
+    ("streams", Set::Streams),
     ("passive_addresses", Set::PassiveAddresses),
     ("extended_ports", Set::ExtendedPorts),
     ("port_commands", Set::PortCommands),
@@ -121,6 +127,8 @@ impl Set {
             Set::Times => answers::time(alloc, input),
             Set::FileSizes => answers::size(alloc, input),
             Set::FeatureReplies => answers::features(alloc, input),
+            Set::Listings => listings::listing(alloc, input),
+            Set::Streams => listings::stream(alloc, input),
             Set::PassiveAddresses => addresses::passive(alloc, input),
             Set::ExtendedPorts => addresses::extended(alloc, input),
             Set::PortCommands => addresses::command(alloc, input),

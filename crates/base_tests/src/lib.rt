@@ -1,4 +1,4 @@
-//! Tests of the base crate: what a call gives with ample memory, which no contract can say, and each way in which its
+//! Tests of the base crate and of listings: what a call gives with ample memory, which no contract can say, and each way in which its
 //! small types are read. What is a matter of values is a row of `base_rows`.
 #![tactic(auto)]
 
@@ -8,5 +8,7 @@ mod contents;
 mod copies;
 #[cfg(test)]
 mod features;
+#[cfg(test)]
+mod listings;
 #[cfg(test)]
 mod replies;

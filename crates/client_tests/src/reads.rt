@@ -1,10 +1,10 @@
 //! Reads of one reply by a session, polled and blocking.
 
-use crate::scene::poll_text;
+use crate::scene::{conn_with, poll_text};
 use ftp_base::status::Status;
 use ftp_base::types::{Bytes, FtpResult};
-use ftp_control::transport::{MemoryConn, MemoryTransport};
-use ftp_session::session::{Event, Session};
+use ftp_control::transport::{MemoryConn, MemoryTransport, Supply};
+use ftp_session::session::{Event, Owed, Session};
 use futures::task::Poll;
 use std::alloc::{AllocError, Global};
 use std::test::Fail;
@@ -37,6 +37,14 @@ const REPLIES: [(Reading, &[u8], &str); 6] = [
         b"226 ok\r\n",
         "E10 226 226 ok\\r\\n, 0 and 0",
     ),
+];
+
+/// Reads after a transfer that was left: its last reply comes in two pieces, the second with the first bytes of the
+/// reply that is read.
+const AFTER_A_LEFT_TRANSFER: [(Reading, &[u8], &str); 3] = [
+    (Reading::Polled, b"226 ", "waits, 4 and 14"),
+    (Reading::PolledIn, b"x\r\n20", "waits, 2 and 14"),
+    (Reading::Polled, b"0 ok\r\n", "200 200 ok\\r\\n, 0 and 14"),
 ];
 
 /// More bytes of the server come.
@@ -72,5 +80,25 @@ fn a_reply_is_read_whole_and_an_unexpected_one_returned(rt: HostRuntime) -> Resu
         let text = read(alloc, &mut session, kind)?;
         assert_eq!(rt; text.as_str(), due);
     }
+    Ok(())
+}
+
+#[test]
+fn the_last_reply_of_a_left_transfer_is_polled_before_a_read(rt: HostRuntime) -> Result<(), Fail> {
+    let alloc = rt.alloc();
+    let mut transport = MemoryTransport::new(alloc);
+    transport.supply(Supply::Connects(MemoryConn::new(alloc)))?;
+    let conn = conn_with(alloc, b"227 x (10,0,0,1,4,0).\r\n150 b\r\n")?;
+    let mut session = Session::new(alloc, transport, conn)?;
+    drop(session.retr_as_stream(alloc, &rt, "a")?);
+    let text = read(alloc, &mut session, Reading::Polled)?;
+    assert_eq!(rt; text.as_str(), "waits, 0 and 14");
+    assert_eq!(rt; session.counts().owed(), Owed::Left(1));
+    for (kind, bytes, due) in AFTER_A_LEFT_TRANSFER {
+        feed(alloc, &mut session, bytes)?;
+        let text = read(alloc, &mut session, kind)?;
+        assert_eq!(rt; text.as_str(), due);
+    }
+    assert_eq!(rt; session.counts().drained(), 1);
     Ok(())
 }

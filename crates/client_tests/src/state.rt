@@ -64,7 +64,7 @@ fn settings_stay_as_they_were_set(rt: HostRuntime) -> Result<(), Fail> {
     session.set_mode(Mode::ExtendedPassive);
     session.set_passive_nat_workaround(true);
     session.set_active_peer_check(ActivePeerCheck::Any);
-    session.resume_transfer(7)?;
+    session.resume_transfer(rt.alloc(), 7)?;
     let text = text_of(rt.alloc(), &session)?;
     assert_eq!(rt;
         text.as_str(),
@@ -76,8 +76,8 @@ fn settings_stay_as_they_were_set(rt: HostRuntime) -> Result<(), Fail> {
 #[test]
 fn the_active_mode_has_a_deadline(rt: HostRuntime) -> Result<(), Fail> {
     let mut session = begun(rt.alloc(), None)?.active_mode(Duration::from_secs(5));
-    session.resume_transfer(7)?;
-    session.resume_transfer(0)?;
+    session.resume_transfer(rt.alloc(), 7)?;
+    session.resume_transfer(rt.alloc(), 0)?;
     let text = text_of(rt.alloc(), &session)?;
     assert_eq!(rt;
         text.as_str(),

@@ -3,6 +3,7 @@
 #![tactic(auto)]
 
 mod ask;
+mod download;
 mod listing;
 
 use std::process::ExitCode;
@@ -16,6 +17,11 @@ fn main(rt: HostRuntime) -> ExitCode {
             &rt,
             words[1].as_str(),
         ),
+        Ok(words) if words.len() == 3 && words[0].as_str() == "get" => download::print_length(
+            &rt,
+            words[1].as_str(),
+            words[2].as_str(),
+        ),
         Ok(words) if words.len() == 3 && words[0].as_str() == "file" => ask::print_file(
             &rt,
             words[1].as_str(),
@@ -23,7 +29,7 @@ fn main(rt: HostRuntime) -> ExitCode {
         ),
         _ => {
             let _ = rt.eprintln(
-                "usage: examples ADDRESS | examples file ADDRESS NAME | examples entry LINE",
+                "usage: examples ADDRESS | examples file ADDRESS NAME | examples get ADDRESS NAME | examples entry LINE",
             );
             ExitCode::from(2)
         }

@@ -1,5 +1,5 @@
 -- A greeting and a NOOP, from contracts alone.
-use Rattle.std.proofs.Common.{length, ◌≡◌, ◌⊎◌, ℕ, Bool, false, List, [], ◌∷◌, ◌++◌, Ok, inl, inr, refl, ap, sym, ◌∙◌, subst}
+use Rattle.std.proofs.Common.{length, ◌≡◌, ◌⊎◌, ℕ, Bool, true, false, List, [], ◌∷◌, ◌++◌, Ok, inl, inr, refl, ap, sym, ◌∙◌, subst}
 use Rattle.std.specs.declared.io.ErrorKind.{ErrorKind}
 use Rattle.std.specs.declared.net.socket_addr.SocketAddr.{SocketAddr}
 use Rattle.std.specs.declared.io.ErrorKind.TheVariants as kinds
@@ -10,33 +10,34 @@ use Rattle.ftp_base.specs.Command.{text_of, words_of}
 use Rattle.ftp_control.specs.declared.control.rule.ReplyRule.{ReplyRule}
 use Rattle.ftp_control.specs.declared.control.rule.ReplyRule.TheVariants.{Lenient}
 use Rattle.ftp_control.specs.declared.transport.room.Room.TheVariants.{Any}
-use Rattle.ftp_session.specs.Deals.{first_net, outcomes_of}
-use Rattle.ftp_session.specs.declared.model.Dealings.{Dealings}
-use Rattle.ftp_session.specs.declared.model.DealOutcome.{DealOutcome}
+use Rattle.ftp_dialogue.specs.Deals.{first_net, outcomes_of}
+use Rattle.ftp_dialogue.specs.declared.model.Dealings.{Dealings}
+use Rattle.ftp_dialogue.specs.declared.model.DealOutcome.{DealOutcome}
 use Rattle.ftp_control.specs.Told.{IsFull, HasNoRoom}
 use Rattle.ftp_control.specs.declared.transport.room.Room.{Room}
 use Rattle.ftp_control.specs.Memory.{IsGiven, fresh_memory, fed}
 use Rattle.ftp_control.specs.Channel.{IsSound, untaken}
 use Rattle.ftp_control.specs.Reading.{GoesOn}
 use Rattle.ftp_control.specs.Grammar.{outcome}
-use Rattle.ftp_session.specs.declared.session.state.State.{State}
+use Rattle.ftp_dialogue.specs.declared.state.State.{State}
 use Rattle.ftp_calls.specs.declared.call.Answer.{Answer}
 use Rattle.ftp_calls.specs.declared.call.Answer.TheVariants.{Unit as Done, Fault}
 use Rattle.ftp_calls.specs.declared.call.Call.{Call}
-use Rattle.ftp_calls.specs.declared.call.Call.TheVariants.{Greet, Noop}
-use Rattle.ftp_session.specs.declared.model.Standing.{Standing}
-use Rattle.ftp_session.specs.declared.model.Ran.{Ran}
-use Rattle.ftp_session.specs.declared.model.Ran.TheVariants.{Finished, Waiting}
-use Rattle.ftp_session.specs.Link.{Builds, Link}
-use Rattle.ftp_session.specs.Coding.{Coding}
-use Rattle.ftp_session.specs.Calls.{Begins}
-use Rattle.ftp_session.specs.State.{SessionValue}
-use Rattle.ftp_session.specs.Dialogue.{Tree, Say, Hear, Look, Ask, Build, Move, Leaf, dialogue}
-use Rattle.ftp_session.specs.Play.{play}
-use Rattle.ftp_session.specs.Run.{run, OneView}
-use Rattle.ftp_session.specs.Promises.{answer_at, begun_by, standing, Runs, RunsTo, RunAborts, Fails, LacksMemory, MayFailAt}
+use Rattle.ftp_calls.specs.declared.call.Call.TheVariants.{Drain, Greet, Noop}
+use Rattle.ftp_dialogue.specs.declared.model.Standing.{Standing}
+use Rattle.ftp_dialogue.specs.declared.model.Ran.{Ran}
+use Rattle.ftp_dialogue.specs.declared.model.Ran.TheVariants.{Finished, Waiting}
+use Rattle.ftp_dialogue.specs.Link.{Builds, Link}
+use Rattle.ftp_dialogue.specs.Coding.{Coding}
+use Rattle.ftp_dialogue.specs.Sound.{no_transfers}
+use Rattle.ftp_dialogue.specs.State.{SessionValue, Begins}
+use Rattle.ftp_dialogue.specs.Dialogue.{Tree, Say, Hear, Look, Ask, Build, Move, Leaf, dialogue}
+use Rattle.ftp_dialogue.specs.Play.{play}
+use Rattle.ftp_dialogue.specs.Run.{run, OneView}
+use Rattle.ftp_dialogue.specs.Promises.{answer_at, begun_by, due_of, standing, Aborts, BeginsAfter, Completes, IsPlayed, Runs, RunsTo, RunAborts, Fails, LacksMemory, MayFailAt}
 use Rattle.ftp_session.proofs.Running.{nothing_views}
 use Rattle.from_contracts.specs.Aborted.{MayAbort, WasAborted}
+use Rattle.ftp_dialogue.proofs.Deals.{letting_beside}
 
 -- `220 r` and `200 ok`
 abbrev pub server : List ℕ
@@ -54,8 +55,8 @@ abbrev answers_of : Ran → List Answer
 answers_of (Finished answers s) = answers
 answers_of (Waiting answers wait s) = answers
 
--- what the definition says of these bytes
-played : (decode : List ℕ → List ℕ) (state : State) (said unsent : List ℕ) (local peer : SocketAddr) (dealings : Dealings) (outcomes : List DealOutcome) (ended : Bool) → answers_of (run Any (as_it_is decode) (Greet ∷ Noop ∷ []) (record { state = state; failed = false; rule = Lenient; said = said; unsent = unsent; local = local; peer = peer; dealings = dealings; bytes = server; ended = ended; outcomes = outcomes })) ≡ Done ∷ Done ∷ []
+-- what the definition says of these bytes, where no transfer was opened
+played : (decode : List ℕ → List ℕ) (state : State) (said unsent : List ℕ) (local peer : SocketAddr) (dealings : Dealings) (outcomes : List DealOutcome) (ended : Bool) → answers_of (run Any (as_it_is decode) (Greet ∷ Noop ∷ []) (record { state = record state { counts = no_transfers }; failed = false; rule = Lenient; said = said; unsent = unsent; local = local; peer = peer; dealings = dealings; bytes = server; ended = ended; outcomes = outcomes })) ≡ Done ∷ Done ∷ []
 unfolding run play outcome text_of words_of
 played decode state said unsent local peer dealings outcomes ended = refl
 
@@ -96,6 +97,7 @@ module _ (builds : Builds) (decode : List ℕ → List ℕ) (old new : SessionVa
       ∙ ap (λ f. B f old.channel.rule bytes) begins.idle.failed
       ∙ ap (λ r. B false r bytes) (lenient old.channel.rule)
       ∙ ap (λ b. B false Lenient b) (all_came runs)
+      ∙ ap (λ c. F (record (begin_at outcomes false Lenient server) { state = record old.state { counts = c } })) begins.first.transfers
       ∙ played decode old.state old.channel.told.sent old.channel.unsent _ _ _ outcomes new.channel.ended
 
   aborted : RunAborts (over_memory builds) (as_it_is decode) calls [] old new answers → WasAborted answers
@@ -107,10 +109,26 @@ module _ (builds : Builds) (decode : List ℕ → List ℕ) (old new : SessionVa
     cause = let same : broke.fault ≡ broke.aborts.fault = cc broke.aborts.is in (let P : FtpError → Type 0 = MayAbort in subst P (sym same) (may broke.aborts.cause));
   }
     where
+      -- what is at hand is what was at the beginning
+      played_given : (part : Call) (v w : SessionValue) (answer : Answer) → (answer ≡ Done) → IsPlayed (over_memory builds) (as_it_is decode) part v w answer → w.channel.told.given ≡ v.channel.told.given
+      played_given part v w answer is done = ap (λ x. x.channel.told.given) (letting_beside _ done.last w done.lets_go) ∙ go done.plays
+        where
+          go : Completes (over_memory builds) (dialogue (as_it_is decode) part v.state) answer (begun_by part v) done.last ⊎ Aborts (over_memory builds) false (dialogue (as_it_is decode) part v.state) answer (begun_by part v) done.last → done.last.channel.told.given ≡ v.channel.told.given
+          go (inl completes) = completes.goes.given tt
+          go (inr aborts) = let clash : Done ≡ Fault aborts.fault = sym is ∙ aborts.is in cc
+
+      drained_given : ((broke.part ≡ Drain) × (broke.middle ≡ broke.before)) ⊎ ((broke.part ≡ broke.call) × IsPlayed (over_memory builds) (as_it_is decode) Drain broke.before broke.middle Done) → broke.middle.channel.told.given ≡ broke.before.channel.told.given
+      drained_given (inl drain) = ap (λ x. x.channel.told.given) drain.1
+      drained_given (inr drained) = played_given Drain broke.before broke.middle Done refl drained.1
+
+      begun_given : (b : Bool) → BeginsAfter b (over_memory builds) (as_it_is decode) broke.call broke.part broke.before broke.middle → broke.middle.channel.told.given ≡ broke.before.channel.told.given
+      begun_given true begun = drained_given begun
+      begun_given false begun = ap (λ x. x.channel.told.given) begun.1
+
       -- there is room for any number of bytes
       room : broke.aborts.at.channel.told.given.room ≡ Any
       room =
-          let same : broke.aborts.at.channel.told.given ≡ old.channel.told.given = broke.aborts.leads.goes.given tt ∙ broke.ran.goes.given tt in
+          let same : broke.aborts.at.channel.told.given ≡ old.channel.told.given = broke.aborts.leads.goes.given tt ∙ begun_given (due_of broke.call broke.before) broke.begins ∙ broke.ran.goes.given tt in
           ap (λ g. g.room) same ∙ ap (λ t. t.given.room) (begins.told tt)
 
       written : {kind : ErrorKind} → broke.aborts.fault ≡ ConnectionError (Io kind) → (kind ≡ kinds.OutOfMemory) ⊎ ((kind ≡ kinds.WouldBlock) × IsFull broke.aborts.at.channel.told) → MayAbort broke.aborts.fault
@@ -128,7 +146,7 @@ module _ (builds : Builds) (decode : List ℕ → List ℕ) (old new : SessionVa
       failed_at kind (Move movement next) is may = absurd may
       failed_at kind (Leaf answer state) is may = absurd may
 
-      may : Fails (over_memory builds) broke.aborts.place broke.aborts.fault broke.aborts.at broke.last ⊎ LacksMemory (over_memory builds) false (dialogue (as_it_is decode) broke.call broke.middle.state) broke.aborts.leads.came broke.aborts.fault (begun_by broke.call broke.middle) broke.aborts.at broke.last → MayAbort broke.aborts.fault
+      may : Fails (over_memory builds) broke.aborts.place broke.aborts.fault broke.aborts.at broke.last ⊎ LacksMemory (over_memory builds) false (dialogue (as_it_is decode) broke.part broke.middle.state) broke.aborts.leads.came broke.aborts.fault (begun_by broke.part broke.middle) broke.aborts.at broke.last → MayAbort broke.aborts.fault
       may (inl fails) = failed_at fails.kind broke.aborts.place fails.is fails.may
       may (inr lacks) = inl lacks.is
 

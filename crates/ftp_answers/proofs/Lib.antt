@@ -1,6 +1,7 @@
 pub mod AddressFacts
 pub mod DateFacts
 pub mod LineFacts
+pub mod ListingFacts
 pub mod NumberFacts
 pub mod PieceFacts
 pub mod PlaceFacts

@@ -1,4 +1,5 @@
 pub mod Addresses
 pub mod Answers
 pub mod Dates
+pub mod Listing
 pub mod Times

@@ -3,6 +3,7 @@ pub mod CopyLemmas
 pub mod EnumLemmas
 pub mod FeatureLemmas
 pub mod NumberLemmas
+pub mod ReadLemmas
 pub mod ReplyLemmas
 pub mod ScanLemmas
 pub mod SizeLemmas

@@ -1,7 +1,7 @@
 -- Which calls open a data connection.
 use Rattle.std.proofs.Common.{◌≡◌, Bool, true, false, ◌&&◌, refl}
 use Rattle.ftp_calls.specs.declared.call.Call.{Call}
-use Rattle.ftp_calls.specs.declared.call.Call.TheVariants.{Greet, Login, Cwd, Cdup, Pwd, Noop, Eprt, Opts, Site, TransferType, Mkdir, Rmdir, Rm, Rename, Quit, Mlst, Mdtm, Size, Feat, CustomCommand, ReadResponse, ReadResponseIn, ResumeTransfer, RetrAsStream, PutWithStream, AppendWithStream, CustomDataCommand, Set, Read, Write, Finish, Leave, Drain}
+use Rattle.ftp_calls.specs.declared.call.Call.TheVariants.{Greet, Login, Cwd, Cdup, Pwd, Noop, Eprt, Opts, Site, TransferType, Mkdir, Rmdir, Rm, Rename, Quit, Mlst, Mdtm, Size, Feat, CustomCommand, ReadResponse, ReadResponseIn, ResumeTransfer, RetrAsStream, PutWithStream, AppendWithStream, CustomDataCommand, Set, Read, Write, Finish, Abort, Leave, Drain}
 use Rattle.ftp_calls.specs.declared.exchange.Turn.TheVariants.{Second}
 use Rattle.ftp_calls.specs.Exchanges.{drains, is_read, negotiates, opens, row_of}
 
@@ -38,6 +38,7 @@ opens_alike (Set s) = refl
 opens_alike (Read n) = refl
 opens_alike (Write b) = refl
 opens_alike Finish = refl
+opens_alike Abort = refl
 opens_alike Leave = refl
 opens_alike Drain = refl
 
@@ -74,6 +75,7 @@ read_opens_none (Set s) opens = let clash : false ≡ true = opens in cc
 read_opens_none (Read n) opens = let clash : false ≡ true = opens in cc
 read_opens_none (Write b) opens = let clash : false ≡ true = opens in cc
 read_opens_none Finish opens = let clash : false ≡ true = opens in cc
+read_opens_none Abort opens = let clash : false ≡ true = opens in cc
 read_opens_none Leave opens = let clash : false ≡ true = opens in cc
 read_opens_none Drain opens = let clash : false ≡ true = opens in cc
 
@@ -110,5 +112,6 @@ draining_reads (Set s) is = let clash : false ≡ true = is in cc
 draining_reads (Read n) is = let clash : false ≡ true = is in cc
 draining_reads (Write b) is = let clash : false ≡ true = is in cc
 draining_reads Finish is = let clash : false ≡ true = is in cc
+draining_reads Abort is = let clash : false ≡ true = is in cc
 draining_reads Leave is = let clash : false ≡ true = is in cc
 draining_reads Drain is = refl

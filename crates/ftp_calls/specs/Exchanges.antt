@@ -3,19 +3,19 @@
 -- (MLST). All that a call does follows from its rows.
 use Rattle.std.specs.Prelude.{Bool, true, false, ◌&&◌, ◌||◌, nat_lt, ℕ, if◌then◌else◌, List, [], ◌∷◌, Option, Some, None, is_none}
 use Rattle.ftp_base.specs.declared.status.Status.{Status}
-use Rattle.ftp_base.specs.declared.status.Status.TheVariants.{AlreadyOpen, AboutToSend, CommandOk, System, File, Ready, Closing, ClosingDataConnection, PassiveMode, ExtendedPassiveMode, LoggedIn, RequestedFileActionOk, PathCreated, NeedPassword, RequestFilePending}
+use Rattle.ftp_base.specs.declared.status.Status.TheVariants.{AlreadyOpen, AboutToSend, CommandOk, System, File, Ready, Closing, ClosingDataConnection, TransferAborted, PassiveMode, ExtendedPassiveMode, LoggedIn, RequestedFileActionOk, PathCreated, NeedPassword, RequestFilePending}
 use Rattle.ftp_base.specs.declared.types.file_type.FileType.{FileType}
 use Rattle.ftp_base.specs.declared.types.file_type.FileType.TheVariants.{Ascii, Ebcdic, Image, Binary, Local}
 use Rattle.ftp_base.specs.declared.command.Command.{Command}
 use Rattle.ftp_base.specs.declared.command.Command.TheVariants as command
 use Rattle.ftp_calls.specs.declared.call.Call.{Call}
-use Rattle.ftp_calls.specs.declared.call.Call.TheVariants.{Greet, Login, Cwd, Cdup, Pwd, Noop, Eprt, Opts, Site, TransferType, Mkdir, Rmdir, Rm, Rename, Quit, Mlst, Mdtm, Size, Feat, CustomCommand, ReadResponse, ReadResponseIn, ResumeTransfer, RetrAsStream, PutWithStream, AppendWithStream, CustomDataCommand, Set, Read, Write, Finish, Leave, Drain}
+use Rattle.ftp_calls.specs.declared.call.Call.TheVariants.{Greet, Login, Cwd, Cdup, Pwd, Noop, Eprt, Opts, Site, TransferType, Mkdir, Rmdir, Rm, Rename, Quit, Mlst, Mdtm, Size, Feat, CustomCommand, ReadResponse, ReadResponseIn, ResumeTransfer, RetrAsStream, PutWithStream, AppendWithStream, CustomDataCommand, Set, Read, Write, Finish, Abort, Leave, Drain}
 use Rattle.ftp_calls.specs.declared.exchange.Turn.{Turn}
-use Rattle.ftp_calls.specs.declared.exchange.Turn.TheVariants.{First, Second, Passive, ExtendedPassive, Active, Restart, Closed}
+use Rattle.ftp_calls.specs.declared.exchange.Turn.TheVariants.{First, Second, Passive, ExtendedPassive, Active, Restart, Closed, Aborted}
 use Rattle.ftp_calls.specs.declared.exchange.Codes.{Codes}
 use Rattle.ftp_calls.specs.declared.exchange.Codes.TheVariants.{One, Either, Given, Features}
 use Rattle.ftp_calls.specs.declared.exchange.Ending.{Ending}
-use Rattle.ftp_calls.specs.declared.exchange.Ending.TheVariants.{Done, GivesReply, Greets, GivesPath, GivesSecondLine, GivesTime, GivesSize, GivesFeatures, SetsText, GoesOn, Continues, GivesAddress, GivesPort, Opens, Finishes, Drains}
+use Rattle.ftp_calls.specs.declared.exchange.Ending.TheVariants.{Done, GivesReply, Greets, GivesPath, GivesSecondLine, GivesTime, GivesSize, GivesFeatures, SetsText, GoesOn, Continues, GivesAddress, GivesPort, Opens, Finishes, Drains, Stops}
 use Rattle.ftp_calls.specs.declared.exchange.Row.{Row}
 use Rattle.ftp_calls.specs.declared.exchange.Row.TheVariants.{Exchanges, Arms, Sets, Moves}
 use Rattle.ftp_calls.specs.declared.exchange.Movement.TheVariants as movement
@@ -79,12 +79,13 @@ own_row (Set setting) first = Sets setting
 own_row (Read most) first = Moves (movement.Read most)
 own_row (Write bytes) first = Moves (movement.Write bytes)
 own_row Finish first = hears (Either ClosingDataConnection RequestedFileActionOk) (Finishes None)
+own_row Abort first = hears (One ClosingDataConnection) Stops
 own_row Leave first = Moves movement.Close
 own_row Drain first = hears (Either ClosingDataConnection RequestedFileActionOk) Drains
 
 -- what a call does at this turn. Before the command that opens a data connection the server is asked where to connect,
 -- or told where the client listens, and told the offset; after a data connection was closed the transfer's last reply
--- is heard
+-- is heard, or what the server says of ABOR
 abbrev pub row_of : Call → Turn → Row
 row_of call First = own_row call true
 row_of call Second = own_row call false
@@ -93,6 +94,7 @@ row_of call (ExtendedPassive offset) = says command.Epsv (One ExtendedPassiveMod
 row_of call (Active address offset) = says (port_command address) (One CommandOk) Continues
 row_of call (Restart offset) = says (command.Rest offset) (One RequestFilePending) Continues
 row_of call (Closed fault) = hears (Either ClosingDataConnection RequestedFileActionOk) (Finishes fault)
+row_of call Aborted = hears (Either ClosingDataConnection TransferAborted) Stops
 
 -- what a call that succeeds gives: nothing, a reply, a text, a time, a number of bytes, features, a data connection, or
 -- what went over one
@@ -123,6 +125,7 @@ kind_of GivesPort = Nothing
 kind_of (Opens gives_reply) = Connections
 kind_of (Finishes fault) = Nothing
 kind_of Drains = Nothing
+kind_of Stops = Nothing
 
 -- a reply is the answer
 abbrev pub gives_reply : Ending → Bool
@@ -142,6 +145,7 @@ gives_reply GivesPort = false
 gives_reply (Opens replies) = false
 gives_reply (Finishes fault) = false
 gives_reply Drains = false
+gives_reply Stops = false
 
 -- the end of a transfer that was left is heard
 abbrev pub is_draining : Ending → Bool
@@ -218,6 +222,7 @@ next_turn call (ExtendedPassive offset) = Some (restarted call offset)
 next_turn call (Active address offset) = Some (restarted call offset)
 next_turn call (Restart offset) = Some Second
 next_turn call (Closed fault) = None
+next_turn call Aborted = Some Second
 
 -- a call is none of the control connection: it changes a setting, or moves bytes over the data connection
 abbrev pub local_row : Row → Bool
@@ -232,6 +237,7 @@ is_local call = local_row (row_of call First)
 -- a call brings a transfer to its end
 abbrev pub is_finishing : Ending → Bool
 is_finishing (Finishes fault) = true
+is_finishing Stops = true
 is_finishing other = false
 
 abbrev pub finishing_row : Row → Bool
@@ -242,6 +248,20 @@ finishing_row (Moves movement) = false
 
 abbrev pub finishes : Call → Bool
 finishes call = finishing_row (row_of call First)
+
+-- a call aborts a transfer
+abbrev pub is_aborting : Ending → Bool
+is_aborting Stops = true
+is_aborting other = false
+
+abbrev pub aborting_row : Row → Bool
+aborting_row (Exchanges exchange) = is_aborting exchange.ending
+aborting_row (Arms offset) = false
+aborting_row (Sets setting) = false
+aborting_row (Moves movement) = false
+
+abbrev pub aborts : Call → Bool
+aborts call = aborting_row (row_of call First)
 
 -- a call reads the last reply of a transfer that was left
 abbrev pub draining_row : Row → Bool
@@ -262,6 +282,24 @@ moving_row (Moves movement) = true
 
 abbrev pub of_transfer : Call → Bool
 of_transfer call = moving_row (row_of call First)
+
+-- the last reply of a transfer that was left comes before a call's own: that is so of each that goes over the control
+-- connection, but of the greeting and of those of a transfer
+abbrev pub follows_reply : Ending → Bool
+follows_reply Greets = false
+follows_reply (Finishes fault) = false
+follows_reply Drains = false
+follows_reply Stops = false
+follows_reply other = true
+
+abbrev pub drained_row : Row → Bool
+drained_row (Exchanges exchange) = follows_reply exchange.ending
+drained_row (Arms offset) = true
+drained_row (Sets setting) = false
+drained_row (Moves movement) = false
+
+abbrev pub drains_first : Call → Bool
+drains_first call = drained_row (row_of call First)
 
 -- the transfer that a call opens is an upload: RFC 959, section 4.1.3
 abbrev pub uploads : Call → Bool

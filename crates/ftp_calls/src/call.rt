@@ -90,6 +90,9 @@ pub enum Call {
     Write(Items<u8>),
     /// The data connection is closed, and the transfer's last reply is read (226, 250).
     Finish,
+    /// `ABOR`; the data connection is closed (226, or 426 and then 226). Where the command can't go out the transfer is
+    /// left.
+    Abort,
     /// The transfer is left: its data connection is closed, and its last reply is still owed. A session that has failed
     /// takes it, too.
     Leave,

@@ -5,7 +5,7 @@
 //! of `Call`, a row of `own_row`, and its row in the definition.
 
 ghost use Rattle.std.specs.Prelude.{◌≡◌, Bool, IfOk};
-ghost use Rattle.ftp_calls.specs.Exchanges.{drains, finishes, hears, is_local, negotiates, next_turn, of_transfer, own_row, restarted, restarts, row_of, says, uploads};
+ghost use Rattle.ftp_calls.specs.Exchanges.{aborts, drains, drains_first, finishes, hears, is_local, negotiates, next_turn, of_transfer, own_row, restarted, restarts, row_of, says, uploads};
 
 use crate::active::port_command;
 use crate::call::{Call, Setting};
@@ -33,6 +33,8 @@ pub enum Turn {
     Restart(u64),
     /// The data connection was closed, or that failed, and the transfer's last reply is read.
     Closed(Option<ErrorKind>),
+    /// `ABOR` went out and the data connection was closed: its first reply is read.
+    Aborted,
 }
 
 /// The statuses that a reply may have.
@@ -83,6 +85,8 @@ pub enum Ending {
     Finishes(Option<ErrorKind>),
     /// The transfer that was left has come to its end, whatever the reply's status is.
     Drains,
+    /// The transfer is aborted, whatever the reply is; after 426 the next exchange follows.
+    Stops,
 }
 
 /// One command and its reply, or one reply.
@@ -147,6 +151,7 @@ pub fn row_at(alloc: Global, call: &Call, turn: Turn) -> Result<Row, AllocError>
             Ok(says(Command::Rest(offset as usize), codes, Ending::Continues))
         }
         Turn::Closed(fault) => Ok(last_reply(fault)),
+        Turn::Aborted => Ok(hears(aborted(), Ending::Stops)),
     }
 }
 
@@ -176,6 +181,7 @@ pub fn next_turn(call: &Call, turn: Turn) -> Option<Turn>
         Turn::Active(_address, offset) => Some(restarted(call, offset)),
         Turn::Restart(_offset) => Some(Turn::Second),
         Turn::Closed(_fault) => None,
+        Turn::Aborted => Some(Turn::Second),
     }
 }
 
@@ -193,7 +199,14 @@ pub fn is_local(call: &Call) -> bool
 pub fn finishes(call: &Call) -> bool
     ensures { result ≡ finishes call.now }
 {
-    matches!(call, Call::Finish)
+    matches!(call, Call::Finish | Call::Abort)
+}
+
+/// Whether a call aborts a transfer.
+pub fn aborts(call: &Call) -> bool
+    ensures { result ≡ aborts call.now }
+{
+    matches!(call, Call::Abort)
 }
 
 /// Whether a call reads the last reply of a transfer that was left.
@@ -209,8 +222,16 @@ pub fn of_transfer(call: &Call) -> bool
 {
     matches!(
         call,
-        Call::Read(_) | Call::Write(_) | Call::Finish | Call::Leave | Call::Drain
+        Call::Read(_) | Call::Write(_) | Call::Finish | Call::Abort | Call::Leave | Call::Drain
     )
+}
+
+/// Whether the last reply of a transfer that was left is read before a call says or hears anything of its own. That is so
+/// of each that goes over the control connection, but of the greeting and of those of a transfer.
+pub fn drains_first(call: &Call) -> bool
+    ensures { result ≡ drains_first call.now }
+{
+    !is_local(call) && !of_transfer(call) && !matches!(call, Call::Greet)
 }
 
 /// Whether the transfer that a call opens is an upload.
@@ -311,6 +332,7 @@ fn own_row(call: Call, first: bool) -> Row
         Call::Read(most) => Row::Moves(Movement::Read(most)),
         Call::Write(bytes) => Row::Moves(Movement::Write(bytes)),
         Call::Finish => last_reply(None),
+        Call::Abort => hears(ended_alone(), Ending::Stops),
         Call::Leave => Row::Moves(Movement::Close),
         Call::Drain => hears(ended(), Ending::Drains),
     }
@@ -321,6 +343,20 @@ fn last_reply(fault: Option<ErrorKind>) -> Row
     ensures { result ≡ row_of Call.Finish (Turn.Closed fault) }
 {
     hears(ended(), Ending::Finishes(fault))
+}
+
+/// 226 or 426.
+fn aborted() -> Codes
+    ensures { result ≡ Codes.Either Status.ClosingDataConnection Status.TransferAborted }
+{
+    Codes::Either(Status::ClosingDataConnection, Status::TransferAborted)
+}
+
+/// 226.
+fn ended_alone() -> Codes
+    ensures { result ≡ Codes.One Status.ClosingDataConnection }
+{
+    Codes::One(Status::ClosingDataConnection)
 }
 
 /// 226 or 250.

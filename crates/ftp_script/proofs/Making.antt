@@ -2,8 +2,8 @@
 use Rattle.std.proofs.Common.{Result, Ok, Err, OnOk, drop, ◌≡◌, ℕ, List, [], ◌∷◌, ◌++◌, refl, sym, ap, subst, ◌∙◌, append_assoc, append-nil, length, get_or, arith}
 use Rattle.ftp_calls.specs.declared.call.Answer.{Answer}
 use Rattle.ftp_calls.specs.declared.call.Call.{Call}
-use Rattle.ftp_session.specs.Promises.{Runs}
-use Rattle.ftp_session.specs.State.{SessionValue}
+use Rattle.ftp_dialogue.specs.Promises.{Runs}
+use Rattle.ftp_dialogue.specs.State.{SessionValue}
 use Rattle.ftp_script.specs.Playing.{Makes, MakesOne, memory, utf8}
 use Rattle.ftp_script.specs.Shown.{call_text}
 

@@ -10,12 +10,11 @@ use Rattle.ftp_control.specs.Channel.{untaken}
 use Rattle.ftp_calls.specs.declared.call.Answer.{Answer}
 use Rattle.ftp_calls.specs.declared.call.Call.{Call}
 use Rattle.ftp_calls.specs.declared.call.Call.TheVariants.{Greet}
-use Rattle.ftp_session.specs.Calls.{Begins}
-use Rattle.ftp_session.specs.Deals.{first_net}
-use Rattle.ftp_session.specs.Coding.{Coding}
-use Rattle.ftp_session.specs.Link.{Link}
-use Rattle.ftp_session.specs.Promises.{Runs}
-use Rattle.ftp_session.specs.State.{SessionValue}
+use Rattle.ftp_dialogue.specs.Deals.{first_net}
+use Rattle.ftp_dialogue.specs.Coding.{Coding}
+use Rattle.ftp_dialogue.specs.Link.{Link}
+use Rattle.ftp_dialogue.specs.Promises.{Runs}
+use Rattle.ftp_dialogue.specs.State.{SessionValue, Begins}
 use Rattle.ftp_script.specs.declared.script.Script.{Script}
 use Rattle.ftp_script.specs.Shown.{call_text, end_text}
 

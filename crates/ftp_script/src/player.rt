@@ -5,8 +5,8 @@
 
 ghost use Rattle.std.specs.Prelude.{◌≡◌, ◌++◌, OnOk, None, IfOk, ℕ, List, [], drop};
 ghost use Rattle.ftp_control.specs.Memory.{closed_memory, fed, fresh_memory};
-ghost use Rattle.ftp_session.specs.Calls.{Begins};
-ghost use Rattle.ftp_session.specs.Deals.{first_net};
+ghost use Rattle.ftp_dialogue.specs.State.{Begins};
+ghost use Rattle.ftp_dialogue.specs.Deals.{first_net};
 ghost use Rattle.ftp_script.specs.Playing.{IsTranscript, MakesOne};
 
 use crate::script::Script;
@@ -39,6 +39,7 @@ pub(crate) fn transcript_of(alloc: Global, script: &Script) -> Result<Vec<u8>, A
 fn session_of(alloc: Global, server: &[u8]) -> Result<Session<MemoryTransport>, AllocError>
     ensures encoding { IfOk result (λ session. session.encoding.0 ≡ None) }
     ensures builder { IfOk result (λ session. session.builder ≡ None) }
+    ensures mark { IfOk result (λ session. session.mark ≡ None) }
     ensures begins { IfOk result (λ session.
         Begins (Unit {0}) (closed_memory (fed server.now fresh_memory))
         (first_net [] [] []) session.machine) }
@@ -61,8 +62,10 @@ fn push_made(
 ) -> Result<(), AllocError>
     requires encoding { session.old.encoding.0 ≡ None }
     requires builder { session.old.builder ≡ None }
+    requires mark { session.old.mark ≡ None }
     ensures encoding { session.new.encoding ≡ session.old.encoding }
     ensures builder { session.new.builder ≡ session.old.builder }
+    ensures mark { session.new.mark ≡ None }
     ensures makes { OnOk result ((made : List ℕ) × (text.new.items ≡ text.old.items ++ made) ×
         MakesOne call.now session.old.machine session.new.machine made) }
 {

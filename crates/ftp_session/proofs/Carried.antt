@@ -5,9 +5,9 @@ use Rattle.std.proofs.lemmas.List.{take_all}
 use Rattle.std.proofs.Math.Seq.{drop-append_seam, take-append_seam}
 use Rattle.ftp_control.specs.declared.transport.room.Room.{Room}
 use Rattle.ftp_control.specs.declared.transport.room.Room.TheVariants.{Any, UpTo}
-use Rattle.ftp_session.specs.Deals.{Deal, Deals, outcomes_of}
-use Rattle.ftp_session.proofs.Deals.{outcomes-append}
-use Rattle.ftp_session.specs.declared.model.DealOutcome.{DealOutcome}
+use Rattle.ftp_dialogue.specs.Deals.{Deal, Deals, outcomes_of}
+use Rattle.ftp_dialogue.proofs.Deals.{outcomes-append}
+use Rattle.ftp_dialogue.specs.declared.model.DealOutcome.{DealOutcome}
 use Rattle.ftp_control.specs.Told.{Told, HasRoomFor, HasNoRoom, EndsAsTold}
 use Rattle.ftp_control.specs.Memory.{IsGiven}
 use Rattle.ftp_control.specs.Reading.{GoesOn}
@@ -15,16 +15,16 @@ use Rattle.ftp_control.specs.Channel.{Channel, IsSound, untaken}
 use Rattle.ftp_control.specs.Saying.{said}
 use Rattle.ftp_control.specs.declared.control.outcome.Outcome.TheVariants.{Waits}
 use Rattle.ftp_control.specs.Grammar.{outcome}
-use Rattle.ftp_session.specs.declared.model.Script.{Script}
-use Rattle.ftp_session.specs.State.{SessionValue}
-use Rattle.ftp_session.specs.declared.session.state.State.{State}
-use Rattle.ftp_session.specs.Play.{fits}
-use Rattle.ftp_session.specs.Promises.{Goes}
+use Rattle.ftp_dialogue.specs.declared.model.Script.{Script}
+use Rattle.ftp_dialogue.specs.State.{SessionValue}
+use Rattle.ftp_dialogue.specs.declared.state.State.{State}
+use Rattle.ftp_dialogue.specs.Play.{fits}
+use Rattle.ftp_dialogue.specs.Promises.{Goes}
 use Rattle.ftp_session.specs.Script.{unread, is_over, front, seen_in}
 use Rattle.ftp_session.specs.Scripted.{SaysFrontOf}
-use Rattle.ftp_session.specs.Steps.Moving.{Keeps, Shrinks}
-use Rattle.ftp_session.proofs.Hearing.{nothing_says}
-use Rattle.ftp_session.specs.Link.{Builds, over_memory}
+use Rattle.ftp_dialogue.specs.Steps.Moving.{Keeps, Shrinks}
+use Rattle.ftp_dialogue.proofs.Hearing.{nothing_says}
+use Rattle.ftp_dialogue.specs.Link.{Builds, over_memory}
 
 -- Bytes
 pub unread_is : (t : Told) (given : IsGiven t) → unread t ≡ given.ahead

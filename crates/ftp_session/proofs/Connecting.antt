@@ -7,21 +7,21 @@ use Rattle.ftp_control.specs.Told.{Told}
 use Rattle.ftp_control.specs.declared.transport.room.Room.{Room}
 use Rattle.ftp_control.specs.declared.transport.request.Asked.{Asked}
 use Rattle.ftp_control.specs.declared.transport.request.Request.{Request}
-use Rattle.ftp_session.specs.declared.model.DealOutcome.{DealOutcome}
-use Rattle.ftp_session.specs.declared.model.DealOutcome.TheVariants.{Answered}
+use Rattle.ftp_dialogue.specs.declared.model.DealOutcome.{DealOutcome}
+use Rattle.ftp_dialogue.specs.declared.model.DealOutcome.TheVariants.{Answered}
 use Rattle.ftp_control.specs.declared.transport.request.RequestOutcome.TheVariants.{Done}
 use Rattle.ftp_control.specs.declared.transport.supply.Supply.{Supply}
 use Rattle.ftp_calls.specs.declared.call.Answer.TheVariants.{Fault}
 use Rattle.ftp_calls.specs.declared.call.Call.TheVariants.{Greet}
-use Rattle.ftp_session.specs.declared.session.state.State.{State}
-use Rattle.ftp_session.specs.declared.model.Standing.{Standing}
-use Rattle.ftp_session.specs.Coding.{Coding}
-use Rattle.ftp_session.specs.Deals.{dealt}
-use Rattle.ftp_session.specs.declared.model.Dealings.{Dealings}
+use Rattle.ftp_dialogue.specs.declared.state.State.{State}
+use Rattle.ftp_dialogue.specs.declared.model.Standing.{Standing}
+use Rattle.ftp_dialogue.specs.Coding.{Coding}
+use Rattle.ftp_dialogue.specs.Deals.{dealt}
+use Rattle.ftp_dialogue.specs.declared.model.Dealings.{Dealings}
 use Rattle.ftp_session.specs.Connecting.{connecting, dealt_in_turn, if_connected, outcomes_in, AsksAll, IsConnected, NoneConnects}
-use Rattle.ftp_session.specs.Dialogue.{Tree, Leaf, dialogue}
-use Rattle.ftp_session.specs.Link.{Link}
-use Rattle.ftp_session.specs.Play.{play}
+use Rattle.ftp_dialogue.specs.Dialogue.{Tree, Leaf, dialogue}
+use Rattle.ftp_dialogue.specs.Link.{Link}
+use Rattle.ftp_dialogue.specs.Play.{play}
 
 outcomes-append : (a b : List Asked) → outcomes_in (a ++ b) ≡ outcomes_in a ++ outcomes_in b
 outcomes-append [] b = refl

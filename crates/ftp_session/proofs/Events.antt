@@ -1,6 +1,6 @@
 -- Lemmas on the events of a script but Poll.
 use Rattle.ftp_control.specs.declared.control.form.ReplyForm.{ReplyForm}
-use Rattle.std.proofs.Common.{◌≡◌, ℕ, Bool, true, false, cond, ◌||◌, Option, Some, None, List, [], ◌∷◌, ◌++◌, length, drop, inl, inr, ◌⊎◌, refl, ap, sym, ◌∙◌, subst, append_assoc, append-nil}
+use Rattle.std.proofs.Common.{◌≡◌, ℕ, Bool, true, false, cond, ◌||◌, Option, Some, None, List, [], ◌++◌, length, drop, inl, inr, ◌⊎◌, refl, ap, sym, ◌∙◌, subst, append_assoc, append-nil}
 use Rattle.std.proofs.Math.Seq.{drop-append_seam}
 use Rattle.ftp_control.specs.Told.{Told, Given}
 use Rattle.ftp_control.specs.Memory.{IsGiven, fed, closed_memory, widened, more_room}
@@ -11,29 +11,33 @@ use Rattle.ftp_calls.specs.declared.call.Answer.{Answer}
 use Rattle.ftp_calls.specs.declared.call.Call.{Call}
 use Rattle.ftp_calls.specs.declared.call.Event.{Event}
 use Rattle.ftp_calls.specs.declared.call.Event.TheVariants as event
-use Rattle.ftp_session.specs.declared.session.stage.Stage.{Stage}
+use Rattle.ftp_dialogue.specs.declared.stage.Stage.{Stage}
+use Rattle.ftp_dialogue.specs.declared.stage.Stage.TheVariants.{At}
+use Rattle.ftp_calls.specs.declared.exchange.Turn.TheVariants.{First}
+use Rattle.ftp_session.specs.declared.session.run_polled.Course.{Course}
 use Rattle.futures.specs.declared.task.Poll.TheVariants.{Ready, Pending}
-use Rattle.ftp_session.specs.Deals.{Deal, Net}
-use Rattle.ftp_session.specs.declared.model.DealOutcome.{DealOutcome}
-use Rattle.ftp_session.specs.declared.session.state.State.{State}
-use Rattle.ftp_session.specs.declared.model.Script.{Script}
-use Rattle.ftp_session.specs.State.{SessionValue}
-use Rattle.ftp_session.specs.Coding.{Coding}
-use Rattle.ftp_session.specs.Script.{unread, is_over, start_of, script_of, after_event, start_script, MayCancel, MayPoll, poll_script}
-use Rattle.ftp_session.specs.Steps.Following.{Grows, polled_answer, Place, Follows, Starts, PollsHere, AbortsCall}
-use Rattle.ftp_session.specs.Promises.{HasFault, FailsWith, before_all, standing}
+use Rattle.ftp_dialogue.specs.Deals.{Deal, Net}
+use Rattle.ftp_dialogue.specs.declared.model.DealOutcome.{DealOutcome}
+use Rattle.ftp_dialogue.specs.declared.state.State.{State}
+use Rattle.ftp_dialogue.specs.declared.model.Item.{Item}
+use Rattle.ftp_dialogue.specs.declared.model.Script.{Script}
+use Rattle.ftp_dialogue.specs.State.{SessionValue}
+use Rattle.ftp_dialogue.specs.Coding.{Coding}
+use Rattle.ftp_session.specs.Script.{unread, is_over, start_of, script_of, after_event, start_script, idle, with_call, without_call, MayCancel}
+use Rattle.ftp_session.specs.Steps.Following.{Attended, Attends, Grows, Place, Follows, Starts, PollsHere}
+use Rattle.ftp_dialogue.specs.Steps.Polls.{polled_answer}
+use Rattle.ftp_dialogue.specs.Promises.{HasFault, FailsWith, before_all, standing}
 use Rattle.ftp_control.specs.Saying.{said}
 use Rattle.ftp_session.specs.Scripted.{Stands, Reaches}
-use Rattle.ftp_session.specs.Run.{run, and_then}
-use Rattle.ftp_session.specs.Play.{finally, play}
-use Rattle.ftp_session.specs.Dialogue.{Tree}
-use Rattle.ftp_session.specs.declared.model.Standing.{Standing}
+use Rattle.ftp_dialogue.specs.Run.{replay, and_then}
+use Rattle.ftp_dialogue.specs.Play.{finally, play}
+use Rattle.ftp_dialogue.specs.Dialogue.{Tree}
+use Rattle.ftp_dialogue.specs.declared.model.Standing.{Standing}
 use Rattle.futures.specs.declared.task.Poll.{Poll}
-use Rattle.ftp_session.specs.Steps.Stages.{remaining}
-use Rattle.ftp_session.proofs.Transitions.{given_by}
+use Rattle.ftp_dialogue.specs.Steps.Stages.{remaining}
+use Rattle.ftp_dialogue.proofs.TransitionsLemmas.{given_by}
 use Rattle.ftp_session.proofs.Carried.{unread_is}
-use Rattle.ftp_session.proofs.Following.{PollFollows}
-use Rattle.ftp_session.specs.Link.{Builds}
+use Rattle.ftp_dialogue.specs.Link.{Builds}
 
 module _ (builds : Builds) (coding : Coding) (outcomes left : List DealOutcome) where
   -- what is given to a connection
@@ -44,8 +48,8 @@ module _ (builds : Builds) (coding : Coding) (outcomes left : List DealOutcome) 
   place_given : (old : SessionValue) (s t : Script) (came : List ℕ) (answered : List Deal) (v : SessionValue) (given : Given) (call : Option Call) (stage : Stage) → given.local ≡ v.channel.told.given.local → given.peer ≡ v.channel.told.given.peer → t.items ≡ s.items → t.answers ≡ s.answers → t.polled ≡ s.polled → t.heard ≡ s.heard → Place coding old s came answered v call stage → Place coding old t came answered (with_given v given) call stage
   place_given old s t came answered v given call stage local peer items answers polled heard place =
       let same : Place coding old s came answered (with_given v given) call stage = go call stage place in
-      let P : List Call → List Answer → Bool → Bool → Type 0 = λ i a p h. Place coding old (record s { items = i; answers = a; polled = p; heard = h }) came answered (with_given v given) call stage in
-      let Q : List Call → Type 0 = λ i. P i t.answers t.polled t.heard in
+      let P : List Item → List Answer → Bool → Bool → Type 0 = λ i a p h. Place coding old (record s { items = i; answers = a; polled = p; heard = h }) came answered (with_given v given) call stage in
+      let Q : List Item → Type 0 = λ i. P i t.answers t.polled t.heard in
       let R : List Answer → Type 0 = λ a. P s.items a t.polled t.heard in
       let S : Bool → Type 0 = λ p. P s.items s.answers p t.heard in
       let H : Bool → Type 0 = λ h. P s.items s.answers s.polled h in
@@ -58,22 +62,22 @@ module _ (builds : Builds) (coding : Coding) (outcomes left : List DealOutcome) 
           ap (λ a. record s { local = a }) (sym local) ∙ ap (λ a. record s { local = given.local; peer = a }) (sym peer)
 
       stands_given : Stands coding old s.items came answered v s.answers → Stands coding old s.items came answered (with_given v given) s.answers
-      stands_given stands = λ later room more ended outcomes fit on. stands later room more ended outcomes fit on ∙ ap (λ x. before_all s.answers (run room coding later x)) (same_standing more ended outcomes)
+      stands_given stands = λ later room more ended outcomes fit on. stands later room more ended outcomes fit on ∙ ap (λ x. before_all s.answers (replay room coding later x)) (same_standing more ended outcomes)
 
       reaches_given : (call : Call) (tree : Tree) → Reaches coding old s.items came answered v s.answers call tree → Reaches coding old s.items came answered (with_given v given) s.answers call tree
-      reaches_given call tree reaches = λ later room more ended outcomes fit on. reaches later room more ended outcomes fit on ∙ ap (λ x. before_all s.answers (and_then (finally (play room tree x)) (λ t. run room coding later t))) (same_standing more ended outcomes)
+      reaches_given call tree reaches = λ later room more ended outcomes fit on. reaches later room more ended outcomes fit on ∙ ap (λ x. before_all s.answers (and_then (finally (play room tree x)) (λ t. replay room coding later t))) (same_standing more ended outcomes)
 
       go : (call : Option Call) (stage : Stage) → Place coding old s came answered v call stage → Place coding old s came answered (with_given v given) call stage
       go None stage place = stands_given place
       go (Some call) stage (inl place) = inl (record { at = place.at; unpolled = place.unpolled; unheard = place.unheard; stands = stands_given place.stands })
-      go (Some call) stage (inr (inl place)) = inr (inl (record { stage_of = place.stage_of; polled = place.polled; going = place.going; reaches = reaches_given call (remaining coding call v.state stage) place.reaches; resumes = place.resumes; apart = place.apart; read = λ r. stands_given (place.read r); since = record { start = place.since.start; before = place.since.before; later = place.since.later; split = place.since.split; asked_before = place.since.asked_before; asked_later = place.since.asked_later; asked_split = place.since.asked_split; stands = place.since.stands; said = place.since.said; taken = place.since.taken; has_begun = place.since.has_begun; not_begun = place.since.not_begun } }))
-      go (Some call) stage (inr (inr place)) = inr (inr (record { plain = place.plain; stage_of = place.stage_of; polled = place.polled; unheard = place.unheard; going = place.going; no_read = place.no_read; reaches = reaches_given call (remaining coding call v.state stage) place.reaches; resumes = place.resumes; since = record { start = place.since.start; before = place.since.before; later = place.since.later; split = place.since.split; asked_before = place.since.asked_before; asked_later = place.since.asked_later; asked_split = place.since.asked_split; stands = place.since.stands; said = place.since.said; taken = place.since.taken; has_begun = place.since.has_begun; not_begun = place.since.not_begun } }))
+      go (Some call) stage (inr (inl place)) = inr (inl (record { stage_of = place.stage_of; polled = place.polled; undue = place.undue; going = place.going; reaches = reaches_given call (remaining coding call v.state stage) place.reaches; resumes = place.resumes; apart = place.apart; read = λ r. stands_given (place.read r); since = record { start = place.since.start; before = place.since.before; later = place.since.later; split = place.since.split; asked_before = place.since.asked_before; asked_later = place.since.asked_later; asked_split = place.since.asked_split; stands = place.since.stands; said = place.since.said; taken = place.since.taken; has_begun = place.since.has_begun; not_begun = place.since.not_begun } }))
+      go (Some call) stage (inr (inr place)) = inr (inr (record { plain = place.plain; stage_of = place.stage_of; polled = place.polled; unheard = place.unheard; undue = place.undue; going = place.going; no_read = place.no_read; reaches = reaches_given call (remaining coding call v.state stage) place.reaches; resumes = place.resumes; since = record { start = place.since.start; before = place.since.before; later = place.since.later; split = place.since.split; asked_before = place.since.asked_before; asked_later = place.since.asked_later; asked_split = place.since.asked_split; stands = place.since.stands; said = place.since.said; taken = place.since.taken; has_begun = place.since.has_begun; not_begun = place.since.not_begun } }))
 
       back : (call : Option Call) (stage : Stage) → Place coding old (record s { items = t.items; answers = t.answers; polled = t.polled; heard = t.heard }) came answered (with_given v given) call stage → Place coding old t came answered (with_given v given) call stage
       back None stage place = place
       back (Some call) stage (inl place) = inl (record { at = place.at; unpolled = place.unpolled; unheard = place.unheard; stands = place.stands })
-      back (Some call) stage (inr (inl place)) = inr (inl (record { stage_of = place.stage_of; polled = place.polled; going = place.going; reaches = place.reaches; resumes = place.resumes; apart = place.apart; read = place.read; since = record { start = place.since.start; before = place.since.before; later = place.since.later; split = place.since.split; asked_before = place.since.asked_before; asked_later = place.since.asked_later; asked_split = place.since.asked_split; stands = place.since.stands; said = place.since.said; taken = place.since.taken; has_begun = place.since.has_begun; not_begun = place.since.not_begun } }))
-      back (Some call) stage (inr (inr place)) = inr (inr (record { plain = place.plain; stage_of = place.stage_of; polled = place.polled; unheard = place.unheard; going = place.going; no_read = place.no_read; reaches = place.reaches; resumes = place.resumes; since = record { start = place.since.start; before = place.since.before; later = place.since.later; split = place.since.split; asked_before = place.since.asked_before; asked_later = place.since.asked_later; asked_split = place.since.asked_split; stands = place.since.stands; said = place.since.said; taken = place.since.taken; has_begun = place.since.has_begun; not_begun = place.since.not_begun } }))
+      back (Some call) stage (inr (inl place)) = inr (inl (record { stage_of = place.stage_of; polled = place.polled; undue = place.undue; going = place.going; reaches = place.reaches; resumes = place.resumes; apart = place.apart; read = place.read; since = record { start = place.since.start; before = place.since.before; later = place.since.later; split = place.since.split; asked_before = place.since.asked_before; asked_later = place.since.asked_later; asked_split = place.since.asked_split; stands = place.since.stands; said = place.since.said; taken = place.since.taken; has_begun = place.since.has_begun; not_begun = place.since.not_begun } }))
+      back (Some call) stage (inr (inr place)) = inr (inr (record { plain = place.plain; stage_of = place.stage_of; polled = place.polled; unheard = place.unheard; undue = place.undue; going = place.going; no_read = place.no_read; reaches = place.reaches; resumes = place.resumes; since = record { start = place.since.start; before = place.since.before; later = place.since.later; split = place.since.split; asked_before = place.since.asked_before; asked_later = place.since.asked_later; asked_split = place.since.asked_split; stands = place.since.stands; said = place.since.said; taken = place.since.taken; has_begun = place.since.has_begun; not_begun = place.since.not_begun } }))
 
   -- what is fed is unread
   fed_unread : (t : Told) (more : List ℕ) → IsGiven t → drop (length t.received) (t.given.bytes ++ more) ≡ unread t ++ more
@@ -198,48 +202,53 @@ module _ (builds : Builds) (coding : Coding) (outcomes left : List DealOutcome) 
         subst P (sym is) wide has sound
 
   -- a call begins, where none is under way
-  pub starts : (old : SessionValue) (s : Script) (v : SessionValue) (next : Call) (call call' : Option Call) (stage stage' : Stage) (answers : List Answer) → Follows builds coding outcomes left old s v call stage answers → Starts next call call' stage stage' → Follows builds coding outcomes left old (after_event coding (start_of old outcomes) s (event.Start next)) v call' stage' answers
-  starts old s v next None call' stage stage' answers f is =
-      let P : Option Call → Type 0 = λ c. Follows builds coding outcomes left old (start_script next c s) v call' stage' answers in
-      let Q : Option Call → Type 0 = λ c. Follows builds coding outcomes left old (record s { call = Some next; polled = false; heard = false }) v c stage' answers in
-      let R : Stage → Type 0 = λ x. Follows builds coding outcomes left old (record s { call = Some next; polled = false; heard = false }) v (Some next) x answers in
+  pub begins_call : (old : SessionValue) (s : Script) (v : SessionValue) (next : Call) (stage : Stage) (answers : List Answer) → Follows builds coding outcomes left old s v None stage answers → Follows builds coding outcomes left old (with_call next s) v (Some next) (At First) answers
+  begins_call old s v next stage answers f = record {
+    came = f.came;
+    answered = f.answered;
+    deals = f.deals;
+    outcomes_are = f.outcomes_are;
+    dealings = f.dealings;
+    place = inl (record { at = refl; unpolled = refl; unheard = refl; stands = f.place });
+    rule = f.rule;
+    failures = f.failures;
+    given = f.given;
+    sound = f.sound;
+    bytes = f.bytes;
+    ended = f.ended;
+    room = f.room;
+    sent = f.sent;
+    said = record { rest = f.said.rest; is = f.said.is; whole = f.said.whole };
+    received = f.received;
+    unsent = λ may. f.unsent tt;
+    untaken = f.untaken;
+    seen = f.seen;
+    waits = f.waits;
+    state = f.state;
+    failed = f.failed;
+    call_is = refl;
+    answers_are = f.answers_are;
+  }
+
+  pub starts : (old : SessionValue) (s : Script) (v : SessionValue) (next : Call) (call call' : Option Call) (stage stage' : Stage) (course course' : Course) (answers : List Answer) → Attended builds coding outcomes left old s v call stage course answers → Starts next call call' stage stage' course course' → Attended builds coding outcomes left old (after_event coding (start_of old outcomes) s (event.Start next)) v call' stage' course' answers
+  starts old s v next None call' stage stage' course course' answers (f, a) is =
+      let P : Option Call → Type 0 = λ c. Attended builds coding outcomes left old (start_script next c s) v call' stage' course' answers in
+      let Q : Option Call → Type 0 = λ c. Attended builds coding outcomes left old (with_call next s) v c stage' course' answers in
+      let R : Stage → Type 0 = λ x. Attended builds coding outcomes left old (with_call next s) v (Some next) x course' answers in
+      let C : Course → Type 0 = λ x. Attended builds coding outcomes left old (with_call next s) v (Some next) (At First) x answers in
       subst P (sym f.call_is)
       (subst Q (sym is.0)
       (subst R (sym is.1)
-      (record {
-        came = f.came;
-        answered = f.answered;
-        deals = f.deals;
-        outcomes_are = f.outcomes_are;
-        dealings = f.dealings;
-        place = inl (record { at = refl; unpolled = refl; unheard = refl; stands = f.place });
-        rule = f.rule;
-        failures = f.failures;
-        given = f.given;
-        sound = f.sound;
-        bytes = f.bytes;
-        ended = f.ended;
-        room = f.room;
-        sent = f.sent;
-        said = record { rest = f.said.rest; is = f.said.is; whole = f.said.whole };
-        received = f.received;
-        unsent = λ may. f.unsent tt;
-        untaken = f.untaken;
-        seen = f.seen;
-        waits = f.waits;
-        state = f.state;
-        failed = f.failed;
-        call_is = refl;
-        answers_are = f.answers_are;
-      })))
-  starts old s v next (Some other) call' stage stage' answers f is =
-      let P : Option Call → Type 0 = λ c. Follows builds coding outcomes left old (start_script next c s) v call' stage' answers in
-      let Q : Option Call → Type 0 = λ c. Follows builds coding outcomes left old s v c stage' answers in
-      let R : Stage → Type 0 = λ x. Follows builds coding outcomes left old s v (Some other) x answers in
-      subst P (sym f.call_is) (subst Q (sym is.0) (subst R (sym is.1) f))
+      (subst C (sym is.2) (begins_call old s v next stage answers f, record { polled = refl; leaving = a.leaving; resting = λ none. (let clash : Some next ≡ None = none in cc) }))))
+  starts old s v next (Some other) call' stage stage' course course' answers (f, a) is =
+      let P : Option Call → Type 0 = λ c. Attended builds coding outcomes left old (start_script next c s) v call' stage' course' answers in
+      let Q : Option Call → Type 0 = λ c. Attended builds coding outcomes left old s v c stage' course' answers in
+      let R : Stage → Type 0 = λ x. Attended builds coding outcomes left old s v (Some other) x course' answers in
+      let C : Course → Type 0 = λ x. Attended builds coding outcomes left old s v (Some other) stage x answers in
+      subst P (sym f.call_is) (subst Q (sym is.0) (subst R (sym is.1) (subst C (sym is.2) (f, a))))
 
-  -- the call under way is dropped
-  pub cancels : (old : SessionValue) (s : Script) (v : SessionValue) (call : Option Call) (stage stage' : Stage) (answers : List Answer) → Follows builds coding outcomes left old s v call stage answers → MayCancel s.call s.polled → Follows builds coding outcomes left old (after_event coding (start_of old outcomes) s event.Cancel) v None stage' answers
+  -- the call under way is dropped, of which no trace is left
+  pub cancels : (old : SessionValue) (s : Script) (v : SessionValue) (call : Option Call) (stage stage' : Stage) (answers : List Answer) → Follows builds coding outcomes left old s v call stage answers → MayCancel s.call s.polled → Follows builds coding outcomes left old (without_call s) v None stage' answers
   cancels old s v call stage stage' answers f dropped = record {
     came = f.came;
     answered = f.answered;
@@ -270,10 +279,68 @@ module _ (builds : Builds) (coding : Coding) (outcomes left : List DealOutcome) 
       go : (call : Option Call) (stage : Stage) → Place coding old s f.came f.answered v call stage → MayCancel call s.polled → Stands coding old s.items f.came f.answered v s.answers
       go None stage place may = place
       go (Some call) stage (inl place) may = place.stands
-      go (Some call) stage (inr (inl place)) (inl new) = let clash : true ≡ false = sym place.polled ∙ new.0 in cc
+      go (Some call) stage (inr (inl place)) (inl new) = let clash : true ≡ false = sym place.polled ∙ new in cc
       go (Some call) stage (inr (inl place)) (inr read) = place.read read
-      go (Some call) stage (inr (inr place)) (inl new) = let clash : true ≡ false = sym place.polled ∙ new.0 in cc
+      go (Some call) stage (inr (inr place)) (inl new) = let clash : true ≡ false = sym place.polled ∙ new in cc
       go (Some call) stage (inr (inr place)) (inr read) = let clash : true ≡ false = sym read ∙ place.no_read in cc
+
+  -- no call is under way
+  pub idles : (old : SessionValue) (s : Script) (v : SessionValue) (stage : Stage) (answers : List Answer) → Follows builds coding outcomes left old s v None stage answers → Follows builds coding outcomes left old (idle s) v None stage answers
+  idles old s v stage answers f = record {
+    came = f.came;
+    answered = f.answered;
+    deals = f.deals;
+    outcomes_are = f.outcomes_are;
+    dealings = f.dealings;
+    place = f.place;
+    rule = f.rule;
+    failures = f.failures;
+    given = f.given;
+    sound = f.sound;
+    bytes = f.bytes;
+    ended = f.ended;
+    room = f.room;
+    sent = f.sent;
+    said = record { rest = f.said.rest; is = f.said.is; whole = f.said.whole };
+    received = f.received;
+    unsent = λ may. f.unsent tt;
+    untaken = f.untaken;
+    seen = f.seen;
+    waits = f.waits;
+    state = f.state;
+    failed = f.failed;
+    call_is = refl;
+    answers_are = f.answers_are;
+  }
+
+  -- a transfer is to be left once the call under way is over
+  pub leaves_later : (old : SessionValue) (s : Script) (v : SessionValue) (call : Option Call) (stage : Stage) (answers : List Answer) → Follows builds coding outcomes left old s v call stage answers → Follows builds coding outcomes left old (record s { leaving = true }) v call stage answers
+  leaves_later old s v call stage answers f = record {
+    came = f.came;
+    answered = f.answered;
+    deals = f.deals;
+    outcomes_are = f.outcomes_are;
+    dealings = f.dealings;
+    place = place_given old s (record s { leaving = true }) f.came f.answered v v.channel.told.given call stage refl refl refl refl refl refl f.place;
+    rule = f.rule;
+    failures = f.failures;
+    given = f.given;
+    sound = f.sound;
+    bytes = f.bytes;
+    ended = f.ended;
+    room = f.room;
+    sent = f.sent;
+    said = record { rest = f.said.rest; is = f.said.is; whole = f.said.whole };
+    received = f.received;
+    unsent = f.unsent;
+    untaken = f.untaken;
+    seen = f.seen;
+    waits = f.waits;
+    state = f.state;
+    failed = f.failed;
+    call_is = f.call_is;
+    answers_are = f.answers_are;
+  }
 
   -- a script begins
   pub begins : (v : SessionValue) (form : ReplyForm) (stage : Stage) → outcomes ≡ left → IsGiven v.channel.told → IsSound (Unit {0}) v.channel → outcome v.channel.rule form v.channel.kept false ≡ Waits → Follows builds coding outcomes left v (script_of v form) v None stage []
@@ -304,49 +371,27 @@ module _ (builds : Builds) (coding : Coding) (outcomes left : List DealOutcome) 
     answers_are = refl;
   }
 
-  -- a poll where no call is under way
-  pub polled_none : (old : SessionValue) (s : Script) (v : SessionValue) (under_way : Option Call) (stage : Stage) (answers : List Answer) → under_way ≡ None → Follows builds coding outcomes left old s v under_way stage answers → Follows builds coding outcomes left old (poll_script coding (start_of old outcomes) s.call s) v under_way stage (answers ++ [])
-  polled_none old s v under_way stage answers none f =
-      let S : Option Call → Type 0 = λ c. Follows builds coding outcomes left old (poll_script coding (start_of old outcomes) c s) v under_way stage (answers ++ []) in
-      let A : List Answer → Type 0 = λ a. Follows builds coding outcomes left old s v under_way stage a in
-      subst S (sym (f.call_is ∙ none)) (subst A (sym (append-nil answers)) f)
+  -- what is known of the call under way stays
+  pub still_attends : (s t : Script) (course : Course) → t.call ≡ s.call → t.polled ≡ s.polled → t.leaving ≡ s.leaving → Attends s course → Attends t course
+  still_attends s t course same polled leaving a = record { polled = polled ∙ a.polled; leaving = leaving ∙ a.leaving; resting = λ none. polled ∙ a.resting (sym same ∙ none) }
 
-  -- a poll of the call under way
-  module _ (due : List DealOutcome) (old : SessionValue) (s : Script) (v w : SessionValue) (under_way : Option Call) (call : Call) (stage stage' : Stage) (answers : List Answer) (is : under_way ≡ Some call) (f : Follows builds coding outcomes due old s v under_way stage answers) (may : MayPoll coding (start_of old outcomes) s.call s) where
-    named : s.call ≡ Some call
-    named = f.call_is ∙ is
-
-    follows_call : Follows builds coding outcomes due old s v (Some call) stage answers
-    follows_call = let F : Option Call → Type 0 = λ c. Follows builds coding outcomes due old s v c stage answers in subst F is f
-
-    may_call : MayPoll coding (start_of old outcomes) (Some call) s
-    may_call = let M : Option Call → Type 0 = λ c. MayPoll coding (start_of old outcomes) c s in subst M named may
-
-    pub polled_ready : (answer : Answer) → (Follows builds coding outcomes due old s v (Some call) stage answers → MayPoll coding (start_of old outcomes) (Some call) s → PollFollows builds coding outcomes left old s v w call stage stage' answers (Ready answer)) → Follows builds coding outcomes left old (poll_script coding (start_of old outcomes) s.call s) w None stage' (answers ++ answer ∷ []) ⊎ AbortsCall builds coding call stage v w (Some answer)
-    polled_ready answer polls =
-        let R : Option Call → Type 0 = λ c. Follows builds coding outcomes left old (poll_script coding (start_of old outcomes) c s) w None stage' (answers ++ answer ∷ []) ⊎ AbortsCall builds coding call stage v w (Some answer) in
-        subst R (sym named) (polls follows_call may_call)
-
-    pub polled_pending : (Follows builds coding outcomes due old s v (Some call) stage answers → MayPoll coding (start_of old outcomes) (Some call) s → PollFollows builds coding outcomes left old s v w call stage stage' answers Pending) → Follows builds coding outcomes left old (poll_script coding (start_of old outcomes) s.call s) w under_way stage' (answers ++ [])
-    polled_pending polls =
-        let R : Option Call → Type 0 = λ c. Follows builds coding outcomes left old (poll_script coding (start_of old outcomes) c s) w under_way stage' (answers ++ []) in
-        let U : Option Call → Type 0 = λ c. Follows builds coding outcomes left old (poll_script coding (start_of old outcomes) (Some call) s) w c stage' (answers ++ []) in
-        let A : List Answer → Type 0 = λ a. Follows builds coding outcomes left old (poll_script coding (start_of old outcomes) (Some call) s) w (Some call) stage' a in
-        subst R (sym named) (subst U (sym is) (subst A (sym (append-nil answers)) (polls follows_call may_call)))
-
-  -- a call that is aborted by a poll is under way no more
-  pub at_poll : (F : Type 0) (v w : SessionValue) (result : Option Answer) (under_way : Call) (stage : Stage) (call call' : Option Call) → call ≡ Some under_way → call' ≡ None → F ⊎ AbortsCall builds coding under_way stage v w result → F ⊎ (((c : Call) × (call ≡ Some c) × AbortsCall builds coding c stage v w result) × (call' ≡ None) × (event.Poll ≡ event.Poll))
-  at_poll F v w result under_way stage call call' is none (inl follows) = inl follows
-  at_poll F v w result under_way stage call call' is none (inr aborts) = inr ((under_way, is, aborts), none, refl)
+  pub fed_attends : (old : SessionValue) (more : List ℕ) (s : Script) (course : Course) → Attends s course → Attends (after_event coding (start_of old outcomes) s (event.Feed more)) course
+  fed_attends old more s course a =
+      let later : Script = record s { bytes = s.bytes ++ more; untaken = s.untaken ++ more } in
+      elim s.ended as (λ b. Attends (cond b s later) course) [
+        | true ↦ a
+        | false ↦ still_attends s later course refl refl refl a
+      ]
 
   -- an event without an answer
-  pub happened : (old : SessionValue) (s : Script) (w : SessionValue) (event kind : Event) (call call' : Option Call) (stage stage' : Stage) (answers : List Answer) → event ≡ kind → call' ≡ call → stage' ≡ stage → Follows builds coding outcomes left old (after_event coding (start_of old outcomes) s kind) w call stage answers → Follows builds coding outcomes left old (after_event coding (start_of old outcomes) s event) w call' stage' (answers ++ [])
-  happened old s w event kind call call' stage stage' answers is same stays f =
-      let E : Event → Type 0 = λ e. Follows builds coding outcomes left old (after_event coding (start_of old outcomes) s e) w call' stage' (answers ++ []) in
-      let C : Option Call → Type 0 = λ c. Follows builds coding outcomes left old (after_event coding (start_of old outcomes) s kind) w c stage' (answers ++ []) in
-      let S : Stage → Type 0 = λ x. Follows builds coding outcomes left old (after_event coding (start_of old outcomes) s kind) w call x (answers ++ []) in
-      let A : List Answer → Type 0 = λ a. Follows builds coding outcomes left old (after_event coding (start_of old outcomes) s kind) w call stage a in
-      subst E (sym is) (subst C (sym same) (subst S (sym stays) (subst A (sym (append-nil answers)) f)))
+  pub happened : (old : SessionValue) (s : Script) (w : SessionValue) (event kind : Event) (call call' : Option Call) (stage stage' : Stage) (course course' : Course) (answers : List Answer) → event ≡ kind → call' ≡ call → stage' ≡ stage → course' ≡ course → Attended builds coding outcomes left old (after_event coding (start_of old outcomes) s kind) w call stage course answers → Attended builds coding outcomes left old (after_event coding (start_of old outcomes) s event) w call' stage' course' (answers ++ [])
+  happened old s w event kind call call' stage stage' course course' answers is same stays kept f =
+      let E : Event → Type 0 = λ e. Attended builds coding outcomes left old (after_event coding (start_of old outcomes) s e) w call' stage' course' (answers ++ []) in
+      let C : Option Call → Type 0 = λ c. Attended builds coding outcomes left old (after_event coding (start_of old outcomes) s kind) w c stage' course' (answers ++ []) in
+      let S : Stage → Type 0 = λ x. Attended builds coding outcomes left old (after_event coding (start_of old outcomes) s kind) w call x course' (answers ++ []) in
+      let K : Course → Type 0 = λ x. Attended builds coding outcomes left old (after_event coding (start_of old outcomes) s kind) w call stage x (answers ++ []) in
+      let A : List Answer → Type 0 = λ a. Attended builds coding outcomes left old (after_event coding (start_of old outcomes) s kind) w call stage course a in
+      subst E (sym is) (subst C (sym same) (subst S (sym stays) (subst K (sym kept) (subst A (sym (append-nil answers)) f))))
 
   -- the session itself stays
   pub stayed : (old : SessionValue) (s : Script) (v w : SessionValue) (call : Option Call) (stage : Stage) (answers : List Answer) → w ≡ v → Follows builds coding outcomes left old s v call stage answers → Follows builds coding outcomes left old s w call stage answers

@@ -1,5 +1,5 @@
 -- Lemmas on scripts: what a Poll makes of one.
-use Rattle.std.proofs.Common.{◌≡◌, ℕ, ◌+◌, ◌<◌, ◌≤◌, Bool, true, false, cond, ◌||◌, Option, Some, None, is_none, List, [], ◌∷◌, ◌++◌, length, take, drop, Result, Ok, Err, inl, inr, ◌⊎◌, refl, ap, sym, ◌∙◌, subst, append_assoc, append-nil, length-append, arith}
+use Rattle.std.proofs.Common.{◌≡◌, ℕ, ◌+◌, ◌<◌, ◌≤◌, Bool, true, false, cond, ◌||◌, Option, Some, None, List, [], ◌∷◌, ◌++◌, length, take, drop, Result, Ok, Err, inl, inr, ◌⊎◌, refl, ap, sym, ◌∙◌, subst, append_assoc, append-nil, length-append, arith}
 use Rattle.std.proofs.lemmas.Bool.{le-leb}
 use Rattle.std.proofs.lemmas.List.{append_cancel_left}
 use Rattle.std.proofs.Math.Seq.{take-append_seam, drop-length}
@@ -15,10 +15,10 @@ use Rattle.ftp_control.specs.declared.control.rule.ReplyRule.{ReplyRule}
 use Rattle.ftp_control.specs.declared.transport.room.Room.{Room}
 use Rattle.ftp_control.specs.declared.transport.room.Room.TheVariants.{Any, UpTo}
 use Rattle.ftp_control.specs.declared.transport.request.RequestOutcome.{RequestOutcome}
-use Rattle.ftp_session.specs.declared.model.DealOutcome.{DealOutcome}
+use Rattle.ftp_dialogue.specs.declared.model.DealOutcome.{DealOutcome}
 use Rattle.ftp_control.specs.declared.transport.request.RequestOutcome.TheVariants as asked
 use Rattle.ftp_control.specs.declared.control.form.ReplyForm.TheVariants.{Plain}
-use Rattle.ftp_session.specs.Deals.{Deal, Deals, Net, dealings_of, outcomes_of}
+use Rattle.ftp_dialogue.specs.Deals.{Deal, Deals, Net, dealings_of, outcomes_of}
 use Rattle.ftp_base.specs.declared.types.mode.Mode.{Mode}
 use Rattle.ftp_base.specs.declared.types.mode.Mode.TheVariants as mode
 use Rattle.std.specs.declared.net.socket_addr.SocketAddr.{SocketAddr}
@@ -28,49 +28,55 @@ use Rattle.ftp_control.specs.Channel.{IsSound, untaken}
 use Rattle.ftp_control.specs.Saying.{said}
 use Rattle.ftp_control.specs.declared.control.outcome.Outcome.TheVariants.{Waits}
 use Rattle.ftp_control.specs.Grammar.{outcome}
-use Rattle.ftp_session.specs.declared.session.state.State.{State}
+use Rattle.ftp_dialogue.specs.declared.state.State.{State}
 use Rattle.ftp_calls.specs.declared.call.Answer.{Answer}
 use Rattle.ftp_calls.specs.declared.call.Call.{Call}
 use Rattle.ftp_calls.specs.declared.exchange.Turn.{Turn}
-use Rattle.ftp_calls.specs.declared.exchange.Turn.TheVariants.{First, Second, Passive, ExtendedPassive, Active, Restart, Closed}
-use Rattle.ftp_session.specs.declared.session.stage.Stage.{Stage}
-use Rattle.ftp_session.specs.declared.session.stage.Stage.TheVariants.{At, Saying, Hearing, Arming, Agreeing, Closing}
-use Rattle.ftp_session.specs.declared.model.Standing.{Standing}
-use Rattle.ftp_session.specs.declared.model.Wait.{Wait}
-use Rattle.ftp_session.specs.declared.model.Wait.TheVariants as wait
-use Rattle.ftp_session.specs.declared.model.Played.TheVariants as played
-use Rattle.ftp_session.specs.declared.model.Ran.{Ran}
-use Rattle.ftp_session.specs.declared.model.Ran.TheVariants.{Finished, Waiting}
-use Rattle.ftp_session.specs.declared.model.Script.{Script}
-use Rattle.ftp_session.specs.State.{SessionValue, let_go}
-use Rattle.ftp_session.specs.Coding.{Coding}
+use Rattle.ftp_calls.specs.declared.exchange.Turn.TheVariants.{First, Second, Passive, ExtendedPassive, Active, Restart, Closed, Aborted}
+use Rattle.ftp_dialogue.specs.declared.stage.Stage.{Stage}
+use Rattle.ftp_dialogue.specs.declared.stage.Stage.TheVariants.{At, Saying, Hearing, Arming, Agreeing, Closing, Aborting}
+use Rattle.ftp_dialogue.specs.declared.model.Standing.{Standing}
+use Rattle.ftp_dialogue.specs.declared.model.Wait.{Wait}
+use Rattle.ftp_dialogue.specs.declared.model.Wait.TheVariants as wait
+use Rattle.ftp_dialogue.specs.declared.model.Played.TheVariants as played
+use Rattle.ftp_dialogue.specs.declared.model.Ran.{Ran}
+use Rattle.ftp_dialogue.specs.declared.model.Ran.TheVariants.{Finished, Waiting}
+use Rattle.ftp_dialogue.specs.declared.model.Item.{Item}
+use Rattle.ftp_dialogue.specs.declared.model.Item.TheVariants.{Shown}
+use Rattle.ftp_dialogue.specs.declared.model.Script.{Script}
+use Rattle.ftp_dialogue.specs.State.{SessionValue}
+use Rattle.ftp_dialogue.specs.Coding.{Coding}
 use Rattle.ftp_calls.specs.declared.exchange.Exchange.{Exchange}
 use Rattle.ftp_calls.specs.declared.exchange.Row.{Row}
 use Rattle.ftp_calls.specs.declared.exchange.Row.TheVariants.{Exchanges, Arms, Sets, Moves}
-use Rattle.ftp_calls.specs.Exchanges.{drains, finishes, is_local, negotiates, is_read, row_of}
+use Rattle.ftp_calls.specs.Exchanges.{drains, finishes, is_local, negotiates, is_read, row_of, aborts}
 use Rattle.std.specs.Net.Socket.{socket_port}
-use Rattle.ftp_session.specs.Sound.{cannot_open}
-use Rattle.ftp_session.specs.Dialogue.{agreeing, at_port, closing, entered, opened_from, told_of_close, with_left, from_turn, negotiating, negotiating_unless, on_address, Expected, expected_of, Tree, Say, Hear, saying, awaiting, doing, later, dialogue}
-use Rattle.ftp_session.specs.Play.{ended, finally, play, fits, heard_then}
-use Rattle.ftp_session.specs.declared.model.Played.{Played}
-use Rattle.ftp_session.specs.Run.{run, before, and_then, Resumes, Silent}
-use Rattle.ftp_session.specs.Promises.{lacks_of, refusal_of, begun_by, failed_from, standing, before_all, However, Fails, LacksMemory, Touched, Untouched, Goes, Leads, Rests, Aborts}
-use Rattle.ftp_session.specs.Script.{unread, is_over, start_of, front, seen_at, form_at, first_form, heard_form, polled_as, run_with, poll_script, HearsNothing, MayCancel, MayPoll, needs_data}
+use Rattle.ftp_dialogue.specs.Sound.{cannot_open}
+use Rattle.ftp_dialogue.specs.Dialogue.{agreeing, at_port, closing, entered, opened_from, told_of_close, with_left, from_turn, negotiating, negotiating_unless, on_address, Expected, expected_of, Tree, Say, Hear, saying, awaiting, doing, later, dialogue, parting, aborting, breaking_off}
+use Rattle.ftp_dialogue.specs.Play.{ended, finally, play, fits, heard_then, needs_data}
+use Rattle.ftp_dialogue.specs.declared.model.Played.{Played}
+use Rattle.ftp_dialogue.specs.Run.{replay, before, and_then, Resumes, Silent}
+use Rattle.ftp_dialogue.specs.Promises.{due_of, lacks_of, refusal_of, begun_by, failed_from, standing, before_all, However, Fails, LacksMemory, Touched, Untouched, Goes, Leads, Rests, Aborts}
+use Rattle.ftp_session.specs.Script.{unread, is_over, start_of, front, seen_at, form_at, first_form, heard_form, polled_as, run_with, poll_script, HearsNothing, MayCancel, MayPoll}
 use Rattle.ftp_session.specs.Scripted.{MayGoOn, SaysFrontOf, SaysNothing, Stands, SaysOrTakes, CallHasBegun, Reaches, LeftOf, entering}
-use Rattle.ftp_session.specs.Steps.Stages.{StageOf, remaining, begun_at}
-use Rattle.ftp_session.specs.Steps.Moving.{Apart, BeginsHere, HasBegun, HasGoneOut, NothingTouched, Speaks, StillSays, Keeps, Shrinks, Calm, Advances, PollsTo, WaitsFor, WaitsToSay}
-use Rattle.ftp_session.specs.Steps.Following.{MayPollAt, MayPollFrom, is_first, entered_at, entered_state, entered_tree, Since, Started, UnderWay, Unheard, Place, Follows, PollsHere, AbortsCall}
-use Rattle.ftp_session.proofs.Deals.{deals-append, drops, drops_deal, outcomes-append}
-use Rattle.ftp_session.proofs.Moving.{Finishes, finishes as finishes_by, goes_after, fitted, play-Say}
-use Rattle.ftp_session.proofs.Hearing.{play-Hear}
+use Rattle.ftp_dialogue.specs.Steps.Stages.{StageOf, remaining, begun_at}
+use Rattle.ftp_dialogue.specs.Steps.Moving.{Apart, BeginsHere, HasBegun, HasGoneOut, NothingTouched, Speaks, StillSays, Keeps, Shrinks, Calm, Advances, PollsTo, WaitsFor, WaitsToSay}
+use Rattle.ftp_session.specs.Steps.Following.{Since, Started, UnderWay, Unheard, Place, Follows, PollsHere, AbortsCall}
+use Rattle.ftp_dialogue.specs.Steps.Polls.{MayPollAt, MayPollFrom, is_first, entered_at, entered_state, entered_tree}
+use Rattle.ftp_dialogue.proofs.Deals.{deals-append, drops, outcomes-append, letting_deals}
+use Rattle.ftp_dialogue.proofs.Moving.{Finishes, finishes as finishes_by, goes_after, fitted, play-Say}
+use Rattle.ftp_dialogue.proofs.Hearing.{play-Hear}
 use Rattle.ftp_session.proofs.Unheard.{LacksRoomFor, lacks_room, says_no_read}
-use Rattle.ftp_session.proofs.Carrying.{RefusedSo, beside_goes, carrying_resumes, local_resumes, may_go_on, needs_none, plain_dialogue, plain_entered, plain_finishes_none, read_apart, refused_so, taken_going, taken_plays}
-use Rattle.ftp_session.proofs.Sorts.{stage_no_local, unheld_drains_none}
+use Rattle.ftp_dialogue.proofs.CarryingLemmas.{RefusedSo, beside_goes, carrying_resumes, local_resumes, may_go_on, needs_none, plain_dialogue, plain_entered, plain_finishes_none, read_apart, refused_so, taken_going, taken_plays}
+use Rattle.ftp_dialogue.proofs.Sorts.{stage_no_local, unheld_drains_none}
 use Rattle.ftp_calls.proofs.Openings.{draining_reads}
-use Rattle.ftp_session.specs.Play.{Refusal, Taken, Lacking, Failing}
-use Rattle.ftp_session.proofs.Running.{run-nil, run-cons, before_all-snoc, before_all-Finished, before_all-Waiting, plays_on}
-use Rattle.ftp_session.specs.Link.{Builds, over_memory}
+use Rattle.ftp_dialogue.specs.Play.{Refusal, Taken, Lacking, Failing}
+use Rattle.ftp_dialogue.proofs.DrainingLemmas.{undue_on}
+use Rattle.ftp_session.proofs.Replay.{replay-nil, replay-shown, shown_on}
+use Rattle.ftp_session.proofs.Running.{before_all-snoc, before_all-Finished, before_all-Waiting}
+use Rattle.ftp_dialogue.specs.Link.{Builds, over_memory}
 use Rattle.ftp_session.proofs.Carried.{front_fits, outcomes_on, over_at_end, seen_kept, waits_kept, full_room, Carried, carried, carried_none, line_front, all_said}
+use Rattle.ftp_base.specs.declared.command.Command.TheVariants.{Abor}
 
 -- what a poll comes to
 abbrev pub PollFollows : Builds → Coding → List DealOutcome → List DealOutcome → SessionValue → Script → SessionValue → SessionValue → Call → Stage → Stage → List Answer → Poll Answer → Type 0
@@ -82,56 +88,56 @@ module _ (builds : Builds) (coding : Coding) (outcomes : List DealOutcome) where
   -- Runs
 
   -- the next call under way
-  stands_reaches : (old v : SessionValue) (items : List Call) (came : List ℕ) (answered : List Deal) (answers : List Answer) (call : Call) → refusal_of call v ≡ Taken → Stands coding old items came answered v answers → Reaches coding old items came answered (begun_by call v) answers call (dialogue coding call v.state)
+  pub stands_reaches : (old v : SessionValue) (items : List Item) (came : List ℕ) (answered : List Deal) (answers : List Answer) (call : Call) → refusal_of call v ≡ Taken → Stands coding old items came answered v answers → Reaches coding old items came answered (begun_by call v) answers call (dialogue coding call v.state)
   stands_reaches old v items came answered answers call going stands = λ later room more ended outcomes' fit on.
       let s : Standing = standing v more ended outcomes' in
-      let next : Standing → Ran = λ t. run room coding later t in
-      stands (call ∷ later) room more ended outcomes' fit on
-      ∙ ap (before_all answers) (run-cons coding room call later s ∙ ap (λ p. and_then p next) (taken_plays coding room call v more ended outcomes' going))
+      let next : Standing → Ran = λ t. replay room coding later t in
+      stands (Shown call ∷ later) room more ended outcomes' fit on
+      ∙ ap (before_all answers) (replay-shown coding room call later s ∙ ap (λ p. and_then p next) (taken_plays coding room call v more ended outcomes' going))
 
-  module _ (old v w : SessionValue) (items : List Call) (came : List ℕ) (answered : List Deal) (answers : List Answer) (call : Call) where
+  module _ (old v w : SessionValue) (items : List Item) (came : List ℕ) (answered : List Deal) (answers : List Answer) (call : Call) where
     -- the call has its answer
-    reaches_stands : (tree : Tree) (answer : Answer) → Reaches coding old items came answered v answers call tree → (ends : Finishes (over_memory builds) tree answer v w) → Resumes v.channel.rule v.channel.kept tree → Stands coding old (items ++ call ∷ []) (came ++ ends.came) (answered ++ ends.answered) w (answers ++ answer ∷ [])
+    pub reaches_stands : (tree : Tree) (answer : Answer) → Reaches coding old items came answered v answers call tree → (ends : Finishes (over_memory builds) tree answer v w) → Resumes v.channel.rule v.channel.kept tree → Stands coding old (items ++ Shown call ∷ []) (came ++ ends.came) (answered ++ ends.answered) w (answers ++ answer ∷ [])
     reaches_stands tree answer reaches ends resumes = λ later room more ended outcomes' fit on.
         let done = ends in
-        let next : Standing → Ran = λ t. run room coding later t in
+        let next : Standing → Ran = λ t. replay room coding later t in
         let first = reaches later room (done.came ++ more) ended (outcomes_of done.answered ++ outcomes') (fitted room _ _ (done.goes.sent tt) fit) (goes_after v.channel.ended done.came more w.channel.ended ended done.goes.over on) in
-        rw (append_assoc items (call ∷ []) later, append_assoc came done.came more, outcomes_on answered done.answered outcomes')
+        rw (append_assoc items (Shown call ∷ []) later, append_assoc came done.came more, outcomes_on answered done.answered outcomes')
         (first
         ∙ ap (λ p. before_all answers (and_then p next)) (done.plays tt resumes room more ended outcomes' fit on)
-        ∙ sym (before_all-snoc answers answer (run room coding later (standing w more ended outcomes'))))
+        ∙ sym (before_all-snoc answers answer (replay room coding later (standing w more ended outcomes'))))
 
     -- more of it is left
     reaches_on : (tree tree' : Tree) → Reaches coding old items came answered v answers call tree → (leads : Leads (over_memory builds) tree tree' v w) → However v leads.came leads.answered w (λ room s t. play room tree s ≡ play room tree' t) → Reaches coding old items (came ++ leads.came) (answered ++ leads.answered) w answers call tree'
     reaches_on tree tree' reaches leads plays = λ later room more ended outcomes' fit on.
-        let next : Standing → Ran = λ t. run room coding later t in
+        let next : Standing → Ran = λ t. replay room coding later t in
         let first = reaches later room (leads.came ++ more) ended (outcomes_of leads.answered ++ outcomes') (fitted room _ _ (leads.goes.sent tt) fit) (goes_after v.channel.ended leads.came more w.channel.ended ended leads.goes.over on) in
         rw (append_assoc came leads.came more, outcomes_on answered leads.answered outcomes')
         (first ∙ ap (λ p. before_all answers (and_then (finally p) next)) (plays room more ended outcomes' fit on))
 
   -- the call is refused
-  stands_refused : (old v w : SessionValue) (items : List Call) (came : List ℕ) (answered : List Deal) (answers : List Answer) (call : Call) (answer : Answer) → (so : RefusedSo builds (Unit {0}) coding call v w answer) → Stands coding old items came answered v answers → Stands coding old (items ++ call ∷ []) (came ++ []) (answered ++ so.answered) w (answers ++ answer ∷ [])
+  stands_refused : (old v w : SessionValue) (items : List Item) (came : List ℕ) (answered : List Deal) (answers : List Answer) (call : Call) (answer : Answer) → (so : RefusedSo builds (Unit {0}) coding call v w answer) → Stands coding old items came answered v answers → Stands coding old (items ++ Shown call ∷ []) (came ++ []) (answered ++ so.answered) w (answers ++ answer ∷ [])
   stands_refused old v w items came answered answers call answer so stands = λ later room more ended outcomes' fit on.
       let goes = beside_goes (over_memory builds) so.answered v w so.channel so.deals in
-      let R : List DealOutcome → Ran = λ o. run room coding (items ++ call ∷ later) (standing old (came ++ more) ended o) in
+      let R : List DealOutcome → Ran = λ o. replay room coding (items ++ Shown call ∷ later) (standing old (came ++ more) ended o) in
       let same : outcomes_of (answered ++ so.answered) ++ outcomes' ≡ outcomes_of answered ++ outcomes' = ap (λ o. o ++ outcomes') (outcomes-append answered so.answered ∙ ap (λ o. outcomes_of answered ++ o) so.none ∙ append-nil (outcomes_of answered)) in
-      rw (append_assoc items (call ∷ []) later, append-nil came)
+      rw (append_assoc items (Shown call ∷ []) later, append-nil came)
       (ap R same
-      ∙ stands (call ∷ later) room more ended outcomes' (fitted room _ _ (goes.sent tt) fit) (goes_after v.channel.ended [] more w.channel.ended ended goes.over on)
-      ∙ ap (before_all answers) (plays_on coding room call later (standing v more ended outcomes') (standing w more ended outcomes') answer (so.plays tt room more ended outcomes'))
-      ∙ sym (before_all-snoc answers answer (run room coding later (standing w more ended outcomes'))))
+      ∙ stands (Shown call ∷ later) room more ended outcomes' (fitted room _ _ (goes.sent tt) fit) (goes_after v.channel.ended [] more w.channel.ended ended goes.over on)
+      ∙ ap (before_all answers) (shown_on coding room call later (standing v more ended outcomes') (standing w more ended outcomes') answer (so.plays tt room more ended outcomes'))
+      ∙ sym (before_all-snoc answers answer (replay room coding later (standing w more ended outcomes'))))
 
   -- a plain read that waits leaves no trace
-  stands_rests : (old v w : SessionValue) (items : List Call) (came : List ℕ) (answered : List Deal) (answers : List Answer) → Stands coding old items came answered v answers → (rests : Rests (over_memory builds) v w) → Stands coding old items (came ++ rests.came) (answered ++ []) w answers
+  stands_rests : (old v w : SessionValue) (items : List Item) (came : List ℕ) (answered : List Deal) (answers : List Answer) → Stands coding old items came answered v answers → (rests : Rests (over_memory builds) v w) → Stands coding old items (came ++ rests.came) (answered ++ []) w answers
   stands_rests old v w items came answered answers stands rests = λ later room more ended outcomes' fit on.
       let first = stands later room (rests.came ++ more) ended outcomes' (fitted room _ _ (rests.goes.sent tt) fit) (goes_after v.channel.ended rests.came more w.channel.ended ended rests.goes.over on) in
       rw (append_assoc came rests.came more, append-nil answered)
-      (first ∙ ap (λ s. before_all answers (run room coding later s)) (rests.stays tt more ended outcomes'))
+      (first ∙ ap (λ s. before_all answers (replay room coding later s)) (rests.stays tt more ended outcomes'))
 
   -- a run depends on the outcomes alone
-  stands_same : (old v : SessionValue) (items : List Call) (came : List ℕ) (one two : List Deal) (answers : List Answer) → outcomes_of one ≡ outcomes_of two → Stands coding old items came one v answers → Stands coding old items came two v answers
+  stands_same : (old v : SessionValue) (items : List Item) (came : List ℕ) (one two : List Deal) (answers : List Answer) → outcomes_of one ≡ outcomes_of two → Stands coding old items came one v answers → Stands coding old items came two v answers
   stands_same old v items came one two answers same stands = λ later room more ended outcomes' fit on.
-      let R : List DealOutcome → Ran = λ o. run room coding (items ++ later) (standing old (came ++ more) ended (o ++ outcomes')) in
+      let R : List DealOutcome → Ran = λ o. replay room coding (items ++ later) (standing old (came ++ more) ended (o ++ outcomes')) in
       ap R (sym same) ∙ stands later room more ended outcomes' fit on
 
   -- a reply that says nothing yet as one of a call's form is resumed by the call
@@ -171,16 +177,25 @@ module _ (builds : Builds) (coding : Coding) (outcomes : List DealOutcome) where
     resumes_dialogue : (state : State) → outcome rule (first_form call) kept false ≡ Waits → Resumes rule kept (dialogue coding call state)
     resumes_dialogue state waits = go (negotiates call) (finishes call) waits
       where
-        go : (b f : Bool) → outcome rule (cond (b || f) Plain (heard_form (row_of call First))) kept false ≡ Waits → Resumes rule kept (cond b (negotiating coding call state.settings.restart_offset (opened_from call state)) (cond f (closing coding call (with_left state)) (from_turn coding call First state)))
+        go : (b f : Bool) → outcome rule (cond (b || f) Plain (heard_form (row_of call First))) kept false ≡ Waits → Resumes rule kept (cond b (negotiating coding call state.settings.restart_offset (opened_from call state)) (cond f (parting coding call (with_left state)) (from_turn coding call First state)))
         go true f waits = resumes_unless (cannot_open state.counts) state.settings.restart_offset (opened_from call state) waits
-        go false true waits = λ came. resumes_row (Closed (told_of_close state.uploads came)) (with_left state) waits
+        go false true waits = (elim (aborts call) as (λ a. Resumes rule kept (cond a (aborting coding call (with_left state)) (closing coding call (with_left state)))) [
+          | true ↦ said (wire coding.encode (text_of Abor))
+          | false ↦ λ came. resumes_row (Closed (told_of_close state.uploads came)) (with_left state) waits
+        ])
+          where
+            said : (line : Result (List ℕ) Cause) → Resumes rule kept (Say line (breaking_off coding call (with_left state)))
+            said (Ok line) = λ came. resumes_row Aborted (with_left state) waits
+            said (Err cause) = tt
         go false false waits = resumes_row First state waits
 
   -- where a poll begins of a call that was polled before
   settled_state : (call : Call) (stage : Stage) (state : State) → StageOf call stage → entered_state call stage state ≡ state
   settled_state call (At First) state plain = plain_entered call state plain.0 plain.2
   settled_state call (At (Closed close)) state stage_of = refl
+  settled_state call (At Aborted) state stage_of = refl
   settled_state call Closing state stage_of = refl
+  settled_state call (Aborting abort) state stage_of = refl
   settled_state call (At Second) state stage_of = refl
   settled_state call (At (Passive offset)) state stage_of = refl
   settled_state call (At (ExtendedPassive offset)) state stage_of = refl
@@ -194,7 +209,9 @@ module _ (builds : Builds) (coding : Coding) (outcomes : List DealOutcome) where
   settled_tree : (call : Call) (stage : Stage) (state : State) → StageOf call stage → entered_tree coding call stage state ≡ remaining coding call state stage
   settled_tree call (At First) state plain = plain_dialogue coding call state plain.0 plain.2
   settled_tree call (At (Closed close)) state stage_of = refl
+  settled_tree call (At Aborted) state stage_of = refl
   settled_tree call Closing state stage_of = refl
+  settled_tree call (Aborting abort) state stage_of = refl
   settled_tree call (At Second) state stage_of = refl
   settled_tree call (At (Passive offset)) state stage_of = refl
   settled_tree call (At (ExtendedPassive offset)) state stage_of = refl
@@ -214,7 +231,7 @@ module _ (builds : Builds) (coding : Coding) (outcomes : List DealOutcome) where
         ∙ sym (append_assoc (untaken old.channel ++ f.came) came (unread w.channel.told))
         ∙ ap (λ k. k ++ unread w.channel.told) (append_assoc (untaken old.channel) f.came came)
 
-    abbrev here : Standing
+    abbrev pub here : Standing
     here = standing w (unread w.channel.told) (is_over w.channel.told) left
 
     fits_here : HasRoomFor s.room (length w.channel.told.sent)
@@ -233,60 +250,65 @@ module _ (builds : Builds) (coding : Coding) (outcomes : List DealOutcome) where
     over_is = f.ended ∙ sym c.over
 
     -- the run from the script's beginning is the one that the session has made
-    from_start : (calls : List Call) → run s.room coding calls (record (start_of old outcomes) { bytes = s.bytes; ended = s.ended }) ≡ run s.room coding calls (standing old ((f.came ++ came) ++ unread w.channel.told) (is_over w.channel.told) (outcomes_of (f.answered ++ asked) ++ left))
+    from_start : (calls : List Item) → replay s.room coding calls (record (start_of old outcomes) { bytes = s.bytes; ended = s.ended }) ≡ replay s.room coding calls (standing old ((f.came ++ came) ++ unread w.channel.told) (is_over w.channel.told) (outcomes_of (f.answered ++ asked) ++ left))
     from_start calls =
         let bytes : s.bytes ≡ untaken old.channel ++ ((f.came ++ came) ++ unread w.channel.told) = fed_bytes ∙ append_assoc (untaken old.channel) (f.came ++ came) (unread w.channel.told) in
         let S : List DealOutcome → Standing = λ o. record (start_of old o) { bytes = s.bytes; ended = s.ended } in
-        ap (λ o. run s.room coding calls (S o)) all_outcomes ∙ rw (bytes, over_is)
+        ap (λ o. replay s.room coding calls (S o)) all_outcomes ∙ rw (bytes, over_is)
 
     going_on : GoesOn w.channel.ended (unread w.channel.told) (is_over w.channel.told)
     going_on = over_at_end w c.has c.sound
 
-    -- the call is done
-    finish : (P : Type 0) (stage' : Stage) (answer : Answer) → Stands coding old (s.items ++ call ∷ []) (f.came ++ came) (f.answered ++ asked) w (s.answers ++ answer ∷ []) → Shrinks came v w → Keeps P came v w → Follows builds coding outcomes left old (poll_script coding (start_of old outcomes) (Some call) s) w None stage' (answers ++ answer ∷ [])
-    finish P stage' answer stands shrinks keeps =
-        let ran : run s.room coding (s.items ++ call ∷ []) (record (start_of old outcomes) { bytes = s.bytes; ended = s.ended }) ≡ Finished (s.answers ++ answer ∷ []) here =
-        from_start (s.items ++ call ∷ [])
-        ∙ ap (λ items. run s.room coding items (standing old ((f.came ++ came) ++ unread w.channel.told) (is_over w.channel.told) (outcomes_of (f.answered ++ asked) ++ left))) (sym (append-nil (s.items ++ call ∷ [])))
+    -- a call is done, whatever the items, the answers and the call under way are then
+    pub done_with : (P : Type 0) (stage' : Stage) (after : List Answer) (items : List Item) (all told : List Answer) (call' : Option Call) → Place coding old (record (polled_as (Finished after here) call s) { items = items; answers = all; call = call' }) (f.came ++ came) (f.answered ++ asked) w call' stage' → all ≡ told → Shrinks came v w → Keeps P came v w → Follows builds coding outcomes left old (record (polled_as (Finished after here) call s) { items = items; answers = all; call = call' }) w call' stage' told
+    done_with P stage' after items all told call' place are shrinks keeps = record {
+      came = f.came ++ came;
+      answered = f.answered ++ asked;
+      deals = all_deals;
+      outcomes_are = all_outcomes;
+      dealings = refl;
+      place = place;
+      rule = c.rule ∙ f.rule;
+      failures = c.failures ∙ f.failures;
+      given = c.has;
+      sound = c.sound;
+      bytes = fed_bytes;
+      ended = over_is;
+      room = f.room ∙ ap (λ g. g.room) (sym c.given);
+      sent = front_fits s.room w.channel.told.sent fits_here;
+      said = all_said w.channel;
+      received = all_received;
+      unsent = λ may. refl;
+      untaken = refl;
+      seen = seen_kept P s v w came f.seen f.untaken c.split shrinks keeps;
+      waits = waits_kept P s v w came c.rule f.waits keeps;
+      state = refl;
+      failed = refl;
+      call_is = refl;
+      answers_are = are;
+    }
+
+    -- the run of all calls, with this one, is done
+    pub ran_done : (answer : Answer) → Stands coding old (s.items ++ Shown call ∷ []) (f.came ++ came) (f.answered ++ asked) w (s.answers ++ answer ∷ []) → run_with coding (start_of old outcomes) call s ≡ Finished (s.answers ++ answer ∷ []) here
+    ran_done answer stands =
+        from_start (s.items ++ Shown call ∷ [])
+        ∙ ap (λ items. replay s.room coding items (standing old ((f.came ++ came) ++ unread w.channel.told) (is_over w.channel.told) (outcomes_of (f.answered ++ asked) ++ left))) (sym (append-nil (s.items ++ Shown call ∷ [])))
         ∙ stands [] s.room (unread w.channel.told) (is_over w.channel.told) left fits_here going_on
-        ∙ ap (before_all (s.answers ++ answer ∷ [])) (run-nil coding s.room here)
+        ∙ ap (before_all (s.answers ++ answer ∷ [])) (replay-nil coding s.room here)
         ∙ before_all-Finished (s.answers ++ answer ∷ []) [] here
-        ∙ ap (λ a. Finished a here) (append-nil (s.answers ++ answer ∷ [])) in
-        let after : Script = polled_as (Finished (s.answers ++ answer ∷ []) here) call s in
+        ∙ ap (λ a. Finished a here) (append-nil (s.answers ++ answer ∷ []))
+
+    -- the call is done
+    finish : (P : Type 0) (stage' : Stage) (answer : Answer) → Stands coding old (s.items ++ Shown call ∷ []) (f.came ++ came) (f.answered ++ asked) w (s.answers ++ answer ∷ []) → Shrinks came v w → Keeps P came v w → Follows builds coding outcomes left old (poll_script coding (start_of old outcomes) (Some call) s) w None stage' (answers ++ answer ∷ [])
+    finish P stage' answer stands shrinks keeps =
         let Q : Ran → Type 0 = λ r. Follows builds coding outcomes left old (polled_as r call s) w None stage' (answers ++ answer ∷ []) in
-        let follows : Follows builds coding outcomes left old after w None stage' (answers ++ answer ∷ []) = record {
-          came = f.came ++ came;
-          answered = f.answered ++ asked;
-          deals = all_deals;
-          outcomes_are = all_outcomes;
-          dealings = refl;
-          place = stands;
-          rule = c.rule ∙ f.rule;
-          failures = c.failures ∙ f.failures;
-          given = c.has;
-          sound = c.sound;
-          bytes = fed_bytes;
-          ended = over_is;
-          room = f.room ∙ ap (λ g. g.room) (sym c.given);
-          sent = front_fits s.room w.channel.told.sent fits_here;
-          said = all_said w.channel;
-          received = all_received;
-          unsent = λ may. refl;
-          untaken = refl;
-          seen = seen_kept P s v w came f.seen f.untaken c.split shrinks keeps;
-          waits = waits_kept P s v w came c.rule f.waits keeps;
-          state = refl;
-          failed = refl;
-          call_is = refl;
-          answers_are = ap (λ a. a ++ answer ∷ []) f.answers_are;
-        } in
-        subst Q (sym ran) follows
+        subst Q (sym (ran_done answer stands)) (done_with P stage' (s.answers ++ answer ∷ []) (s.items ++ Shown call ∷ []) (s.answers ++ answer ∷ []) (answers ++ answer ∷ []) None stands (ap (λ a. a ++ answer ∷ []) f.answers_are) shrinks keeps)
 
     -- the run of all calls waits where the call does
     waits_ran : (tree : Tree) (wait : Wait) (t : Standing) → Reaches coding old s.items (f.came ++ came) (f.answered ++ asked) w s.answers call tree → play s.room tree here ≡ played.Pending wait t → run_with coding (start_of old outcomes) call s ≡ Waiting s.answers wait t
     waits_ran tree wait t reaches waits =
-        let next : Standing → Ran = λ u. run s.room coding [] u in
-        from_start (s.items ++ call ∷ [])
+        let next : Standing → Ran = λ u. replay s.room coding [] u in
+        from_start (s.items ++ Shown call ∷ [])
         ∙ reaches [] s.room (unread w.channel.told) (is_over w.channel.told) left fits_here going_on
         ∙ ap (λ p. before_all s.answers (and_then (finally p) next)) waits
         ∙ before_all-Waiting s.answers [] wait t
@@ -300,15 +322,15 @@ module _ (builds : Builds) (coding : Coding) (outcomes : List DealOutcome) where
         Nothing = λ r. HearsNothing r s
 
         next : Standing → Ran
-        next = λ u. run s.room coding [] u
+        next = λ u. replay s.room coding [] u
 
         ran : run_with coding (start_of old outcomes) call s ≡ before_all s.answers (and_then (finally (play s.room (remaining coding call state stage') here)) next)
-        ran = from_start (s.items ++ call ∷ []) ∙ reaches [] s.room (unread w.channel.told) (is_over w.channel.told) left fits_here going_on
+        ran = from_start (s.items ++ Shown call ∷ []) ∙ reaches [] s.room (unread w.channel.told) (is_over w.channel.told) left fits_here going_on
 
         go : (p : Played) → play s.room (remaining coding call state stage') here ≡ p → Nothing (before_all s.answers (and_then (finally p) next)) → LacksRoomFor s.room here (remaining coding call state stage')
         go (played.Done answer u) is none =
-            let all : before_all s.answers (before answer (run s.room coding [] (ended u))) ≡ Finished (s.answers ++ answer ∷ []) (ended u) =
-            ap (λ r. before_all s.answers (before answer r)) (run-nil coding s.room (ended u)) ∙ before_all-Finished s.answers (answer ∷ []) (ended u) in
+            let all : before_all s.answers (before answer (replay s.room coding [] (ended u))) ≡ Finished (s.answers ++ answer ∷ []) (ended u) =
+            ap (λ r. before_all s.answers (before answer r)) (replay-nil coding s.room (ended u)) ∙ before_all-Finished s.answers (answer ∷ []) (ended u) in
             absurd (subst Nothing all none)
         go (played.Pending wait u) is none =
             lacks_room coding s.room s here bytes wait u (subst Nothing (before_all-Waiting s.answers [] wait u) none) call state stage' plain stage_of is
@@ -387,7 +409,7 @@ module _ (builds : Builds) (coding : Coding) (outcomes : List DealOutcome) where
         play-Hear s.room codes next here ∙ ap (λ h. heard_then h codes here (λ heard u. play s.room (next heard) u)) more
 
   -- how a call goes on since the calls before it were done
-  since_start : (old : SessionValue) (items : List Call) (answers : List Answer) (came : List ℕ) (answered : List Deal) (v : SessionValue) (state : State) → Stands coding old items came answered v answers → Since coding old items answers came answered (record v { state = state }) false
+  since_start : (old : SessionValue) (items : List Item) (answers : List Answer) (came : List ℕ) (answered : List Deal) (v : SessionValue) (state : State) → Stands coding old items came answered v answers → Since coding old items answers came answered (record v { state = state }) false
   since_start old items answers came answered v state stands = record {
     start = v;
     before = came;
@@ -403,7 +425,7 @@ module _ (builds : Builds) (coding : Coding) (outcomes : List DealOutcome) where
     not_begun = λ none. (refl, sym (append-nil (untaken v.channel)));
   }
 
-  since_on : (old : SessionValue) (items : List Call) (answers : List Answer) (came : List ℕ) (asked : List Deal) (v w : SessionValue) (begun begun' : Bool) (tree : Tree) (since : Since coding old items answers came asked v begun) → Speaks tree ⊎ Resumes v.channel.rule v.channel.kept tree → (more : List ℕ) (answered : List Deal) → Goes (over_memory builds) more answered v w → HasBegun (over_memory builds) begun begun' tree v w → Since coding old items answers (came ++ more) (asked ++ answered) w begun'
+  since_on : (old : SessionValue) (items : List Item) (answers : List Answer) (came : List ℕ) (asked : List Deal) (v w : SessionValue) (begun begun' : Bool) (tree : Tree) (since : Since coding old items answers came asked v begun) → Speaks tree ⊎ Resumes v.channel.rule v.channel.kept tree → (more : List ℕ) (answered : List Deal) → Goes (over_memory builds) more answered v w → HasBegun (over_memory builds) begun begun' tree v w → Since coding old items answers (came ++ more) (asked ++ answered) w begun'
   since_on old items answers came asked v w begun begun' tree since resumes more answered goes here = record {
     start = since.start;
     before = since.before;
@@ -464,11 +486,11 @@ module _ (builds : Builds) (coding : Coding) (outcomes : List DealOutcome) where
     pub lacks : LacksRoomFor s.room (standing v (unread v.channel.told) (is_over v.channel.told) []) tree
 
   -- where the poll of a call at this stage begins
-  abbrev Goes_on : SessionValue → Script → List ℕ → List Deal → SessionValue → Call → Stage → Type 0
+  abbrev pub Goes_on : SessionValue → Script → List ℕ → List Deal → SessionValue → Call → Stage → Type 0
   Goes_on old s came asked v call stage =
       Resumed old s came asked v call (begun_at stage) (entered_at call stage v) (entered_tree coding call stage v.state)
 
-  abbrev Kept : SessionValue → Script → List ℕ → List Deal → SessionValue → Call → Stage → Type 0
+  abbrev pub Kept : SessionValue → Script → List ℕ → List Deal → SessionValue → Call → Stage → Type 0
   Kept old s came asked v call stage =
       KeptWaiting old s came asked v call (begun_at stage) (entered_at call stage v) (entered_state call stage v.state) (entered_tree coding call stage v.state)
 
@@ -491,8 +513,8 @@ module _ (builds : Builds) (coding : Coding) (outcomes : List DealOutcome) where
         wait_on left asked old s v w call stage answers f moves.leads.came c (Say (Ok says.line) says.next) stage' wait.Room t there stuck.0 stuck.1 (line_front w.channel says.line says.some) refl seen says_nothing refl refl refl unsent' (place t ran)
 
     -- it still waits for room, where it was kept waiting
-    still_waits : v.channel.failed ≡ false → Kept old s f.came f.answered v call stage → StageOf call stage' → WaitsFor (over_memory builds) (remaining coding call (entered_state call stage v.state) stage') w → HasBegun (over_memory builds) (begun_at stage) (begun_at stage') (entered_tree coding call stage v.state) (entered_at call stage v) w → Follows builds coding outcomes left old (poll_script coding (start_of old outcomes) (Some call) s) w (Some call) stage' answers
-    still_waits going from stage_of waits begun = go (advances.moves.says from.lacks.line from.lacks.next from.lacks.is tt) waits
+    still_waits : due_of call v ≡ false → v.channel.failed ≡ false → Kept old s f.came f.answered v call stage → StageOf call stage' → WaitsFor (over_memory builds) (remaining coding call (entered_state call stage v.state) stage') w → HasBegun (over_memory builds) (begun_at stage) (begun_at stage') (entered_tree coding call stage v.state) (entered_at call stage v) w → Follows builds coding outcomes left old (poll_script coding (start_of old outcomes) (Some call) s) w (Some call) stage' answers
+    still_waits undue going from stage_of waits begun = go (advances.moves.says from.lacks.line from.lacks.next from.lacks.is tt) waits
       where
         e : SessionValue
         e = entered_at call stage v
@@ -504,7 +526,7 @@ module _ (builds : Builds) (coding : Coding) (outcomes : List DealOutcome) where
         tree' = remaining coding call (entered_state call stage v.state) stage'
 
         unsent' : MayCancel (Some call) true → s.unsent ≡ w.channel.unsent
-        unsent' (inl new) = let clash : true ≡ false = new.0 in cc
+        unsent' (inl new) = let clash : true ≡ false = new in cc
         unsent' (inr read) = let clash : true ≡ false = sym read ∙ from.no_read in cc
 
         speaks : Speaks before
@@ -515,6 +537,7 @@ module _ (builds : Builds) (coding : Coding) (outcomes : List DealOutcome) where
           plain = from.plain;
           stage_of = stage_of;
           polled = refl;
+          undue = undue_on call stage v w advances.moves.state advances.failed undue;
           unheard = let P : Ran → Type 0 = λ r. HearsNothing r s in subst P ran from.nothing;
           going = advances.failed ∙ going;
           no_read = from.no_read;
@@ -532,8 +555,8 @@ module _ (builds : Builds) (coding : Coding) (outcomes : List DealOutcome) where
             room_waits says reaches' unsent' (place still reaches')
 
     -- a poll that waits
-    pending : v.channel.failed ≡ false → Goes_on old s f.came f.answered v call stage → StageOf call stage' → WaitsFor (over_memory builds) (remaining coding call (entered_state call stage v.state) stage') w → (is_read call ≡ true → Rests (over_memory builds) v w) → HasBegun (over_memory builds) (begun_at stage) (begun_at stage') (entered_tree coding call stage v.state) (entered_at call stage v) w → Follows builds coding outcomes left old (poll_script coding (start_of old outcomes) (Some call) s) w (Some call) stage' answers
-    pending going from stage_of waits rests begun = go waits
+    pending : due_of call v ≡ false → v.channel.failed ≡ false → Goes_on old s f.came f.answered v call stage → StageOf call stage' → WaitsFor (over_memory builds) (remaining coding call (entered_state call stage v.state) stage') w → (is_read call ≡ true → Rests (over_memory builds) v w) → HasBegun (over_memory builds) (begun_at stage) (begun_at stage') (entered_tree coding call stage v.state) (entered_at call stage v) w → Follows builds coding outcomes left old (poll_script coding (start_of old outcomes) (Some call) s) w (Some call) stage' answers
+    pending undue going from stage_of waits rests begun = go waits
       where
         e : SessionValue
         e = entered_at call stage v
@@ -567,13 +590,14 @@ module _ (builds : Builds) (coding : Coding) (outcomes : List DealOutcome) where
             subst P came (stands_same old w s.items (f.came ++ rest.came) (f.answered ++ []) asked' s.answers same (stands_rests old v w s.items f.came f.answered s.answers (from.read is) rest))
 
         unsent' : MayCancel (Some call) true → s.unsent ≡ w.channel.unsent
-        unsent' (inl new) = let clash : true ≡ false = new.0 in cc
+        unsent' (inl new) = let clash : true ≡ false = new in cc
         unsent' (inr read) = f.unsent (inr read) ∙ ap (λ t. t.unsent) ((rests read).stays tt [] false [])
 
         under_way : (t : Standing) (wait : Wait) → UnderWay coding old (polled_as (Waiting s.answers wait t) call s) came' asked' w call stage'
         under_way t wait = record {
           stage_of = stage_of;
           polled = refl;
+          undue = undue_on call stage v w advances.moves.state advances.failed undue;
           going = advances.failed ∙ going;
           reaches = let P : State → Type 0 = λ state. Reaches coding old s.items came' asked' w s.answers call (remaining coding call state stage') in subst P (sym advances.moves.state) reaches';
           resumes = let P : State → Type 0 = λ state. Resumes w.channel.rule w.channel.kept (remaining coding call state stage') in subst P (sym advances.moves.state) resumes';
@@ -709,7 +733,7 @@ module _ (builds : Builds) (coding : Coding) (outcomes : List DealOutcome) where
         go true local = begun_anew started taken (inl (local_resumes v.channel.rule v.channel.kept coding call v.state local))
         go false abroad = begun_anew started taken (add abroad (agreed started.unheard (taken_going call v.channel.failed (lacks_of call v) taken abroad)))
 
-    placed : MayPollAt stage call v → Goes_on old s f.came f.answered v call stage ⊎ Kept old s f.came f.answered v call stage
+    pub placed : MayPollAt stage call v → Goes_on old s f.came f.answered v call stage ⊎ Kept old s f.came f.answered v call stage
     placed may_poll = go f.place
       where
         go : Place coding old s f.came f.answered v (Some call) stage → Goes_on old s f.came f.answered v call stage ⊎ Kept old s f.came f.answered v call stage
@@ -736,7 +760,7 @@ module _ (builds : Builds) (coding : Coding) (outcomes : List DealOutcome) where
         go (inr (inr u)) = absurd (none (may_go_on call stage v (unheld_drains_none call (needs_none call u.plain).1) u.stage_of u.going))
 
   -- where a poll ends
-  carry : (came : List ℕ) (answered : List Deal) (v w : SessionValue) (call : Call) (stage stage' : Stage) (result : Poll Answer) → IsSound (Unit {0}) v.channel → PollsHere builds coding call stage stage' v w result → Goes (over_memory builds) came answered (entered_at call stage v) w → Carried builds v w came answered
+  pub carry : (came : List ℕ) (answered : List Deal) (v w : SessionValue) (call : Call) (stage stage' : Stage) (result : Poll Answer) → IsSound (Unit {0}) v.channel → PollsHere builds coding call stage stage' v w result → Goes (over_memory builds) came answered (entered_at call stage v) w → Carried builds v w came answered
   carry came answered v w call stage stage' result sound here goes = carried builds v w (entered_state call stage v.state) came answered goes sound here.end here.given here.sound
 
   -- a poll of a call that is refused
@@ -756,13 +780,13 @@ module _ (builds : Builds) (coding : Coding) (outcomes : List DealOutcome) where
       pick c (inr from) = absurd (no_answer left old s v w call stage answers answer ends f c from)
 
   -- a poll that waits
-  pub poll_waits : (left : List DealOutcome) (old : SessionValue) (s : Script) (v w : SessionValue) (call : Call) (stage stage' : Stage) (answers : List Answer) → MayPollAt stage call v → v.channel.failed ≡ false → (advances : Advances (over_memory builds) (entered_tree coding call stage v.state) (remaining coding call (entered_state call stage v.state) stage') (entered_at call stage v) w) → WaitsFor (over_memory builds) (remaining coding call (entered_state call stage v.state) stage') w → Follows builds coding outcomes (outcomes_of advances.moves.leads.answered ++ left) old s v (Some call) stage answers → MayPoll coding (start_of old outcomes) (Some call) s → PollsHere builds coding call stage stage' v w Pending → Follows builds coding outcomes left old (poll_script coding (start_of old outcomes) (Some call) s) w (Some call) stage' answers
-  poll_waits left old s v w call stage stage' answers may_poll going advances waits f may here =
+  pub poll_waits : (left : List DealOutcome) (old : SessionValue) (s : Script) (v w : SessionValue) (call : Call) (stage stage' : Stage) (answers : List Answer) → due_of call v ≡ false → MayPollAt stage call v → v.channel.failed ≡ false → (advances : Advances (over_memory builds) (entered_tree coding call stage v.state) (remaining coding call (entered_state call stage v.state) stage') (entered_at call stage v) w) → WaitsFor (over_memory builds) (remaining coding call (entered_state call stage v.state) stage') w → Follows builds coding outcomes (outcomes_of advances.moves.leads.answered ++ left) old s v (Some call) stage answers → MayPoll coding (start_of old outcomes) (Some call) s → PollsHere builds coding call stage stage' v w Pending → Follows builds coding outcomes left old (poll_script coding (start_of old outcomes) (Some call) s) w (Some call) stage' answers
+  poll_waits left old s v w call stage stage' answers undue may_poll going advances waits f may here =
       pick (carry advances.moves.leads.came advances.moves.leads.answered v w call stage stage' Pending f.sound here advances.moves.leads.goes) (placed (outcomes_of advances.moves.leads.answered ++ left) old s v call stage answers f may may_poll)
     where
       pick : Carried builds v w advances.moves.leads.came advances.moves.leads.answered → Goes_on old s f.came f.answered v call stage ⊎ Kept old s f.came f.answered v call stage → Follows builds coding outcomes left old (poll_script coding (start_of old outcomes) (Some call) s) w (Some call) stage' answers
-      pick c (inl from) = pending left old s v w call stage answers stage' advances f c going from (here.left_at refl) waits (here.rests refl) (here.begun refl)
-      pick c (inr from) = still_waits left old s v w call stage answers stage' advances f c going from (here.left_at refl) waits (here.begun refl)
+      pick c (inl from) = pending left old s v w call stage answers stage' advances f c undue going from (here.left_at refl) waits (here.rests refl) (here.begun refl)
+      pick c (inr from) = still_waits left old s v w call stage answers stage' advances f c undue going from (here.left_at refl) waits (here.begun refl)
 
   -- the call under way begins where it wasn't polled
   pub entering_is : (due : List DealOutcome) (old : SessionValue) (s : Script) (v : SessionValue) (call : Call) (stage : Stage) (answers : List Answer) → (f : Follows builds coding outcomes due old s v (Some call) stage answers) → entered_at call stage v ≡ entering s.polled call v
@@ -826,7 +850,7 @@ module _ (builds : Builds) (coding : Coding) (outcomes : List DealOutcome) where
 -- what a poll makes of a script, with what happened beside the control connection
 abbrev pub PollHappens : Builds → Coding → Call → Stage → Stage → SessionValue → SessionValue → Poll Answer → Type 0
 PollHappens builds coding call stage stage' v w result =
-    (answered : List Deal) × Deals builds answered v.net w.net × ((outcomes left : List DealOutcome) (old : SessionValue) (s : Script) (answers : List Answer) → Follows builds coding outcomes (outcomes_of answered ++ left) old s v (Some call) stage answers → MayPoll coding (start_of old outcomes) (Some call) s → PollFollows builds coding outcomes left old s v w call stage stage' answers result)
+    (answered : List Deal) × Deals builds answered v.net w.net × ((outcomes left : List DealOutcome) (old : SessionValue) (s : Script) (answers : List Answer) → Follows builds coding outcomes (outcomes_of answered ++ left) old s v (Some call) stage answers → MayPoll coding (start_of old outcomes) (Some call) s → due_of call v ≡ false → PollFollows builds coding outcomes left old s v w call stage stage' answers result)
 
 -- what an aborted call left beside the control connection
 aborted_deals : (builds : Builds) (begun : Bool) (tree : Tree) (answer : Answer) (v w : SessionValue) (aborts : Aborts (over_memory builds) begun tree answer v w) → Deals builds aborts.leads.answered v.net w.net
@@ -857,21 +881,19 @@ poll_happens builds coding call stage stage' v w result here =
 
     go : (r : Poll Answer) → PollsHere builds coding call stage stage' v w r → MayPollAt stage call v → PollsTo (over_memory builds) (begun_at stage) tree (remaining coding call (entered_state call stage v.state) stage') (entered_at call stage v) w r → PollHappens builds coding call stage stage' v w r
     go (Ready answer) here going (last, inl ends, lets_go) =
-        let F : SessionValue → Type 0 = λ x. Finishes (over_memory builds) tree answer (entered_at call stage v) x in
-        let done : Finishes (over_memory builds) tree answer (entered_at call stage v) w = subst F (sym lets_go) (finishes_by (over_memory builds) tree answer (entered_at call stage v) last ends) in
-        (done.answered, done.goes.deals tt, λ outcomes left old s answers f may. inl (poll_ready builds coding outcomes left old s v w call stage stage' answers answer going done f may here))
+        let done : Finishes (over_memory builds) tree answer (entered_at call stage v) w = finishes_by (over_memory builds) tree answer (entered_at call stage v) last w lets_go ends in
+        (done.answered, done.goes.deals tt, λ outcomes left old s answers f may undue. inl (poll_ready builds coding outcomes left old s v w call stage stage' answers answer going done f may here))
     go (Ready answer) here going (last, inr aborts, lets_go) =
         let P : Answer → Type 0 = λ a. Aborts (over_memory builds) (begun_at stage) tree a (entered_at call stage v) last in
-        let D : SessionValue → Type 0 = λ x. Deals builds (aborts.leads.answered ++ drops last.state.counts.owed) v.net x.net in
-        let deals = deals-append builds aborts.leads.answered (drops last.state.counts.owed) v.net last.net (let_go last).net (aborted_deals builds (begun_at stage) tree answer (entered_at call stage v) last aborts) (drops_deal builds last.state.counts.owed last.net) in (
+        let deals = deals-append builds aborts.leads.answered (drops last.state.counts.owed) v.net last.net w.net (aborted_deals builds (begun_at stage) tree answer (entered_at call stage v) last aborts) (letting_deals (Unit {0}) last w builds tt lets_go) in (
           aborts.leads.answered ++ drops last.state.counts.owed,
-          subst D (sym lets_go) deals,
-          λ outcomes left old s answers f may. inr (record { fault = aborts.fault; is = ap Some aborts.is; going = going; last = last; aborts = subst P aborts.is aborts; lets_go = lets_go; given = here.given; sound = here.sound }),
+          deals,
+          λ outcomes left old s answers f may undue. inr (record { fault = aborts.fault; is = ap Some aborts.is; going = going; last = last; aborts = subst P aborts.is aborts; lets_go = lets_go; given = here.given; sound = here.sound }),
         )
     go Pending here going (last, polls, same) =
         let A : SessionValue → Type 0 = λ x. Advances (over_memory builds) tree (remaining coding call (entered_state call stage v.state) stage') (entered_at call stage v) x × WaitsFor (over_memory builds) (remaining coding call (entered_state call stage v.state) stage') x in
         let made = subst A (sym same) polls in
-        (made.0.moves.leads.answered, made.0.moves.leads.goes.deals tt, λ outcomes left old s answers f may. poll_waits builds coding outcomes left old s v w call stage stage' answers going (goes_on going) made.0 made.1 f may here)
+        (made.0.moves.leads.answered, made.0.moves.leads.goes.deals tt, λ outcomes left old s answers f may undue. poll_waits builds coding outcomes left old s v w call stage stage' answers undue going (goes_on going) made.0 made.1 f may here)
       where
         goes_on : MayPollAt stage call v → v.channel.failed ≡ false
         goes_on may =
@@ -887,7 +909,7 @@ poll_happens builds coding call stage stage' v w result here =
         let P : Poll Answer → Type 0 = λ r. PollHappens builds coding call stage stage' v w r in
         let H : Poll Answer → Type 0 = λ r. PollsHere builds coding call stage stage' v w r in
         let there : PollsHere builds coding call stage stage' v w (Ready made.0) = subst H made.1 here in
-        subst P (sym made.1) (so.answered, so.deals tt, λ outcomes left old s answers f may. poll_refused builds coding outcomes left old s v w call stage stage' answers made.0 so f may (λ at. none (subst From first at)) there)
+        subst P (sym made.1) (so.answered, so.deals tt, λ outcomes left old s answers f may undue. poll_refused builds coding outcomes left old s v w call stage stage' answers made.0 so f may (λ at. none (subst From first at)) there)
 
     by_refusal : (r : Refusal) → refusal_of call v ≡ r → is_first stage ≡ true → PollHappens builds coding call stage stage' v w result
     by_refusal Taken is first = go result here (subst From (sym first) is) (here.polls (subst From (sym first) is))
@@ -899,7 +921,7 @@ poll_happens builds coding call stage stage' v w result here =
     later true failed on =
         let lost = here.lost on failed in
         let P : Poll Answer → Type 0 = λ r. PollHappens builds coding call stage stage' v w r in
-        subst P (sym lost.0) ([], ap (λ x. x.net) lost.1, λ outcomes left old s answers f may. absurd (never outcomes left old s answers f))
+        subst P (sym lost.0) ([], ap (λ x. x.net) lost.1, λ outcomes left old s answers f may undue. absurd (never outcomes left old s answers f))
       where
         never : (outcomes left : List DealOutcome) (old : SessionValue) (s : Script) (answers : List Answer) → Follows builds coding outcomes left old s v (Some call) stage answers → ⊥
         never outcomes left old s answers f = at f.place

@@ -7,30 +7,21 @@ use Rattle.ftp_control.specs.Memory.{IsGiven}
 use Rattle.ftp_control.specs.Told.{EndsAsTold}
 use Rattle.ftp_calls.specs.declared.call.Answer.{Answer}
 use Rattle.ftp_calls.specs.declared.call.Call.{Call}
-use Rattle.ftp_calls.specs.Exchanges.{is_local, is_read, row_of}
+use Rattle.ftp_calls.specs.Exchanges.{is_local, row_of}
 use Rattle.ftp_calls.specs.declared.exchange.Turn.TheVariants.{First}
-use Rattle.ftp_session.specs.declared.session.stage.Stage.{Stage}
-use Rattle.ftp_session.specs.Coding.{Coding}
-use Rattle.ftp_session.specs.Link.{Link, over_memory}
-use Rattle.ftp_session.specs.Play.{Refusal, Taken}
-use Rattle.ftp_session.specs.Promises.{HasFault, IsFault, IsRefused, Refuses, Rests, refusal_of}
-use Rattle.ftp_session.specs.State.{SessionValue}
-use Rattle.ftp_session.specs.Steps.Following.{MayPollAt, MayPollFrom, PollsHere, PollsOn, RefusesFrom, StageIn, StartsTo, entered_at, entered_state, entered_tree, is_first, polled_answer}
-use Rattle.ftp_session.specs.Steps.Moving.{CarriesOut, HasBegun, PollsTo}
-use Rattle.ftp_session.specs.Steps.Stages.{StageOf, begun_at, remaining}
-use Rattle.ftp_session.proofs.Carrying.{carried_apart, carried_plays, refused_so, row_answer}
-use Rattle.ftp_session.proofs.Sorts.{stage_no_local}
-use Rattle.ftp_session.specs.Link.{Builds}
-
--- a call that isn't refused goes on, in a session that is known by an equation
-pub starts_on : (link : Link) (may_wait : Type 0) (coding : Coding) (call : Call) (stage stage' : Stage) (v mid w : SessionValue) (result : Poll Answer) → MayPollAt stage call v → v.channel.failed ≡ false → mid ≡ v → PollsTo link (begun_at stage) (entered_tree coding call stage mid.state) (remaining coding call (entered_state call stage mid.state) stage') (entered_at call stage mid) w result → (result ≡ Pending → is_read call ≡ true → Rests link mid w) → (result ≡ Pending → HasBegun link (begun_at stage) (begun_at stage') (entered_tree coding call stage mid.state) (entered_at call stage mid) w) → (w.channel.failed ≡ true → (mid.channel.failed ≡ true) ⊎ HasFault (polled_answer result)) → (link.tells → may_wait → EndsAsTold mid.channel.ended w.channel.ended mid.channel.told) → PollsOn link may_wait coding call stage stage' v w result
-starts_on link may_wait coding call stage stage' v mid w result may going same polls rests begun fails end =
-    let P : SessionValue → Type 0 = λ x. PollsTo link (begun_at stage) (entered_tree coding call stage x.state) (remaining coding call (entered_state call stage x.state) stage') (entered_at call stage x) w result in
-    let R : SessionValue → Type 0 = λ x. result ≡ Pending → is_read call ≡ true → Rests link x w in
-    let B : SessionValue → Type 0 = λ x. result ≡ Pending → HasBegun link (begun_at stage) (begun_at stage') (entered_tree coding call stage x.state) (entered_at call stage x) w in
-    let F : SessionValue → Type 0 = λ x. w.channel.failed ≡ true → (x.channel.failed ≡ true) ⊎ HasFault (polled_answer result) in
-    let E : SessionValue → Type 0 = λ x. link.tells → may_wait → EndsAsTold x.channel.ended w.channel.ended x.channel.told in
-    record { may = may; going = going; polls = subst P same polls; rests = subst R same rests; begun = subst B same begun; fails = subst F same fails; end = subst E same end }
+use Rattle.ftp_dialogue.specs.declared.stage.Stage.{Stage}
+use Rattle.ftp_dialogue.specs.Coding.{Coding}
+use Rattle.ftp_dialogue.specs.Link.{over_memory}
+use Rattle.ftp_dialogue.specs.Promises.{HasFault, IsFault}
+use Rattle.ftp_dialogue.specs.State.{SessionValue}
+use Rattle.ftp_session.specs.Steps.Following.{PollsHere}
+use Rattle.ftp_dialogue.specs.Steps.Polls.{MayPollFrom, PollsOn, RefusesFrom, StageIn, StartsTo, entered_at, entered_state, entered_tree, is_first}
+use Rattle.ftp_dialogue.specs.Steps.Moving.{CarriesOut, PollsTo}
+use Rattle.ftp_dialogue.specs.Steps.Stages.{StageOf, begun_at, remaining}
+use Rattle.ftp_dialogue.proofs.CarryingLemmas.{carried_apart, carried_plays, refused_so, row_answer}
+use Rattle.ftp_dialogue.proofs.DrainingLemmas.{taken_unrefused}
+use Rattle.ftp_dialogue.proofs.Sorts.{stage_no_local}
+use Rattle.ftp_dialogue.specs.Link.{Builds}
 
 -- the control connection is as it was
 apart_end : (v w : SessionValue) → w.channel ≡ v.channel → EndsAsTold v.channel.ended w.channel.ended v.channel.told
@@ -45,12 +36,6 @@ one_fault v w answer fails failed = go (fails failed)
 
 ready_clash : {A : Type 0} (answer : Answer) → Ready answer ≡ Pending → A
 ready_clash answer is = cc
-
--- a call that is taken isn't refused
-taken_unrefused : (tells : Type 0) (call : Call) (v w : SessionValue) (answer : Answer) → refusal_of call v ≡ Taken → IsRefused tells call v w answer → ⊥
-taken_unrefused tells call v w answer taken refused =
-    let R : Refusal → Type 0 = λ r. Refuses r tells call v w answer in
-    subst R taken refused
 
 module _ (builds : Builds) (coding : Coding) (call : Call) (stage stage' : Stage) (v w : SessionValue) where
   -- a call that is refused

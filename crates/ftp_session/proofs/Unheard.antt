@@ -33,28 +33,28 @@ use Rattle.ftp_calls.specs.declared.exchange.Exchange.{Exchange}
 use Rattle.ftp_calls.specs.declared.exchange.Row.{Row}
 use Rattle.ftp_calls.specs.declared.exchange.Row.TheVariants.{Exchanges, Arms, Sets, Moves}
 use Rattle.ftp_calls.specs.Exchanges.{is_read, reads, row_of}
-use Rattle.ftp_session.specs.declared.session.state.State.{State}
-use Rattle.ftp_session.specs.declared.session.stage.Stage.{Stage}
-use Rattle.ftp_session.specs.declared.session.stage.Stage.TheVariants.{At, Saying, Hearing, Arming, Agreeing, Closing}
-use Rattle.ftp_session.specs.declared.model.Standing.{Standing}
-use Rattle.ftp_session.specs.declared.model.Wait.{Wait}
-use Rattle.ftp_session.specs.declared.model.Wait.TheVariants as wait
-use Rattle.ftp_session.specs.declared.model.Played.{Played}
-use Rattle.ftp_session.specs.declared.model.Played.TheVariants.{Done, Pending}
-use Rattle.ftp_session.specs.declared.model.Script.{Script}
-use Rattle.ftp_session.specs.Coding.{Coding}
-use Rattle.ftp_session.specs.Dialogue.{Expected, expected_of, Tree, Say, Hear, Look, Ask, Build, Move, Leaf, saying, after_fault_of, awaiting, armed, doing, exchanging, concluded, later, set_to, answer_to_fault, dialogue}
-use Rattle.ftp_session.specs.declared.model.DealOutcome.{DealOutcome}
-use Rattle.ftp_session.specs.declared.model.DealOutcome.TheVariants as came
-use Rattle.ftp_session.specs.Deals.{answers as answers_to, constructed, dealt, moved}
-use Rattle.ftp_session.specs.Play.{play, address_at, fits, heard_then, taken, asked_then, built_then, moved_then}
-use Rattle.ftp_session.specs.Script.{heard_in, heard_at, needs_data}
-use Rattle.ftp_session.proofs.Carrying.{needs_none, plain_dialogue}
-use Rattle.ftp_session.proofs.Sorts.{finishing_moves, turn_abroad}
-use Rattle.ftp_session.specs.Steps.Stages.{StageOf, TurnOf, remaining}
-use Rattle.ftp_session.proofs.Stages.{no_read}
-use Rattle.ftp_session.proofs.Moving.{play-Say, play-Leaf, play-Refused}
-use Rattle.ftp_session.proofs.Hearing.{play-Hear}
+use Rattle.ftp_dialogue.specs.declared.state.State.{State}
+use Rattle.ftp_dialogue.specs.declared.stage.Stage.{Stage}
+use Rattle.ftp_dialogue.specs.declared.stage.Stage.TheVariants.{At, Saying, Hearing, Arming, Agreeing, Closing, Aborting}
+use Rattle.ftp_dialogue.specs.declared.model.Standing.{Standing}
+use Rattle.ftp_dialogue.specs.declared.model.Wait.{Wait}
+use Rattle.ftp_dialogue.specs.declared.model.Wait.TheVariants as wait
+use Rattle.ftp_dialogue.specs.declared.model.Played.{Played}
+use Rattle.ftp_dialogue.specs.declared.model.Played.TheVariants.{Done, Pending}
+use Rattle.ftp_dialogue.specs.declared.model.Script.{Script}
+use Rattle.ftp_dialogue.specs.Coding.{Coding}
+use Rattle.ftp_dialogue.specs.Dialogue.{Expected, expected_of, Tree, Say, Hear, Look, Ask, Build, Move, Leaf, saying, after_fault_of, awaiting, armed, doing, exchanging, concluded, later, set_to, answer_to_fault, dialogue}
+use Rattle.ftp_dialogue.specs.declared.model.DealOutcome.{DealOutcome}
+use Rattle.ftp_dialogue.specs.declared.model.DealOutcome.TheVariants as came
+use Rattle.ftp_dialogue.specs.Deals.{answers as answers_to, constructed, dealt, moved}
+use Rattle.ftp_dialogue.specs.Play.{play, address_at, fits, heard_then, taken, asked_then, built_then, moved_then, needs_data}
+use Rattle.ftp_session.specs.Script.{heard_in, heard_at}
+use Rattle.ftp_dialogue.proofs.CarryingLemmas.{needs_none, plain_dialogue}
+use Rattle.ftp_dialogue.proofs.Sorts.{finishing_moves, turn_abroad, aborts_finish}
+use Rattle.ftp_dialogue.specs.Steps.Stages.{StageOf, TurnOf, remaining}
+use Rattle.ftp_dialogue.proofs.Stages.{no_read}
+use Rattle.ftp_dialogue.proofs.Moving.{play-Say, play-Leaf, play-Refused}
+use Rattle.ftp_dialogue.proofs.Hearing.{play-Hear}
 
 -- A whole reply isn't empty
 
@@ -294,6 +294,7 @@ module _ (coding : Coding) (room : Room) (script : Script) (s : Standing) (untak
   lacks_room call state (Arming turn offset) plain stage_of is = never_waits (armed offset state) is
   lacks_room call state (Agreeing way) plain stage_of is = let clash : true ≡ false = sym stage_of.0 ∙ (needs_none call plain).0 in cc
   lacks_room call state Closing plain stage_of is = let clash : true ≡ false = sym (finishing_moves call stage_of) ∙ (needs_none call plain).1 in cc
+  lacks_room call state (Aborting abort) plain stage_of is = let clash : true ≡ false = sym (finishing_moves call (aborts_finish call stage_of)) ∙ (needs_none call plain).1 in cc
 
 -- a call that says a line first is no plain read
 pub says_no_read : (coding : Coding) (call : Call) (state : State) (line : List ℕ) (next : Tree) → TurnOf call First → dialogue coding call state ≡ Say (Ok line) next → is_read call ≡ false

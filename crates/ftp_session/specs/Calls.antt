@@ -1,22 +1,21 @@
 -- The calls of a session: each is its dialogue.
-use Rattle.std.specs.Prelude.{◌≡◌, ℕ, Result, Ok, Err, string_bytes}
+use Rattle.std.specs.Prelude.{ℕ, Result, Ok, Err, string_bytes}
 use Rattle.std.specs.declared.string.String.{String}
 use Rattle.std.specs.declared.alloc.Global.{Global}
 use Rattle.jiff_core.specs.declared.civil.datetime.DateTime.{DateTime}
 use Rattle.ftp_base.specs.Features.{Entries}
 use Rattle.ftp_base.specs.declared.types.reply.Response.{Response}
 use Rattle.ftp_base.specs.declared.types.fault.FtpError.{FtpError}
-use Rattle.ftp_control.specs.Told.{Told, begun}
-use Rattle.ftp_session.specs.Deals.{Net}
-use Rattle.ftp_control.specs.Channel.{IsIdle}
+use Rattle.ftp_control.specs.Told.{Told}
+use Rattle.ftp_dialogue.specs.Deals.{Net}
 use Rattle.ftp_calls.specs.declared.call.Answer.{Answer}
 use Rattle.ftp_calls.specs.declared.call.Answer.TheVariants.{Unit as Done, Reply, Fault}
 use Rattle.ftp_calls.specs.declared.call.Answer.TheVariants as answers
 use Rattle.ftp_calls.specs.declared.call.Call.TheVariants.{Greet}
-use Rattle.ftp_session.specs.Coding.{Coding}
-use Rattle.ftp_session.specs.State.{SessionValue, IsFirst}
-use Rattle.ftp_session.specs.Promises.{Plays}
-use Rattle.ftp_session.specs.Link.{Link}
+use Rattle.ftp_dialogue.specs.Coding.{Coding}
+use Rattle.ftp_dialogue.specs.State.{Begins, SessionValue}
+use Rattle.ftp_dialogue.specs.Promises.{PlaysAlone}
+use Rattle.ftp_dialogue.specs.Link.{Link}
 
 -- the answer of a call that gives nothing
 abbrev pub unit_answer : Result (Unit {0}) FtpError → Answer
@@ -48,19 +47,11 @@ abbrev pub features_answer : Result Entries FtpError → Answer
 features_answer (Ok features) = answers.Features features
 features_answer (Err fault) = Fault fault
 
--- a session begins on a connection that told this, and this stands beside it: nothing is read or sent, and what came
--- and wasn't read is still to come
-pub record Begins (tells : Type 0) (before : Told) (beside : Net) (new : SessionValue) : Type 0 where
-  pub idle : IsIdle new.channel
-  pub told : tells → new.channel.told ≡ begun before
-  pub first : IsFirst new.state
-  pub net : new.net ≡ beside
-
 -- a session begins and makes the greeting's dialogue
 pub record Connects (link : Link) (coding : Coding) (told : Told) (beside : Net) (new : SessionValue) (result : Result (Unit {0}) FtpError) : Type 0 where
   pub old : SessionValue
   pub begins : Begins link.tells told beside old
-  pub greets : Plays link coding Greet old new (unit_answer result)
+  pub greets : PlaysAlone link coding Greet old new (unit_answer result)
 
 -- no session is connected, and this is why
 abbrev pub FailsToConnect : Link → Coding → Told → Net → FtpError → Type 0

@@ -16,18 +16,18 @@ use Rattle.ftp_control.specs.declared.transport.request.RequestOutcome.TheVarian
 use Rattle.ftp_control.specs.declared.transport.supply.Supply.{Supply}
 use Rattle.ftp_calls.specs.declared.call.Answer.TheVariants.{Fault}
 use Rattle.ftp_calls.specs.declared.call.Call.TheVariants.{Greet}
-use Rattle.ftp_session.specs.declared.session.state.State.{State}
-use Rattle.ftp_session.specs.declared.model.DealOutcome.{DealOutcome}
-use Rattle.ftp_session.specs.declared.model.DealOutcome.TheVariants.{Answered}
-use Rattle.ftp_session.specs.declared.model.Standing.{Standing}
+use Rattle.ftp_dialogue.specs.declared.state.State.{State}
+use Rattle.ftp_dialogue.specs.declared.model.DealOutcome.{DealOutcome}
+use Rattle.ftp_dialogue.specs.declared.model.DealOutcome.TheVariants.{Answered}
+use Rattle.ftp_dialogue.specs.declared.model.Standing.{Standing}
 use Rattle.ftp_session.specs.Calls.{Connects}
-use Rattle.ftp_session.specs.Coding.{Coding}
-use Rattle.ftp_session.specs.Deals.{dealt, first_net}
-use Rattle.ftp_session.specs.declared.model.Dealings.{Dealings}
-use Rattle.ftp_session.specs.Dialogue.{Tree, Ask, Leaf, dialogue}
-use Rattle.ftp_session.specs.Link.{Link}
-use Rattle.ftp_session.specs.Play.{play}
-use Rattle.ftp_session.specs.State.{SessionValue}
+use Rattle.ftp_dialogue.specs.Coding.{Coding}
+use Rattle.ftp_dialogue.specs.Deals.{dealt, first_net}
+use Rattle.ftp_dialogue.specs.declared.model.Dealings.{Dealings}
+use Rattle.ftp_dialogue.specs.Dialogue.{Tree, Ask, Leaf, dialogue}
+use Rattle.ftp_dialogue.specs.Link.{Link}
+use Rattle.ftp_dialogue.specs.Play.{play}
+use Rattle.ftp_dialogue.specs.State.{SessionValue}
 
 -- a request for a connection came to one, or was refused with this fault
 abbrev pub if_connected : Tree → (ConnectionError → Tree) → RequestOutcome → Tree

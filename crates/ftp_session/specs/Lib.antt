@@ -1,15 +1,6 @@
 pub mod Calls
-pub mod Coding
 pub mod Connecting
-pub mod Deals
-pub mod Dialogue
-pub mod Laws
-pub mod Link
-pub mod Play
-pub mod Promises
-pub mod Run
+pub mod Handed
 pub mod Script
 pub mod Scripted
-pub mod Sound
-pub mod State
 pub mod Steps

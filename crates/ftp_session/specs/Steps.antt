@@ -1,4 +1,2 @@
--- The bookkeeping of steps: what ties the machine to the definitions. No public clause speaks of it.
+-- The bookkeeping of polled runs: what ties them to their scripts. No public clause speaks of it.
 pub mod Following
-pub mod Moving
-pub mod Stages

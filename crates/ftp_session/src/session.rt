@@ -1,31 +1,26 @@
 //! A session: the dialogues of RFC 959 on one control connection.
 //!
-//! Each dialogue is a row of `ftp_calls::exchange`: what is said, which statuses are heard, how it ends. One machine plays all
-//! of them, polled; a blocking call is the same poll over a connection that never waits. A user holds a `Session`,
-//! which is that machine and the encoding of its texts.
+//! Each dialogue is a row of `ftp_calls::exchange`: what is said, which statuses are heard, how it ends. The machine of
+//! `ftp_dialogue` plays all of them, polled; a blocking call is the same poll over a connection that never waits. A user
+//! holds a `Session`, which is that machine, the encoding of its texts, the builder of its passive data connections and
+//! its end of the mark of the transfer that it handed out.
 
-pub mod answers;
-mod asks;
-mod carrying;
 mod chosen;
 mod client;
 mod commands;
 mod connecting;
-mod machine;
-mod negotiation;
-mod nodes;
+mod ending;
+mod looking;
+mod opening;
 mod parameters;
 mod questions;
-mod requests;
+mod reading;
 mod run;
 mod run_polled;
 mod settings;
-mod stage;
-mod state;
-mod transitions;
 
 pub use chosen::Chosen;
 pub use client::Session;
 pub use ftp_calls::call::{Answer, Call, Event, Setting};
+pub use ftp_dialogue::{Counts, Owed, Settings, State};
 pub use parameters::{NoStreamBuilder, NoTlsConnector};
-pub use state::{Counts, Owed, Settings, State};

@@ -108,6 +108,20 @@ impl<C: Tells + Drop> Transfer<C> {
         close(&mut conn);
         end.leave(conn)
     }
+
+    /// The data connection, and this end of the mark: for the session that brings the transfer to its end. Nothing is
+    /// closed, and nothing is stored.
+    pub fn into_parts(self) -> (C, TransferEnd)
+        ensures told { C.told result.0 ≡ self.told }
+        ensures end { result.1 ≡ self.end }
+    {
+        let Transfer {
+            conn,
+            direction: _,
+            end,
+        } = self;
+        (conn, end.release())
+    }
 }
 
 impl<C: Tells + Drop> Drop for Transfer<C> {

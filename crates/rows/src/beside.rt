@@ -20,7 +20,7 @@ pub fn next_outcome(
     match call {
         Call::Read(most) => Ok(DealOutcome::Read(unread(alloc, setup, *most, dealings)?)),
         Call::Write(bytes) => Ok(DealOutcome::Wrote(bytes.as_slice().len())),
-        Call::Finish | Call::Leave => Ok(DealOutcome::Closed),
+        Call::Finish | Call::Abort | Call::Leave => Ok(DealOutcome::Closed),
         _ => {
             let asked = dealings.asked.as_slice();
             if let Some(Request::Build(_)) = asked.last() {
@@ -58,7 +58,7 @@ pub fn waiting<'a>(script: &'a Script, known: &[DealOutcome]) -> Option<&'a Call
     };
     let waits = match call {
         Call::Read(_) | Call::Write(_) | Call::Leave => script.polled,
-        Call::Finish => script.polled && script.dealings.data_conn.is_some(),
+        Call::Finish | Call::Abort => script.polled && script.dealings.data_conn.is_some(),
         _ => script.dealings.asked.as_slice().len() > answered(known),
     };
     if waits { Some(call) } else { None }

@@ -27,6 +27,7 @@ fn bare(alloc: Global, name: &str) -> Option<Call> {
         "quit" => Some(Call::Quit),
         "send" => Some(Call::Write(Items::from_vec(Vec::new(alloc)))),
         "finish" => Some(Call::Finish),
+        "abort" => Some(Call::Abort),
         "leave" => Some(Call::Leave),
         "drain" => Some(Call::Drain),
         _ => None,

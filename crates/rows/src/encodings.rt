@@ -1,6 +1,6 @@
 //! The encodings that a row may name: UTF-8, Latin-1, and some that a careless caller might hand in.
 
-ghost use Rattle.std.specs.Prelude.{◌≡◌, ◌∷◌, ◌-◌, IfOk, IfErr, Ok, length, map, take};
+ghost use Rattle.std.specs.Prelude.{◌≡◌, ◌∷◌, ◌-◌, ◌==◌, IfOk, IfErr, Ok, length, map, slice_index, take};
 ghost use Rattle.std.specs.Str.{chars};
 ghost use Rattle.ftp_base.specs.Encoding.{IsRefusal};
 ghost use Rattle.rows.specs.Encodings.{latin_1_bytes, feed_for_space, decoded_by, encoded_by};
@@ -25,6 +25,8 @@ pub enum Named {
     DropsCrlf,
     /// `empty`: gives no byte at all.
     Empty,
+    /// `refuses_a`: UTF-8 that refuses a text whose first letter is an A, as `ABOR` is.
+    RefusesA,
 }
 
 impl Named {
@@ -37,6 +39,7 @@ impl Named {
             "cr_first" => Ok(Named::CrFirst),
             "drops_crlf" => Ok(Named::DropsCrlf),
             "empty" => Ok(Named::Empty),
+            "refuses_a" => Ok(Named::RefusesA),
             _ => Err(RowError::NotUnderstood),
         }
     }
@@ -49,7 +52,7 @@ impl Encoding for Named {
 
     fn decode(&self, alloc: Global, bytes: &[u8]) -> Result<String, AllocError> {
         match self {
-            Named::Utf8 => Utf8Encoding.decode(alloc, bytes),
+            Named::Utf8 | Named::RefusesA => Utf8Encoding.decode(alloc, bytes),
             Named::Latin1 | Named::SpaceToLf | Named::CrFirst | Named::DropsCrlf | Named::Empty =>
                 bytes.iter().map(|byte| char::from(*byte)).collect(alloc),
         }
@@ -63,8 +66,22 @@ impl Encoding for Named {
             Named::CrFirst => after_return(alloc, text.as_bytes()).map_err(refused),
             Named::DropsCrlf => without_line_end(alloc, text.as_bytes()).map_err(refused),
             Named::Empty => Ok(Vec::new(alloc)),
+            Named::RefusesA => {
+                if begins_with_a(text.as_bytes()) {
+                    Err(EncodeError::Refused(ErrorKind::InvalidData))
+                } else {
+                    Utf8Encoding.encode(alloc, text)
+                }
+            }
         }
     }
+}
+
+/// Whether the first letter of a text is an A.
+fn begins_with_a(text: &[u8]) -> bool
+    ensures { result ≡ (slice_index text.now 0 == 65) }
+{
+    matches!(text, [b'A', ..])
 }
 
 /// Want of memory, as encodings have it.

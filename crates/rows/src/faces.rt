@@ -4,6 +4,7 @@ mod client;
 mod definition;
 mod methods;
 mod session;
+mod transfers;
 
 use crate::play::Play;
 use crate::transcript::{Mark, Standing};
@@ -108,15 +109,29 @@ impl Face {
         }
     }
 
-    /// Whether a row can be played on it: the blocking client has no method that reads a reply alone, neither it nor
-    /// the session has one that opens a data connection or is of a transfer, and a run is made on a connection.
+    /// Whether a row can be played on it: the blocking client has no method that reads a reply alone, and a run is made
+    /// on a connection.
     pub fn plays(self, play: &Play) -> bool {
         match self {
-            Face::Definition => true,
-            Face::Client => play.has_methods() && client::has_methods(&play.calls),
-            Face::Methods => play.has_methods(),
+            Face::Definition | Face::Methods => true,
+            Face::Client => client::has_methods(&play.calls),
             Face::Run | Face::Polled | Face::Script => play.dial.is_none(),
         }
+    }
+
+    /// What is due of a row's transcript on it: a client doesn't tell what its transport was asked, so where the row
+    /// opens data connections the lines of requests are left out.
+    pub fn due(self, alloc: Global, play: &Play, due: &str) -> Result<String, AllocError> {
+        if self != Face::Client || !play.opens_data() {
+            return String::from_str(alloc, due);
+        }
+        let mut left = String::new(alloc);
+        for line in due.split_inclusive('\n') {
+            if !is_request(line) {
+                left.push_str(line)?;
+            }
+        }
+        Ok(left)
     }
 
     /// What a row comes to.
@@ -220,4 +235,10 @@ fn polls(alloc: Global, events: &[Event]) -> Result<Vec<usize>, AllocError> {
 /// The first of a list, at most so many.
 fn front<T>(all: &[T], count: usize) -> &[T] {
     all.get(..count).unwrap_or(all)
+}
+
+/// Whether a line of a transcript is of what a transport was asked.
+fn is_request(line: &str) -> bool {
+    let starts = ["D: ", "B: ", "L: ", "P: "];
+    starts.iter().any(|start| line.starts_with(*start))
 }

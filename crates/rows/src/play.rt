@@ -7,7 +7,7 @@ use crate::encodings::Named;
 use crate::setup::Setup;
 use crate::step::Step;
 use ftp_base::types::Bytes;
-use ftp_calls::exchange::{is_local, negotiates, of_transfer};
+use ftp_calls::exchange::negotiates;
 use ftp_session::session::{Call, Event};
 use row_text::{RowError, bytes_of, value};
 use std::alloc::Global;
@@ -131,15 +131,6 @@ impl Play {
     pub fn opens_data(&self) -> bool {
         self.events.iter().any(|event| match event {
             Event::Start(call) => negotiates(call),
-            _ => false,
-        })
-    }
-
-    /// Whether a session has a method for each call of the row: for those that open a data connection, are of a transfer
-    /// or change a setting it has none that a row could make.
-    pub fn has_methods(&self) -> bool {
-        !self.events.iter().any(|event| match event {
-            Event::Start(call) => negotiates(call) || of_transfer(call) || is_local(call),
             _ => false,
         })
     }

@@ -70,10 +70,11 @@ impl<'a> Tally<'a> {
                 continue;
             }
             let came = face.play(rt, &play, row.wants_welcome())?;
-            let agrees = agreement.agrees(&came);
-            self.count(agrees && came.transcript.as_str() == row.due()?);
-            if !agrees || came.transcript.as_str() != row.due()? {
-                show(rt, row, *face, piece, &came)?;
+            let due = face.due(alloc, &play, row.due()?)?;
+            let agrees = agreement.agrees(&came) && came.transcript == due;
+            self.count(agrees);
+            if !agrees {
+                show(rt, row, *face, piece, &due, &came)?;
             }
         }
         Ok(())
@@ -136,10 +137,17 @@ fn play_list<R: Wait + AllocGlobal>(
 }
 
 /// Prints a play that differs.
-fn show<R: Print>(rt: &R, row: &Row<'_>, face: Face, piece: usize, came: &Came) -> Result<()> {
+fn show<R: Print>(
+    rt: &R,
+    row: &Row<'_>,
+    face: Face,
+    piece: usize,
+    due: &str,
+    came: &Came,
+) -> Result<()> {
     let bytes = if piece == 1 { ", bytes one by one" } else { "" };
     println!(rt; "{}: {} ({}{bytes})", row.set, row.title, face.name())?;
-    println!(rt; "due\n{}came\n{}", row.due()?, came.transcript)?;
+    println!(rt; "due\n{due}came\n{}", came.transcript)?;
     println!(rt; "failed {}, seen {:?}", came.failed, came.seen)?;
     Ok(())
 }

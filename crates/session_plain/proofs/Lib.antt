@@ -1,3 +1,4 @@
 pub mod Openings
 pub mod Parts
+pub mod Polled
 pub mod Requests

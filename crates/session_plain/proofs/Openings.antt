@@ -9,12 +9,12 @@ use Rattle.ftp_control.specs.declared.transport.request.Request.TheVariants.{Acc
 use Rattle.ftp_control.specs.declared.transport.request.RequestOutcome.{RequestOutcome}
 use Rattle.ftp_calls.specs.declared.call.Answer.{Answer}
 use Rattle.ftp_calls.specs.declared.call.Answer.TheVariants.{Fault}
-use Rattle.ftp_session.specs.declared.session.state.State.{State}
-use Rattle.ftp_session.specs.declared.model.Played.TheVariants.{Pending}
-use Rattle.ftp_session.specs.declared.model.Standing.{Standing}
-use Rattle.ftp_session.specs.declared.model.Wait.TheVariants.{Outcome as Asking}
-use Rattle.ftp_session.specs.Dialogue.{Tree, Ask, Leaf, accepting, admitting, lets_in, on_address}
-use Rattle.ftp_session.specs.Play.{play}
+use Rattle.ftp_dialogue.specs.declared.state.State.{State}
+use Rattle.ftp_dialogue.specs.declared.model.Played.TheVariants.{Pending}
+use Rattle.ftp_dialogue.specs.declared.model.Standing.{Standing}
+use Rattle.ftp_dialogue.specs.declared.model.Wait.TheVariants.{Outcome as Asking}
+use Rattle.ftp_dialogue.specs.Dialogue.{Tree, Ask, Leaf, accepting, admitting, lets_in, on_address}
+use Rattle.ftp_dialogue.specs.Play.{play}
 use Rattle.session_plain.proofs.Parts.{known, unknown}
 use Rattle.session_plain.specs.declared.asking.Came.TheVariants.{Known, Unknown}
 use Rattle.session_plain.specs.Progress.{AsksFor}

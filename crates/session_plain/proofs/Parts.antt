@@ -9,17 +9,17 @@ use Rattle.ftp_control.specs.declared.transport.room.Room.{Room}
 use Rattle.ftp_control.specs.declared.transport.request.Request.{Request}
 use Rattle.ftp_control.specs.declared.transport.request.Request.TheVariants.{Connect}
 use Rattle.ftp_control.specs.declared.transport.request.RequestOutcome.{RequestOutcome}
-use Rattle.ftp_session.specs.declared.session.state.State.{State}
-use Rattle.ftp_session.specs.declared.model.Played.{Played}
-use Rattle.ftp_session.specs.declared.model.Played.TheVariants.{Pending}
-use Rattle.ftp_session.specs.declared.model.Standing.{Standing}
-use Rattle.ftp_session.specs.declared.model.Wait.TheVariants.{Outcome as Asking}
+use Rattle.ftp_dialogue.specs.declared.state.State.{State}
+use Rattle.ftp_dialogue.specs.declared.model.Played.{Played}
+use Rattle.ftp_dialogue.specs.declared.model.Played.TheVariants.{Pending}
+use Rattle.ftp_dialogue.specs.declared.model.Standing.{Standing}
+use Rattle.ftp_dialogue.specs.declared.model.Wait.TheVariants.{Outcome as Asking}
 use Rattle.ftp_calls.specs.declared.call.Call.{Call}
 use Rattle.ftp_calls.specs.declared.exchange.Turn.TheVariants.{Restart}
 use Rattle.ftp_calls.specs.Exchanges.{restarts, row_of}
-use Rattle.ftp_session.specs.Coding.{Coding}
-use Rattle.ftp_session.specs.Dialogue.{Tree, Ask, Build, on_built, on_connection, connecting_to, connecting_to_peer, doing, last_turn, restart_turn, to_address}
-use Rattle.ftp_session.specs.Play.{play}
+use Rattle.ftp_dialogue.specs.Coding.{Coding}
+use Rattle.ftp_dialogue.specs.Dialogue.{Tree, Ask, Build, on_built, on_connection, connecting_to, connecting_to_peer, doing, last_turn, restart_turn, to_address}
+use Rattle.ftp_dialogue.specs.Play.{play}
 use Rattle.session_plain.specs.declared.asking.Came.TheVariants.{Known, Unknown}
 use Rattle.session_plain.specs.declared.exchange.Progress.{Progress}
 use Rattle.session_plain.specs.Progress.{AsksFor, ComesTo}

@@ -5,12 +5,12 @@ use Rattle.ftp_control.specs.declared.transport.room.Room.{Room}
 use Rattle.ftp_control.specs.declared.transport.request.Request.{Request}
 use Rattle.ftp_control.specs.declared.transport.request.RequestOutcome.{RequestOutcome}
 use Rattle.ftp_calls.specs.declared.call.Call.TheVariants.{Greet}
-use Rattle.ftp_session.specs.declared.model.Played.{Played}
-use Rattle.ftp_session.specs.declared.model.Standing.{Standing}
-use Rattle.ftp_session.specs.Coding.{Coding}
+use Rattle.ftp_dialogue.specs.declared.model.Played.{Played}
+use Rattle.ftp_dialogue.specs.declared.model.Standing.{Standing}
+use Rattle.ftp_dialogue.specs.Coding.{Coding}
 use Rattle.ftp_session.specs.Connecting.{connecting, if_connected}
-use Rattle.ftp_session.specs.Dialogue.{Tree, dialogue}
-use Rattle.ftp_session.specs.Play.{play}
+use Rattle.ftp_dialogue.specs.Dialogue.{Tree, dialogue}
+use Rattle.ftp_dialogue.specs.Play.{play}
 use Rattle.session_plain.specs.Progress.{AsksFor}
 use Rattle.session_plain.specs.declared.asking.Came.TheVariants.{Known}
 

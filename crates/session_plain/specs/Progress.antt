@@ -1,14 +1,14 @@
 -- How far a part of a dialogue gets.
 use Rattle.std.specs.Prelude.{◌≡◌, Bool, false, List, [], ◌∷◌, Option, Some, None}
 use Rattle.ftp_control.specs.declared.transport.room.Room.{Room}
-use Rattle.ftp_session.specs.declared.session.state.State.{State}
-use Rattle.ftp_session.specs.declared.model.Played.{Played}
-use Rattle.ftp_session.specs.Dialogue.{Tree}
-use Rattle.ftp_session.specs.Deals.{answers}
-use Rattle.ftp_session.specs.Play.{play, asked_then, built_then, moved_then}
+use Rattle.ftp_dialogue.specs.declared.state.State.{State}
+use Rattle.ftp_dialogue.specs.declared.model.Played.{Played}
+use Rattle.ftp_dialogue.specs.Dialogue.{Tree}
+use Rattle.ftp_dialogue.specs.Deals.{answers}
+use Rattle.ftp_dialogue.specs.Play.{play, asked_then, built_then, moved_then}
 use Rattle.ftp_calls.specs.declared.exchange.Movement.{Movement}
-use Rattle.ftp_session.specs.declared.model.DealOutcome.{DealOutcome}
-use Rattle.ftp_session.specs.declared.model.DealOutcome.TheVariants.{Answered, Built}
+use Rattle.ftp_dialogue.specs.declared.model.DealOutcome.{DealOutcome}
+use Rattle.ftp_dialogue.specs.declared.model.DealOutcome.TheVariants.{Answered, Built}
 use Rattle.std.specs.declared.net.socket_addr.SocketAddr.{SocketAddr}
 use Rattle.ftp_base.specs.declared.types.fault.FtpError.{FtpError}
 use Rattle.session_plain.specs.declared.building.Answered.{Answered as FromBuilder}
@@ -17,9 +17,9 @@ use Rattle.session_plain.specs.declared.carrying.Carried.{Carried}
 use Rattle.session_plain.specs.declared.carrying.Carried.TheVariants as carried
 use Rattle.ftp_control.specs.declared.transport.request.Request.{Request}
 use Rattle.ftp_control.specs.declared.transport.request.RequestOutcome.{RequestOutcome}
-use Rattle.ftp_session.specs.declared.model.Played.TheVariants.{Pending}
-use Rattle.ftp_session.specs.declared.model.Standing.{Standing}
-use Rattle.ftp_session.specs.declared.model.Wait.TheVariants.{Outcome as Asking}
+use Rattle.ftp_dialogue.specs.declared.model.Played.TheVariants.{Pending}
+use Rattle.ftp_dialogue.specs.declared.model.Standing.{Standing}
+use Rattle.ftp_dialogue.specs.declared.model.Wait.TheVariants.{Outcome as Asking}
 use Rattle.session_plain.specs.declared.asking.Came.{Came}
 use Rattle.session_plain.specs.declared.asking.Came.TheVariants.{Unknown, Known}
 use Rattle.session_plain.specs.declared.exchange.Progress.{Progress}

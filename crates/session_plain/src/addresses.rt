@@ -5,9 +5,9 @@ ghost use Rattle.std.specs.Prelude.{◌≡◌, IfOk, None};
 ghost use Rattle.ftp_answers.specs.Addresses.{extended_port_of, passive_address_of};
 ghost use Rattle.ftp_control.specs.declared.transport.request.Request.TheVariants.{Connect};
 ghost use Rattle.ftp_control.specs.declared.transport.room.Room.{Room as Rooms};
-ghost use Rattle.ftp_session.specs.Dialogue.{Ask, Build, Tree, at_port, connecting_to, connecting_to_peer, no_address, on_built, on_connection, to_address, to_port};
-ghost use Rattle.ftp_session.specs.Play.{play};
-ghost use Rattle.ftp_session.specs.declared.session.state.State.{State as States};
+ghost use Rattle.ftp_dialogue.specs.Dialogue.{Ask, Build, Tree, at_port, connecting_to, connecting_to_peer, no_address, on_built, on_connection, to_address, to_port};
+ghost use Rattle.ftp_dialogue.specs.Play.{play};
+ghost use Rattle.ftp_dialogue.specs.declared.state.State.{State as States};
 ghost use Rattle.session_plain.specs.Progress.{ComesTo};
 
 use crate::asking::{Came, asked};
@@ -22,7 +22,7 @@ use std::alloc::{AllocError, Global};
 use std::net::{SocketAddr, SocketAddrV4, SocketAddrV6};
 
 /// The reply to PASV tells the address. Behind a router that rewrites addresses its host is the control peer's.
-#[tactic(auto, unfolding(ftp_session::specs::Play::play))]
+#[tactic(auto, unfolding(ftp_dialogue::specs::Play::play))]
 pub(crate) fn to_address(
     alloc: Global,
     reply: Response,
@@ -45,7 +45,7 @@ pub(crate) fn to_address(
 }
 
 /// The reply to EPSV tells the port.
-#[tactic(auto, unfolding(ftp_session::specs::Play::play))]
+#[tactic(auto, unfolding(ftp_dialogue::specs::Play::play))]
 pub(crate) fn to_port(
     alloc: Global,
     reply: Response,
@@ -74,7 +74,7 @@ fn no_address(reply: Response, cause: NoAddress, standing: Standing) -> Progress
 }
 
 /// A connection to a port of the control connection's peer.
-#[tactic(auto, unfolding(ftp_session::specs::Play::play))]
+#[tactic(auto, unfolding(ftp_dialogue::specs::Play::play))]
 fn connecting_to_peer(alloc: Global, port: u16, standing: Standing) -> Result<Progress, AllocError>
     ensures { IfOk result (λ progress. (room : Rooms) (later : States → Tree) → ComesTo room later
         (play room (connecting_to_peer port standing.state (later standing.state)) standing)
@@ -85,7 +85,7 @@ fn connecting_to_peer(alloc: Global, port: u16, standing: Standing) -> Result<Pr
 }
 
 /// A connection to an address is asked for: of the caller's builder, where there is one.
-#[tactic(auto, unfolding(ftp_session::specs::Play::play))]
+#[tactic(auto, unfolding(ftp_dialogue::specs::Play::play))]
 fn connecting_to(
     alloc: Global,
     address: SocketAddr,
@@ -103,7 +103,7 @@ fn connecting_to(
 }
 
 /// The builder is asked for it. Its fault is the answer.
-#[tactic(auto, unfolding(ftp_session::specs::Play::play))]
+#[tactic(auto, unfolding(ftp_dialogue::specs::Play::play))]
 fn built_at(alloc: Global, address: SocketAddr, standing: Standing) -> Result<Progress, AllocError>
     ensures { IfOk result (λ progress. (room : Rooms) (later : States → Tree) → ComesTo room later
         (play room (Build address (on_built standing.state (later standing.state))) standing)
@@ -119,7 +119,7 @@ fn built_at(alloc: Global, address: SocketAddr, standing: Standing) -> Result<Pr
 }
 
 /// The transport is asked for it.
-#[tactic(auto, unfolding(ftp_session::specs::Play::play))]
+#[tactic(auto, unfolding(ftp_dialogue::specs::Play::play))]
 fn dialled(alloc: Global, address: SocketAddr, standing: Standing) -> Result<Progress, AllocError>
     ensures { IfOk result (λ progress. (room : Rooms) (later : States → Tree) → ComesTo room later
         (play room (Ask (Connect address None) (on_connection standing.state (later standing.state))) standing)

@@ -1,7 +1,7 @@
 //! A request to the transport, on all outcomes at once.
 
 ghost use Rattle.std.specs.Prelude.{◌≡◌, IfOk};
-ghost use Rattle.ftp_session.specs.Deals.{data_after, data_meanwhile, dealing, dealt, no_traffic};
+ghost use Rattle.ftp_dialogue.specs.Deals.{data_after, data_meanwhile, dealing, dealt, no_traffic};
 ghost use Rattle.session_plain.specs.Progress.{AsksFor};
 
 use crate::outcomes::{next_answer, part};

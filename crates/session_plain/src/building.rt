@@ -1,7 +1,7 @@
 //! A connection that the caller's builder is asked for, on all outcomes at once.
 
 ghost use Rattle.std.specs.Prelude.{◌≡◌, IfOk};
-ghost use Rattle.ftp_session.specs.Deals.{constructed, constructing, data_built};
+ghost use Rattle.ftp_dialogue.specs.Deals.{constructed, constructing, data_built};
 ghost use Rattle.session_plain.specs.Progress.{BuildsAt};
 
 use crate::asking::{no_dealings, no_traffic};

@@ -3,10 +3,10 @@
 ghost use Rattle.std.specs.Prelude.{◌≡◌, IfOk, option_map};
 ghost use Rattle.ftp_control.specs.declared.transport.room.Room.{Room};
 ghost use Rattle.ftp_calls.specs.declared.exchange.Movement.TheVariants as movement;
-ghost use Rattle.ftp_session.specs.Deals.{moved, parted, read_more, written_more};
-ghost use Rattle.ftp_session.specs.Dialogue.{Leaf, Move, Tree, carrying, moved_answer};
-ghost use Rattle.ftp_session.specs.Play.{play};
-ghost use Rattle.ftp_session.specs.declared.session.state.State.{State};
+ghost use Rattle.ftp_dialogue.specs.Deals.{moved, parted, read_more, written_more};
+ghost use Rattle.ftp_dialogue.specs.Dialogue.{Leaf, Move, Tree, carrying, moved_answer};
+ghost use Rattle.ftp_dialogue.specs.Play.{play};
+ghost use Rattle.ftp_dialogue.specs.declared.state.State.{State};
 ghost use Rattle.session_plain.specs.Progress.{ComesTo, Moves};
 
 use crate::asking::no_dealings;
@@ -31,7 +31,7 @@ pub(crate) enum Carried {
 
 /// Bytes go over the data connection; a read or a write of nothing asks nothing; or it is closed, and the transfer is
 /// left.
-#[tactic(auto, unfolding(ftp_session::specs::Play::play))]
+#[tactic(auto, unfolding(ftp_dialogue::specs::Play::play))]
 pub(crate) fn carrying(
     alloc: Global,
     movement: Movement,
@@ -60,7 +60,7 @@ pub(crate) fn carrying(
 }
 
 /// The data connection is closed, and the transfer is left.
-#[tactic(auto, unfolding(ftp_session::specs::Play::play))]
+#[tactic(auto, unfolding(ftp_dialogue::specs::Play::play))]
 fn leaving(alloc: Global, standing: Standing) -> Result<Progress, AllocError>
     ensures { IfOk result (λ progress. (room : Room) (later : State → Tree) → ComesTo room later
         (play room (carrying movement.Close standing.state) standing) progress) }
@@ -78,7 +78,7 @@ fn leaving(alloc: Global, standing: Standing) -> Result<Progress, AllocError>
 fn pass_over(_outcome: DealOutcome) {}
 
 /// What is done is the answer.
-#[tactic(auto, unfolding(ftp_session::specs::Play::play))]
+#[tactic(auto, unfolding(ftp_dialogue::specs::Play::play))]
 fn moving(alloc: Global, movement: Movement, standing: Standing) -> Result<Progress, AllocError>
     ensures { IfOk result (λ progress. (room : Room) (later : State → Tree) → ComesTo room later
         (play room (Move movement (λ came. Leaf (moved_answer came) standing.state)) standing)

@@ -1,9 +1,9 @@
 //! A session that connects, on all bytes at once: the requests in turn, and the greeting.
 
 ghost use Rattle.std.specs.Prelude.{◌≡◌, IfOk};
-ghost use Rattle.ftp_session.specs.Coding.{coding_of};
+ghost use Rattle.ftp_dialogue.specs.Coding.{coding_of};
 ghost use Rattle.ftp_session.specs.Connecting.{connecting};
-ghost use Rattle.ftp_session.specs.Play.{play};
+ghost use Rattle.ftp_dialogue.specs.Play.{play};
 
 use crate::asking::{Came, asked};
 use crate::play::play_dialogue;
@@ -15,7 +15,7 @@ use ftp_session::session::{Answer, Call};
 use std::alloc::{AllocError, Global};
 
 /// What connecting comes to, where these are the requests, and this the fault where there is none.
-#[tactic(auto, unfolding(ftp_session::specs::Connecting::connecting, ftp_session::specs::Play::play))]
+#[tactic(auto, unfolding(ftp_session::specs::Connecting::connecting, ftp_dialogue::specs::Play::play))]
 pub fn connect_in_turn<E: Encoding>(
     alloc: Global,
     room: Room,

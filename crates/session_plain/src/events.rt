@@ -1,19 +1,23 @@
 //! Polled runs: each Poll plays all calls anew, on all bytes that came.
 
-ghost use Rattle.std.specs.Prelude.{◌≡◌, ℕ, List, [], ◌∷◌, ◌++◌, IfOk, OnOk, None, length, true, false};
+ghost use Rattle.std.specs.Prelude.{◌≡◌, ℕ, List, [], ◌∷◌, ◌++◌, IfOk, OnOk, None, Some, length, true, false};
 ghost use Rattle.ftp_control.specs.Memory.{more_room};
-ghost use Rattle.ftp_session.specs.Coding.{coding_of};
-ghost use Rattle.ftp_session.specs.Run.{run};
-ghost use Rattle.ftp_session.specs.Script.{after_event, fed, front, heard_at, heard_in, poll_script, script, seen_at, seen_in, start_script, form_at};
+ghost use Rattle.ftp_dialogue.specs.Coding.{coding_of};
+ghost use Rattle.ftp_session.specs.Script.{after_event, drained_as, drained_to, draining, fed, front, heard_at, heard_in, poll_next, poll_script, polled_as, run_with, script, seen_at, seen_in, start_script, form_at, with_call};
+ghost use Rattle.ftp_dialogue.specs.declared.model.Ran.TheVariants.{Finished, Waiting};
+ghost use Rattle.ftp_calls.specs.declared.call.Answer.{Answer as Answers};
 
+use crate::draining::{is_due, succeeded};
 use crate::exchange::copy_of;
-use crate::runs::run;
+use crate::leaving::{drop_call, leave_now, poll_event};
+use crate::runs::replay_then;
 use ftp_base::encoding::Encoding;
 use ftp_base::types::{Bytes, Items};
 use ftp_control::transport::Room;
-use ftp_session::model::{Ran, Script, Standing, Wait};
+use ftp_session::model::{Item, Ran, Script, Standing, Wait};
 use ftp_session::session::{Answer, Call, Event};
 use std::alloc::{AllocError, Global};
+use std::mem;
 
 /// What these events make of a session, whose runs begin at `first`.
 pub fn run_polled<E: Encoding>(
@@ -49,13 +53,9 @@ fn happen<E: Encoding>(
         Event::End => here.ended = true,
         Event::Room(more) => here.room = more_room(*more, here.sent.len(), here.room),
         Event::Start(call) => start(here, call)?,
-        Event::Poll => poll(alloc, encoding, first, here)?,
-        Event::Cancel => {
-            here.call = None;
-            here.polled = false;
-            here.heard = false;
-        }
-        Event::Leave => {}
+        Event::Poll => poll_event(alloc, encoding, first, here)?,
+        Event::Cancel => drop_call(alloc, encoding, first, here)?,
+        Event::Leave => leave_now(alloc, encoding, first, here)?,
     }
     Ok(())
 }
@@ -94,49 +94,142 @@ fn start(here: &mut Script, call: &Call) -> Result<(), AllocError>
     Ok(())
 }
 
-/// The call under way, if any, is played after those that are done.
-fn poll<E: Encoding>(
+/// The call under way, if any, is polled, after the last reply of a transfer that was left, where one is due.
+pub(crate) fn poll_next<E: Encoding>(
     alloc: Global,
     encoding: &E,
     first: &Standing,
     here: &mut Script,
 ) -> Result<(), AllocError>
-    ensures { OnOk result (here.new ≡ poll_script (coding_of E.decoded E.encoded encoding.now)
+    ensures { OnOk result (here.new ≡ poll_next (coding_of E.decoded E.encoded encoding.now)
         first.now here.old.call here.old) }
 {
-    let Some(call) = &here.call else {
+    let Some(call) = here.call.take() else {
         return Ok(());
     };
-    let calls = with_call(&here.items, call)?;
-    match run_again(alloc, encoding, first, here, calls.as_slice())? {
-        Ran::Finished(answers, there) => finish(here, calls, answers, there),
-        Ran::Waiting(_answers, wait, there) => suspend(here, wait, there),
+    if is_due(&call, here.failed, here.state.counts.owed()) {
+        poll_drain(alloc, encoding, first, here, call)
+    } else {
+        poll_call(alloc, encoding, first, here, call)
     }
 }
 
-/// One call after these.
-fn with_call(items: &Items<Call>, call: &Call) -> Result<Items<Call>, AllocError>
-    ensures { IfOk result (λ calls. calls ≡ items.now ++ call.now ∷ []) }
+/// The drain is polled in a call's place, and the call once that is over.
+fn poll_drain<E: Encoding>(
+    alloc: Global,
+    encoding: &E,
+    first: &Standing,
+    here: &mut Script,
+    call: Call,
+) -> Result<(), AllocError>
+    ensures { OnOk result (here.new ≡ drained_as (coding_of E.decoded E.encoded encoding.now)
+        first.now call here.old (run_with (coding_of E.decoded E.encoded encoding.now) first.now Call.Drain (draining here.old))) }
 {
-    let mut calls = items.clone()?.into_vec();
-    calls.push(copy_of(call)?)?;
-    Ok(Items::from_vec(calls))
+    match run_with(alloc, encoding, first, here, &Call::Drain)? {
+        Ran::Finished(answers, there) => {
+            end_drain(alloc, encoding, first, here, call, answers, there)
+        }
+        Ran::Waiting(_answers, wait, there) => wait_for_drain(here, call, wait, there),
+    }
 }
 
-/// These calls are played from where the run began, on the bytes that came by now.
-fn run_again<E: Encoding>(
+/// The drain waits, and so does the call.
+fn wait_for_drain(
+    here: &mut Script,
+    call: Call,
+    wait: Wait,
+    there: Standing,
+) -> Result<(), AllocError>
+    ensures { (answers : List Answers) → OnOk result (here.new ≡
+        with_call call (polled_as (Waiting answers wait there) Call.Drain (draining here.old))) }
+{
+    here.polled = false;
+    here.heard = false;
+    suspend(here, Call::Drain, wait, there)?;
+    here.call = Some(call);
+    here.polled = false;
+    here.heard = false;
+    Ok(())
+}
+
+/// The drain has its answer: the call goes on where it succeeded, else that is the call's.
+fn end_drain<E: Encoding>(
+    alloc: Global,
+    encoding: &E,
+    first: &Standing,
+    here: &mut Script,
+    call: Call,
+    answers: Items<Answer>,
+    there: Standing,
+) -> Result<(), AllocError>
+    ensures { OnOk result (here.new ≡ drained_as (coding_of E.decoded E.encoded encoding.now)
+        first.now call here.old (Finished answers there)) }
+{
+    if succeeded(answers.as_slice()) {
+        pass_over(answers);
+        return go_on(alloc, encoding, first, here, call, there);
+    }
+    finish(alloc, here, Item::Shown(Call::Drain), answers, there)
+}
+
+/// Answers that nobody is told.
+pub(crate) fn pass_over(_answers: Items<Answer>) {}
+
+/// The drain is over, and the call is polled.
+fn go_on<E: Encoding>(
+    alloc: Global,
+    encoding: &E,
+    first: &Standing,
+    here: &mut Script,
+    call: Call,
+    there: Standing,
+) -> Result<(), AllocError>
+    ensures { (answers : List Answers) → OnOk result (here.new ≡ poll_script (coding_of E.decoded E.encoded encoding.now)
+        first.now (Some call) (drained_to call here.old (polled_as (Finished answers there) Call.Drain (draining here.old)))) }
+{
+    let none = Items::from_vec(Vec::new(alloc));
+    let told = mem::replace(&mut here.answers, none);
+    finish(alloc, here, Item::Hidden(Call::Drain), told, there)?;
+    poll_call(alloc, encoding, first, here, call)
+}
+
+/// A call is played after those that are done.
+fn poll_call<E: Encoding>(
+    alloc: Global,
+    encoding: &E,
+    first: &Standing,
+    here: &mut Script,
+    call: Call,
+) -> Result<(), AllocError>
+    ensures { OnOk result (here.new ≡ polled_as (run_with (coding_of E.decoded E.encoded encoding.now) first.now call here.old)
+        call (record here.old { call = Some call })) }
+{
+    match run_with(alloc, encoding, first, here, &call)? {
+        Ran::Finished(answers, there) => finish(alloc, here, Item::Shown(call), answers, there),
+        Ran::Waiting(_answers, wait, there) => suspend(here, call, wait, there),
+    }
+}
+
+/// The items are played from where the run began, on the bytes that came by now, and then a call.
+pub(crate) fn run_with<E: Encoding>(
     alloc: Global,
     encoding: &E,
     first: &Standing,
     here: &Script,
-    calls: &[Call],
+    call: &Call,
 ) -> Result<Ran, AllocError>
     ensures { IfOk result (λ ran. ran ≡
-        run here.now.room (coding_of E.decoded E.encoded encoding.now) calls.now
-        (record first.now { bytes = here.now.bytes; ended = here.now.ended })) }
+        run_with (coding_of E.decoded E.encoded encoding.now) first.now call.now here.now) }
 {
     let begun = begun(first, here)?;
-    run(alloc, here.room, encoding, calls, begun)
+    replay_then(
+        alloc,
+        here.room,
+        encoding,
+        here.items.as_slice(),
+        call,
+        begun,
+    )
 }
 
 /// Where the run began, on the bytes that came by now.
@@ -150,15 +243,16 @@ fn begun(first: &Standing, here: &Script) -> Result<Standing, AllocError>
     Ok(begun)
 }
 
-/// All these calls have their answers: the run stands there.
-fn finish(
+/// A call is done, and these are the answers: the run stands there.
+pub(crate) fn finish(
+    alloc: Global,
     here: &mut Script,
-    calls: Items<Call>,
+    item: Item,
     answers: Items<Answer>,
     there: Standing,
 ) -> Result<(), AllocError>
     ensures { OnOk result (here.new ≡ record here.old {
-      items = calls;
+      items = here.old.items ++ item ∷ [];
       answers = answers;
       call = None;
       polled = false;
@@ -173,7 +267,7 @@ fn finish(
       failed = there.failed;
     }) }
 {
-    here.items = calls;
+    add(alloc, &mut here.items, item)?;
     here.answers = answers;
     here.call = None;
     here.polled = false;
@@ -189,9 +283,20 @@ fn finish(
     Ok(())
 }
 
-/// The call under way waits: the run stands there.
-fn suspend(here: &mut Script, wait: Wait, there: Standing) -> Result<(), AllocError>
+/// One item more.
+pub(crate) fn add(alloc: Global, items: &mut Items<Item>, item: Item) -> Result<(), AllocError>
+    ensures { OnOk result (items.new ≡ items.old ++ item ∷ []) }
+{
+    let mut all = mem::replace(items, Items::from_vec(Vec::new(alloc))).into_vec();
+    all.push(item)?;
+    *items = Items::from_vec(all);
+    Ok(())
+}
+
+/// A call waits: the run stands there.
+fn suspend(here: &mut Script, call: Call, wait: Wait, there: Standing) -> Result<(), AllocError>
     ensures { OnOk result (here.new ≡ record here.old {
+      call = Some call;
       polled = true;
       heard = heard_at wait here.old there.bytes;
       said = there.said ++ there.unsent;
@@ -215,6 +320,7 @@ fn suspend(here: &mut Script, wait: Wait, there: Standing) -> Result<(), AllocEr
             here.form = form;
         }
     }
+    here.call = Some(call);
     here.polled = true;
     here.said = joined(&there.said, &there.unsent)?;
     here.sent = front(here.room, there.said);

@@ -6,12 +6,13 @@ ghost use Rattle.ftp_base.specs.Command.{text_of};
 ghost use Rattle.ftp_base.specs.Wire.{wire};
 ghost use Rattle.ftp_control.specs.Grammar.{left_by};
 ghost use Rattle.ftp_control.specs.Refusal.{IsRefusalOf};
-ghost use Rattle.ftp_session.specs.Coding.{coding_of};
-ghost use Rattle.ftp_session.specs.Dialogue.{Tree, accepted, awaiting, concluded, doing, exchanging, expected_of, greeting_of, saying};
+ghost use Rattle.ftp_dialogue.specs.Coding.{coding_of};
+ghost use Rattle.ftp_dialogue.specs.Dialogue.{Tree, accepted, awaiting, concluded, doing, exchanging, expected_of, greeting_of, saying};
 ghost use Rattle.ftp_calls.specs.Exchanges.{row_of};
-ghost use Rattle.ftp_session.specs.Play.{fits, heard_then, play, said_then, taken};
+ghost use Rattle.ftp_dialogue.specs.Play.{fits, heard_then, play, said_then, taken};
 ghost use Rattle.session_plain.specs.Progress.{ComesTo};
 
+use crate::aborting::aborted;
 use crate::addresses::{to_address, to_port};
 use crate::carrying::carrying;
 use crate::finishing::{after_fault, answer_to_fault, drained, finish_answer, finished};
@@ -25,10 +26,8 @@ use ftp_calls::exchange::{Codes, Ending, Exchange, Row, Turn, row_at};
 use ftp_control::control::{Outcome, REPLY_LIMIT, ReplyForm, WireLine, expected_reply, form_of};
 use ftp_control::plain::outcome;
 use ftp_control::transport::Room;
+use ftp_dialogue::answers::{features_answer, line_answer, path_answer, size_answer, time_answer};
 use ftp_session::model::{Played, Standing, Wait};
-use ftp_session::session::answers::{
-    features_answer, line_answer, path_answer, size_answer, time_answer,
-};
 use ftp_session::session::{Answer, Call, State};
 use std::alloc::{AllocError, Global};
 
@@ -42,7 +41,7 @@ pub(crate) enum Progress {
 }
 
 /// What a call does at this turn.
-#[tactic(auto, unfolding(ftp_session::specs::Play::play))]
+#[tactic(auto, unfolding(ftp_dialogue::specs::Play::play))]
 pub(crate) fn row<E: Encoding>(
     alloc: Global,
     room: Room,
@@ -93,8 +92,8 @@ pub(crate) fn copy_of(call: &Call) -> Result<Call, AllocError>
 }
 
 /// A command is said, where there is one.
-#[tactic(auto, unfolding(ftp_session::specs::Play::play))]
-fn say<E: Encoding>(
+#[tactic(auto, unfolding(ftp_dialogue::specs::Play::play))]
+pub(crate) fn say<E: Encoding>(
     alloc: Global,
     room: Room,
     encoding: &E,
@@ -280,7 +279,7 @@ fn failed(mut standing: Standing) -> Standing
 }
 
 /// A reply is accepted, or a fault is the answer.
-#[tactic(auto, unfolding(ftp_session::specs::Play::play))]
+#[tactic(auto, unfolding(ftp_dialogue::specs::Play::play))]
 fn concluded<E: Encoding>(
     alloc: Global,
     encoding: &E,
@@ -303,7 +302,7 @@ fn concluded<E: Encoding>(
 }
 
 /// What an accepted reply does.
-#[tactic(auto, unfolding(ftp_session::specs::Play::play))]
+#[tactic(auto, unfolding(ftp_dialogue::specs::Play::play))]
 fn accepted<E: Encoding>(
     alloc: Global,
     encoding: &E,
@@ -338,6 +337,13 @@ fn accepted<E: Encoding>(
         }
         Ending::Finishes(close) => Ok(done(finish_answer(close), finished(standing))),
         Ending::Drains => Ok(done(Answer::Unit, drained(standing))),
+        Ending::Stops => {
+            if reply.status.code() == Status::TransferAborted.code() {
+                Ok(Progress::Continues(standing))
+            } else {
+                Ok(done(Answer::Unit, aborted(standing)))
+            }
+        }
         Ending::GoesOn(status) => {
             let goes_on = reply.status.code() == status.code();
             if goes_on {

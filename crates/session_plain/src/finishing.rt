@@ -2,10 +2,11 @@
 
 ghost use Rattle.std.specs.Prelude.{◌≡◌, IfOk, if◌then◌else◌};
 ghost use Rattle.ftp_calls.specs.Exchanges.{finishes};
-ghost use Rattle.ftp_session.specs.Coding.{coding_of};
-ghost use Rattle.ftp_session.specs.Dialogue.{after_fault_of, answer_to_fault, closing, drain_answer, finish_answer, finish_fault, told_of_close, with_drained, with_finished, with_left};
-ghost use Rattle.ftp_session.specs.Play.{leaving, play};
+ghost use Rattle.ftp_dialogue.specs.Coding.{coding_of};
+ghost use Rattle.ftp_dialogue.specs.Dialogue.{after_fault_of, answer_to_fault, closing, drain_answer, finish_answer, finish_fault, told_of_close, with_drained, with_finished, with_left};
+ghost use Rattle.ftp_dialogue.specs.Play.{leaving, play};
 
+use crate::aborting::aborted;
 use crate::asking::no_dealings;
 use crate::carrying::{Carried, moved_by, parted};
 use crate::turns::from_turn;
@@ -20,7 +21,7 @@ use std::io::ErrorKind;
 use std::mem;
 
 /// The data connection is closed, and the transfer's last reply is heard.
-#[tactic(auto, unfolding(ftp_session::specs::Play::play))]
+#[tactic(auto, unfolding(ftp_dialogue::specs::Play::play))]
 pub(crate) fn closing<E: Encoding>(
     alloc: Global,
     room: Room,
@@ -101,6 +102,7 @@ pub(crate) fn after_fault(ending: Ending, standing: Standing) -> Standing
     match ending {
         Ending::Finishes(_) => finished(standing),
         Ending::Drains => drained(standing),
+        Ending::Stops => aborted(standing),
         _ => standing,
     }
 }

@@ -2,14 +2,17 @@
 //! session with them. What each call says and hears is read from the session's own table, `row_at`.
 #![tactic(auto)]
 
+mod aborting;
 mod addresses;
 mod asking;
 mod building;
 mod carrying;
 mod connecting;
+mod draining;
 mod events;
 mod exchange;
 mod finishing;
+mod leaving;
 mod negotiation;
 mod opening;
 mod outcomes;
@@ -19,6 +22,7 @@ mod settings;
 mod turns;
 
 pub use connecting::connect_in_turn;
+pub use draining::play_drained;
 pub use events::run_polled;
 pub use play::play_call;
 pub use runs::run;

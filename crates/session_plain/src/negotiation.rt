@@ -2,9 +2,9 @@
 //! be opened, and then the server is asked where it listens, or told where the client does.
 
 ghost use Rattle.std.specs.Prelude.{◌≡◌, IfOk};
-ghost use Rattle.ftp_session.specs.Coding.{coding_of};
-ghost use Rattle.ftp_session.specs.Dialogue.{agreeing, listening, negotiating};
-ghost use Rattle.ftp_session.specs.Play.{play};
+ghost use Rattle.ftp_dialogue.specs.Coding.{coding_of};
+ghost use Rattle.ftp_dialogue.specs.Dialogue.{agreeing, listening, negotiating};
+ghost use Rattle.ftp_dialogue.specs.Play.{play};
 
 use crate::addresses::at_port;
 use crate::asking::{Came, asked};
@@ -19,7 +19,7 @@ use ftp_session::session::{Answer, Call};
 use std::alloc::{AllocError, Global};
 
 /// A data connection is negotiated, for a transfer that begins at this offset, where it can be opened.
-#[tactic(auto, unfolding(ftp_session::specs::Play::play))]
+#[tactic(auto, unfolding(ftp_dialogue::specs::Play::play))]
 pub(crate) fn negotiating<E: Encoding>(
     alloc: Global,
     room: Room,
@@ -63,7 +63,7 @@ fn agreeing<E: Encoding>(
 }
 
 /// The client listens at its own end of the control connection, at any free port, and tells the server where.
-#[tactic(auto, unfolding(ftp_session::specs::Play::play))]
+#[tactic(auto, unfolding(ftp_dialogue::specs::Play::play))]
 fn listening<E: Encoding>(
     alloc: Global,
     room: Room,

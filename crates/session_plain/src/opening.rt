@@ -3,8 +3,8 @@
 
 ghost use Rattle.std.specs.Prelude.{◌≡◌, IfOk};
 ghost use Rattle.ftp_control.specs.declared.transport.room.Room.{Room as Rooms};
-ghost use Rattle.ftp_session.specs.Dialogue.{accepting, lets_in, opened_answer, opening, with_transfer};
-ghost use Rattle.ftp_session.specs.Play.{play};
+ghost use Rattle.ftp_dialogue.specs.Dialogue.{accepting, lets_in, opened_answer, opening, with_transfer};
+ghost use Rattle.ftp_dialogue.specs.Play.{play};
 
 use crate::asking::{Came, asked};
 use ftp_base::types::{ConnectionError, FtpError, Mode, Response};
@@ -29,7 +29,7 @@ pub(crate) fn opened_answer(gives_reply: bool, reply: Response) -> Answer
 }
 
 /// The command was accepted.
-#[tactic(auto, unfolding(ftp_session::specs::Play::play))]
+#[tactic(auto, unfolding(ftp_dialogue::specs::Play::play))]
 pub(crate) fn opened(
     alloc: Global,
     answer: Answer,
@@ -50,7 +50,7 @@ pub(crate) fn opened(
 }
 
 /// A peer is accepted: it is let in, or dropped, and so many others may come after it.
-#[tactic(auto, unfolding(ftp_session::specs::Play::play, ftp_session::specs::Dialogue::accepting))]
+#[tactic(auto, unfolding(ftp_dialogue::specs::Play::play, ftp_dialogue::specs::Dialogue::accepting))]
 fn accepting(
     alloc: Global,
     answer: Answer,

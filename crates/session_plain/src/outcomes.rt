@@ -1,7 +1,7 @@
 //! The outcomes that are known: which is next, and whose it is.
 
 ghost use Rattle.std.specs.Prelude.{◌≡◌, ◌<◌, ◌∷◌, IfOk, length};
-ghost use Rattle.ftp_session.specs.Deals.{answers};
+ghost use Rattle.ftp_dialogue.specs.Deals.{answers};
 ghost use Rattle.session_plain.specs.Progress.{is_next, next_answer, next_built};
 
 use ftp_base::types::{FtpError, Items};

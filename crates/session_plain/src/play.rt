@@ -2,11 +2,14 @@
 //! it brings a transfer to its end.
 
 ghost use Rattle.std.specs.Prelude.{◌≡◌, IfOk, is_none};
-ghost use Rattle.ftp_session.specs.Coding.{coding_of};
-ghost use Rattle.ftp_session.specs.Dialogue.{dialogue, entered, opened_from, uploads_beside};
-ghost use Rattle.ftp_session.specs.Play.{ended, finally, lacks, play, play_call};
+ghost use Rattle.ftp_dialogue.specs.Coding.{coding_of};
+ghost use Rattle.ftp_dialogue.specs.Dialogue.{dialogue, entered, opened_from, uploads_beside};
+ghost use Rattle.ftp_dialogue.specs.Play.{ended, finally, lacks, play, play_call};
 
-use crate::finishing::{closing, left, left_by};
+use crate::aborting::parting;
+use crate::asking::no_dealings;
+use crate::carrying::parted;
+use crate::finishing::{left, left_by};
 use crate::negotiation::negotiating;
 use crate::settings::armed;
 use crate::turns::from_turn;
@@ -17,6 +20,7 @@ use ftp_control::transport::Room;
 use ftp_session::model::{Played, Standing};
 use ftp_session::session::{Answer, Call, Owed};
 use std::alloc::{AllocError, Global};
+use std::mem;
 
 /// What a call comes to. One of a transfer comes to nothing where it lacks it; once the session has failed a call says
 /// and hears nothing.
@@ -37,7 +41,7 @@ pub fn play_call<E: Encoding>(
         let fault = Answer::Fault(FtpError::SessionFailed);
         return Ok(Played::Done(fault, left_by(alloc, call, standing)?));
     }
-    Ok(finally(play_dialogue(alloc, room, encoding, call, standing)?))
+    finally(alloc, play_dialogue(alloc, room, encoding, call, standing)?)
 }
 
 /// A call lacks its transfer: none is held; or, where it hears the end of one that was left, none was.
@@ -51,24 +55,29 @@ fn lacks(call: &Call, standing: &Standing) -> bool
     }
 }
 
-/// A call that has its answer lets a data connection go that carries no transfer.
-fn finally(played: Played) -> Played
-    ensures { result ≡ finally played }
+/// A call that has its answer lets go of what it doesn't need.
+fn finally(alloc: Global, played: Played) -> Result<Played, AllocError>
+    ensures { IfOk result (λ last. last ≡ finally played) }
 {
     match played {
-        Played::Done(answer, standing) => Played::Done(answer, ended(standing)),
-        Played::Pending(wait, standing) => Played::Pending(wait, standing),
+        Played::Done(answer, standing) => Ok(Played::Done(answer, ended(alloc, standing)?)),
+        Played::Pending(wait, standing) => Ok(Played::Pending(wait, standing)),
     }
 }
 
-/// A data connection that carries no transfer is let go.
-fn ended(mut standing: Standing) -> Standing
-    ensures { result ≡ ended standing }
+/// A data connection that carries no transfer is let go, and that of one that was left is closed and handed back.
+fn ended(alloc: Global, mut standing: Standing) -> Result<Standing, AllocError>
+    ensures { IfOk result (λ last. last ≡ ended standing) }
 {
-    if matches!(standing.state.counts.owed(), Owed::Nothing) {
-        standing.dealings.data_conn = None;
+    match standing.state.counts.owed() {
+        Owed::Nothing => standing.dealings.data_conn = None,
+        Owed::Live(_) => {}
+        Owed::Left(_) => {
+            let before = mem::replace(&mut standing.dealings, no_dealings(alloc));
+            standing.dealings = parted(before)?;
+        }
     }
-    standing
+    Ok(standing)
 }
 
 /// What the dialogue of a call comes to. One that opens a data connection takes the offset away; one that brings a
@@ -90,7 +99,7 @@ pub(crate) fn play_dialogue<E: Encoding>(
         return negotiating(alloc, room, encoding, call, offset, here);
     }
     if finishes(call) {
-        return closing(alloc, room, encoding, call, left(standing));
+        return parting(alloc, room, encoding, call, left(standing));
     }
     from_turn(alloc, room, encoding, call, Turn::First, standing)
 }

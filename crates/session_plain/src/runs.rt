@@ -1,19 +1,21 @@
-//! The calls of a run in turn.
+//! The calls of a run in turn, and the items of a script.
 
-ghost use Rattle.std.specs.Prelude.{◌≡◌, ◌∷◌, IfOk};
-ghost use Rattle.ftp_session.specs.Coding.{coding_of};
-ghost use Rattle.ftp_session.specs.Run.{before, run};
+ghost use Rattle.std.specs.Prelude.{◌≡◌, [], ◌∷◌, ◌++◌, IfOk};
+ghost use Rattle.ftp_dialogue.specs.Coding.{coding_of};
+ghost use Rattle.ftp_dialogue.specs.Run.{before, replay, run};
+ghost use Rattle.ftp_dialogue.specs.declared.model.Item.TheVariants.{Shown};
 
+use crate::draining::play_drained;
 use crate::play::play_call;
 use ftp_base::encoding::Encoding;
 use ftp_base::types::Items;
 use ftp_control::transport::Room;
-use ftp_session::model::{Played, Ran, Standing};
+use ftp_session::model::{Item, Played, Ran, Standing, Wait};
 use ftp_session::session::{Answer, Call};
 use std::alloc::{AllocError, Global};
 
 /// The calls in turn.
-#[tactic(auto, unfolding(ftp_session::specs::Run::run))]
+#[tactic(auto, unfolding(ftp_dialogue::specs::Run::run))]
 pub fn run<E: Encoding>(
     alloc: Global,
     room: Room,
@@ -27,12 +29,72 @@ pub fn run<E: Encoding>(
     let Some((call, others)) = calls.split_first() else {
         return Ok(Ran::Finished(Items::from_vec(Vec::new(alloc)), standing));
     };
-    match play_call(alloc, room, encoding, call, standing)? {
+    match play_drained(alloc, room, encoding, call, standing)? {
         Played::Done(answer, here) => before(answer, run(alloc, room, encoding, others, here)?),
-        Played::Pending(wait, here) => {
-            Ok(Ran::Waiting(Items::from_vec(Vec::new(alloc)), wait, here))
-        }
+        Played::Pending(wait, here) => Ok(none_so_far(alloc, wait, here)),
     }
+}
+
+/// The items in turn, and then a call.
+#[tactic(auto, unfolding(ftp_dialogue::specs::Run::replay))]
+pub(crate) fn replay_then<E: Encoding>(
+    alloc: Global,
+    room: Room,
+    encoding: &E,
+    items: &[Item],
+    call: &Call,
+    standing: Standing,
+) -> Result<Ran, AllocError>
+    ensures { IfOk result (λ ran. ran ≡
+        replay room (coding_of E.decoded E.encoded encoding.now) (items.now ++ Shown call.now ∷ []) standing) }
+{
+    let Some((item, others)) = items.split_first() else {
+        return last(alloc, room, encoding, call, standing);
+    };
+    match item {
+        Item::Shown(first) => match play_call(alloc, room, encoding, first, standing)? {
+            Played::Done(answer, here) => before(
+                answer,
+                replay_then(alloc, room, encoding, others, call, here)?,
+            ),
+            Played::Pending(wait, here) => Ok(none_so_far(alloc, wait, here)),
+        },
+        Item::Hidden(first) => match play_call(alloc, room, encoding, first, standing)? {
+            Played::Done(answer, here) => {
+                drop(answer);
+                replay_then(alloc, room, encoding, others, call, here)
+            }
+            Played::Pending(wait, here) => Ok(none_so_far(alloc, wait, here)),
+        },
+    }
+}
+
+/// The last call of them.
+#[tactic(auto, unfolding(ftp_dialogue::specs::Run::replay))]
+fn last<E: Encoding>(
+    alloc: Global,
+    room: Room,
+    encoding: &E,
+    call: &Call,
+    standing: Standing,
+) -> Result<Ran, AllocError>
+    ensures { IfOk result (λ ran. ran ≡
+        replay room (coding_of E.decoded E.encoded encoding.now) (Shown call.now ∷ []) standing) }
+{
+    match play_call(alloc, room, encoding, call, standing)? {
+        Played::Done(answer, here) => {
+            let none = Ran::Finished(Items::from_vec(Vec::new(alloc)), here);
+            before(answer, none)
+        }
+        Played::Pending(wait, here) => Ok(none_so_far(alloc, wait, here)),
+    }
+}
+
+/// No call has its answer yet.
+fn none_so_far(alloc: Global, wait: Wait, here: Standing) -> Ran
+    ensures { result ≡ Ran.Waiting [] wait here }
+{
+    Ran::Waiting(Items::from_vec(Vec::new(alloc)), wait, here)
 }
 
 /// An answer before those of later calls.

@@ -1,7 +1,7 @@
 //! Settings: what a session is told to do.
 
 ghost use Rattle.std.specs.Prelude.{◌≡◌};
-ghost use Rattle.ftp_session.specs.Dialogue.{armed, changed, set_to};
+ghost use Rattle.ftp_dialogue.specs.Dialogue.{armed, changed, set_to};
 
 use ftp_session::model::Standing;
 use ftp_session::session::{Setting, Settings};

@@ -2,9 +2,9 @@
 
 ghost use Rattle.std.specs.Prelude.{◌≡◌, ◌&&◌, IfOk, nat_lt};
 ghost use Rattle.ftp_calls.specs.Exchanges.{restarts};
-ghost use Rattle.ftp_session.specs.Coding.{coding_of};
-ghost use Rattle.ftp_session.specs.Dialogue.{from_turn, last_turn, later, restart_turn};
-ghost use Rattle.ftp_session.specs.Play.{play};
+ghost use Rattle.ftp_dialogue.specs.Coding.{coding_of};
+ghost use Rattle.ftp_dialogue.specs.Dialogue.{from_turn, last_turn, later, restart_turn};
+ghost use Rattle.ftp_dialogue.specs.Play.{play};
 
 use crate::exchange::{Progress, row};
 use ftp_base::encoding::Encoding;
@@ -33,7 +33,7 @@ pub(crate) fn from_turn<E: Encoding>(
 }
 
 /// What comes after the row of this turn.
-#[tactic(auto, unfolding(ftp_session::specs::Play::play))]
+#[tactic(auto, unfolding(ftp_dialogue::specs::Play::play))]
 fn later<E: Encoding>(
     alloc: Global,
     room: Room,
@@ -57,11 +57,12 @@ fn later<E: Encoding>(
         }
         Turn::Restart(_offset) => last_turn(alloc, room, encoding, call, standing),
         Turn::Closed(_close) => Ok(Played::Done(Answer::Unit, standing)),
+        Turn::Aborted => last_turn(alloc, room, encoding, call, standing),
     }
 }
 
 /// The offset is told, where there is one, and then the command.
-#[tactic(auto, unfolding(ftp_session::specs::Play::play))]
+#[tactic(auto, unfolding(ftp_dialogue::specs::Play::play))]
 fn restart_turn<E: Encoding>(
     alloc: Global,
     room: Room,
@@ -83,7 +84,7 @@ fn restart_turn<E: Encoding>(
 }
 
 /// The last turn.
-#[tactic(auto, unfolding(ftp_session::specs::Play::play))]
+#[tactic(auto, unfolding(ftp_dialogue::specs::Play::play))]
 fn last_turn<E: Encoding>(
     alloc: Global,
     room: Room,

@@ -7,6 +7,7 @@
 
 pub mod program;
 pub mod sync_ftp;
+pub mod transfer_stream;
 
 pub use ftp_answers as answers;
 pub use ftp_base::encoding::{Encoding, Utf8Encoding};
@@ -19,3 +20,4 @@ pub use ftp_control::{control, mark, plain, transport};
 pub use ftp_list as list;
 pub use ftp_session::{laws as session_laws, model, session};
 pub use sync_ftp::{ControlSocket, FtpStream, ImplFtpStream};
+pub use transfer_stream::TransferStream;

@@ -14,6 +14,7 @@ mod connecting;
 mod control_socket;
 mod questions;
 mod settings;
+mod transfers;
 
 pub use control_socket::ControlSocket;
 use ftp_base::encoding::{Encoding, Utf8Encoding};

@@ -1,81 +1,47 @@
 -- How a session follows its script between two events.
-use Rattle.std.specs.Prelude.{◌≤◌, ◌+◌, ◌≡◌, ◌⊎◌, ℕ, Bool, true, false, Option, Some, None, List, [], ◌∷◌, ◌++◌, length, if◌then◌else◌}
+use Rattle.std.specs.Prelude.{◌≤◌, ◌+◌, ◌≡◌, ◌⊎◌, ◌||◌, ℕ, Bool, true, false, Option, Some, None, is_none, List, [], ◌∷◌, ◌++◌, length}
 use Rattle.ftp_control.specs.Saying.{said}
 use Rattle.futures.specs.declared.task.Poll.{Poll}
 use Rattle.futures.specs.declared.task.Poll.TheVariants.{Ready, Pending}
 use Rattle.ftp_base.specs.declared.types.fault.FtpError.{FtpError}
 use Rattle.ftp_base.specs.declared.types.fault.FtpError.TheVariants.{SessionFailed}
 use Rattle.ftp_control.specs.Told.{EndsAsTold}
-use Rattle.ftp_session.specs.Deals.{Deal, Deals, dealings_of, outcomes_of}
-use Rattle.ftp_session.specs.declared.model.DealOutcome.{DealOutcome}
+use Rattle.ftp_dialogue.specs.Deals.{Deal, Deals, dealings_of, outcomes_of}
+use Rattle.ftp_dialogue.specs.declared.model.DealOutcome.{DealOutcome}
 use Rattle.ftp_control.specs.declared.control.outcome.Outcome.TheVariants.{Waits}
 use Rattle.ftp_control.specs.Grammar.{outcome}
 use Rattle.ftp_control.specs.Memory.{IsGiven}
 use Rattle.ftp_control.specs.Channel.{IsSound, untaken}
 use Rattle.ftp_calls.specs.declared.call.Answer.{Answer}
-use Rattle.ftp_calls.specs.declared.call.Answer.TheVariants.{Fault}
+use Rattle.ftp_calls.specs.declared.call.Answer.TheVariants.{Fault, Unit as Nothing}
 use Rattle.ftp_calls.specs.declared.call.Call.{Call}
+use Rattle.ftp_calls.specs.declared.call.Call.TheVariants.{Drain, Leave}
 use Rattle.ftp_calls.specs.declared.call.Event.{Event}
 use Rattle.ftp_calls.specs.declared.call.Event.TheVariants.{Feed, Poll as Polling}
-use Rattle.ftp_calls.specs.declared.exchange.Turn.{Turn}
-use Rattle.ftp_calls.specs.declared.exchange.Turn.TheVariants.{First, Second, Passive, ExtendedPassive, Active, Restart, Closed}
-use Rattle.ftp_session.specs.declared.session.state.State.{State}
-use Rattle.ftp_session.specs.declared.session.stage.Stage.{Stage}
-use Rattle.ftp_session.specs.declared.session.stage.Stage.TheVariants.{At, Saying, Hearing, Arming, Agreeing, Closing}
-use Rattle.ftp_session.specs.declared.session.stage.Agreeing.TheVariants.{Negotiating}
-use Rattle.ftp_session.specs.State.{SessionValue, let_go}
-use Rattle.ftp_session.specs.Coding.{Coding}
-use Rattle.ftp_calls.specs.Exchanges.{finishes, is_read, negotiates}
+use Rattle.ftp_calls.specs.declared.exchange.Turn.TheVariants.{First}
+use Rattle.ftp_dialogue.specs.declared.stage.Stage.{Stage}
+use Rattle.ftp_dialogue.specs.declared.stage.Stage.TheVariants.{At}
+use Rattle.ftp_dialogue.specs.State.{SessionValue, LetsGo}
+use Rattle.ftp_dialogue.specs.Coding.{Coding}
+use Rattle.ftp_calls.specs.Exchanges.{aborts, finishes, is_read}
 use Rattle.ftp_control.specs.declared.control.rule.ReplyRule.{ReplyRule}
-use Rattle.ftp_session.specs.Dialogue.{Tree, dialogue, entered}
-use Rattle.ftp_session.specs.Run.{Resumes}
-use Rattle.ftp_session.specs.Scripted.{AreRefused, SaysFrontOf, SaysNothing, SaysOrTakes, Stands, Reaches}
-use Rattle.ftp_session.specs.Play.{Taken}
-use Rattle.ftp_session.specs.Promises.{Aborts, HasFault, IsRefused, Rests, refusal_of}
-use Rattle.ftp_session.specs.Steps.Stages.{remaining, begun_at, StageOf}
-use Rattle.ftp_session.specs.Steps.Moving.{Apart, HasBegun, PollsTo}
-use Rattle.ftp_session.specs.declared.model.Script.{Script}
-use Rattle.ftp_session.specs.Script.{needs_data, unread, is_over, start_of, after_event, IsLawful, MayCancel}
-use Rattle.ftp_session.specs.Link.{Builds, Link, over_memory}
-
--- nothing was made of a call yet
-abbrev pub is_first_turn : Turn → Bool
-is_first_turn First = true
-is_first_turn Second = false
-is_first_turn (Passive offset) = false
-is_first_turn (ExtendedPassive offset) = false
-is_first_turn (Active address offset) = false
-is_first_turn (Restart offset) = false
-is_first_turn (Closed close) = false
-
-abbrev pub is_first : Stage → Bool
-is_first (At turn) = is_first_turn turn
-is_first (Saying line a) = false
-is_first (Hearing a) = false
-is_first (Arming turn offset) = false
-is_first (Agreeing agreeing) = false
-is_first Closing = false
-
--- where a call begins: one that opens a data connection takes the offset with it, and one that brings a transfer to its
--- end closes its data connection
-abbrev pub first_stage : Call → State → Stage
-first_stage call state = if negotiates call then Agreeing (Negotiating state.settings.restart_offset) else if finishes call then Closing else At First
-
--- where a poll of a call begins
-abbrev pub entered_stage : Call → Stage → State → Stage
-entered_stage call stage state = if is_first stage then first_stage call state else stage
-
-abbrev pub entered_state : Call → Stage → State → State
-entered_state call stage state = if is_first stage then entered call state else state
-
-abbrev pub entered_at : Call → Stage → SessionValue → SessionValue
-entered_at call stage v = record v { state = entered_state call stage v.state }
-
-abbrev pub entered_tree : Coding → Call → Stage → State → Tree
-entered_tree coding call stage state = if is_first stage then dialogue coding call state else remaining coding call state stage
+use Rattle.ftp_dialogue.specs.Dialogue.{dialogue}
+use Rattle.ftp_dialogue.specs.Run.{Resumes}
+use Rattle.ftp_dialogue.specs.Sound.{holds}
+use Rattle.ftp_session.specs.declared.session.run_polled.Course.{Course}
+use Rattle.ftp_session.specs.Scripted.{AreRefused, IsPolled, LeavesHeld, LeavesThen, SaysFrontOf, SaysNothing, SaysOrTakes, Stands, Reaches}
+use Rattle.ftp_dialogue.specs.Play.{Taken, is_unit, needs_data}
+use Rattle.ftp_dialogue.specs.Promises.{Aborts, HasFault, IsRefused, Rests, due_of, refusal_of}
+use Rattle.ftp_dialogue.specs.Steps.Polls.{is_first, entered_state, entered_at, entered_tree, polled_answer, MayPollAt}
+use Rattle.ftp_dialogue.specs.Steps.Stages.{remaining, begun_at, StageOf}
+use Rattle.ftp_dialogue.specs.Steps.Moving.{Apart, CarriesOut, DropsAbort, HasBegun, PollsTo}
+use Rattle.ftp_dialogue.specs.declared.model.Item.{Item}
+use Rattle.ftp_dialogue.specs.declared.model.Script.{Script}
+use Rattle.ftp_session.specs.Script.{unread, is_over, start_of, after_event, IsLawful, MayCancel}
+use Rattle.ftp_dialogue.specs.Link.{Builds, over_memory}
 
 -- since the calls before it were done, no less of a call is said and taken than was; where it has begun, more is
-pub record Since (coding : Coding) (old : SessionValue) (items : List Call) (answers : List Answer) (came : List ℕ) (answered : List Deal) (v : SessionValue) (begun : Bool) : Type 0 where
+pub record Since (coding : Coding) (old : SessionValue) (items : List Item) (answers : List Answer) (came : List ℕ) (answered : List Deal) (v : SessionValue) (begun : Bool) : Type 0 where
   pub start : SessionValue
   pub before : List ℕ
   pub later : List ℕ
@@ -93,6 +59,7 @@ pub record Since (coding : Coding) (old : SessionValue) (items : List Call) (ans
 pub record UnderWay (coding : Coding) (old : SessionValue) (s : Script) (came : List ℕ) (answered : List Deal) (v : SessionValue) (call : Call) (stage : Stage) : Type 0 where
   pub stage_of : StageOf call stage
   pub polled : s.polled ≡ true
+  pub undue : due_of call v ≡ false
   pub going : v.channel.failed ≡ false
   pub reaches : Reaches coding old s.items came answered v s.answers call (remaining coding call v.state stage)
   pub resumes : Resumes v.channel.rule v.channel.kept (remaining coding call v.state stage)
@@ -106,6 +73,7 @@ pub record Unheard (coding : Coding) (old : SessionValue) (s : Script) (came : L
   pub stage_of : StageOf call stage
   pub polled : s.polled ≡ true
   pub unheard : s.heard ≡ false
+  pub undue : due_of call v ≡ false
   pub going : v.channel.failed ≡ false
   pub no_read : is_read call ≡ false
   pub reaches : Reaches coding old s.items came answered v s.answers call (remaining coding call v.state stage)
@@ -150,52 +118,20 @@ pub record Follows (builds : Builds) (coding : Coding) (outcomes left : List Dea
   pub call_is : s.call ≡ call
   pub answers_are : s.answers ≡ answers
 
--- the stage of the call under way, if any, is one of that call's
-abbrev pub StageIn : Option Call → Stage → Type 0
-StageIn None stage = Unit {0}
-StageIn (Some call) stage = StageOf call stage ⊎ (stage ≡ At First)
-
 abbrev pub given_answer : Option Answer → List Answer
 given_answer None = []
 given_answer (Some answer) = answer ∷ []
 
 -- a call begins where none is under way
-abbrev pub Starts : Call → Option Call → Option Call → Stage → Stage → Type 0
-Starts call None call' stage stage' = (call' ≡ Some call) × (stage' ≡ At First)
-Starts call (Some other) call' stage stage' = (call' ≡ Some other) × (stage' ≡ stage)
+abbrev pub Starts : Call → Option Call → Option Call → Stage → Stage → Course → Course → Type 0
+Starts call None call' stage stage' course course' = (call' ≡ Some call) × (stage' ≡ At First) × (course' ≡ record course { polled = false })
+Starts call (Some other) call' stage stage' course course' = (call' ≡ Some other) × (stage' ≡ stage) × (course' ≡ course)
 
--- the answer that a poll gives, if any
-abbrev pub polled_answer : Poll Answer → List Answer
-polled_answer (Ready answer) = answer ∷ []
-polled_answer Pending = []
-
--- a call is polled: it begins and isn't refused, or it was begun in a session that goes on
-abbrev pub MayPollFrom : Bool → Call → SessionValue → Type 0
-MayPollFrom true call v = refusal_of call v ≡ Taken
-MayPollFrom false call v = v.channel.failed ≡ false
-
-abbrev pub MayPollAt : Stage → Call → SessionValue → Type 0
-MayPollAt stage call v = MayPollFrom (is_first stage) call v
-
--- a call isn't made: it is refused where it begins, or its session has failed since
-abbrev pub RefusesFrom : Bool → Type 0 → Call → SessionValue → SessionValue → Answer → Type 0
-RefusesFrom true tells call v w answer = IsRefused tells call v w answer
-RefusesFrom false tells call v w answer = (v.channel.failed ≡ true) × (answer ≡ Fault SessionFailed) × (w ≡ v)
-
--- a call that is made goes on as far as it gets
-pub record PollsOn (link : Link) (may_wait : Type 0) (coding : Coding) (call : Call) (stage stage' : Stage) (v w : SessionValue) (result : Poll Answer) : Type 0 where
-  pub may : MayPollAt stage call v
-  pub going : v.channel.failed ≡ false
-  pub polls : PollsTo link (begun_at stage) (entered_tree coding call stage v.state) (remaining coding call (entered_state call stage v.state) stage') (entered_at call stage v) w result
-  pub rests : result ≡ Pending → is_read call ≡ true → Rests link v w
-  pub begun : result ≡ Pending → HasBegun link (begun_at stage) (begun_at stage') (entered_tree coding call stage v.state) (entered_at call stage v) w
-  pub fails : w.channel.failed ≡ true → (v.channel.failed ≡ true) ⊎ HasFault (polled_answer result)
-  pub end : link.tells → may_wait → EndsAsTold v.channel.ended w.channel.ended v.channel.told
-
--- a call that is polled isn't made, or goes on
-abbrev pub StartsTo : Link → Type 0 → Coding → Call → Stage → Stage → SessionValue → SessionValue → Poll Answer → Type 0
-StartsTo link may_wait coding call stage stage' v w result =
-    ((answer : Answer) × (result ≡ Ready answer) × RefusesFrom (is_first stage) link.tells call v w answer) ⊎ PollsOn link may_wait coding call stage stage' v w result
+-- what is known of the call under way beside its stage is what its script says
+pub record Attends (s : Script) (course : Course) : Type 0 where
+  pub polled : s.polled ≡ course.polled
+  pub leaving : s.leaving ≡ course.leaving
+  pub resting : s.call ≡ None → s.polled ≡ false
 
 -- what a poll over memory does, and what holds then
 pub record PollsHere (builds : Builds) (coding : Coding) (call : Call) (stage stage' : Stage) (v w : SessionValue) (result : Poll Answer) : Type 0 where
@@ -211,6 +147,30 @@ pub record PollsHere (builds : Builds) (coding : Coding) (call : Call) (stage st
   pub sound : IsSound (Unit {0}) w.channel
   pub stays : v.channel.failed ≡ true → (w.channel.failed ≡ true) × (w.channel.told.failures ≡ v.channel.told.failures) × AreRefused (polled_answer result)
 
+-- the drain was polled: it waits, and so does the call; it is over, and the call is polled; or its fault is the answer
+abbrev pub ThenPollsIf : Bool → Builds → Coding → Call → Stage → Stage → Bool → Answer → SessionValue → SessionValue → Poll Answer → Type 0
+ThenPollsIf true builds coding call stage stage' polled first middle w result = PollsHere builds coding call stage stage' middle w result × (polled ≡ true)
+ThenPollsIf false builds coding call stage stage' polled first middle w result = (result ≡ Ready first) × (w ≡ middle)
+
+abbrev pub ThenPolls : Builds → Coding → Call → Stage → Stage → Bool → Poll Answer → SessionValue → SessionValue → Poll Answer → Type 0
+ThenPolls builds coding call stage stage' polled (Ready first) middle w result = ThenPollsIf (is_unit first) builds coding call stage stage' polled first middle w result
+ThenPolls builds coding call stage stage' polled Pending middle w result = (result ≡ Pending) × (w ≡ middle) × (stage' ≡ stage) × (polled ≡ false)
+
+pub record DrainsHere (builds : Builds) (coding : Coding) (call : Call) (stage stage' : Stage) (polled : Bool) (v w : SessionValue) (result : Poll Answer) : Type 0 where
+  pub middle : SessionValue
+  pub first : Poll Answer
+  pub at : Stage
+  pub drains : PollsHere builds coding Drain (At First) at v middle first
+  pub then_polls : ThenPolls builds coding call stage stage' polled first middle w result
+
+abbrev pub PollsNextIf : Bool → Builds → Coding → Call → Stage → Stage → Bool → SessionValue → SessionValue → Poll Answer → Type 0
+PollsNextIf true builds coding call stage stage' polled v w result = DrainsHere builds coding call stage stage' polled v w result
+PollsNextIf false builds coding call stage stage' polled v w result = PollsHere builds coding call stage stage' v w result × (polled ≡ true)
+
+-- a poll of a call, after the drain where one is due; and whether the call itself was polled
+pub record PollsNext (builds : Builds) (coding : Coding) (call : Call) (stage stage' : Stage) (polled : Bool) (v w : SessionValue) (result : Poll Answer) : Type 0 where
+  pub polls : PollsNextIf (due_of call v) builds coding call stage stage' polled v w result
+
 -- a call is aborted at this stage
 pub record AbortsCall (builds : Builds) (coding : Coding) (call : Call) (stage : Stage) (v w : SessionValue) (result : Option Answer) : Type 0 where
   pub fault : FtpError
@@ -218,9 +178,28 @@ pub record AbortsCall (builds : Builds) (coding : Coding) (call : Call) (stage :
   pub going : MayPollAt stage call v
   pub last : SessionValue
   pub aborts : Aborts (over_memory builds) (begun_at stage) (entered_tree coding call stage v.state) (Fault fault) (entered_at call stage v) last
-  pub lets_go : w ≡ let_go last
+  pub lets_go : LetsGo (Unit {0}) last w
   pub given : IsGiven w.channel.told
   pub sound : IsSound (Unit {0}) w.channel
+
+-- a call is aborted that is polled: the one under way, or the drain that is due before it
+pub record AbortsAt (builds : Builds) (coding : Coding) (outcomes : List DealOutcome) (old : SessionValue) (s : Script) (answers : List Answer) (gone : SessionValue) (result : Option Answer) : Type 0 where
+  pub here : Script
+  pub polled : IsPolled coding (start_of old outcomes) s.call s here
+  pub leaving : here.leaving ≡ s.leaving
+  pub left : List DealOutcome
+  pub middle : SessionValue
+  pub part : Call
+  pub stage : Stage
+  pub follows : Follows builds coding outcomes left old here middle (Some part) stage answers
+  pub aborts : AbortsCall builds coding part stage middle gone result
+
+-- and the transfer that was to be left once the call is over is left
+pub record AbortsPart (builds : Builds) (coding : Coding) (outcomes : List DealOutcome) (old : SessionValue) (s : Script) (answers : List Answer) (w : SessionValue) (result : Option Answer) : Type 0 where
+  pub gone : SessionValue
+  pub at : AbortsAt builds coding outcomes old s answers gone result
+  pub leaves : LeavesThen at.here.leaving gone w
+  pub channel : w.channel ≡ gone.channel
 
 -- a session that has failed fails no more, and refuses what it answers
 abbrev pub FailedStays : SessionValue → SessionValue → Option Answer → Type 0
@@ -235,7 +214,54 @@ pub record IsFeed (event : Event) : Type 0 where
 abbrev pub Grows : Builds → SessionValue → SessionValue → Type 0
 Grows builds v w = (answered : List Deal) × Deals builds answered v.net w.net
 
+-- no call is under way, and no transfer is to be left
+abbrev pub at_rest : Course
+at_rest = record { polled = false; leaving = false }
+
+-- the session follows the script, and so does what is known of the call under way
+abbrev pub Attended : Builds → Coding → List DealOutcome → List DealOutcome → SessionValue → Script → SessionValue → Option Call → Stage → Course → List Answer → Type 0
+Attended builds coding outcomes left old s v call stage course answers =
+    Follows builds coding outcomes left old s v call stage answers × Attends s course
+
 -- an event of a script: the session follows it, or the call under way is aborted
-abbrev pub Happens : Builds → Coding → SessionValue → SessionValue → Option Call → Option Call → Stage → Stage → Event → Option Answer → Type 0
-Happens builds coding v w call call' stage stage' event result =
-    (answered : List Deal) × Deals builds answered v.net w.net × ((outcomes left : List DealOutcome) (old : SessionValue) (s : Script) (answers : List Answer) → Follows builds coding outcomes (outcomes_of answered ++ left) old s v call stage answers → IsLawful coding (start_of old outcomes) s event → Follows builds coding outcomes left old (after_event coding (start_of old outcomes) s event) w call' stage' (answers ++ given_answer result) ⊎ (((under_way : Call) × (call ≡ Some under_way) × AbortsCall builds coding under_way stage v w result) × (call' ≡ None) × (event ≡ Polling)))
+abbrev pub Happens : Builds → Coding → SessionValue → SessionValue → Option Call → Option Call → Stage → Stage → Course → Course → Event → Option Answer → Type 0
+Happens builds coding v w call call' stage stage' course course' event result =
+    (answered : List Deal) × Deals builds answered v.net w.net × ((outcomes left : List DealOutcome) (old : SessionValue) (s : Script) (answers : List Answer) → Attended builds coding outcomes (outcomes_of answered ++ left) old s v call stage course answers → IsLawful coding (start_of old outcomes) s event → Attended builds coding outcomes left old (after_event coding (start_of old outcomes) s event) w call' stage' course' (answers ++ given_answer result) ⊎ (AbortsPart builds coding outcomes old s answers w result × (call' ≡ None) × (course' ≡ at_rest) × (event ≡ Polling)))
+
+-- the transfer that is held, if any, was left, as by a call of its own
+pub record HasLeft (v w : SessionValue) : Type 0 where
+  pub leaves : LeavesHeld v w
+  pub channel : w.channel ≡ v.channel
+  pub given : IsGiven w.channel.told
+  pub sound : IsSound (Unit {0}) w.channel
+  pub carries : holds (is_none v.net.data_conn) v.state.counts.owed ≡ true → CarriesOut (Unit {0}) Leave v w Nothing
+
+abbrev pub HasLeftIf : Bool → SessionValue → SessionValue → Type 0
+HasLeftIf true v w = HasLeft v w
+HasLeftIf false v w = w ≡ v
+
+-- a call that brings a transfer to its end is dropped: it leaves the transfer; where it was polled it has closed the data
+-- connection, but for an abort whose line hasn't gone out
+abbrev pub DropsEnd : Bool → Bool → Stage → SessionValue → SessionValue → Type 0
+DropsEnd true true stage v w = DropsAbort (Unit {0}) stage v w
+DropsEnd true false stage v w = w ≡ v
+DropsEnd false aborts stage v w = HasLeft v w
+
+-- the call under way is dropped
+abbrev pub DropsUnder : Bool → Call → Course → Stage → SessionValue → SessionValue → Type 0
+DropsUnder true call course stage v w = DropsEnd course.polled (aborts call) stage v w
+DropsUnder false call course stage v w = HasLeftIf course.leaving v w
+
+abbrev pub DropsCall : Option Call → Course → Stage → SessionValue → SessionValue → Course → Type 0
+DropsCall None course stage v w course' = (w ≡ v) × (course' ≡ course)
+DropsCall (Some call) course stage v w course' = DropsUnder (finishes call) call course stage v w × (course' ≡ at_rest)
+
+-- the transfer that is held is left: behind a call under way that was polled, else before it, unless it took the transfer
+abbrev pub LeavesBeside : Bool → Bool → Course → SessionValue → SessionValue → Course → Type 0
+LeavesBeside true ends course v w course' = (w ≡ v) × (course' ≡ record course { leaving = course.leaving || holds (is_none v.net.data_conn) v.state.counts.owed })
+LeavesBeside false true course v w course' = (w ≡ v) × (course' ≡ course)
+LeavesBeside false false course v w course' = HasLeft v w × (course' ≡ course)
+
+abbrev pub LeavesNow : Option Call → Course → SessionValue → SessionValue → Course → Type 0
+LeavesNow None course v w course' = HasLeft v w × (course' ≡ course)
+LeavesNow (Some call) course v w course' = LeavesBeside course.polled (finishes call) course v w course'

@@ -3,7 +3,7 @@
 //! None is UTF-8, read lossily. The choice is an encoding itself, so that the machine below knows
 //! only one.
 
-ghost use Rattle.ftp_session.specs.Coding.{decoded_by, encoded_by};
+ghost use Rattle.ftp_dialogue.specs.Coding.{decoded_by, encoded_by};
 
 use ftp_base::encoding::{EncodeError, Encoding, Utf8Encoding};
 use std::alloc::{AllocError, Global};

@@ -6,20 +6,21 @@
 
 ghost use Rattle.std.specs.Prelude.{◌≡◌, IsOk, IfOk, MatchResult, Ok, IfErr, OnOk, OnErr, Some, None, length, option_map};
 ghost use Rattle.ftp_control.specs.Channel.{IsSound, untaken};
-ghost use Rattle.ftp_session.specs.Calls.{Begins, Connects, FailsToConnect};
-ghost use Rattle.ftp_session.specs.Coding.{chosen};
-ghost use Rattle.ftp_session.specs.Deals.{first_net};
-ghost use Rattle.ftp_session.specs.Link.{link};
-ghost use Rattle.ftp_session.specs.Sound.{SoundCounts};
-ghost use Rattle.ftp_session.specs.State.{greeted_again};
+ghost use Rattle.ftp_session.specs.Calls.{Connects, FailsToConnect};
+ghost use Rattle.ftp_dialogue.specs.Coding.{chosen};
+ghost use Rattle.ftp_dialogue.specs.Deals.{first_net};
+ghost use Rattle.ftp_dialogue.specs.Link.{link};
+ghost use Rattle.ftp_dialogue.specs.Sound.{SoundCounts};
+ghost use Rattle.ftp_dialogue.specs.State.{greeted_again, Begins};
 
 use super::chosen::Chosen;
-use super::machine::Machine;
 use super::parameters::{NoStreamBuilder, NoTlsConnector};
-use super::{Call, State};
+use super::{Call, Counts, State};
 use ftp_base::encoding::{Encoding, Utf8Encoding};
 use ftp_base::types::{FtpError, FtpResult};
+use ftp_control::mark::SessionEnd;
 use ftp_control::transport::{Conn, Network};
+use ftp_dialogue::machine::Machine;
 use std::alloc::Global;
 
 /// A session over the connections of a transport.
@@ -38,6 +39,10 @@ pub struct Session<
     pub(super) encoding: Chosen<E>,
     connector: Option<K>,
     pub(super) builder: Option<B>,
+    /// This end of the mark of the transfer that was handed out last.
+    pub(super) mark: Option<SessionEnd>,
+    /// That of the transfer before, as the last look left it: what was found there stays in evidence.
+    pub(super) former: Option<SessionEnd>,
 }
 
 impl<Tr: Network, K: Drop, E: Encoding, B: Drop> Session<Tr, K, E, B> {
@@ -53,12 +58,15 @@ impl<Tr: Network, K: Drop, E: Encoding, B: Drop> Session<Tr, K, E, B> {
         ensures sound { IfOk result (λ session. IsSound Tr.Conn.tells session.machine.channel) }
         ensures encoding { IfOk result (λ session. session.encoding.0 ≡ None) }
         ensures builder { IfOk result (λ session. session.builder ≡ None) }
+        ensures mark { IfOk result (λ session. session.mark ≡ None) }
     {
         Ok(Session {
             machine: Machine::new(alloc, transport, conn),
             encoding: Chosen(None),
             connector: None,
             builder: None,
+            mark: None,
+            former: None,
         })
     }
 
@@ -75,6 +83,7 @@ impl<Tr: Network, K: Drop, E: Encoding, B: Drop> Session<Tr, K, E, B> {
         Tr::Conn: Conn,
         ensures encoding { IfOk result (λ session. session.encoding.0 ≡ None) }
         ensures builder { IfOk result (λ session. session.builder ≡ None) }
+        ensures mark { IfOk result (λ session. session.mark ≡ None) }
         ensures connects { MatchResult result
             (λ session. Connects (link Tr.Conn.tells Tr.Conn.blocking_read_faults Tr.Conn.blocking_write_faults Tr.Conn.end_faults) (chosen E.decoded E.encoded None) (Tr.Conn.told conn)
             (first_net (Tr.asked transport) (Tr.ready transport) (Tr.closed transport)) session.machine (Ok tt))
@@ -98,6 +107,7 @@ impl<Tr: Network, K: Drop, E: Encoding, B: Drop> Session<Tr, K, E, B> {
             greeted_again (E.decoded encoding) self.old.machine) }
         ensures memory { IfErr result (λ fault. fault ≡ FtpError.OutOfMemory) }
         ensures builder { self.new.builder ≡ self.old.builder }
+        ensures mark { self.new.mark ≡ self.old.mark }
         ensures unchanged { OnErr result (self.new ≡ self.old) }
     {
         if let Some(welcome) = &mut self.machine.state.welcome {
@@ -127,6 +137,15 @@ impl<Tr: Network, K: Drop, E: Encoding, B: Drop> Session<Tr, K, E, B> {
         ensures value { result.now ≡ self.now.machine.state }
     {
         &self.machine.state
+    }
+
+    /// How many transfers were opened, and how they came to their end (RFC 959, section 3.2).
+    pub fn counts(&self) -> &Counts
+        ensures value { result.now ≡ self.now.machine.state.counts }
+        ensures sound { SoundCounts result.now }
+    {
+        self.machine.holds();
+        &self.machine.state.counts
     }
 
     /// How many received bytes are part of no reply yet.

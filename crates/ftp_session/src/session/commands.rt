@@ -4,27 +4,25 @@
 //! `ftp_calls::exchange`. Where the copy finds no memory nothing has happened. The contract of each is one clause: the
 //! call is its dialogue (`Plays`).
 
-ghost use Rattle.std.specs.Prelude.{◌⊎◌, ◌≡◌, Err, IfOk, Result, true, false, [], ◌∷◌, option_map};
-ghost use Rattle.futures.specs.declared.task.Poll.TheVariants as poll;
-ghost use Rattle.ftp_base.specs.declared.types.reply.Response.{Response as Heard};
-ghost use Rattle.ftp_base.specs.declared.types.fault.FtpError.{FtpError as Faults};
+ghost use Rattle.std.specs.Prelude.{◌≡◌, IfOk, option_map};
+ghost use Rattle.ftp_calls.specs.declared.call.Answer.TheVariants.{Fault};
 ghost use Rattle.ftp_calls.specs.declared.call.Call.{Call as Called};
 ghost use Rattle.ftp_session.specs.Calls.{reply_answer, unit_answer};
-ghost use Rattle.ftp_session.specs.Coding.{chosen};
-ghost use Rattle.ftp_session.specs.Dialogue.{Tree, expecting};
-ghost use Rattle.ftp_session.specs.Link.{link};
-ghost use Rattle.ftp_session.specs.Promises.{GivesFault, Plays, Reads};
-ghost use Rattle.ftp_session.specs.Steps.Moving.{withheld};
-ghost use Rattle.ftp_session.specs.Steps.Stages.{GivesNothing, GivesReply, IsPlain, MayAnswer};
+ghost use Rattle.ftp_dialogue.specs.Coding.{chosen};
+ghost use Rattle.ftp_dialogue.specs.Link.{link};
+ghost use Rattle.ftp_session.specs.Handed.{PlaysSeen};
+ghost use Rattle.ftp_dialogue.specs.Promises.{PlaysAlone};
+ghost use Rattle.ftp_dialogue.specs.Steps.Moving.{withheld};
+ghost use Rattle.ftp_dialogue.specs.Steps.Stages.{GivesNothing, GivesReply, IsPlain, MayAnswer};
 
-use super::asks::Nothing;
 use super::client::Session;
+use super::looking::look;
 use super::{Answer, Call};
 use ftp_base::encoding::Encoding;
 use ftp_base::status::Status;
 use ftp_base::types::{FileType, FtpError, FtpResult, Items, Response, Text};
-use ftp_control::transport::{Conn, Network, PollConn};
-use futures::task::Poll;
+use ftp_control::transport::{Conn, Network};
+use ftp_dialogue::asks::Nothing;
 use std::alloc::{AllocError, Global};
 use std::net::SocketAddr;
 
@@ -36,10 +34,14 @@ where
     pub(super) fn greet(&mut self, alloc: Global) -> FtpResult<()>
         ensures encoding { self.new.encoding ≡ self.old.encoding }
         ensures builder { self.new.builder ≡ self.old.builder }
-        ensures plays { Plays (link Tr.Conn.tells Tr.Conn.blocking_read_faults Tr.Conn.blocking_write_faults Tr.Conn.end_faults) (chosen E.decoded E.encoded self.old.encoding.0) Call.Greet
+        ensures mark { self.new.mark ≡ self.old.mark }
+        ensures plays { PlaysAlone (link Tr.Conn.tells Tr.Conn.blocking_read_faults Tr.Conn.blocking_write_faults Tr.Conn.end_faults) (chosen E.decoded E.encoded self.old.encoding.0) Call.Greet
             self.old.machine self.new.machine (unit_answer result) }
     {
-        unit(self.call(alloc, &Call::Greet))
+        unit(
+            self.machine
+                .call_alone(&Nothing, alloc, &self.encoding, &Call::Greet),
+        )
     }
 
     /// Logs in: `USER` (230, 331), and where the server asks for a password `PASS` (230). The password is looked at
@@ -48,8 +50,8 @@ where
     /// # Errors
     /// Those of a command and its reply: `LineBreak` where CR or LF stands in the user's name or the password.
     pub fn login(&mut self, alloc: Global, user: &str, password: &str) -> FtpResult<()>
-        ensures plays { Plays (link Tr.Conn.tells Tr.Conn.blocking_read_faults Tr.Conn.blocking_write_faults Tr.Conn.end_faults) (chosen E.decoded E.encoded self.old.encoding.0) (Call.Login user.now password.now)
-            self.old.machine self.new.machine (unit_answer result) }
+        ensures plays { PlaysSeen (link Tr.Conn.tells Tr.Conn.blocking_read_faults Tr.Conn.blocking_write_faults Tr.Conn.end_faults) (chosen E.decoded E.encoded self.old.encoding.0) (Call.Login user.now password.now)
+            self.old.mark self.new.mark self.old.machine self.new.machine (unit_answer result) }
         ensures encoding { self.new.encoding ≡ self.old.encoding }
         ensures builder { self.new.builder ≡ self.old.builder }
     {
@@ -61,8 +63,8 @@ where
     /// # Errors
     /// Those of a command and its reply.
     pub fn cwd(&mut self, alloc: Global, path: &str) -> FtpResult<()>
-        ensures plays { Plays (link Tr.Conn.tells Tr.Conn.blocking_read_faults Tr.Conn.blocking_write_faults Tr.Conn.end_faults) (chosen E.decoded E.encoded self.old.encoding.0) (Call.Cwd path.now)
-            self.old.machine self.new.machine (unit_answer result) }
+        ensures plays { PlaysSeen (link Tr.Conn.tells Tr.Conn.blocking_read_faults Tr.Conn.blocking_write_faults Tr.Conn.end_faults) (chosen E.decoded E.encoded self.old.encoding.0) (Call.Cwd path.now)
+            self.old.mark self.new.mark self.old.machine self.new.machine (unit_answer result) }
         ensures encoding { self.new.encoding ≡ self.old.encoding }
         ensures builder { self.new.builder ≡ self.old.builder }
     {
@@ -74,8 +76,8 @@ where
     /// # Errors
     /// Those of a command and its reply.
     pub fn cdup(&mut self, alloc: Global) -> FtpResult<()>
-        ensures plays { Plays (link Tr.Conn.tells Tr.Conn.blocking_read_faults Tr.Conn.blocking_write_faults Tr.Conn.end_faults) (chosen E.decoded E.encoded self.old.encoding.0) Call.Cdup
-            self.old.machine self.new.machine (unit_answer result) }
+        ensures plays { PlaysSeen (link Tr.Conn.tells Tr.Conn.blocking_read_faults Tr.Conn.blocking_write_faults Tr.Conn.end_faults) (chosen E.decoded E.encoded self.old.encoding.0) Call.Cdup
+            self.old.mark self.new.mark self.old.machine self.new.machine (unit_answer result) }
         ensures encoding { self.new.encoding ≡ self.old.encoding }
         ensures builder { self.new.builder ≡ self.old.builder }
     {
@@ -87,8 +89,8 @@ where
     /// # Errors
     /// Those of a command and its reply.
     pub fn noop(&mut self, alloc: Global) -> FtpResult<()>
-        ensures plays { Plays (link Tr.Conn.tells Tr.Conn.blocking_read_faults Tr.Conn.blocking_write_faults Tr.Conn.end_faults) (chosen E.decoded E.encoded self.old.encoding.0) Call.Noop
-            self.old.machine self.new.machine (unit_answer result) }
+        ensures plays { PlaysSeen (link Tr.Conn.tells Tr.Conn.blocking_read_faults Tr.Conn.blocking_write_faults Tr.Conn.end_faults) (chosen E.decoded E.encoded self.old.encoding.0) Call.Noop
+            self.old.mark self.new.mark self.old.machine self.new.machine (unit_answer result) }
         ensures encoding { self.new.encoding ≡ self.old.encoding }
         ensures builder { self.new.builder ≡ self.old.builder }
     {
@@ -100,8 +102,8 @@ where
     /// # Errors
     /// Those of a command and its reply.
     pub fn eprt(&mut self, alloc: Global, address: SocketAddr) -> FtpResult<()>
-        ensures plays { Plays (link Tr.Conn.tells Tr.Conn.blocking_read_faults Tr.Conn.blocking_write_faults Tr.Conn.end_faults) (chosen E.decoded E.encoded self.old.encoding.0) (Call.Eprt address)
-            self.old.machine self.new.machine (unit_answer result) }
+        ensures plays { PlaysSeen (link Tr.Conn.tells Tr.Conn.blocking_read_faults Tr.Conn.blocking_write_faults Tr.Conn.end_faults) (chosen E.decoded E.encoded self.old.encoding.0) (Call.Eprt address)
+            self.old.mark self.new.mark self.old.machine self.new.machine (unit_answer result) }
         ensures encoding { self.new.encoding ≡ self.old.encoding }
         ensures builder { self.new.builder ≡ self.old.builder }
     {
@@ -113,8 +115,8 @@ where
     /// # Errors
     /// Those of a command and its reply.
     pub fn opts(&mut self, alloc: Global, option: &str, value: Option<&str>) -> FtpResult<()>
-        ensures plays { Plays (link Tr.Conn.tells Tr.Conn.blocking_read_faults Tr.Conn.blocking_write_faults Tr.Conn.end_faults) (chosen E.decoded E.encoded self.old.encoding.0) (Call.Opts option.now (option_map (λ text. text.now) value.entry))
-            self.old.machine self.new.machine (unit_answer result) }
+        ensures plays { PlaysSeen (link Tr.Conn.tells Tr.Conn.blocking_read_faults Tr.Conn.blocking_write_faults Tr.Conn.end_faults) (chosen E.decoded E.encoded self.old.encoding.0) (Call.Opts option.now (option_map (λ text. text.now) value.entry))
+            self.old.mark self.new.mark self.old.machine self.new.machine (unit_answer result) }
         ensures encoding { self.new.encoding ≡ self.old.encoding }
         ensures builder { self.new.builder ≡ self.old.builder }
     {
@@ -126,8 +128,8 @@ where
     /// # Errors
     /// Those of a command and its reply.
     pub fn site(&mut self, alloc: Global, command: &str) -> FtpResult<Response>
-        ensures plays { Plays (link Tr.Conn.tells Tr.Conn.blocking_read_faults Tr.Conn.blocking_write_faults Tr.Conn.end_faults) (chosen E.decoded E.encoded self.old.encoding.0) (Call.Site command.now)
-            self.old.machine self.new.machine (reply_answer result) }
+        ensures plays { PlaysSeen (link Tr.Conn.tells Tr.Conn.blocking_read_faults Tr.Conn.blocking_write_faults Tr.Conn.end_faults) (chosen E.decoded E.encoded self.old.encoding.0) (Call.Site command.now)
+            self.old.mark self.new.mark self.old.machine self.new.machine (reply_answer result) }
         ensures encoding { self.new.encoding ≡ self.old.encoding }
         ensures builder { self.new.builder ≡ self.old.builder }
     {
@@ -139,8 +141,8 @@ where
     /// # Errors
     /// Those of a command and its reply.
     pub fn transfer_type(&mut self, alloc: Global, kind: FileType) -> FtpResult<()>
-        ensures plays { Plays (link Tr.Conn.tells Tr.Conn.blocking_read_faults Tr.Conn.blocking_write_faults Tr.Conn.end_faults) (chosen E.decoded E.encoded self.old.encoding.0) (Call.TransferType kind)
-            self.old.machine self.new.machine (unit_answer result) }
+        ensures plays { PlaysSeen (link Tr.Conn.tells Tr.Conn.blocking_read_faults Tr.Conn.blocking_write_faults Tr.Conn.end_faults) (chosen E.decoded E.encoded self.old.encoding.0) (Call.TransferType kind)
+            self.old.mark self.new.mark self.old.machine self.new.machine (unit_answer result) }
         ensures encoding { self.new.encoding ≡ self.old.encoding }
         ensures builder { self.new.builder ≡ self.old.builder }
     {
@@ -152,8 +154,8 @@ where
     /// # Errors
     /// Those of a command and its reply.
     pub fn mkdir(&mut self, alloc: Global, path: &str) -> FtpResult<()>
-        ensures plays { Plays (link Tr.Conn.tells Tr.Conn.blocking_read_faults Tr.Conn.blocking_write_faults Tr.Conn.end_faults) (chosen E.decoded E.encoded self.old.encoding.0) (Call.Mkdir path.now)
-            self.old.machine self.new.machine (unit_answer result) }
+        ensures plays { PlaysSeen (link Tr.Conn.tells Tr.Conn.blocking_read_faults Tr.Conn.blocking_write_faults Tr.Conn.end_faults) (chosen E.decoded E.encoded self.old.encoding.0) (Call.Mkdir path.now)
+            self.old.mark self.new.mark self.old.machine self.new.machine (unit_answer result) }
         ensures encoding { self.new.encoding ≡ self.old.encoding }
         ensures builder { self.new.builder ≡ self.old.builder }
     {
@@ -165,8 +167,8 @@ where
     /// # Errors
     /// Those of a command and its reply.
     pub fn rmdir(&mut self, alloc: Global, path: &str) -> FtpResult<()>
-        ensures plays { Plays (link Tr.Conn.tells Tr.Conn.blocking_read_faults Tr.Conn.blocking_write_faults Tr.Conn.end_faults) (chosen E.decoded E.encoded self.old.encoding.0) (Call.Rmdir path.now)
-            self.old.machine self.new.machine (unit_answer result) }
+        ensures plays { PlaysSeen (link Tr.Conn.tells Tr.Conn.blocking_read_faults Tr.Conn.blocking_write_faults Tr.Conn.end_faults) (chosen E.decoded E.encoded self.old.encoding.0) (Call.Rmdir path.now)
+            self.old.mark self.new.mark self.old.machine self.new.machine (unit_answer result) }
         ensures encoding { self.new.encoding ≡ self.old.encoding }
         ensures builder { self.new.builder ≡ self.old.builder }
     {
@@ -178,8 +180,8 @@ where
     /// # Errors
     /// Those of a command and its reply.
     pub fn rm(&mut self, alloc: Global, path: &str) -> FtpResult<()>
-        ensures plays { Plays (link Tr.Conn.tells Tr.Conn.blocking_read_faults Tr.Conn.blocking_write_faults Tr.Conn.end_faults) (chosen E.decoded E.encoded self.old.encoding.0) (Call.Rm path.now)
-            self.old.machine self.new.machine (unit_answer result) }
+        ensures plays { PlaysSeen (link Tr.Conn.tells Tr.Conn.blocking_read_faults Tr.Conn.blocking_write_faults Tr.Conn.end_faults) (chosen E.decoded E.encoded self.old.encoding.0) (Call.Rm path.now)
+            self.old.mark self.new.mark self.old.machine self.new.machine (unit_answer result) }
         ensures encoding { self.new.encoding ≡ self.old.encoding }
         ensures builder { self.new.builder ≡ self.old.builder }
     {
@@ -191,8 +193,8 @@ where
     /// # Errors
     /// Those of a command and its reply.
     pub fn rename(&mut self, alloc: Global, from: &str, to: &str) -> FtpResult<()>
-        ensures plays { Plays (link Tr.Conn.tells Tr.Conn.blocking_read_faults Tr.Conn.blocking_write_faults Tr.Conn.end_faults) (chosen E.decoded E.encoded self.old.encoding.0) (Call.Rename from.now to.now)
-            self.old.machine self.new.machine (unit_answer result) }
+        ensures plays { PlaysSeen (link Tr.Conn.tells Tr.Conn.blocking_read_faults Tr.Conn.blocking_write_faults Tr.Conn.end_faults) (chosen E.decoded E.encoded self.old.encoding.0) (Call.Rename from.now to.now)
+            self.old.mark self.new.mark self.old.machine self.new.machine (unit_answer result) }
         ensures encoding { self.new.encoding ≡ self.old.encoding }
         ensures builder { self.new.builder ≡ self.old.builder }
     {
@@ -204,8 +206,8 @@ where
     /// # Errors
     /// Those of a command and its reply.
     pub fn quit(&mut self, alloc: Global) -> FtpResult<()>
-        ensures plays { Plays (link Tr.Conn.tells Tr.Conn.blocking_read_faults Tr.Conn.blocking_write_faults Tr.Conn.end_faults) (chosen E.decoded E.encoded self.old.encoding.0) Call.Quit
-            self.old.machine self.new.machine (unit_answer result) }
+        ensures plays { PlaysSeen (link Tr.Conn.tells Tr.Conn.blocking_read_faults Tr.Conn.blocking_write_faults Tr.Conn.end_faults) (chosen E.decoded E.encoded self.old.encoding.0) Call.Quit
+            self.old.mark self.new.mark self.old.machine self.new.machine (unit_answer result) }
         ensures encoding { self.new.encoding ≡ self.old.encoding }
         ensures builder { self.new.builder ≡ self.old.builder }
     {
@@ -222,8 +224,8 @@ where
         line: &str,
         expected: &[Status],
     ) -> FtpResult<Response>
-        ensures plays { Plays (link Tr.Conn.tells Tr.Conn.blocking_read_faults Tr.Conn.blocking_write_faults Tr.Conn.end_faults) (chosen E.decoded E.encoded self.old.encoding.0) (Call.CustomCommand line.now expected.now)
-            self.old.machine self.new.machine (reply_answer result) }
+        ensures plays { PlaysSeen (link Tr.Conn.tells Tr.Conn.blocking_read_faults Tr.Conn.blocking_write_faults Tr.Conn.end_faults) (chosen E.decoded E.encoded self.old.encoding.0) (Call.CustomCommand line.now expected.now)
+            self.old.mark self.new.mark self.old.machine self.new.machine (reply_answer result) }
         ensures encoding { self.new.encoding ≡ self.old.encoding }
         ensures builder { self.new.builder ≡ self.old.builder }
     {
@@ -235,8 +237,8 @@ where
     /// # Errors
     /// Those of a read of one reply.
     pub fn read_response(&mut self, alloc: Global, expected: Status) -> FtpResult<Response>
-        ensures plays { Plays (link Tr.Conn.tells Tr.Conn.blocking_read_faults Tr.Conn.blocking_write_faults Tr.Conn.end_faults) (chosen E.decoded E.encoded self.old.encoding.0) (Call.ReadResponse expected)
-            self.old.machine self.new.machine (reply_answer result) }
+        ensures plays { PlaysSeen (link Tr.Conn.tells Tr.Conn.blocking_read_faults Tr.Conn.blocking_write_faults Tr.Conn.end_faults) (chosen E.decoded E.encoded self.old.encoding.0) (Call.ReadResponse expected)
+            self.old.mark self.new.mark self.old.machine self.new.machine (reply_answer result) }
         ensures encoding { self.new.encoding ≡ self.old.encoding }
         ensures builder { self.new.builder ≡ self.old.builder }
     {
@@ -248,12 +250,25 @@ where
     /// # Errors
     /// Those of a read of one reply.
     pub fn read_response_in(&mut self, alloc: Global, expected: &[Status]) -> FtpResult<Response>
-        ensures plays { Plays (link Tr.Conn.tells Tr.Conn.blocking_read_faults Tr.Conn.blocking_write_faults Tr.Conn.end_faults) (chosen E.decoded E.encoded self.old.encoding.0) (Call.ReadResponseIn expected.now)
-            self.old.machine self.new.machine (reply_answer result) }
+        ensures plays { PlaysSeen (link Tr.Conn.tells Tr.Conn.blocking_read_faults Tr.Conn.blocking_write_faults Tr.Conn.end_faults) (chosen E.decoded E.encoded self.old.encoding.0) (Call.ReadResponseIn expected.now)
+            self.old.mark self.new.mark self.old.machine self.new.machine (reply_answer result) }
         ensures encoding { self.new.encoding ≡ self.old.encoding }
         ensures builder { self.new.builder ≡ self.old.builder }
     {
         self.perform_for_reply(alloc, read_call(alloc, expected))
+    }
+
+    /// The next transfer begins at this offset, in bytes (`REST`; RFC 3659, section 5). 0 takes an earlier offset away.
+    ///
+    /// # Errors
+    /// `SessionFailed`; or those of the last reply of a transfer that was left. The offset of before stays.
+    pub fn resume_transfer(&mut self, alloc: Global, offset: u64) -> FtpResult<()>
+        ensures plays { PlaysSeen (link Tr.Conn.tells Tr.Conn.blocking_read_faults Tr.Conn.blocking_write_faults Tr.Conn.end_faults) (chosen E.decoded E.encoded self.old.encoding.0) (Call.ResumeTransfer offset)
+            self.old.mark self.new.mark self.old.machine self.new.machine (unit_answer result) }
+        ensures encoding { self.new.encoding ≡ self.old.encoding }
+        ensures builder { self.new.builder ≡ self.old.builder }
+    {
+        unit(self.call(alloc, &Call::ResumeTransfer(offset)))
     }
 
     /// Makes a call.
@@ -262,9 +277,10 @@ where
         ensures encoding { self.new.encoding ≡ self.old.encoding }
         ensures builder { self.new.builder ≡ self.old.builder }
         ensures answers { MayAnswer call.now result }
-        ensures plays { Plays (link Tr.Conn.tells Tr.Conn.blocking_read_faults Tr.Conn.blocking_write_faults Tr.Conn.end_faults) (chosen E.decoded E.encoded self.old.encoding.0)
-            call.now self.old.machine self.new.machine result }
+        ensures plays { PlaysSeen (link Tr.Conn.tells Tr.Conn.blocking_read_faults Tr.Conn.blocking_write_faults Tr.Conn.end_faults) (chosen E.decoded E.encoded self.old.encoding.0)
+            call.now self.old.mark self.new.mark self.old.machine self.new.machine result }
     {
+        look(&mut self.machine, &mut self.mark);
         self.machine.call(&Nothing, alloc, &self.encoding, call)
     }
 
@@ -274,12 +290,12 @@ where
         ensures encoding { self.new.encoding ≡ self.old.encoding }
         ensures builder { self.new.builder ≡ self.old.builder }
         ensures plays { (made : Called) → IsPlain made → IfOk call (λ c. c ≡ made) →
-            Plays (link Tr.Conn.tells Tr.Conn.blocking_read_faults Tr.Conn.blocking_write_faults Tr.Conn.end_faults) (chosen E.decoded E.encoded self.old.encoding.0) made
-            self.old.machine self.new.machine (unit_answer result) }
+            PlaysSeen (link Tr.Conn.tells Tr.Conn.blocking_read_faults Tr.Conn.blocking_write_faults Tr.Conn.end_faults) (chosen E.decoded E.encoded self.old.encoding.0) made
+            self.old.mark self.new.mark self.old.machine self.new.machine (unit_answer result) }
     {
         match call {
             Ok(call) => unit(self.call(alloc, &call)),
-            Err(AllocError) => Err(self.withheld()),
+            Err(AllocError) => Err(self.withheld_call()),
         }
     }
 
@@ -293,13 +309,25 @@ where
         ensures encoding { self.new.encoding ≡ self.old.encoding }
         ensures builder { self.new.builder ≡ self.old.builder }
         ensures plays { (made : Called) → IsPlain made → IfOk call (λ c. c ≡ made) →
-            Plays (link Tr.Conn.tells Tr.Conn.blocking_read_faults Tr.Conn.blocking_write_faults Tr.Conn.end_faults) (chosen E.decoded E.encoded self.old.encoding.0) made
-            self.old.machine self.new.machine (reply_answer result) }
+            PlaysSeen (link Tr.Conn.tells Tr.Conn.blocking_read_faults Tr.Conn.blocking_write_faults Tr.Conn.end_faults) (chosen E.decoded E.encoded self.old.encoding.0) made
+            self.old.mark self.new.mark self.old.machine self.new.machine (reply_answer result) }
     {
         match call {
             Ok(call) => reply(self.call(alloc, &call)),
-            Err(AllocError) => Err(self.withheld()),
+            Err(AllocError) => Err(self.withheld_call()),
         }
+    }
+
+    /// A call isn't made whose arguments found no memory: the session looks, and says why.
+    pub(super) fn withheld_call(&mut self) -> FtpError
+        ensures encoding { self.new.encoding ≡ self.old.encoding }
+        ensures builder { self.new.builder ≡ self.old.builder }
+        ensures plays { (call : Called) → IsPlain call →
+            PlaysSeen (link Tr.Conn.tells Tr.Conn.blocking_read_faults Tr.Conn.blocking_write_faults Tr.Conn.end_faults) (chosen E.decoded E.encoded self.old.encoding.0) call
+            self.old.mark self.new.mark self.old.machine self.new.machine (Fault result) }
+    {
+        look(&mut self.machine, &mut self.mark);
+        self.withheld()
     }
 
     /// Why a call isn't made whose arguments found no memory.
@@ -311,64 +339,6 @@ where
         } else {
             FtpError::OutOfMemory
         }
-    }
-}
-
-impl<Tr: Network, K: Drop, E: Encoding, B: Drop> Session<Tr, K, E, B> {
-    /// Reads one reply whose status is among the expected, as far as it has come. Dropped and called again, it
-    /// resumes where it stopped.
-    ///
-    /// # Errors
-    /// Those of a read of one reply.
-    pub fn poll_read_response_in<W>(
-        &mut self,
-        alloc: Global,
-        expected: &[Status],
-        w: &mut W,
-    ) -> Poll<FtpResult<Response>>
-    where
-        Tr::Conn: PollConn<W>,
-        ensures waits { result ≡ poll.Pending → Tr.Conn.may_wait }
-        ensures failed { self.old.machine.channel.failed ≡ true →
-            (result ≡ poll.Ready (Err FtpError.SessionFailed)) × (self.new ≡ self.old) }
-        ensures fails { self.new.machine.channel.failed ≡ true →
-            (self.old.machine.channel.failed ≡ true) ⊎ GivesFault result }
-        ensures reads { self.old.machine.channel.failed ≡ false →
-            (next : Result Heard Faults → Tree) →
-            Reads (link Tr.Conn.tells Tr.Conn.read_faults Tr.Conn.write_faults Tr.Conn.end_faults) (expecting expected.now) next self.old.machine self.new.machine result }
-        ensures encoding { self.new.encoding ≡ self.old.encoding }
-        ensures builder { self.new.builder ≡ self.old.builder }
-    {
-        if self.machine.channel.failed() {
-            return Poll::Ready(Err(FtpError::SessionFailed));
-        }
-        self.machine.hear(&Nothing, alloc, expected, w)
-    }
-
-    /// Reads one reply of this status, as `poll_read_response_in` does.
-    ///
-    /// # Errors
-    /// Those of a read of one reply.
-    pub fn poll_read_response<W>(
-        &mut self,
-        alloc: Global,
-        expected: Status,
-        w: &mut W,
-    ) -> Poll<FtpResult<Response>>
-    where
-        Tr::Conn: PollConn<W>,
-        ensures waits { result ≡ poll.Pending → Tr.Conn.may_wait }
-        ensures failed { self.old.machine.channel.failed ≡ true →
-            (result ≡ poll.Ready (Err FtpError.SessionFailed)) × (self.new ≡ self.old) }
-        ensures fails { self.new.machine.channel.failed ≡ true →
-            (self.old.machine.channel.failed ≡ true) ⊎ GivesFault result }
-        ensures reads { self.old.machine.channel.failed ≡ false →
-            (next : Result Heard Faults → Tree) →
-            Reads (link Tr.Conn.tells Tr.Conn.read_faults Tr.Conn.write_faults Tr.Conn.end_faults) (expecting (expected ∷ [])) next self.old.machine self.new.machine result }
-        ensures encoding { self.new.encoding ≡ self.old.encoding }
-        ensures builder { self.new.builder ≡ self.old.builder }
-    {
-        self.poll_read_response_in(alloc, &[expected], w)
     }
 }
 

@@ -7,9 +7,9 @@ ghost use Rattle.std.specs.Prelude.{◌≡◌, IfOk, MatchResult, Ok, Err, Some,
 ghost use Rattle.std.specs.Duration.{as_nanos};
 ghost use Rattle.ftp_base.specs.declared.types.fault.ConnectionError.TheVariants as faults;
 ghost use Rattle.ftp_control.specs.Asking.{connects_to};
-ghost use Rattle.ftp_session.specs.Coding.{chosen};
+ghost use Rattle.ftp_dialogue.specs.Coding.{chosen};
 ghost use Rattle.ftp_session.specs.Connecting.{ConnectsBy, FailsToConnectBy, connects_within};
-ghost use Rattle.ftp_session.specs.Link.{link};
+ghost use Rattle.ftp_dialogue.specs.Link.{link};
 
 use super::client::Session;
 use ftp_base::encoding::Encoding;
@@ -39,6 +39,7 @@ where
         Tr: Transport<R>,
         ensures encoding { IfOk result (λ session. session.encoding.0 ≡ None) }
         ensures builder { IfOk result (λ session. session.builder ≡ None) }
+        ensures mark { IfOk result (λ session. session.mark ≡ None) }
         ensures nowhere { length addresses.now ≡ 0 →
             result ≡ Err (FtpError.ConnectionError faults.NoAddress) }
         ensures connects { MatchResult result
@@ -72,6 +73,7 @@ where
         Tr: Transport<R>,
         ensures encoding { IfOk result (λ session. session.encoding.0 ≡ None) }
         ensures builder { IfOk result (λ session. session.builder ≡ None) }
+        ensures mark { IfOk result (λ session. session.mark ≡ None) }
         ensures no_time { as_nanos limit ≡ 0 →
             result ≡ Err (FtpError.ConnectionError faults.TimedOut) }
         ensures connects { MatchResult result
@@ -104,6 +106,7 @@ where
         Tr: Transport<R>,
         ensures encoding { IfOk result (λ session. session.encoding.0 ≡ None) }
         ensures builder { IfOk result (λ session. session.builder ≡ None) }
+        ensures mark { IfOk result (λ session. session.mark ≡ None) }
         ensures nowhere { length addresses.now ≡ 0 →
             result ≡ Err (FtpError.ConnectionError fault) }
         ensures connects { MatchResult result

@@ -1,15 +1,15 @@
 //! What a session is told to do, without a word to the server.
 //!
-//! Settings say how later data connections come about (RFC 959, section 3.2; RFC 2428) and where the next transfer
-//! begins. They stay as they were set whatever a call comes to, but for the offset, which is of one transfer.
+//! Settings say how later data connections come about (RFC 959, section 3.2; RFC 2428). They stay as they were set
+//! whatever a call comes to.
 
-ghost use Rattle.std.specs.Prelude.{◌≡◌, IfErr, OnOk, OnErr, Some, false, true};
+ghost use Rattle.std.specs.Prelude.{◌≡◌, Some, true};
 ghost use Rattle.ftp_base.specs.declared.types.mode.Mode.TheVariants as modes;
-ghost use Rattle.ftp_session.specs.State.{with_settings};
+ghost use Rattle.ftp_dialogue.specs.State.{with_settings};
 
 use super::client::Session;
 use ftp_base::encoding::Encoding;
-use ftp_base::types::{ActivePeerCheck, FtpError, FtpResult, Mode};
+use ftp_base::types::{ActivePeerCheck, Mode};
 use ftp_control::transport::Network;
 use std::time::Duration;
 
@@ -19,6 +19,7 @@ impl<Tr: Network, K: Drop, E: Encoding, B: Drop> Session<Tr, K, E, B> {
         ensures set { self.new.machine ≡
             with_settings (λ s. record s { mode = mode }) self.old.machine }
         ensures encoding { self.new.encoding ≡ self.old.encoding }
+        ensures mark { self.new.mark ≡ self.old.mark }
         ensures builder { self.new.builder ≡ self.old.builder }
     {
         self.machine.state.settings.mode = mode;
@@ -30,6 +31,7 @@ impl<Tr: Network, K: Drop, E: Encoding, B: Drop> Session<Tr, K, E, B> {
         ensures set { self.new.machine ≡
             with_settings (λ s. record s { passive_nat_workaround = enabled }) self.old.machine }
         ensures encoding { self.new.encoding ≡ self.old.encoding }
+        ensures mark { self.new.mark ≡ self.old.mark }
         ensures builder { self.new.builder ≡ self.old.builder }
     {
         self.machine.state.settings.passive_nat_workaround = enabled;
@@ -40,6 +42,7 @@ impl<Tr: Network, K: Drop, E: Encoding, B: Drop> Session<Tr, K, E, B> {
         ensures set { self.new.machine ≡
             with_settings (λ s. record s { active_peer_check = check }) self.old.machine }
         ensures encoding { self.new.encoding ≡ self.old.encoding }
+        ensures mark { self.new.mark ≡ self.old.mark }
         ensures builder { self.new.builder ≡ self.old.builder }
     {
         self.machine.state.settings.active_peer_check = check;
@@ -50,6 +53,7 @@ impl<Tr: Network, K: Drop, E: Encoding, B: Drop> Session<Tr, K, E, B> {
         ensures set { self.new.machine ≡
             with_settings (λ s. record s { active_deadline = deadline }) self.old.machine }
         ensures encoding { self.new.encoding ≡ self.old.encoding }
+        ensures mark { self.new.mark ≡ self.old.mark }
         ensures builder { self.new.builder ≡ self.old.builder }
     {
         self.machine.state.settings.active_deadline = deadline;
@@ -60,6 +64,7 @@ impl<Tr: Network, K: Drop, E: Encoding, B: Drop> Session<Tr, K, E, B> {
         ensures set { result.machine ≡
             with_settings (λ s. record s { mode = modes.Active; active_deadline = deadline }) self.machine }
         ensures encoding { result.encoding ≡ self.encoding }
+        ensures mark { result.mark ≡ self.mark }
         ensures builder { result.builder ≡ self.builder }
     {
         self.machine.state.settings.mode = Mode::Active;
@@ -74,6 +79,7 @@ impl<Tr: Network, K: Drop, E: Encoding, B: Drop> Session<Tr, K, E, B> {
             with_settings (λ s. record s { stream_builder = true }) self.old.machine }
         ensures builder { self.new.builder ≡ Some builder }
         ensures encoding { self.new.encoding ≡ self.old.encoding }
+        ensures mark { self.new.mark ≡ self.old.mark }
     {
         self.machine.state.settings.stream_builder = true;
         self.builder = Some(builder);
@@ -85,29 +91,10 @@ impl<Tr: Network, K: Drop, E: Encoding, B: Drop> Session<Tr, K, E, B> {
             with_settings (λ s. record s { stream_builder = true }) self.machine }
         ensures builder { result.builder ≡ Some builder }
         ensures encoding { result.encoding ≡ self.encoding }
+        ensures mark { result.mark ≡ self.mark }
     {
         self.machine.state.settings.stream_builder = true;
         self.builder = Some(builder);
         self
-    }
-
-    /// The next transfer begins at this offset, in bytes (`REST`; RFC 3659, section 5). 0 takes an earlier offset away.
-    ///
-    /// # Errors
-    /// `SessionFailed`, and nothing changes.
-    pub fn resume_transfer(&mut self, offset: u64) -> FtpResult<()>
-        ensures armed { OnOk result ((self.old.machine.channel.failed ≡ false) × (self.new.machine ≡
-            with_settings (λ s. record s { restart_offset = offset }) self.old.machine)) }
-        ensures failed { IfErr result (λ fault.
-            (fault ≡ FtpError.SessionFailed) × (self.old.machine.channel.failed ≡ true)) }
-        ensures unchanged { OnErr result (self.new ≡ self.old) }
-        ensures encoding { self.new.encoding ≡ self.old.encoding }
-        ensures builder { self.new.builder ≡ self.old.builder }
-    {
-        if self.machine.channel.failed() {
-            return Err(FtpError::SessionFailed);
-        }
-        let _armed = self.machine.arm(offset);
-        Ok(())
     }
 }

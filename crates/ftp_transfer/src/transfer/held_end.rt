@@ -1,7 +1,8 @@
 //! The end of the mark, as a transfer holds it.
 //!
 //! A [`TransferEnd`] may be dropped, and its session would then never find the mark. So a transfer holds it in a type
-//! that can't be dropped: the one way out is to leave, which needs a closed connection.
+//! that can't be dropped. The ways out are to leave, which needs a closed connection, and to hand the end to the session
+//! that brings the transfer to its end.
 
 ghost use Rattle.std.specs.Prelude.{◌≡◌, false, true};
 ghost use Rattle.ftp_control.specs.Mark.{loaded};
@@ -44,6 +45,14 @@ impl HeldEnd {
         ensures loaded { self.new ≡ loaded result self.old }
     {
         self.end.look_beside()
+    }
+
+    /// The end itself, for the session that brings the transfer to its end.
+    pub(super) fn release(self) -> TransferEnd
+        ensures { result ≡ self }
+    {
+        let HeldEnd { end } = self;
+        end
     }
 
     /// Drops the closed connection, and then stores the mark.

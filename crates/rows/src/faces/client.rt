@@ -1,6 +1,7 @@
 //! The calls of the blocking client, one after another.
 
 use super::methods::{Opening, greeted};
+use super::transfers::{Held, Transfers};
 use crate::answers::{features, reply, size, text, texts_of, time, unit};
 use crate::builder::RowBuilder;
 use crate::encodings::Named;
@@ -8,15 +9,29 @@ use crate::play::Play;
 use crate::requests::recorded;
 use crate::transcript::Standing;
 use ftp_base::types::{FtpError, FtpResult};
+use ftp_control::mark::Left;
 use ftp_control::transport::MemoryTransport;
-use ftp_session::session::{Answer, Call, NoTlsConnector};
+use ftp_session::session::{Answer, Call, NoTlsConnector, Setting};
 use row_text::RowError;
 use std::alloc::AllocError;
 use std::sync::Wait;
-use suppaftp::ImplFtpStream;
+use suppaftp::{ImplFtpStream, TransferStream};
 
 /// A blocking client over memory whose encoding a row may choose.
 type Client = ImplFtpStream<MemoryTransport, NoTlsConnector, Named, RowBuilder>;
+
+/// A transfer of such a client.
+type Stream = TransferStream<MemoryTransport, NoTlsConnector, Named, RowBuilder>;
+
+impl Held for Stream {
+    fn sent(&self) -> &[u8] {
+        self.get_ref().sent()
+    }
+
+    fn left(self) -> Left {
+        self.leave()
+    }
+}
 
 /// Whether the client has a method for each of these calls. It reads a reply alone only where it is the greeting,
 /// which a session has read before the client is made.
@@ -52,11 +67,17 @@ pub fn called<R: Wait + AllocGlobal>(
     if let Some(encoding) = play.encoding {
         had(client.set_encoding(rt, encoding))?;
     }
+    let mut transfers = Transfers::new(rt.alloc());
     for call in others {
-        answers.push(make(rt, &client, call)?)?;
+        let answer = make(rt, &client, &mut transfers, call)?;
+        transfers.made(call, &answer);
+        answers.push(answer)?;
     }
     let mut end = stands(rt, &client, &answers)?;
-    end.asked = asked;
+    if !play.opens_data() {
+        end.asked = asked;
+    }
+    end.uploaded = transfers.uploaded;
     Ok(end)
 }
 
@@ -69,7 +90,12 @@ fn had<T: Drop>(outcome: FtpResult<T>) -> Result<T, RowError> {
 }
 
 /// Makes a call by its method.
-fn make<R: Wait + AllocGlobal>(rt: &R, client: &Client, call: &Call) -> Result<Answer, RowError> {
+fn make<R: Wait + AllocGlobal>(
+    rt: &R,
+    client: &Client,
+    transfers: &mut Transfers<Stream>,
+    call: &Call,
+) -> Result<Answer, RowError> {
     Ok(match call {
         Call::Login(user, password) => unit(client.login(rt, user.as_str(), password.as_str())),
         Call::Cwd(path) => unit(client.cwd(rt, path.as_str())),
@@ -103,16 +129,81 @@ fn make<R: Wait + AllocGlobal>(rt: &R, client: &Client, call: &Call) -> Result<A
         Call::RetrAsStream(_)
         | Call::PutWithStream(_)
         | Call::AppendWithStream(_)
-        | Call::CustomDataCommand(..)
-        | Call::Set(_)
-        | Call::Read(_)
-        | Call::Write(_)
-        | Call::Finish
-        | Call::Leave
-        | Call::Drain => {
-            return Err(RowError::NotUnderstood);
-        }
+        | Call::CustomDataCommand(..) => open(rt, client, transfers, call)?,
+        Call::Set(setting) => set(rt, client, setting)?,
+        Call::Read(most) => transfers.receive(rt.alloc(), *most)?,
+        Call::Write(bytes) => transfers.send(bytes.as_slice()),
+        Call::Leave => transfers.leave(rt.alloc())?,
+        Call::Finish | Call::Abort | Call::Drain => end(rt, client, transfers, call)?,
     })
+}
+
+/// Opens a transfer.
+fn open<R: Wait + AllocGlobal>(
+    rt: &R,
+    client: &Client,
+    transfers: &mut Transfers<Stream>,
+    call: &Call,
+) -> Result<Answer, RowError> {
+    Ok(match call {
+        Call::RetrAsStream(path) => transfers.opened(client.retr_as_stream(rt, path.as_str())),
+        Call::PutWithStream(path) => transfers.opened(client.put_with_stream(rt, path.as_str())),
+        Call::AppendWithStream(path) => {
+            transfers.opened(client.append_with_stream(rt, path.as_str()))
+        }
+        Call::CustomDataCommand(line, codes) => transfers.opened_with(client.custom_data_command(
+            rt,
+            line.as_str(),
+            codes.as_slice(),
+        )),
+        _ => return Err(RowError::NotUnderstood),
+    })
+}
+
+/// Brings a transfer to its end.
+fn end<R: Wait + AllocGlobal>(
+    rt: &R,
+    client: &Client,
+    transfers: &mut Transfers<Stream>,
+    call: &Call,
+) -> Result<Answer, RowError> {
+    if matches!(call, Call::Drain) {
+        return Ok(drain(rt, client, transfers));
+    }
+    let Some(transfer) = transfers.take(rt.alloc())? else {
+        return Ok(Answer::NoTransfer);
+    };
+    Ok(unit(match call {
+        Call::Abort => transfer.abort(rt),
+        _ => transfer.finish(rt),
+    }))
+}
+
+/// Reads the last reply of the transfer that was left.
+fn drain<R: Wait + AllocGlobal>(
+    rt: &R,
+    client: &Client,
+    transfers: &mut Transfers<Stream>,
+) -> Answer {
+    let Some(mut receipt) = transfers.receipt() else {
+        return Answer::NoTransfer;
+    };
+    let answer = unit(client.settle(rt, &mut receipt));
+    transfers.keep(receipt, &answer);
+    answer
+}
+
+/// A setting changes.
+fn set<R: Wait>(rt: &R, client: &Client, setting: &Setting) -> Result<Answer, AllocError> {
+    match setting {
+        Setting::Mode(mode) => client.set_mode(rt, *mode),
+        Setting::PassiveNatWorkaround(enabled) => {
+            client.set_passive_nat_workaround(rt, *enabled);
+        }
+        Setting::ActivePeerCheck(check) => client.set_active_peer_check(rt, check.clone()?),
+        Setting::ActiveDeadline(deadline) => client.set_active_deadline(rt, *deadline),
+    }
+    Ok(Answer::Unit)
 }
 
 /// Where a client stands that gave these answers.

@@ -64,6 +64,7 @@ fn first_script(alloc: Global, play: &Play) -> Result<Script, AllocError> {
         answers: Items::from_vec(Vec::new(alloc)),
         call: None,
         polled: false,
+        leaving: false,
         heard: false,
         bytes: Bytes::new(alloc),
         ended: false,
@@ -227,7 +228,7 @@ pub fn scripted(alloc: Global, events: &[Event], play: &Play) -> Result<Standing
     stands_in(alloc, &script, &of_requests(alloc, &outcomes)?)
 }
 
-/// What happens beside these events: after each Poll that leaves a call waiting for an outcome, it comes.
+/// What happens beside these events: after each event that leaves a call waiting for an outcome, it comes.
 fn script_outcomes(
     alloc: Global,
     events: &[Event],
@@ -238,15 +239,17 @@ fn script_outcomes(
         return Ok(outcomes);
     }
     for place in 0..events.len() {
-        if let (Some(Event::Poll), Some(so_far)) = (events.get(place), events.get(..=place)) {
+        if let (Some(event), Some(so_far)) = (events.get(place), events.get(..=place))
+            && matches!(event, Event::Poll | Event::Cancel | Event::Leave)
+        {
             add_outcomes(alloc, so_far, play, &mut outcomes)?;
         }
     }
     Ok(outcomes)
 }
 
-/// Adds the outcomes that are waited for after these events, the last of which is a Poll. The events happen again with
-/// one outcome more, as long as one is waited for.
+/// Adds the outcomes that are waited for after these events. The events happen again with one outcome more, as long as
+/// one is waited for.
 fn add_outcomes(
     alloc: Global,
     events: &[Event],
@@ -270,7 +273,19 @@ fn awaited(
     known: &[DealOutcome],
 ) -> Result<Option<DealOutcome>, RowError> {
     let script = script_of(alloc, events, play, known)?;
-    awaited_in(alloc, play, &script, known)
+    match awaited_in(alloc, play, &script, known)? {
+        Some(outcome) => Ok(Some(outcome)),
+        None if leaves(events) => closes(alloc, events, play, known),
+        None => Ok(None),
+    }
+}
+
+/// Whether a transfer may be left by one of these events.
+fn leaves(events: &[Event]) -> bool {
+    events.iter().any(|event| match event {
+        Event::Leave | Event::Cancel => true,
+        _ => false,
+    })
 }
 
 /// The outcome that this script waits for, where these are known.
@@ -287,6 +302,27 @@ fn awaited_in(
         }
         None => Ok(None),
     }
+}
+
+/// The outcome of a close that is waited for where a transfer is left without a call of its own: with it the script has
+/// one item more.
+fn closes(
+    alloc: Global,
+    events: &[Event],
+    play: &Play,
+    known: &[DealOutcome],
+) -> Result<Option<DealOutcome>, RowError> {
+    let mut more = Vec::new(alloc);
+    for outcome in known {
+        more.push(outcome.clone()?)?;
+    }
+    more.push(DealOutcome::Closed)?;
+    let with = script_of(alloc, events, play, &more)?;
+    let without = script_of(alloc, events, play, known)?;
+    if with.items.as_slice().len() > without.items.as_slice().len() {
+        return Ok(Some(DealOutcome::Closed));
+    }
+    Ok(None)
 }
 
 /// The script of these events, whose runs begin with these outcomes.

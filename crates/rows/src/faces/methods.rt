@@ -1,14 +1,28 @@
 //! The calls of a session, one after another.
 
 use super::session::{NamedSession, conn_of, encoded, stands, unread};
+use super::transfers::{Held, Transfers};
 use crate::answers::{features, reply, size, text, time, unit};
 use crate::play::Play;
 use crate::transcript::Standing;
 use ftp_base::status::Status;
 use ftp_base::types::FtpResult;
-use ftp_session::session::{Answer, Call, Session};
+use ftp_control::mark::Left;
+use ftp_control::transport::MemoryConn;
+use ftp_session::session::{Answer, Call, Session, Setting};
+use ftp_transfer::Transfer;
 use row_text::RowError;
 use std::alloc::{AllocError, Global};
+
+impl Held for Transfer<MemoryConn> {
+    fn sent(&self) -> &[u8] {
+        self.get_ref().sent()
+    }
+
+    fn left(self) -> Left {
+        self.leave()
+    }
+}
 
 /// A session that has read a greeting, where that is the first of a row's calls.
 #[derive(Drop)]
@@ -31,11 +45,14 @@ pub fn greeted<'a>(alloc: Global, calls: &'a [Call], play: &Play) -> Result<Open
         });
     };
     match connected(alloc, play)? {
-        Ok(session) => Ok(Opening {
-            session,
-            answers: first(alloc, Answer::Unit)?,
-            others,
-        }),
+        Ok(mut session) => {
+            play.setup.set(&mut session)?;
+            Ok(Opening {
+                session,
+                answers: first(alloc, Answer::Unit)?,
+                others,
+            })
+        }
         // The session is gone with its connection: another that reads the same bytes stands for it.
         Err(fault) => {
             let mut session = unread(alloc, play)?;
@@ -75,10 +92,15 @@ pub fn called(alloc: Global, calls: &[Call], play: &Play) -> Result<Standing, Ro
         others,
     } = greeted(alloc, calls, play)?;
     let mut session = encoded(alloc, session, play)?;
+    let mut transfers = Transfers::new(alloc);
     for call in others {
-        answers.push(make(alloc, &mut session, call)?)?;
+        let answer = make(alloc, &mut session, &mut transfers, call)?;
+        transfers.made(call, &answer);
+        answers.push(answer)?;
     }
-    stands(alloc, &session, &answers)
+    let mut end = stands(alloc, &session, &answers)?;
+    end.uploaded = transfers.uploaded;
+    Ok(end)
 }
 
 /// A first answer.
@@ -89,7 +111,12 @@ fn first(alloc: Global, answer: Answer) -> Result<Vec<Answer>, AllocError> {
 }
 
 /// Makes a call by its method.
-fn make(alloc: Global, session: &mut NamedSession, call: &Call) -> Result<Answer, RowError> {
+fn make(
+    alloc: Global,
+    session: &mut NamedSession,
+    transfers: &mut Transfers<Transfer<MemoryConn>>,
+    call: &Call,
+) -> Result<Answer, RowError> {
     Ok(match call {
         Call::Greet => reply(session.read_response(alloc, Status::Ready)),
         Call::Login(user, password) => {
@@ -116,7 +143,7 @@ fn make(alloc: Global, session: &mut NamedSession, call: &Call) -> Result<Answer
         Call::Mdtm(path) => time(session.mdtm(alloc, path.as_str())),
         Call::Size(path) => size(session.size(alloc, path.as_str())),
         Call::Feat => features(session.feat(alloc)),
-        Call::ResumeTransfer(offset) => unit(session.resume_transfer(*offset)),
+        Call::ResumeTransfer(offset) => unit(session.resume_transfer(alloc, *offset)),
         Call::CustomCommand(line, codes) => {
             reply(session.custom_command(alloc, line.as_str(), codes.as_slice()))
         }
@@ -125,14 +152,82 @@ fn make(alloc: Global, session: &mut NamedSession, call: &Call) -> Result<Answer
         Call::RetrAsStream(_)
         | Call::PutWithStream(_)
         | Call::AppendWithStream(_)
-        | Call::CustomDataCommand(..)
-        | Call::Set(_)
-        | Call::Read(_)
-        | Call::Write(_)
-        | Call::Finish
-        | Call::Leave
-        | Call::Drain => {
-            return Err(RowError::NotUnderstood);
-        }
+        | Call::CustomDataCommand(..) => open(alloc, session, transfers, call)?,
+        Call::Set(setting) => set(session, setting)?,
+        Call::Read(most) => transfers.receive(alloc, *most)?,
+        Call::Write(bytes) => transfers.send(bytes.as_slice()),
+        Call::Leave => transfers.leave(alloc)?,
+        Call::Finish | Call::Abort | Call::Drain => end(alloc, session, transfers, call)?,
     })
+}
+
+/// Opens a transfer.
+fn open(
+    alloc: Global,
+    session: &mut NamedSession,
+    transfers: &mut Transfers<Transfer<MemoryConn>>,
+    call: &Call,
+) -> Result<Answer, RowError> {
+    Ok(match call {
+        Call::RetrAsStream(path) => {
+            transfers.opened(session.retr_as_stream(alloc, &(), path.as_str()))
+        }
+        Call::PutWithStream(path) => {
+            transfers.opened(session.put_with_stream(alloc, &(), path.as_str()))
+        }
+        Call::AppendWithStream(path) => {
+            transfers.opened(session.append_with_stream(alloc, &(), path.as_str()))
+        }
+        Call::CustomDataCommand(line, codes) => transfers.opened_with(session.custom_data_command(
+            alloc,
+            &(),
+            line.as_str(),
+            codes.as_slice(),
+        )),
+        _ => return Err(RowError::NotUnderstood),
+    })
+}
+
+/// Brings a transfer to its end.
+fn end(
+    alloc: Global,
+    session: &mut NamedSession,
+    transfers: &mut Transfers<Transfer<MemoryConn>>,
+    call: &Call,
+) -> Result<Answer, RowError> {
+    if matches!(call, Call::Drain) {
+        return Ok(drain(alloc, session, transfers));
+    }
+    let Some(transfer) = transfers.take(alloc)? else {
+        return Ok(Answer::NoTransfer);
+    };
+    Ok(unit(match call {
+        Call::Abort => session.abort(alloc, transfer),
+        _ => session.finish(alloc, transfer),
+    }))
+}
+
+/// Reads the last reply of the transfer that was left.
+fn drain(
+    alloc: Global,
+    session: &mut NamedSession,
+    transfers: &mut Transfers<Transfer<MemoryConn>>,
+) -> Answer {
+    let Some(mut receipt) = transfers.receipt() else {
+        return Answer::NoTransfer;
+    };
+    let answer = unit(session.settle(alloc, &mut receipt));
+    transfers.keep(receipt, &answer);
+    answer
+}
+
+/// A setting changes.
+fn set(session: &mut NamedSession, setting: &Setting) -> Result<Answer, AllocError> {
+    match setting {
+        Setting::Mode(mode) => session.set_mode(*mode),
+        Setting::PassiveNatWorkaround(enabled) => session.set_passive_nat_workaround(*enabled),
+        Setting::ActivePeerCheck(check) => session.set_active_peer_check(check.clone()?),
+        Setting::ActiveDeadline(deadline) => session.set_active_deadline(*deadline),
+    }
+    Ok(Answer::Unit)
 }

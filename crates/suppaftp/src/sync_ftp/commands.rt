@@ -171,4 +171,12 @@ where
             .lock(rt)
             .custom_command(rt.alloc(), line, expected)
     }
+
+    /// The next transfer begins at this offset, in bytes (`REST`; RFC 3659, section 5). 0 takes an earlier offset away.
+    ///
+    /// # Errors
+    /// `SessionFailed`; or those of the last reply of a transfer that was left. The offset of before stays.
+    pub fn resume_transfer<R: Wait + AllocGlobal>(&self, rt: &R, offset: u64) -> FtpResult<()> {
+        self.session.lock(rt).resume_transfer(rt.alloc(), offset)
+    }
 }

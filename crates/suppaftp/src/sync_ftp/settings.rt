@@ -2,7 +2,7 @@
 
 use super::ImplFtpStream;
 use ftp_base::encoding::Encoding;
-use ftp_base::types::{ActivePeerCheck, FtpResult, Mode};
+use ftp_base::types::{ActivePeerCheck, Mode};
 use ftp_control::transport::Network;
 use std::sync::Wait;
 use std::time::Duration;
@@ -47,13 +47,5 @@ impl<Tr: Network, K: Drop, E: Encoding, B: Drop> ImplFtpStream<Tr, K, E, B> {
     pub fn passive_stream_builder<R: Wait>(self, rt: &R, builder: B) -> Self {
         self.set_passive_stream_builder(rt, builder);
         self
-    }
-
-    /// The next transfer begins at this offset, in bytes (`REST`; RFC 3659, section 5). 0 takes an earlier offset away.
-    ///
-    /// # Errors
-    /// `SessionFailed`, and nothing changes.
-    pub fn resume_transfer<R: Wait>(&self, rt: &R, offset: u64) -> FtpResult<()> {
-        self.session.lock(rt).resume_transfer(offset)
     }
 }

@@ -20,6 +20,7 @@ loop-call-preserved c =
     record {
       encoding = ap (λ e. e.0) c.in_ok-push_made-2.ensures.encoding ∙ c.loop-call.invariant.encoding;
       builder = c.in_ok-push_made-2.ensures.builder ∙ c.loop-call.invariant.builder;
+      mark = c.in_ok-push_made-2.ensures.mark;
       made = (
         begun,
         begins,

@@ -1,5 +1,5 @@
-use Rattle.ftp_session.specs.declared.session.state.State.{State}
-use Rattle.ftp_session.specs.Dialogue.{Tree, Ask, Build, connecting_to, on_built, on_connection}
+use Rattle.ftp_dialogue.specs.declared.state.State.{State}
+use Rattle.ftp_dialogue.specs.Dialogue.{Tree, Ask, Build, connecting_to, on_built, on_connection}
 use Rattle.ftp_control.specs.declared.transport.request.Request.TheVariants.{Connect}
 use Rattle.std.proofs.Common.{None}
 use Rattle.session_plain.proofs.Parts.{comes, built_here, dialled_here}

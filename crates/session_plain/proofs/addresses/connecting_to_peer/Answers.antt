@@ -1,4 +1,4 @@
-use Rattle.ftp_session.specs.Play.{play}
+use Rattle.ftp_dialogue.specs.Play.{play}
 use Rattle.session_plain.proofs.addresses.connecting_to_peer.Goals as goal
 
 -- the peer's address with the port is the one that is asked for

@@ -2,9 +2,9 @@ use Rattle.std.proofs.Common.{◌≡◌, ◌==◌, ℕ, zero, suc, false, length
 use Rattle.std.proofs.Math.Dec.{eqb-suc-zero}
 use Rattle.ftp_calls.specs.declared.call.Answer.TheVariants.{Bytes, Count}
 use Rattle.ftp_calls.specs.declared.exchange.Movement.TheVariants as movement
-use Rattle.ftp_session.specs.declared.model.DealOutcome.{DealOutcome}
-use Rattle.ftp_session.specs.declared.session.state.State.{State}
-use Rattle.ftp_session.specs.Dialogue.{Tree, Leaf, Move, carrying, moved_answer}
+use Rattle.ftp_dialogue.specs.declared.model.DealOutcome.{DealOutcome}
+use Rattle.ftp_dialogue.specs.declared.state.State.{State}
+use Rattle.ftp_dialogue.specs.Dialogue.{Tree, Leaf, Move, carrying, moved_answer}
 use Rattle.session_plain.proofs.Parts.{comes}
 use Rattle.session_plain.proofs.carrying.carrying.Goals as goal
 

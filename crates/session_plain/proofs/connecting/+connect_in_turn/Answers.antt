@@ -1,6 +1,6 @@
 use Rattle.std.proofs.Common.{◌≡◌, IfOk, refl, subst}
-use Rattle.ftp_session.specs.Coding.{coding_of}
-use Rattle.ftp_session.specs.declared.model.Played.{Played}
+use Rattle.ftp_dialogue.specs.Coding.{coding_of}
+use Rattle.ftp_dialogue.specs.declared.model.Played.{Played}
 use Rattle.session_plain.proofs.Requests.{greets}
 use Rattle.session_plain.proofs.connecting.+connect_in_turn.Goals as goal
 

@@ -1,11 +1,11 @@
 use Rattle.std.proofs.Common.{◌≡◌, Result, Ok, Err, IfOk}
 use Rattle.std.specs.declared.alloc.AllocError.{AllocError}
 use Rattle.ftp_control.specs.declared.transport.room.Room.{Room}
-use Rattle.ftp_session.specs.declared.session.state.State.{State}
-use Rattle.ftp_session.specs.declared.model.Played.{Played}
-use Rattle.ftp_session.specs.Coding.{coding_of}
-use Rattle.ftp_session.specs.Dialogue.{Tree, awaiting, expected_of, exchanging}
-use Rattle.ftp_session.specs.Play.{play}
+use Rattle.ftp_dialogue.specs.declared.state.State.{State}
+use Rattle.ftp_dialogue.specs.declared.model.Played.{Played}
+use Rattle.ftp_dialogue.specs.Coding.{coding_of}
+use Rattle.ftp_dialogue.specs.Dialogue.{Tree, awaiting, expected_of, exchanging}
+use Rattle.ftp_dialogue.specs.Play.{play}
 use Rattle.session_plain.specs.declared.exchange.Progress.{Progress}
 use Rattle.session_plain.specs.Progress.{ComesTo}
 use Rattle.session_plain.proofs.exchange.exchange.Goals as goal

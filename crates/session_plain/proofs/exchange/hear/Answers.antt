@@ -1,7 +1,7 @@
 use Rattle.std.proofs.Common.{◌≡◌, sym, refl}
 use Rattle.ftp_control.specs.Grammar.{outcome}
-use Rattle.ftp_session.specs.Dialogue.{Expected, expected_of}
-use Rattle.ftp_session.specs.Play.{play}
+use Rattle.ftp_dialogue.specs.Dialogue.{Expected, expected_of}
+use Rattle.ftp_dialogue.specs.Play.{play}
 use Rattle.session_plain.proofs.exchange.hear.Goals as goal
 
 -- what is heard is what the bytes say of the reply that is awaited

@@ -2,10 +2,10 @@ use Rattle.std.proofs.Common.{◌≡◌, IfOk, sym, ◌∙◌, subst}
 use Rattle.ftp_calls.specs.declared.exchange.Row.{Row}
 use Rattle.ftp_calls.specs.declared.exchange.Row.TheVariants.{Exchanges}
 use Rattle.ftp_calls.specs.Exchanges.{row_of}
-use Rattle.ftp_session.specs.declared.session.state.State.{State}
-use Rattle.ftp_session.specs.Coding.{coding_of}
-use Rattle.ftp_session.specs.Dialogue.{Tree, doing}
-use Rattle.ftp_session.specs.Play.{play}
+use Rattle.ftp_dialogue.specs.declared.state.State.{State}
+use Rattle.ftp_dialogue.specs.Coding.{coding_of}
+use Rattle.ftp_dialogue.specs.Dialogue.{Tree, doing}
+use Rattle.ftp_dialogue.specs.Play.{play}
 use Rattle.session_plain.specs.Progress.{ComesTo}
 use Rattle.session_plain.proofs.exchange.row.Goals as goal
 

@@ -1,10 +1,10 @@
 use Rattle.std.proofs.Common.{ap, sym, ◌∙◌}
 use Rattle.ftp_calls.specs.declared.exchange.Turn.TheVariants.{Closed}
-use Rattle.ftp_session.specs.declared.model.DealOutcome.{DealOutcome}
-use Rattle.ftp_session.specs.declared.model.Standing.{Standing}
-use Rattle.ftp_session.specs.Coding.{coding_of}
-use Rattle.ftp_session.specs.Dialogue.{from_turn, told_of_close}
-use Rattle.ftp_session.specs.Play.{play}
+use Rattle.ftp_dialogue.specs.declared.model.DealOutcome.{DealOutcome}
+use Rattle.ftp_dialogue.specs.declared.model.Standing.{Standing}
+use Rattle.ftp_dialogue.specs.Coding.{coding_of}
+use Rattle.ftp_dialogue.specs.Dialogue.{from_turn, told_of_close}
+use Rattle.ftp_dialogue.specs.Play.{play}
 use Rattle.session_plain.proofs.Parts.{ends}
 use Rattle.session_plain.proofs.finishing.closing.Goals as goal
 

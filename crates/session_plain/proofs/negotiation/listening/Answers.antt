@@ -3,9 +3,9 @@ use Rattle.std.specs.Net.Socket.{socket_port}
 use Rattle.std.specs.declared.net.socket_addr.SocketAddr.{SocketAddr}
 use Rattle.ftp_control.specs.declared.transport.request.Request.TheVariants.{Listen}
 use Rattle.ftp_calls.specs.declared.exchange.Turn.TheVariants.{Active}
-use Rattle.ftp_session.specs.Coding.{coding_of}
-use Rattle.ftp_session.specs.Dialogue.{at_port, from_turn, on_address}
-use Rattle.ftp_session.specs.Play.{play}
+use Rattle.ftp_dialogue.specs.Coding.{coding_of}
+use Rattle.ftp_dialogue.specs.Dialogue.{at_port, from_turn, on_address}
+use Rattle.ftp_dialogue.specs.Play.{play}
 use Rattle.session_plain.proofs.Parts.{ends, known}
 use Rattle.session_plain.proofs.negotiation.listening.Goals as goal
 

@@ -1,7 +1,7 @@
 use Rattle.std.proofs.Common.{ap, sym, ◌∙◌}
-use Rattle.ftp_session.specs.Coding.{coding_of}
-use Rattle.ftp_session.specs.Dialogue.{negotiating_unless}
-use Rattle.ftp_session.specs.Play.{play}
+use Rattle.ftp_dialogue.specs.Coding.{coding_of}
+use Rattle.ftp_dialogue.specs.Dialogue.{negotiating_unless}
+use Rattle.ftp_dialogue.specs.Play.{play}
 use Rattle.session_plain.proofs.Parts.{ends}
 use Rattle.session_plain.proofs.negotiation.negotiating.Goals as goal
 

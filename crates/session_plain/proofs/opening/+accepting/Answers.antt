@@ -1,10 +1,10 @@
 use Rattle.std.proofs.Common.{◌≡◌, Result, Ok, Err, IfOk, true, false, ap, sym, ◌∙◌}
 use Rattle.std.specs.declared.alloc.AllocError.{AllocError}
 use Rattle.ftp_control.specs.declared.transport.room.Room.{Room}
-use Rattle.ftp_session.specs.declared.model.Played.{Played}
-use Rattle.ftp_session.specs.declared.model.Played.TheVariants.{Done}
-use Rattle.ftp_session.specs.Dialogue.{admitting, lets_in}
-use Rattle.ftp_session.specs.Play.{play}
+use Rattle.ftp_dialogue.specs.declared.model.Played.{Played}
+use Rattle.ftp_dialogue.specs.declared.model.Played.TheVariants.{Done}
+use Rattle.ftp_dialogue.specs.Dialogue.{admitting, lets_in}
+use Rattle.ftp_dialogue.specs.Play.{play}
 use Rattle.session_plain.proofs.Openings.{others, came_to, waits, goes_on}
 use Rattle.session_plain.proofs.opening.+accepting.Goals as goal
 

@@ -1,6 +1,6 @@
 use Rattle.std.proofs.Common.{sym}
-use Rattle.ftp_session.specs.Coding.{coding_of}
-use Rattle.ftp_session.specs.Dialogue.{later}
+use Rattle.ftp_dialogue.specs.Coding.{coding_of}
+use Rattle.ftp_dialogue.specs.Dialogue.{later}
 use Rattle.session_plain.proofs.Parts.{ends}
 use Rattle.session_plain.proofs.turns.from_turn.Goals as goal
 

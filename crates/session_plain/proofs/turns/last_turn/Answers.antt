@@ -1,7 +1,7 @@
 use Rattle.std.proofs.Common.{sym}
 use Rattle.ftp_calls.specs.declared.call.Answer.TheVariants.{Unit}
-use Rattle.ftp_session.specs.Dialogue.{Leaf}
-use Rattle.ftp_session.specs.Play.{play}
+use Rattle.ftp_dialogue.specs.Dialogue.{Leaf}
+use Rattle.ftp_dialogue.specs.Play.{play}
 use Rattle.session_plain.proofs.turns.last_turn.Goals as goal
 
 -- the dialogue stops in its last exchange

@@ -1,8 +1,8 @@
 use Rattle.std.proofs.Common.{◌≡◌, ◌&&◌, true, nat_lt, ap, sym, ◌∙◌}
 use Rattle.ftp_calls.specs.Exchanges.{restarts}
-use Rattle.ftp_session.specs.Coding.{coding_of}
-use Rattle.ftp_session.specs.Dialogue.{last_turn}
-use Rattle.ftp_session.specs.Play.{play}
+use Rattle.ftp_dialogue.specs.Coding.{coding_of}
+use Rattle.ftp_dialogue.specs.Dialogue.{last_turn}
+use Rattle.ftp_dialogue.specs.Play.{play}
 use Rattle.session_plain.proofs.Parts.{ends, tells_offset}
 use Rattle.session_plain.proofs.turns.restart_turn.Goals as goal
 

@@ -1,8 +1,8 @@
-use Rattle.ftp_session.proofs.Transitions.{copied_plays, withheld_plays}
+use Rattle.ftp_session.proofs.Handed.{copied_plays}
 use Rattle.ftp_session.proofs.session.client.Session.perform_for_reply.Goals as goal
 
 pub returns-in-Ok-clause-plays : goal.returns-in-Ok-clause-plays
-returns-in-Ok-clause-plays g c = λ made plain is. rw c.reply.ensures (copied_plays _ _ c.args.call c.in-Ok.call made _ _ _ c.in-Ok.is is c.call.ensures.plays)
+returns-in-Ok-clause-plays g c = λ made plain is. rw c.reply.ensures (copied_plays _ _ c.args.call c.in-Ok.call made _ _ _ _ _ c.in-Ok.is is c.call.ensures.plays)
 
 pub returns-in-Err-clause-plays : goal.returns-in-Err-clause-plays
-returns-in-Err-clause-plays g c = λ made plain is. rw c.withheld.ensures (withheld_plays _ _ made _ plain)
+returns-in-Err-clause-plays g c = λ made plain is. c.withheld_call.ensures.plays made plain

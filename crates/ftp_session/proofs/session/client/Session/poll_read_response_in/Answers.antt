@@ -1,10 +1,8 @@
-use Rattle.ftp_calls.specs.declared.call.Answer.TheVariants.{Unit}
-use Rattle.ftp_session.specs.Dialogue.{Leaf}
-use Rattle.ftp_session.proofs.Transitions.{hears_fail, hears_reads}
+use Rattle.ftp_session.proofs.Handed.{seen_failing, seen_reads}
 use Rattle.ftp_session.proofs.session.client.Session.poll_read_response_in.Goals as goal
 
 pub returns-clause-reads : goal.returns-clause-reads
-returns-clause-reads g c = λ going next. hears_reads _ _ _ _ _ _ (c.hear.ensures.hears next)
+returns-clause-reads g c = seen_reads _ _ _ _ _ _ _ _ _ c.look.ensures.looks c.look.ensures.seen c.poll_read.ensures.reads
 
 pub returns-clause-fails : goal.returns-clause-fails
-returns-clause-fails g c = hears_fail _ _ _ _ _ _ (c.hear.ensures.hears (λ heard. Leaf Unit c.args.self.now.machine.state))
+returns-clause-fails g c = seen_failing c.look.new.mark c.args.self.now.machine c.look.new.machine c.poll_read.new.self c.poll_read.result c.look.ensures.seen c.poll_read.ensures.fails

@@ -1,0 +1,138 @@
+-- Which exchanges lead to a data connection.
+use Rattle.std.proofs.Common.{◌≡◌, ◌<◌, ◌-◌, Bool, true, false, Option, Some, None, inl, inr, ◌⊎◌, refl, ap, sym, ◌∙◌, subst, arith}
+use Rattle.ftp_calls.proofs.Openings.{opens_alike}
+use Rattle.ftp_calls.specs.declared.call.Answer.{Answer}
+use Rattle.ftp_calls.specs.declared.call.Call.{Call}
+use Rattle.ftp_calls.specs.declared.call.Call.TheVariants.{Greet, Login, Cwd, Cdup, Pwd, Noop, Eprt, Opts, Site, TransferType, Mkdir, Rmdir, Rm, Rename, Quit, Mlst, Mdtm, Size, Feat, CustomCommand, ReadResponse, ReadResponseIn, ResumeTransfer, RetrAsStream, PutWithStream, AppendWithStream, CustomDataCommand, Set, Read, Write, Finish, Abort, Leave, Drain}
+use Rattle.ftp_calls.specs.declared.exchange.Ending.{Ending}
+use Rattle.ftp_calls.specs.declared.exchange.Ending.TheVariants.{Finishes, Stops}
+use Rattle.ftp_dialogue.proofs.Sorts.{finishing_moves, aborts_finish}
+use Rattle.ftp_calls.specs.declared.exchange.Row.{Row}
+use Rattle.ftp_calls.specs.declared.exchange.Row.TheVariants.{Exchanges, Arms, Sets, Moves}
+use Rattle.ftp_calls.specs.declared.exchange.Turn.{Turn}
+use Rattle.ftp_calls.specs.declared.exchange.Turn.TheVariants.{First, Second, Passive, ExtendedPassive, Active, Restart, Closed, Aborted}
+use Rattle.ftp_calls.specs.Exchanges.{Kind, ending_of, given_by, kind_of, negotiates, opens, own_row, row_of}
+use Rattle.ftp_dialogue.specs.declared.stage.Asking.{Asking}
+use Rattle.ftp_dialogue.specs.declared.stage.Asking.TheVariants.{PeerPort, Connection, Peer, Accepting}
+use Rattle.ftp_dialogue.specs.Promises.{IsFault}
+use Rattle.ftp_dialogue.specs.Steps.Moving.{AskingAnswers, agrees}
+use Rattle.ftp_dialogue.specs.Steps.Stages.{AnswersKind, AskingOf, Gives, MayAnswer, TurnOf, nodes_asked, nodes_from}
+
+abbrev pub row_agrees : Option Ending → Bool
+row_agrees None = false
+row_agrees (Some ending) = agrees ending
+
+-- of a call's own rows only that which opens a data connection leads to one
+pub own_agrees : (call : Call) (first : Bool) → row_agrees (ending_of (own_row call first)) ≡ opens (own_row call first)
+own_agrees Greet first = refl
+own_agrees (Login u p) true = refl
+own_agrees (Login u p) false = refl
+own_agrees (Cwd p) first = refl
+own_agrees Cdup first = refl
+own_agrees Pwd first = refl
+own_agrees Noop first = refl
+own_agrees (Eprt a) first = refl
+own_agrees (Opts n v) first = refl
+own_agrees (Site w) first = refl
+own_agrees (TransferType k) first = refl
+own_agrees (Mkdir p) first = refl
+own_agrees (Rmdir p) first = refl
+own_agrees (Rm p) first = refl
+own_agrees (Rename a b) true = refl
+own_agrees (Rename a b) false = refl
+own_agrees Quit first = refl
+own_agrees (Mlst p) first = refl
+own_agrees (Mdtm p) first = refl
+own_agrees (Size p) first = refl
+own_agrees Feat first = refl
+own_agrees (CustomCommand l c) first = refl
+own_agrees (ReadResponse s) first = refl
+own_agrees (ReadResponseIn c) first = refl
+own_agrees (ResumeTransfer o) first = refl
+own_agrees (RetrAsStream p) first = refl
+own_agrees (PutWithStream p) first = refl
+own_agrees (AppendWithStream p) first = refl
+own_agrees (CustomDataCommand l c) first = refl
+own_agrees (Set s) first = refl
+own_agrees (Read n) first = refl
+own_agrees (Write b) first = refl
+own_agrees Finish first = refl
+own_agrees Abort first = refl
+own_agrees Leave first = refl
+own_agrees Drain first = refl
+
+unfoldable some_ending : Ending → Option Ending → Ending
+some_ending other None = other
+some_ending other (Some ending) = ending
+
+-- a call whose reply leads to a data connection negotiates
+pub asks_opens : (call : Call) (turn : Turn) (ending : Ending) → ending_of (row_of call turn) ≡ Some ending → agrees ending ≡ true → TurnOf call turn → negotiates call ≡ true
+unfolding some_ending
+asks_opens call First ending row may of = sym (own_agrees call true) ∙ ap row_agrees row ∙ may
+asks_opens call Second ending row may of = sym (opens_alike call) ∙ sym (own_agrees call false) ∙ ap row_agrees row ∙ may
+asks_opens call (Passive offset) ending row may of = of
+asks_opens call (ExtendedPassive offset) ending row may of = of
+asks_opens call (Active address offset) ending row may of = of
+asks_opens call (Restart offset) ending row may of = of
+asks_opens call (Closed close) ending row may of =
+    let same : Finishes close ≡ ending = ap (some_ending ending) row in
+    let A : Ending → Type 0 = λ e. agrees e ≡ true in
+    let clash : false ≡ true = subst A (sym same) may in
+    cc
+asks_opens call Aborted ending row may of =
+    let same : Stops ≡ ending = ap (some_ending ending) row in
+    let A : Ending → Type 0 = λ e. agrees e ≡ true in
+    let clash : false ≡ true = subst A (sym same) may in
+    cc
+
+-- the kind of an answer is its row's
+pub row_answers : (row : Row) (ending : Ending) (answer : Answer) → ending_of row ≡ Some ending → AnswersKind (kind_of ending) answer → AnswersKind (given_by row) answer
+unfolding some_ending
+row_answers (Exchanges exchange) ending answer is answers =
+    let same : exchange.ending ≡ ending = ap (some_ending ending) is in
+    let P : Ending → Type 0 = λ e. AnswersKind (kind_of e) answer in
+    subst P (sym same) answers
+row_answers (Arms offset) ending answer is answers = let clash : None ≡ Some ending = is in cc
+row_answers (Sets setting) ending answer is answers = let clash : None ≡ Some ending = is in cc
+row_answers (Moves movement) ending answer is answers = let clash : None ≡ Some ending = is in cc
+
+pub asking_answers : (call : Call) (turn : Turn) (ending : Ending) (asking : Asking) → TurnOf call turn → ending_of (row_of call turn) ≡ Some ending → AskingAnswers (kind_of ending) asking → AskingOf call asking
+asking_answers call turn ending (PeerPort port) of row answers = tt
+asking_answers call turn ending (Connection address) of row answers = tt
+asking_answers call turn ending (Peer answer) of row answers = (turn, inl of, row_answers (row_of call turn) ending answer row answers)
+asking_answers call turn ending (Accepting peer left answer) of row answers = absurd answers
+
+many_nodes : (turn : Turn) → 100 < nodes_from turn
+many_nodes First = omega arith
+many_nodes Second = omega arith
+many_nodes (Passive offset) = omega arith
+many_nodes (ExtendedPassive offset) = omega arith
+many_nodes (Active address offset) = omega arith
+many_nodes (Restart offset) = omega arith
+many_nodes (Closed close) = omega arith
+many_nodes Aborted = omega arith
+
+pub asking_fewer : (turn : Turn) (kind : Kind) (asking : Asking) → AskingAnswers kind asking → nodes_asked asking turn < nodes_from turn - 2
+asking_fewer turn kind (PeerPort port) answers = omega (arith, many_nodes turn)
+asking_fewer turn kind (Connection address) answers = omega (arith, many_nodes turn)
+asking_fewer turn kind (Peer answer) answers = omega (arith, many_nodes turn)
+asking_fewer turn kind (Accepting peer left answer) answers = absurd answers
+
+-- a call that opens no data connection has no exchange that leads to one
+pub first_plain : (call : Call) → negotiates call ≡ false → row_agrees (ending_of (row_of call First)) ≡ false
+first_plain call plain = own_agrees call true ∙ plain
+
+pub second_plain : (call : Call) → negotiates call ≡ false → row_agrees (ending_of (row_of call Second)) ≡ false
+second_plain call plain = own_agrees call false ∙ opens_alike call ∙ plain
+
+-- a call that gives one kind answers with it, or with a fault
+pub gives_kind : (call : Call) (kind : Kind) (answer : Answer) → MayAnswer call answer → Gives kind call → AnswersKind kind answer ⊎ IsFault answer
+gives_kind call kind answer (First, inl of, answers) gives = inl (let P : Kind → Type 0 = λ k. AnswersKind k answer in subst P gives.0 answers)
+gives_kind call kind answer (Second, inl of, answers) gives = inl (let P : Kind → Type 0 = λ k. AnswersKind k answer in subst P gives.1 answers)
+gives_kind call kind answer (Passive offset, inl of, answers) gives = let clash : true ≡ false = sym of ∙ gives.2.0 in cc
+gives_kind call kind answer (ExtendedPassive offset, inl of, answers) gives = let clash : true ≡ false = sym of ∙ gives.2.0 in cc
+gives_kind call kind answer (Active address offset, inl of, answers) gives = let clash : true ≡ false = sym of ∙ gives.2.0 in cc
+gives_kind call kind answer (Restart offset, inl of, answers) gives = let clash : true ≡ false = sym of ∙ gives.2.0 in cc
+gives_kind call kind answer (Closed close, inl of, answers) gives = let clash : true ≡ false = sym (finishing_moves call of) ∙ gives.2.2 in cc
+gives_kind call kind answer (Aborted, inl of, answers) gives = let clash : true ≡ false = sym (finishing_moves call (aborts_finish call of)) ∙ gives.2.2 in cc
+gives_kind call kind answer (turn, inr fault, answers) gives = inr fault

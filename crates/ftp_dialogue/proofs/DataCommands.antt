@@ -1,0 +1,411 @@
+-- What holds of the trees of calls that open a data connection, and of all that they come to.
+use Rattle.std.proofs.Common.{◌≡◌, ℕ, zero, suc, Bool, true, false, ◌&&◌, nat_lt, cond, is_none, List, [], ◌∷◌, ◌++◌, Option, Some, None, Result, Ok, Err, inl, inr, refl, ap, sym, ◌∙◌, subst, append-nil, append_assoc}
+use Rattle.std.specs.List.{AllByRecursion}
+use Rattle.std.proofs.lemmas.List.Elements.{All-from_recursion}
+use Rattle.std.specs.Net.Socket.{socket_ip, socket_port}
+use Rattle.std.specs.declared.net.socket_addr.SocketAddr.{SocketAddr}
+use Rattle.std.specs.declared.net.socket_addr.SocketAddr.TheVariants.{V4, V6}
+use Rattle.std.specs.declared.time.Duration.{Duration}
+use Rattle.ftp_base.specs.Status.{status_of}
+use Rattle.ftp_base.specs.declared.command.Command.{Command}
+use Rattle.ftp_base.specs.declared.types.fault.FtpError.{FtpError}
+use Rattle.ftp_base.specs.declared.types.fault.FtpError.TheVariants.{BadResponse, ConnectionError, DataConnectionAlreadyOpen, SessionFailed}
+use Rattle.ftp_base.specs.declared.types.fault.ConnectionError.TheVariants.{ReplyTooLarge, TimedOut, UnexpectedEof}
+use Rattle.ftp_base.specs.declared.types.mode.Mode.{Mode}
+use Rattle.ftp_base.specs.declared.types.mode.Mode.TheVariants as mode
+use Rattle.ftp_base.specs.declared.types.reply.Response.{Response}
+use Rattle.ftp_answers.specs.Addresses.{passive_address_of, extended_port_of}
+use Rattle.ftp_answers.specs.declared.addresses.NoAddress.{NoAddress}
+use Rattle.ftp_calls.proofs.Openings.{opens_alike}
+use Rattle.ftp_calls.specs.Exchanges.{finishes, is_local, is_opening, negotiates, opens, restarts, row_of}
+use Rattle.ftp_calls.specs.declared.call.Answer.{Answer}
+use Rattle.ftp_calls.specs.declared.call.Answer.TheVariants.{Fault}
+use Rattle.ftp_calls.specs.declared.call.Answer.TheVariants as answer
+use Rattle.ftp_calls.specs.declared.call.Call.{Call}
+use Rattle.ftp_calls.specs.declared.exchange.Ending.{Ending}
+use Rattle.ftp_calls.specs.declared.exchange.Ending.TheVariants.{Continues, GivesAddress, GivesPort, Opens}
+use Rattle.ftp_calls.specs.declared.exchange.Row.{Row}
+use Rattle.ftp_calls.specs.declared.exchange.Row.TheVariants.{Exchanges, Arms, Sets, Moves}
+use Rattle.ftp_calls.specs.declared.exchange.Movement.{Movement}
+use Rattle.ftp_calls.specs.declared.exchange.Movement.TheVariants as movement
+use Rattle.ftp_calls.specs.declared.exchange.Turn.{Turn}
+use Rattle.ftp_calls.specs.declared.exchange.Turn.TheVariants.{First, Second, Passive, ExtendedPassive, Active, Restart}
+use Rattle.ftp_control.specs.Answer.{expected_reply}
+use Rattle.ftp_control.specs.Grammar.{left_by, outcome}
+use Rattle.ftp_control.specs.declared.control.outcome.Outcome.TheVariants.{Whole, Bad, TooLarge, Ended, Waits}
+use Rattle.ftp_control.specs.declared.transport.request.Request.{Request}
+use Rattle.ftp_control.specs.declared.transport.request.Request.TheVariants.{Connect, Listen, Accept, Build as BuildAt}
+use Rattle.ftp_control.specs.declared.transport.request.RequestOutcome.{RequestOutcome}
+use Rattle.ftp_control.specs.declared.transport.request.RequestOutcome.TheVariants.{Done as Made, Address, Refused}
+use Rattle.ftp_control.specs.declared.transport.room.Room.{Room}
+use Rattle.ftp_dialogue.proofs.Sorts.{finishing_opens, opens_drains_none, opens_no_local, unheld_call}
+use Rattle.ftp_dialogue.specs.Coding.{Coding}
+use Rattle.ftp_dialogue.specs.Deals.{answers, constructed, constructing, dealing, dealt, moved, settled}
+use Rattle.ftp_dialogue.specs.Dialogue.{Here, There, Tree, Say, Hear, Look, Ask, Build, Move, Leaf, accepting, admitting, agreeing, at_port, awaiting, concluded, connecting_to, connecting_to_peer, dialogue, doing, entered, expected_of, from_turn, last_turn, later, lets_in, negotiating, negotiating_unless, on_address, on_built, on_connection, opened_answer, opened_from, opening, restart_turn, saying, strangers, to_address, to_port, with_left, parting}
+use Rattle.ftp_dialogue.specs.Laws.{AsksPeerAlone, LeadsTo, UsesPeerHost, offset_after, reached}
+use Rattle.ftp_dialogue.specs.Play.{Lacking, asked_then, built_then, finally, fits, heard_then, lacks, leaving, moved_then, play, play_call, play_unless, refusal, refused_if_failed, taken}
+use Rattle.ftp_dialogue.specs.Sound.{cannot_beside, cannot_open}
+use Rattle.ftp_dialogue.specs.declared.model.Dealings.{Dealings}
+use Rattle.ftp_dialogue.specs.declared.model.DealOutcome.{DealOutcome}
+use Rattle.ftp_dialogue.specs.declared.model.DealOutcome.TheVariants as came
+use Rattle.ftp_dialogue.specs.declared.model.Played.{Played}
+use Rattle.ftp_dialogue.specs.declared.model.Played.TheVariants.{Done, Pending}
+use Rattle.ftp_dialogue.specs.declared.model.Standing.{Standing}
+use Rattle.ftp_dialogue.specs.declared.model.Wait.TheVariants as wait
+use Rattle.ftp_dialogue.specs.declared.state.Owed.{Owed}
+use Rattle.ftp_dialogue.specs.declared.state.Owed.TheVariants.{Nothing as NoneOwed, Live, Left}
+use Rattle.ftp_dialogue.specs.declared.state.State.{State}
+
+-- no offset is left
+abbrev pub NoOffset : State → Type 0
+NoOffset state = state.settings.restart_offset ≡ 0
+
+-- whatever comes, a tree asks for requests of this sort alone, and ends with no offset; the peer is known
+abbrev pub Keeps : SocketAddr → (Request → Type 0) → Tree → Type 0
+Keeps peer Sort (Say line next) = Keeps peer Sort next
+Keeps peer Sort (Hear expected next) = (heard : Result Response FtpError) → Keeps peer Sort (next heard)
+Keeps peer Sort (Look Here next) = (address : SocketAddr) → Keeps peer Sort (next address)
+Keeps peer Sort (Look There next) = Keeps peer Sort (next peer)
+Keeps peer Sort (Ask request next) = Sort request × ((outcome : RequestOutcome) → Keeps peer Sort (next outcome))
+Keeps peer Sort (Build address next) = Sort (BuildAt address) × ((fault : Option FtpError) → Keeps peer Sort (next fault))
+Keeps peer Sort (Move moves next) = (outcome : DealOutcome) → Keeps peer Sort (next outcome)
+Keeps peer Sort (Leaf answer state) = NoOffset state
+
+-- the requests of the modes are of this sort; a connection to another host is asked for in the passive mode alone
+pub record Admits (peer : SocketAddr) (Sort : Request → Type 0) (state : State) : Type 0 where
+  pub listens : (address : SocketAddr) → Sort (Listen address)
+  pub accepts : (deadline : Duration) → Sort (Accept deadline)
+  pub to_peer : (port : ℕ) → Sort (Connect (at_port port peer) None)
+  pub to_others : state.settings.mode ≡ mode.Passive → state.settings.passive_nat_workaround ≡ false → (address : SocketAddr) → Sort (Connect address None)
+  pub builds_to_peer : (port : ℕ) → Sort (BuildAt (at_port port peer))
+  pub builds_to_others : state.settings.mode ≡ mode.Passive → state.settings.passive_nat_workaround ≡ false → (address : SocketAddr) → Sort (BuildAt address)
+
+-- The trees
+
+module _ (peer : SocketAddr) (Sort : Request → Type 0) (state : State) (admits : Admits peer Sort state) (none : NoOffset state) where
+  address_keeps : (next : SocketAddr → Tree) → ((address : SocketAddr) → Keeps peer Sort (next address)) → (outcome : RequestOutcome) → Keeps peer Sort (on_address state next outcome)
+  address_keeps next keeps Made = none
+  address_keeps next keeps (Address address) = keeps address
+  address_keeps next keeps (Refused fault) = none
+
+  connection_keeps : (next : Tree) → Keeps peer Sort next → (outcome : RequestOutcome) → Keeps peer Sort (on_connection state next outcome)
+  connection_keeps next keeps Made = keeps
+  connection_keeps next keeps (Address address) = keeps
+  connection_keeps next keeps (Refused fault) = none
+
+  built_keeps : (next : Tree) → Keeps peer Sort next → (fault : Option FtpError) → Keeps peer Sort (on_built state next fault)
+  built_keeps next keeps None = keeps
+  built_keeps next keeps (Some fault) = none
+
+  -- a connection, whoever makes it
+  connecting_keeps : (address : SocketAddr) (next : Tree) → Sort (Connect address None) → Sort (BuildAt address) → Keeps peer Sort next → Keeps peer Sort (connecting_to address state next)
+  connecting_keeps address next connects builds keeps = go state.settings.stream_builder
+    where
+      go : (b : Bool) → Keeps peer Sort (cond b (Build address (on_built state next)) (Ask (Connect address None) (on_connection state next)))
+      go true = (builds, built_keeps next keeps)
+      go false = (connects, connection_keeps next keeps)
+
+  admitting_keeps : (allowed : Bool) (answer : Answer) (others : Tree) → Keeps peer Sort others → Keeps peer Sort (admitting allowed answer state others)
+  admitting_keeps true answer others keeps = none
+  admitting_keeps false answer others keeps = keeps
+
+  accepting_keeps : (answer : Answer) (host : SocketAddr) (left : ℕ) → Keeps peer Sort (accepting answer host left state)
+  unfolding accepting
+  accepting_keeps answer host zero =
+      let late : Tree = Leaf (Fault (ConnectionError TimedOut)) state in
+      (admits.accepts state.settings.active_deadline, address_keeps (λ from. admitting (lets_in state host from) answer state late) (λ from. admitting_keeps (lets_in state host from) answer late none))
+  accepting_keeps answer host (suc left) =
+      let others : Tree = accepting answer host left state in
+      (admits.accepts state.settings.active_deadline, address_keeps (λ from. admitting (lets_in state host from) answer state others) (λ from. admitting_keeps (lets_in state host from) answer others (accepting_keeps answer host left)))
+
+  opening_keeps : (m : Mode) (answer : Answer) → Keeps peer Sort (opening m answer state)
+  opening_keeps mode.Active answer = accepting_keeps answer peer strangers
+  opening_keeps mode.Passive answer = none
+  opening_keeps mode.ExtendedPassive answer = none
+
+  saying_keeps : (coding : Coding) (command : Option Command) (next : Tree) → Keeps peer Sort next → Keeps peer Sort (saying coding command next)
+  saying_keeps coding None next keeps = keeps
+  saying_keeps coding (Some command) next keeps = keeps
+
+  -- the row of the command itself
+  module _ (coding : Coding) (after : State → Tree) where
+    ending_keeps : (ending : Ending) → is_opening ending ≡ true → (heard : Result Response FtpError) → Keeps peer Sort (concluded coding ending state after heard)
+    ending_keeps (Opens gives_reply) is (Ok reply) = opening_keeps state.settings.mode (opened_answer gives_reply reply)
+    ending_keeps (Opens gives_reply) is (Err fault) = none
+    ending_keeps other is heard = let clash : false ≡ true = is in cc
+
+    row_keeps : (row : Row) → opens row ≡ true → Keeps peer Sort (doing coding row state after)
+    row_keeps (Exchanges exchange) is = saying_keeps coding exchange.says (awaiting coding (expected_of exchange.hears) exchange.ending state after) (ending_keeps exchange.ending is)
+    row_keeps (Arms offset) is = let clash : false ≡ true = is in cc
+    row_keeps (Sets setting) is = let clash : false ≡ true = is in cc
+    row_keeps (Moves moves) is = let clash : false ≡ true = is in cc
+
+  module _ (coding : Coding) (call : Call) (negotiates_is : negotiates call ≡ true) (offset : ℕ) where
+    last_keeps : Keeps peer Sort (last_turn coding call state)
+    last_keeps = row_keeps coding (λ s. Leaf answer.Unit s) (row_of call Second) (opens_alike call ∙ negotiates_is)
+
+    -- a reply that only goes on
+    continued_keeps : (after : State → Tree) → Keeps peer Sort (after state) → (heard : Result Response FtpError) → Keeps peer Sort (concluded coding Continues state after heard)
+    continued_keeps after keeps (Ok reply) = keeps
+    continued_keeps after keeps (Err fault) = none
+
+    restart_keeps : Keeps peer Sort (restart_turn coding call offset state)
+    restart_keeps = go (restarts call && nat_lt 0 offset)
+      where
+        go : (b : Bool) → Keeps peer Sort (cond b (doing coding (row_of call (Restart offset)) state (last_turn coding call)) (last_turn coding call state))
+        go true = continued_keeps (last_turn coding call) last_keeps
+        go false = last_keeps
+
+    -- where the server told to connect
+    peer_keeps : (port : ℕ) → Keeps peer Sort (connecting_to_peer port state (restart_turn coding call offset state))
+    peer_keeps port = connecting_keeps (at_port port peer) (restart_turn coding call offset state) (admits.to_peer port) (admits.builds_to_peer port) restart_keeps
+
+    told_keeps : state.settings.mode ≡ mode.Passive → (reply : Response) (told : Result SocketAddr NoAddress) → Keeps peer Sort (to_address state reply (restart_turn coding call offset state) told)
+    told_keeps passive reply (Err cause) = none
+    told_keeps passive reply (Ok address) = go state.settings.passive_nat_workaround refl
+      where
+        next : Tree
+        next = restart_turn coding call offset state
+
+        go : (b : Bool) → state.settings.passive_nat_workaround ≡ b → Keeps peer Sort (cond b (connecting_to_peer (socket_port address) state next) (connecting_to address state next))
+        go true is = peer_keeps (socket_port address)
+        go false is = connecting_keeps address next (admits.to_others passive is address) (admits.builds_to_others passive is address) restart_keeps
+
+    port_keeps : (reply : Response) (told : Result ℕ NoAddress) → Keeps peer Sort (to_port state reply (restart_turn coding call offset state) told)
+    port_keeps reply (Err cause) = none
+    port_keeps reply (Ok port) = peer_keeps port
+
+    passive_keeps : state.settings.mode ≡ mode.Passive → (heard : Result Response FtpError) → Keeps peer Sort (concluded coding GivesAddress state (later coding call (Passive offset)) heard)
+    passive_keeps passive (Ok reply) = told_keeps passive reply (passive_address_of reply.body)
+    passive_keeps passive (Err fault) = none
+
+    extended_keeps : (heard : Result Response FtpError) → Keeps peer Sort (concluded coding GivesPort state (later coding call (ExtendedPassive offset)) heard)
+    extended_keeps (Ok reply) = port_keeps reply (extended_port_of reply.body)
+    extended_keeps (Err fault) = none
+
+    -- the turn that tells the server where the client listens
+    abbrev told_at : SocketAddr → SocketAddr → Turn
+    told_at local bound = Active (at_port (socket_port bound) local) offset
+
+    agreeing_keeps : (m : Mode) → state.settings.mode ≡ m → Keeps peer Sort (agreeing m coding call offset state)
+    agreeing_keeps mode.Active is = λ local.
+        (admits.listens (at_port 0 local), address_keeps (λ bound. from_turn coding call (told_at local bound) state) (λ bound. continued_keeps (later coding call (told_at local bound)) restart_keeps))
+    agreeing_keeps mode.Passive is = passive_keeps is
+    agreeing_keeps mode.ExtendedPassive is = extended_keeps
+
+    negotiating_keeps : Keeps peer Sort (negotiating coding call offset state)
+    negotiating_keeps = go (cannot_open state.counts)
+      where
+        go : (fault : Option FtpError) → Keeps peer Sort (negotiating_unless fault coding call offset state)
+        go (Some fault) = none
+        go None = agreeing_keeps state.settings.mode refl
+
+-- What a tree comes to
+
+-- no offset is left, and after these requests there are more of this sort alone
+pub record Reaches (Sort : Request → Type 0) (before : List Request) (played : Played) : Type 0 where
+  pub none : offset_after played ≡ 0
+  pub more : List Request
+  pub asked : (reached played).dealings.asked ≡ before ++ more
+  pub sorted : AllByRecursion Sort more
+
+module _ (Sort : Request → Type 0) where
+  -- nothing was asked
+  stays : (before : List Request) (played : Played) → offset_after played ≡ 0 → (reached played).dealings.asked ≡ before → Reaches Sort before played
+  stays before played none same = record { none = none; more = []; asked = same ∙ sym (append-nil before); sorted = tt }
+
+  -- one request was made first
+  asks : (before : List Request) (request : Request) (played : Played) → Sort request → Reaches Sort (before ++ request ∷ []) played → Reaches Sort before played
+  asks before request played sort r = record {
+    none = r.none;
+    more = request ∷ r.more;
+    asked = r.asked ∙ append_assoc before (request ∷ []) r.more;
+    sorted = (sort, r.sorted);
+  }
+
+  -- what is done on the data connection is no request
+  moved_asks : (moves : Movement) (outcome : DealOutcome) (d : Dealings) → (moved moves outcome d).asked ≡ d.asked
+  moved_asks (movement.Read most) outcome d = refl
+  moved_asks (movement.Write bytes) outcome d = refl
+  moved_asks movement.Close outcome d = refl
+
+  -- a request waits for its outcome
+  abbrev waiting : Request → Standing → Played
+  waiting request s = Pending wait.Outcome (record s { dealings = dealing request s.dealings })
+
+  play_reaches : (room : Room) (tree : Tree) (s : Standing) → NoOffset s.state → Keeps s.peer Sort tree → Reaches Sort s.dealings.asked (play room tree s)
+  unfolding play
+  play_reaches room (Say (Ok line) next) s none keeps =
+      let all : List ℕ = s.said ++ s.unsent ++ line in
+      let here : Standing = record s { said = all; unsent = [] } in
+      elim (fits room all) as (λ f. Reaches Sort s.dealings.asked (cond f (play room next here) (Pending wait.Room here))) [
+        | true ↦ play_reaches room next here none keeps
+        | false ↦ stays s.dealings.asked (Pending wait.Room here) none refl
+      ]
+  play_reaches room (Say (Err cause) next) s none keeps = stays s.dealings.asked (Done (Fault (ConnectionError cause)) s) none refl
+  play_reaches room (Hear expected next) s none keeps =
+      let k : Result Response FtpError → Standing → Played = λ heard t. play room (next heard) t in
+      elim (outcome s.rule expected.form s.bytes s.ended) as (λ o. Reaches Sort s.dealings.asked (heard_then o expected s k)) [
+        | Whole reply code ↦ (let heard = expected_reply expected.statuses (record { status = status_of code; body = reply }) in play_reaches room (next heard) (taken (left_by (Whole reply code) s.bytes) s) none (keeps heard))
+        | Bad line ↦ play_reaches room (next (Err BadResponse)) (taken (left_by (Bad line) s.bytes) s) none (keeps (Err BadResponse))
+        | TooLarge ↦ play_reaches room (next (Err (ConnectionError ReplyTooLarge))) (record (taken (left_by TooLarge s.bytes) s) { failed = true }) none (keeps (Err (ConnectionError ReplyTooLarge)))
+        | Ended ↦ play_reaches room (next (Err (ConnectionError UnexpectedEof))) (record (taken (left_by Ended s.bytes) s) { failed = true }) none (keeps (Err (ConnectionError UnexpectedEof)))
+        | Waits ↦ stays s.dealings.asked (Pending (wait.Bytes expected.form) s) none refl
+      ]
+  play_reaches room (Look Here next) s none keeps = play_reaches room (next s.local) s none (keeps s.local)
+  play_reaches room (Look There next) s none keeps = play_reaches room (next s.peer) s none keeps
+  play_reaches room (Ask request next) s none keeps =
+      let k : RequestOutcome → Standing → Played = λ answer t. play room (next answer) t in
+      let waits : Reaches Sort s.dealings.asked (waiting request s) = asks s.dealings.asked request (waiting request s) keeps.0 (stays (s.dealings.asked ++ request ∷ []) (waiting request s) none refl) in
+      elim s.outcomes as (λ o. Reaches Sort s.dealings.asked (asked_then o request s k)) [
+        | [] ↦ waits
+        | came.Answered outcome ∷ outcomes ↦ (let after : Standing = record s { dealings = dealt request outcome s.dealings; outcomes = outcomes } in asks s.dealings.asked request (play room (next outcome) after) keeps.0 (play_reaches room (next outcome) after none (keeps.1 outcome)))
+        | came.Built fault ∷ outcomes ↦ waits
+        | came.Read bytes ∷ outcomes ↦ waits
+        | came.Wrote count ∷ outcomes ↦ waits
+        | came.Closed ∷ outcomes ↦ waits
+        | came.Failed kind ∷ outcomes ↦ waits
+      ]
+  play_reaches room (Build address next) s none keeps =
+      let k : Option FtpError → Standing → Played = λ fault t. play room (next fault) t in
+      let later : Played = Pending wait.Outcome (record s { dealings = constructing address s.dealings }) in
+      let waits : Reaches Sort s.dealings.asked later = asks s.dealings.asked (BuildAt address) later keeps.0 (stays (s.dealings.asked ++ BuildAt address ∷ []) later none refl) in
+      elim s.outcomes as (λ o. Reaches Sort s.dealings.asked (built_then o address s k)) [
+        | [] ↦ waits
+        | came.Answered outcome ∷ outcomes ↦ waits
+        | came.Built fault ∷ outcomes ↦ (let after : Standing = record s { dealings = constructed address fault s.dealings; outcomes = outcomes } in asks s.dealings.asked (BuildAt address) (play room (next fault) after) keeps.0 (play_reaches room (next fault) after none (keeps.1 fault)))
+        | came.Read bytes ∷ outcomes ↦ waits
+        | came.Wrote count ∷ outcomes ↦ waits
+        | came.Closed ∷ outcomes ↦ waits
+        | came.Failed kind ∷ outcomes ↦ waits
+      ]
+  play_reaches room (Move moves next) s none keeps =
+      let k : DealOutcome → Standing → Played = λ outcome t. play room (next outcome) t in
+      let waits : Reaches Sort s.dealings.asked (Pending wait.Outcome s) = stays s.dealings.asked (Pending wait.Outcome s) none refl in
+      elim s.outcomes as (λ o. Reaches Sort s.dealings.asked (moved_then o moves s k)) [
+        | [] ↦ waits
+        | outcome ∷ outcomes ↦ (
+            let after : Standing = record s { dealings = moved moves outcome s.dealings; outcomes = outcomes } in
+            let From : List Request → Type 0 = λ before. Reaches Sort before (play room (next outcome) after) in
+            elim (answers moves outcome) as (λ b. Reaches Sort s.dealings.asked (cond b (play room (next outcome) after) (Pending wait.Outcome s))) [
+              | true ↦ subst From (moved_asks moves outcome s.dealings) (play_reaches room (next outcome) after none (keeps outcome))
+              | false ↦ waits
+            ]
+            )
+      ]
+  play_reaches room (Leaf answer state) s none keeps = stays s.dealings.asked (Done answer (record s { state = state })) keeps refl
+
+  -- the data connection that is let go was not asked for
+  finally_reaches : (before : List Request) (played : Played) → Reaches Sort before played → Reaches Sort before (finally played)
+  finally_reaches before (Done answer s) r = go s.state.counts.owed
+    where
+      go : (owed : Owed) → Reaches Sort before (Done answer (record s { dealings = settled owed s.dealings }))
+      go NoneOwed = record { none = r.none; more = r.more; asked = r.asked; sorted = r.sorted }
+      go (Live number) = record { none = r.none; more = r.more; asked = r.asked; sorted = r.sorted }
+      go (Left number) = record { none = r.none; more = r.more; asked = r.asked; sorted = r.sorted }
+  finally_reaches before (Pending how s) r = r
+
+-- What a call comes to
+
+module _ (coding : Coding) (call : Call) (opens_is : negotiates call ≡ true) where
+  -- it is of the control connection, and of no transfer that is held
+  abroad : is_local call ≡ false
+  abroad = opens_no_local call opens_is
+
+  ends_none : finishes call ≡ false
+  ends_none = go (finishes call) refl
+    where
+      go : (b : Bool) → finishes call ≡ b → finishes call ≡ false
+      go true is = let clash : true ≡ false = sym opens_is ∙ finishing_opens call is in cc
+      go false is = is
+
+  -- so it is refused by a session that has failed, and by no other
+  refused_as : (failed lacks : Bool) → refusal call failed lacks ≡ refused_if_failed false failed
+  refused_as failed lacks =
+      ap (λ held. cond (held && lacks) Lacking (refused_if_failed (is_local call) failed)) (unheld_call call abroad ends_none (opens_drains_none call opens_is))
+      ∙ ap (λ local. refused_if_failed local failed) abroad
+
+  data_dialogue : (state : State) → dialogue coding call state ≡ negotiating coding call state.settings.restart_offset (opened_from call state)
+  data_dialogue state =
+      ap (λ b. cond b (negotiating coding call state.settings.restart_offset (opened_from call state)) (cond (finishes call) (parting coding call (with_left state)) (from_turn coding call First state))) opens_is
+
+  data_entered : (state : State) → entered call state ≡ opened_from call state
+  data_entered state = ap (λ b. cond b (opened_from call state) (cond (finishes call) (with_left state) state)) opens_is
+
+  -- it is made where the session goes on
+  goes_on : (room : Room) (s : Standing) → s.failed ≡ false → play_call room coding call s ≡ finally (play room (negotiating coding call s.state.settings.restart_offset (opened_from call s.state)) (record s { state = opened_from call s.state }))
+  goes_on room s going =
+      ap (λ r. play_unless r room coding call s) (refused_as s.failed (lacks call (is_none s.dealings.data_conn) s.state.counts.owed) ∙ ap (refused_if_failed false) going)
+      ∙ ap (λ tree. finally (play room tree (record s { state = entered call s.state }))) (data_dialogue s.state)
+      ∙ ap (λ state. finally (play room (negotiating coding call s.state.settings.restart_offset (opened_from call s.state)) (record s { state = state }))) (data_entered s.state)
+
+  -- beside a live transfer nothing is said, taken or asked
+  pub live_refuses : (room : Room) (s : Standing) (number : ℕ) → s.failed ≡ false → s.state.counts.owed ≡ Live number → play_call room coding call s ≡ Done (Fault DataConnectionAlreadyOpen) (record s { state = opened_from call s.state })
+  unfolding play
+  live_refuses room s number going live =
+      let start : State = opened_from call s.state in
+      let here : Standing = record s { state = start } in
+      let refusal_is : Answer = Fault DataConnectionAlreadyOpen in
+      goes_on room s going
+      ∙ ap (λ owed. finally (play room (negotiating_unless (cannot_beside owed s.state.counts.opened) coding call s.state.settings.restart_offset start) here)) live
+      ∙ ap (λ owed. Done refusal_is (record here { dealings = settled owed s.dealings })) live
+
+  going_reaches : (Sort : Request → Type 0) (room : Room) (s : Standing) → s.failed ≡ false → Admits s.peer Sort (opened_from call s.state) → Reaches Sort s.dealings.asked (play_call room coding call s)
+  going_reaches Sort room s going admits =
+      let start : State = opened_from call s.state in
+      let P : Played → Type 0 = λ played. Reaches Sort s.dealings.asked played in
+      let tree : Tree = negotiating coding call s.state.settings.restart_offset start in
+      let here : Standing = record s { state = start } in
+      let keeps : Keeps s.peer Sort tree = negotiating_keeps s.peer Sort start admits refl coding call opens_is s.state.settings.restart_offset in
+      subst P (sym (goes_on room s going)) (finally_reaches Sort s.dealings.asked (play room tree here) (play_reaches Sort room tree here refl keeps))
+
+  -- the offset is gone
+  pub takes_offset : (room : Room) (s : Standing) → s.failed ≡ false → offset_after (play_call room coding call s) ≡ 0
+  takes_offset room s going =
+      let all : Admits s.peer (λ request. Unit {0}) (opened_from call s.state) = record {
+        listens = λ address. tt;
+        accepts = λ deadline. tt;
+        to_peer = λ port. tt;
+        to_others = λ passive told address. tt;
+        builds_to_peer = λ port. tt;
+        builds_to_others = λ passive told address. tt;
+      } in
+      (going_reaches (λ request. Unit {0}) room s going all).none
+
+  -- a port changes no host
+  same_ip : (port : ℕ) (address : SocketAddr) → socket_ip (at_port port address) ≡ socket_ip address
+  same_ip port (V4 address) = refl
+  same_ip port (V6 address) = refl
+
+  -- where the host is the peer's, the transport is asked for no other
+  pub asks_peer : (room : Room) (s : Standing) → UsesPeerHost s.state.settings → AsksPeerAlone s (play_call room coding call s)
+  asks_peer room s passes = go s.failed refl
+    where
+      others : UsesPeerHost s.state.settings → s.state.settings.mode ≡ mode.Passive → s.state.settings.passive_nat_workaround ≡ false → (address : SocketAddr) → LeadsTo s.peer (Connect address None)
+      others (inl extended) passive told address = let clash : mode.Passive ≡ mode.ExtendedPassive = sym passive ∙ extended in cc
+      others (inr behind) passive told address = let clash : true ≡ false = sym behind.1 ∙ told in cc
+
+      admits : Admits s.peer (LeadsTo s.peer) (opened_from call s.state)
+      admits = record {
+        listens = λ address. tt;
+        accepts = λ deadline. tt;
+        to_peer = λ port. same_ip port s.peer;
+        to_others = others passes;
+        builds_to_peer = λ port. same_ip port s.peer;
+        builds_to_others = others passes;
+      }
+
+      alone : Reaches (LeadsTo s.peer) s.dealings.asked (play_call room coding call s) → AsksPeerAlone s (play_call room coding call s)
+      alone r = record { more = r.more; asked = r.asked; to_peer = All-from_recursion (LeadsTo s.peer) r.more r.sorted }
+
+      -- a session that has failed asks for nothing
+      failing : s.failed ≡ true → play_call room coding call s ≡ Done (Fault SessionFailed) s
+      failing is =
+          ap (λ r. play_unless r room coding call s) (refused_as s.failed (lacks call (is_none s.dealings.data_conn) s.state.counts.owed) ∙ ap (refused_if_failed false) is)
+          ∙ ap (λ ends. Done (Fault SessionFailed) (cond ends (leaving s) s)) ends_none
+
+      go : (f : Bool) → s.failed ≡ f → AsksPeerAlone s (play_call room coding call s)
+      go true is =
+          let P : Played → Type 0 = λ played. AsksPeerAlone s played in
+          subst P (sym (failing is)) (record { more = []; asked = sym (append-nil s.dealings.asked); to_peer = All-from_recursion (LeadsTo s.peer) [] tt })
+      go false is = alone (going_reaches (LeadsTo s.peer) room s is admits)

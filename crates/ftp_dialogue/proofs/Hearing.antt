@@ -1,0 +1,250 @@
+-- Lemmas on a dialogue's reading of a reply.
+use Rattle.ftp_control.specs.declared.control.form.ReplyForm.{ReplyForm}
+use Rattle.std.proofs.Common.{◌≡◌, ℕ, ◌+◌, ◌≤◌, Bool, true, false, cond, ◌||◌, List, [], ◌++◌, length, Result, Ok, Err, inl, inr, refl, ap, sym, ◌∙◌, subst, append_assoc, append-nil, length-append, arith}
+use Rattle.std.specs.declared.io.ErrorKind.{ErrorKind}
+use Rattle.futures.specs.declared.task.Poll.{Poll}
+use Rattle.futures.specs.declared.task.Poll.TheVariants.{Ready}
+use Rattle.ftp_base.specs.Status.{status_of}
+use Rattle.ftp_base.specs.declared.types.reply.Response.{Response}
+use Rattle.ftp_base.specs.declared.types.fault.FtpError.{FtpError}
+use Rattle.ftp_base.specs.declared.types.fault.FtpError.TheVariants as fault
+use Rattle.ftp_base.specs.declared.types.fault.ConnectionError.TheVariants as connection
+use Rattle.ftp_control.specs.declared.transport.room.Room.{Room}
+use Rattle.ftp_dialogue.specs.declared.model.DealOutcome.{DealOutcome}
+use Rattle.ftp_control.specs.declared.control.rule.ReplyRule.{ReplyRule}
+use Rattle.ftp_control.specs.declared.control.broken.Broken.{Broken}
+use Rattle.ftp_control.specs.declared.control.broken.Broken.TheVariants.{Connection, OutOfMemory}
+use Rattle.ftp_control.specs.declared.control.outcome.Outcome.{Outcome}
+use Rattle.ftp_control.specs.declared.control.outcome.Outcome.TheVariants.{Whole, Bad, TooLarge, Ended, Waits}
+use Rattle.ftp_control.specs.Grammar.{outcome, left_by}
+use Rattle.ftp_control.specs.Memory.{IsGiven}
+use Rattle.ftp_control.specs.Told.{Told, IsDry, HasFailed, NoneFailed}
+use Rattle.ftp_control.specs.Reading.{GoesOn, HearTells, MayBreak, after_input}
+use Rattle.ftp_control.specs.Channel.{Channel, ReadsReply, fails_by}
+use Rattle.ftp_control.specs.Answer.{AnswersRead, answer_of, expected_reply, is_among}
+use Rattle.ftp_dialogue.specs.declared.state.State.{State}
+use Rattle.ftp_dialogue.specs.declared.model.Standing.{Standing}
+use Rattle.ftp_dialogue.specs.declared.model.Played.{Played}
+use Rattle.ftp_dialogue.specs.Deals.{Net}
+use Rattle.ftp_dialogue.specs.State.{SessionValue}
+use Rattle.ftp_dialogue.specs.Dialogue.{Expected, Tree, Say, Hear, Look, Ask, Build, Move, Leaf}
+use Rattle.ftp_dialogue.specs.Play.{play, heard_then}
+use Rattle.ftp_dialogue.specs.Run.{Resumes}
+use Rattle.ftp_dialogue.specs.Promises.{AbortsRead, standing, Goes, Leads, Rests}
+use Rattle.ftp_dialogue.specs.Steps.Moving.{Moves, Advances, WaitsFor, Hears, Takes}
+use Rattle.ftp_dialogue.specs.Link.{Link}
+
+pub play-Hear : (room : Room) (codes : Expected) (next : Result Response FtpError → Tree) (s : Standing) → play room (Hear codes next) s ≡ heard_then (outcome s.rule codes.form s.bytes s.ended) codes s (λ heard t. play room (next heard) t)
+unfolding play
+play-Hear room codes next s = refl
+
+pub nothing_says : (rule : ReplyRule) (form : ReplyForm) → outcome rule form [] false ≡ Waits
+unfolding outcome
+nothing_says rule form = refl
+
+-- where nothing is kept, a reply is begun anew
+pub nothing_resumes : (rule : ReplyRule) (tree : Tree) → Resumes rule [] tree
+nothing_resumes rule (Say (Ok line) next) = nothing_resumes rule next
+nothing_resumes rule (Say (Err cause) next) = tt
+nothing_resumes rule (Hear codes next) = nothing_says rule codes.form
+nothing_resumes rule (Look end next) = λ address. nothing_resumes rule (next address)
+nothing_resumes rule (Ask request next) = λ answer. nothing_resumes rule (next answer)
+nothing_resumes rule (Build address next) = λ fault. nothing_resumes rule (next fault)
+nothing_resumes rule (Move movement next) = λ came. nothing_resumes rule (next came)
+nothing_resumes rule (Leaf answer state) = tt
+
+-- bytes came, and nothing else happened
+tells_input : (heard : Outcome) (came : List ℕ) (ended : Bool) (t u : Told) → HearTells (Ok heard) came ended t u → u ≡ after_input came ended t
+tells_input (Whole reply code) came ended t u told = told
+tells_input (Bad line) came ended t u told = told
+tells_input TooLarge came ended t u told = told
+tells_input Ended came ended t u told = told
+tells_input Waits came ended t u told = told.0
+
+-- a session that hasn't failed, and what a read leaves of it
+module _ (link : Link) (state : State) (net : Net) (t : Told) (kept ahead unsent : List ℕ) (first : Bool) (rule : ReplyRule) (codes : Expected) (next : Result Response FtpError → Tree) (kept' ahead' : List ℕ) (ended : Bool) where
+  abbrev old : SessionValue
+  old = record { channel = record { told = t; kept = kept; ahead = ahead; unsent = unsent; ended = first; failed = false; rule = rule }; state = state; net = net }
+
+  abbrev new : Told → Bool → SessionValue
+  new u failed = record { channel = record { told = u; kept = kept'; ahead = ahead'; unsent = unsent; ended = ended; failed = failed; rule = rule }; state = state; net = net }
+
+  goes : (u : Told) (failed : Bool) (came : List ℕ) → (link.tells → IsGiven t → IsGiven u) → GoesOn first came ended → length (kept' ++ ahead') ≤ length (kept ++ ahead) + length came → (link.tells → (u.received ≡ t.received ++ came) × (u.given ≡ t.given) × NoneFailed t u × (u.sent ≡ t.sent)) → Goes link came [] old (new u failed)
+  goes u failed came was over fewer told = record {
+    over = over;
+    received = λ h. (told h).0;
+    given = λ h. (told h).1;
+    failures = λ h. (told h).2;
+    sent = λ h. omega (arith, ap length (told h).3);
+    said = λ h. omega (arith, ap length (ap (λ s. s ++ unsent) (told h).3));
+    untaken = fewer;
+    at_hand = was;
+    deals = λ h. refl;
+    rule = refl;
+  }
+
+  input_told : (u : Told) (came : List ℕ) → (link.tells → u ≡ after_input came ended t) → link.tells → (u.received ≡ t.received ++ came) × (u.given ≡ t.given) × NoneFailed t u × (u.sent ≡ t.sent)
+  input_told u came told h = (ap (λ x. x.received) (told h), ap (λ x. x.given) (told h), record { failures = ap (λ x. x.failures) (told h); last_fault = ap (λ x. x.last_fault) (told h) }, ap (λ x. x.sent) (told h))
+
+  bytes_after : (came more : List ℕ) → (kept ++ ahead) ++ (came ++ more) ≡ ((kept ++ ahead) ++ came) ++ more
+  bytes_after came more = sym (append_assoc (kept ++ ahead) came more)
+
+  -- nothing was taken
+  none_left : (came : List ℕ) → kept' ++ ahead' ≡ (kept ++ ahead) ++ came → length (kept' ++ ahead') ≤ length (kept ++ ahead) + length came
+  none_left came all = omega (arith, ap length all, length-append (kept ++ ahead) came)
+
+  module _ (u : Told) (came : List ℕ) (over : GoesOn first came ended) (was : link.tells → IsGiven t → IsGiven u) where
+    -- no more is left than lay ahead and came
+    fewer_left : kept' ≡ [] → length ahead' ≤ length ahead + length came → length (kept' ++ ahead') ≤ length (kept ++ ahead) + length came
+    fewer_left none shrinks = omega (arith, shrinks, ap length (ap (λ k. k ++ ahead') none), length-append kept ahead)
+
+    -- a settled outcome hands its answer on, and takes exactly its bytes, however the input goes on
+    settles : (failed : Bool) (heard : Outcome) (answer : Result Response FtpError) → (link.tells → u ≡ after_input came ended t) → kept' ≡ [] → length ahead' ≤ length ahead + length came → ((s : Standing) (k : Result Response FtpError → Standing → Played) → heard_then heard codes (record s { failed = false }) k ≡ k answer (record s { bytes = left_by heard s.bytes; failed = failed })) → (outcome rule codes.form kept false ≡ Waits → (more : List ℕ) (e : Bool) → GoesOn ended more e → (outcome rule codes.form (((kept ++ ahead) ++ came) ++ more) e ≡ heard) × (left_by heard (((kept ++ ahead) ++ came) ++ more) ≡ (kept' ++ ahead') ++ more)) → Moves link (Hear codes next) (next answer) old (new u failed)
+    settles failed heard answer told none shrinks then_is stays = record {
+      leads = record {
+        came = came;
+        answered = [];
+        goes = goes u failed came was over (fewer_left none shrinks) (input_told u came told);
+        plays = λ h resumes room more e outcomes fit on.
+            let s : Standing = standing old (came ++ more) e outcomes in
+            let k : Result Response FtpError → Standing → Played = λ a x. play room (next a) x in
+            let is = stays resumes more e on in
+            let at : List ℕ → Played = λ b. heard_then (outcome rule codes.form b e) codes (record s { bytes = b }) k in
+            let there : Standing = record s { bytes = ((kept ++ ahead) ++ came) ++ more } in
+            let said : u.sent ≡ t.sent = ap (λ x. x.sent) (told h) in
+            play-Hear room codes next s
+            ∙ ap at (bytes_after came more)
+            ∙ ap (λ o. heard_then o codes there k) is.0
+            ∙ then_is there k
+            ∙ ap (λ b. k answer (record there { bytes = b; failed = failed })) is.1
+            ∙ ap (λ x. k answer (record there { bytes = (kept' ++ ahead') ++ more; failed = failed; said = x })) (sym said)
+            ∙ ap (λ g. k answer (record there { bytes = (kept' ++ ahead') ++ more; failed = failed; said = u.sent; local = g.local; peer = g.peer })) (sym (ap (λ x. x.given) (told h)));
+      };
+      state = refl;
+      resumes = λ r. rw none (nothing_resumes rule (next answer));
+      keeps = λ silent. inl none;
+      calm = λ calm. inl none;
+      shrinks = shrinks;
+      says = λ line after is. let clash : Hear codes next ≡ Say (Ok line) after = is in cc;
+      apart = λ apart. (refl, apart answer);
+    }
+
+    -- bytes came, and nothing was settled
+    stays_on : (link.tells → (u.received ≡ t.received ++ came) × (u.given ≡ t.given) × NoneFailed t u × (u.sent ≡ t.sent)) → kept' ++ ahead' ≡ (kept ++ ahead) ++ came → link.tells → (more : List ℕ) (e : Bool) (outcomes : List DealOutcome) → standing old (came ++ more) e outcomes ≡ standing (new u false) more e outcomes
+    stays_on told all h more e outcomes =
+        let s : Standing = standing old (came ++ more) e outcomes in
+        ap (λ b. record s { bytes = b }) (bytes_after came more ∙ ap (λ b. b ++ more) (sym all))
+        ∙ ap (λ x. record s { bytes = (kept' ++ ahead') ++ more; said = x }) (sym (told h).3)
+        ∙ ap (λ g. record s { bytes = (kept' ++ ahead') ++ more; said = u.sent; local = g.local; peer = g.peer }) (sym (told h).1)
+
+    leads_on : (link.tells → (u.received ≡ t.received ++ came) × (u.given ≡ t.given) × NoneFailed t u × (u.sent ≡ t.sent)) → kept' ++ ahead' ≡ (kept ++ ahead) ++ came → Leads link (Hear codes next) (Hear codes next) old (new u false)
+    leads_on told all = record {
+      came = came;
+      answered = [];
+      goes = goes u false came was over (none_left came all) told;
+      plays = λ h resumes room more e outcomes fit on. ap (λ s. play room (Hear codes next) s) (stays_on told all h more e outcomes);
+    }
+
+    waits_on : (link.tells → u ≡ after_input came ended t) → kept' ≡ (kept ++ ahead) ++ came → ahead' ≡ [] → ended ≡ false → (outcome rule codes.form kept false ≡ Waits → outcome rule codes.form kept' false ≡ Waits) → (link.tells → IsDry u) → Advances link (Hear codes next) (Hear codes next) old (new u false) × WaitsFor link (Hear codes next) (new u false) × Rests link old (new u false)
+    unfolding leads_on
+    waits_on told all none unended waits dry =
+        let all' : kept' ++ ahead' ≡ (kept ++ ahead) ++ came = ap (λ a. kept' ++ a) none ∙ append-nil kept' ∙ all in
+        let told' = input_told u came told in (
+          record {
+            moves = record {
+              leads = leads_on told' all';
+              state = refl;
+              resumes = λ r. waits r;
+              keeps = λ silent. absurd silent;
+              calm = λ calm. absurd calm;
+              shrinks = let S : List ℕ → Type 0 = λ l. length l ≤ length ahead + length came in subst S (sym none) (omega arith);
+              says = λ line after is. let clash : Hear codes next ≡ Say (Ok line) after = is in cc;
+              apart = λ apart. (refl, apart);
+            };
+            failed = refl;
+          },
+          inr (inl (record { codes = codes; next = next; is = refl; unended = unended; none_ahead = none; dry = dry })),
+          record { came = came; goes = goes u false came was over (none_left came all') told'; failed = refl; stays = stays_on told' all' },
+        )
+
+    fails_off : (kind : ErrorKind) → link.reads kind → kept' ++ ahead' ≡ (kept ++ ahead) ++ came → (link.tells → HasFailed kind (after_input came ended t) u) → AbortsRead link codes next (fault.ConnectionError (connection.Io kind)) old (new u true)
+    fails_off kind may all told =
+        let now : Told = record u { failures = t.failures; last_fault = t.last_fault } in
+        let F : Told → Told = λ x. record x { failures = t.failures; last_fault = t.last_fault } in
+        let same : link.tells → now ≡ after_input came ended t = λ h. ap F (told h).same in
+        record {
+          at = new now false;
+          leads = at_now now (λ h is. let g = was h is in record { ahead = g.ahead; front = g.front; over = g.over }) all same;
+          state = refl;
+          going = refl;
+          cause = inl (record {
+            kind = kind;
+            is = refl;
+            may = may;
+            same = refl;
+            failed = λ h. record { same = refl; counts = (told h).counts };
+          });
+        }
+      where
+        at_now : (v : Told) → (link.tells → IsGiven t → IsGiven v) → kept' ++ ahead' ≡ (kept ++ ahead) ++ came → (link.tells → v ≡ after_input came ended t) → Leads link (Hear codes next) (Hear codes next) old (new v false)
+        at_now v at_hand all same = record {
+          came = came;
+          answered = [];
+          goes = goes v false came at_hand over (none_left came all) (input_told v came same);
+          plays = λ h resumes room more e outcomes fit on.
+              let s : Standing = standing old (came ++ more) e outcomes in
+              ap (λ x. play room (Hear codes next) x)
+              (ap (λ b. record s { bytes = b }) (bytes_after came more ∙ ap (λ b. b ++ more) (sym all))
+              ∙ ap (λ x. record s { bytes = (kept' ++ ahead') ++ more; said = x }) (sym (ap (λ x. x.sent) (same h)))
+              ∙ ap (λ g. record s { bytes = (kept' ++ ahead') ++ more; said = v.sent; local = g.local; peer = g.peer }) (sym (ap (λ x. x.given) (same h))));
+        }
+
+    lacks_memory : kept' ++ ahead' ≡ (kept ++ ahead) ++ came → (link.tells → u ≡ after_input came ended t) → AbortsRead link codes next fault.OutOfMemory old (new u false)
+    unfolding leads_on
+    lacks_memory all told = record {
+      at = new u false;
+      leads = leads_on (input_told u came told) all;
+      state = refl;
+      going = refl;
+      cause = inr (refl, refl, record { said = λ h. ap (λ x. x.sent ++ unsent) (told h); untaken = all });
+    }
+
+  hears : (u : Told) (result : Result Outcome Broken) → MayBreak link.reads result → (link.tells → IsGiven t → IsGiven u) → ReadsReply link.tells codes.form old.channel (new u (fails_by result)).channel result → Hears link codes next old (new u (fails_by result)) (answer_of codes.statuses result)
+  hears u (Ok (Whole reply code)) may was reads =
+      let told : link.tells → u ≡ after_input reads.came ended t = λ h. tells_input (Whole reply code) reads.came ended t u (reads.told h) in
+      let answer : Response = record { status = status_of code; body = reply } in
+      let moves = settles u reads.came reads.over was false (Whole reply code) (expected_reply codes.statuses answer) told reads.leaves.0 reads.past (λ s k. refl) reads.stays in
+      let takes : Takes link (Hear codes next) old (new u false) = λ h resumes. omega (arith, reads.takes resumes, length-append (kept ++ ahead) reads.came, ap length (ap (λ x. x.received) (told h)), length-append t.received reads.came) in
+      elim (is_among codes.statuses (status_of code)) as (λ among. Moves link (Hear codes next) (next (cond among (Ok answer) (Err (fault.UnexpectedResponse answer)))) old (new u false) → Hears link codes next old (new u false) (Ready (cond among (Ok answer) (Err (fault.UnexpectedResponse answer))))) [
+        | true ↦ λ m. (record { moves = m; failed = refl }, takes)
+        | false ↦ λ m. inl (m, record { other = λ e. (let clash : fault.UnexpectedResponse answer ≡ fault.OutOfMemory = e in cc); goes_on = λ reply' e. refl })
+      ] moves
+  hears u (Ok (Bad line)) may was reads =
+      let told : link.tells → u ≡ after_input reads.came ended t = λ h. tells_input (Bad line) reads.came ended t u (reads.told h) in
+      inl (settles u reads.came reads.over was false (Bad line) (Err fault.BadResponse) told reads.leaves.0 reads.past (λ s k. refl) reads.stays, record { other = λ e. (let clash : fault.BadResponse ≡ fault.OutOfMemory = e in cc); goes_on = λ reply' e. (let clash : fault.BadResponse ≡ fault.UnexpectedResponse reply' = e in cc) })
+  hears u (Ok TooLarge) may was reads =
+      let told : link.tells → u ≡ after_input reads.came ended t = λ h. tells_input TooLarge reads.came ended t u (reads.told h) in
+      inl (settles u reads.came reads.over was true TooLarge (Err (fault.ConnectionError connection.ReplyTooLarge)) told reads.leaves.0 reads.past (λ s k. refl) reads.stays, record { other = λ e. (let clash : fault.ConnectionError connection.ReplyTooLarge ≡ fault.OutOfMemory = e in cc); goes_on = λ reply' e. (let clash : fault.ConnectionError connection.ReplyTooLarge ≡ fault.UnexpectedResponse reply' = e in cc) })
+  hears u (Ok Ended) may was reads =
+      let told : link.tells → u ≡ after_input reads.came ended t = λ h. tells_input Ended reads.came ended t u (reads.told h) in
+      inl (settles u reads.came reads.over was true Ended (Err (fault.ConnectionError connection.UnexpectedEof)) told reads.leaves.0 reads.past (λ s k. refl) reads.stays, record { other = λ e. (let clash : fault.ConnectionError connection.UnexpectedEof ≡ fault.OutOfMemory = e in cc); goes_on = λ reply' e. (let clash : fault.ConnectionError connection.UnexpectedEof ≡ fault.UnexpectedResponse reply' = e in cc) })
+  hears u (Ok Waits) may was reads =
+      let told : link.tells → u ≡ after_input reads.came ended t = λ h. tells_input Waits reads.came ended t u (reads.told h) in
+      waits_on u reads.came reads.over was told reads.leaves.0 reads.leaves.1 (reads.unended refl)
+      (λ r. rw (reads.leaves.0, ← reads.unended refl) (sym (reads.answer r))) (λ h. (reads.told h).1)
+  hears u (Err (Connection kind)) may was reads = inr (fails_off u reads.came reads.over was kind may reads.leaves reads.told)
+  hears u (Err OutOfMemory) may was reads = inr (lacks_memory u reads.came reads.over was reads.leaves reads.told)
+
+-- a reply is heard
+pub reply_heard : (link : Link) (state : State) (net : Net) (a b : Channel) (codes : Expected) (answer : Poll (Result Response FtpError)) → a.failed ≡ false → AnswersRead link.tells link.reads codes.form codes.statuses a b answer → (next : Result Response FtpError → Tree) → Hears link codes next (record { channel = a; state = state; net = net }) (record { channel = b; state = state; net = net }) answer
+reply_heard link state net a b codes answer going read next =
+    let result = read.result in
+    let V : Channel → SessionValue = λ c. record { channel = c; state = state; net = net } in
+    let P : Poll (Result Response FtpError) → Type 0 = λ x. Hears link codes next (V a) (V b) x in
+    let Q : Channel → Type 0 = λ c. ReadsReply link.tells codes.form a c result → Hears link codes next (V a) (V c) (answer_of codes.statuses result) in
+    let N : Bool → Channel = λ f. record a { told = b.told; kept = b.kept; ahead = b.ahead; ended = b.ended; failed = f || fails_by result } in
+    let S : Bool → Type 0 = λ f. ReadsReply link.tells codes.form (record a { failed = f }) (N f) result → Hears link codes next (V (record a { failed = f })) (V (N f)) (answer_of codes.statuses result) in
+    subst P (sym read.is)
+    (subst Q (sym read.reads.same)
+    (subst S (sym going) (hears link state net a.told a.kept a.ahead a.unsent a.ended a.rule codes next b.kept b.ahead b.ended b.told result read.fault read.given))
+    read.reads)

@@ -1,0 +1,17 @@
+pub mod AbortingLemmas
+pub mod Agreeing
+pub mod CarryingLemmas
+pub mod DataCommands
+pub mod DrainingLemmas
+pub mod Deals
+pub mod Faults
+pub mod Hearing
+pub mod Sorts
+pub mod Moving
+pub mod NegotiationLemmas
+pub mod Nexts
+pub mod Polls
+pub mod Reading
+pub mod Stages
+pub mod TransitionsLemmas
+pub mod Wired

@@ -1,0 +1,36 @@
+use Rattle.std.proofs.Common.{inl, ap}
+use Rattle.ftp_dialogue.specs.Coding.{coding_of}
+use Rattle.ftp_dialogue.specs.State.{SessionValue}
+use Rattle.ftp_dialogue.proofs.Agreeing.{asking_answers, asking_fewer, asks_opens, row_answers}
+use Rattle.ftp_dialogue.proofs.NegotiationLemmas.{concludes_on}
+use Rattle.ftp_dialogue.proofs.Nexts.{stage_after}
+use Rattle.ftp_dialogue.proofs.machine.Machine.accept_reply.Goals as goal
+
+pub returns-in-Ok-Done-clause-answers : goal.returns-in-Ok-Done-clause-answers
+returns-in-Ok-Done-clause-answers g c =
+    let answers = rw (c.in-Ok-Done.is, c.in-Ok-Done.field-0-is) at c.accept.ensures.answers in
+    (c.args.awaits.turn, inl c.requires.stage.2, row_answers _ c.args.awaits.ending _ c.requires.stage.0 answers)
+
+pub returns-in-Ok-GoesOn-clause-concludes : goal.returns-in-Ok-GoesOn-clause-concludes
+returns-in-Ok-GoesOn-clause-concludes g c =
+    let accepts = rw (c.in-Ok-GoesOn.is, c.in-Ok-GoesOn.field-0-is) at c.accept.ensures.accepts in
+    let F : SessionValue → SessionValue = λ v. record v { state = c.accept.new.state } in
+    let same = ap F c.self.view_is in
+    let state = ap (λ v. v.state) c.self.view_is in
+    let here = rw state at accepts in
+    concludes_on (coding_of g.E.Encoding.decoded g.E.Encoding.encoded c.args.encoding.now) c.args.call.now c.args.awaits c.args.reply _ c.args.self.now _ _ same here c.go_on.ensures.on
+
+pub returns-in-Ok-GoesOn-clause-stage : goal.returns-in-Ok-GoesOn-clause-stage
+returns-in-Ok-GoesOn-clause-stage g c =
+    let answers = rw (c.in-Ok-GoesOn.is, c.in-Ok-GoesOn.field-0-is) at c.accept.ensures.answers in
+    stage_after c.args.call.now c.args.awaits c.go_on.new.stage c.go_on.result c.requires.stage answers.0 answers.1 c.go_on.ensures.on
+
+pub returns-in-Ok-Asks-clause-stage : goal.returns-in-Ok-Asks-clause-stage
+returns-in-Ok-Asks-clause-stage g c =
+    let answers = rw (c.in-Ok-Asks.is, c.in-Ok-Asks.field-0-is) at c.accept.ensures.answers in
+    rw c.go_to.ensures (asks_opens _ c.args.awaits.turn c.args.awaits.ending c.requires.stage.0 answers.0 c.requires.stage.2, asking_answers _ c.args.awaits.turn c.args.awaits.ending c.in-Ok-Asks.asking c.requires.stage.2 c.requires.stage.0 answers.1)
+
+pub returns-in-Ok-Asks-clause-fewer : goal.returns-in-Ok-Asks-clause-fewer
+returns-in-Ok-Asks-clause-fewer g c = λ next.
+    let answers = rw (c.in-Ok-Asks.is, c.in-Ok-Asks.field-0-is) at c.accept.ensures.answers in
+    rw c.go_to.ensures (asking_fewer c.args.awaits.turn _ c.in-Ok-Asks.asking answers.1)

@@ -1,0 +1,417 @@
+-- The dialogues of a session as trees: RFC 959, sections 5.4 and 6. A tree says, hears and asks in turn, and ends
+-- in an answer with the change of state.
+use Rattle.std.specs.Prelude.{ℕ, zero, suc, length, nat_lt, ◌&&◌, Bool, List, [], ◌∷◌, ◌==◌, Option, Some, None, Result, Ok, Err, if◌then◌else◌}
+use Rattle.std.specs.Net.Socket.{socket_ip, socket_port}
+use Rattle.std.specs.declared.io.ErrorKind.{ErrorKind}
+use Rattle.std.specs.declared.net.socket_addr.SocketAddr.{SocketAddr}
+use Rattle.std.specs.declared.net.socket_addr.SocketAddr.TheVariants.{V4, V6}
+use Rattle.ftp_base.specs.declared.status.Status.{Status}
+use Rattle.ftp_base.specs.declared.status.Status.TheVariants.{System, TransferAborted}
+use Rattle.ftp_base.specs.Status.{code_of}
+use Rattle.ftp_base.specs.declared.types.reply.Response.{Response}
+use Rattle.ftp_base.specs.declared.types.fault.FtpError.{FtpError}
+use Rattle.ftp_base.specs.declared.types.fault.ConnectionError.{ConnectionError}
+use Rattle.ftp_base.specs.declared.command.Command.{Command}
+use Rattle.ftp_base.specs.declared.command.Command.TheVariants as command
+use Rattle.ftp_base.specs.Command.{text_of}
+use Rattle.ftp_base.specs.Wire.{wire}
+use Rattle.ftp_base.specs.Welcome.{Welcome, welcome_text}
+use Rattle.ftp_control.specs.declared.control.form.ReplyForm.{ReplyForm}
+use Rattle.ftp_control.specs.declared.control.form.ReplyForm.TheVariants as form
+use Rattle.ftp_control.specs.Answer.{form_of}
+use Rattle.ftp_control.specs.declared.transport.request.Request.{Request}
+use Rattle.ftp_control.specs.declared.transport.request.Request.TheVariants.{Connect, Listen, Accept}
+use Rattle.ftp_control.specs.declared.transport.request.RequestOutcome.{RequestOutcome}
+use Rattle.ftp_control.specs.declared.transport.request.RequestOutcome.TheVariants.{Done as Made, Address, Refused}
+use Rattle.ftp_dialogue.specs.declared.state.State.{State}
+use Rattle.ftp_calls.specs.declared.call.Answer.{Answer}
+use Rattle.ftp_calls.specs.declared.call.Answer.TheVariants.{Unit, Reply, Text, Time, Size, Opened, OpenedWith, Fault}
+use Rattle.ftp_calls.specs.declared.call.Answer.TheVariants as answer
+use Rattle.ftp_base.specs.declared.types.fault.FtpError.TheVariants.{ConnectionError as Connection, UnexpectedResponse, BadResponse}
+use Rattle.ftp_base.specs.declared.types.fault.ConnectionError.TheVariants.{Io, NoAddress as Nowhere, TimedOut}
+use Rattle.ftp_base.specs.declared.types.mode.Mode.{Mode}
+use Rattle.ftp_base.specs.declared.types.mode.Mode.TheVariants as mode
+use Rattle.ftp_base.specs.Peer.{allows}
+use Rattle.ftp_base.specs.Features.{Entries}
+use Rattle.jiff_core.specs.declared.civil.datetime.DateTime.{DateTime}
+use Rattle.ftp_calls.specs.declared.call.Call.{Call}
+use Rattle.ftp_calls.specs.declared.call.Setting.{Setting}
+use Rattle.ftp_calls.specs.declared.call.Setting.TheVariants as setting
+use Rattle.ftp_calls.specs.declared.exchange.Movement.{Movement}
+use Rattle.ftp_calls.specs.declared.exchange.Movement.TheVariants as movement
+use Rattle.ftp_dialogue.specs.declared.model.DealOutcome.{DealOutcome}
+use Rattle.ftp_dialogue.specs.declared.model.DealOutcome.TheVariants as came
+use Rattle.ftp_dialogue.specs.declared.state.Settings.{Settings}
+use Rattle.ftp_dialogue.specs.declared.state.Owed.{Owed}
+use Rattle.ftp_dialogue.specs.declared.state.Owed.TheVariants as owed
+use Rattle.ftp_calls.specs.declared.exchange.Turn.{Turn}
+use Rattle.ftp_calls.specs.declared.exchange.Turn.TheVariants.{First, Second, Passive, ExtendedPassive, Active, Restart, Closed, Aborted}
+use Rattle.ftp_calls.specs.declared.exchange.Ending.{Ending}
+use Rattle.ftp_calls.specs.declared.exchange.Ending.TheVariants.{Done, GivesReply, Greets, GivesPath, GivesSecondLine, GivesTime, GivesSize, GivesFeatures, SetsText, GoesOn, Continues, GivesAddress, GivesPort, Opens, Finishes, Drains, Stops}
+use Rattle.ftp_calls.specs.declared.exchange.Exchange.{Exchange}
+use Rattle.ftp_calls.specs.declared.exchange.Row.{Row}
+use Rattle.ftp_calls.specs.declared.exchange.Row.TheVariants.{Exchanges, Arms, Sets, Moves}
+use Rattle.ftp_dialogue.specs.Coding.{Coding}
+use Rattle.ftp_calls.specs.declared.exchange.Codes.{Codes}
+use Rattle.ftp_calls.specs.declared.exchange.Codes.TheVariants.{One, Either, Given, Features}
+use Rattle.ftp_calls.specs.Exchanges.{row_of, aborts, finishes, negotiates, restarts, uploads}
+use Rattle.ftp_answers.specs.Answers.{path_of, second_line_of, size_of, features_in}
+use Rattle.ftp_answers.specs.Times.{time_of}
+use Rattle.ftp_answers.specs.Addresses.{passive_address_of, extended_port_of}
+use Rattle.ftp_answers.specs.declared.addresses.NoAddress.{NoAddress}
+use Rattle.ftp_answers.specs.declared.addresses.NoAddress.TheVariants.{Absent, Unreadable}
+use Rattle.ftp_dialogue.specs.Sound.{cannot_open, left_behind, one_aborted, one_drained, one_finished, one_more}
+
+-- a reply that is awaited: its form, and the statuses that are accepted
+pub record Expected : Type 0 where
+  pub form : ReplyForm
+  pub statuses : List Status
+
+-- a reply under these statuses
+abbrev pub expecting : List Status → Expected
+expecting codes = record { form = form_of codes; statuses = codes }
+
+-- the reply that an exchange awaits: the answer to FEAT may be followed by a list
+abbrev pub expected_of : Codes → Expected
+expected_of (One status) = expecting (status ∷ [])
+expected_of (Either one other) = expecting (one ∷ other ∷ [])
+expected_of (Given codes) = expecting codes
+expected_of Features = record { form = form.Features; statuses = System ∷ [] }
+
+-- the ends of the control connection: the client's and the server's
+pub data End : Type 0 where
+  Here : End
+  There : End
+
+-- what is left of a call: a command's line, or its refusal, is said; a reply of one of these statuses is heard, or
+-- a fault in its place; the address of an end of the control connection is looked up; the transport is asked for
+-- something; the caller's builder is asked for a connection to an address, and makes one or gives a fault; something is
+-- done on the data connection; or the call ends with this answer, in this state
+pub data Tree : Type 0 where
+  Say : Result (List ℕ) ConnectionError → Tree → Tree
+  Hear : Expected → (Result Response FtpError → Tree) → Tree
+  Look : End → (SocketAddr → Tree) → Tree
+  Ask : Request → (RequestOutcome → Tree) → Tree
+  Build : SocketAddr → (Option FtpError → Tree) → Tree
+  Move : Movement → (DealOutcome → Tree) → Tree
+  Leaf : Answer → State → Tree
+
+-- what a greeting's bytes say in an encoding
+abbrev pub greeting_of : Coding → List ℕ → Welcome
+greeting_of coding greeting = record { greeting = greeting; text = welcome_text coding.decode greeting }
+
+-- the answers that the text of a reply gives: a path between quotes, a second line, a time, a number of bytes, features
+abbrev pub path_answer : Response → Option (List ℕ) → Answer
+path_answer reply None = Fault (UnexpectedResponse reply)
+path_answer reply (Some path) = Text path
+
+abbrev pub line_answer : Option (List ℕ) → Answer
+line_answer None = Fault BadResponse
+line_answer (Some line) = Text line
+
+abbrev pub time_answer : Option DateTime → Answer
+time_answer None = Fault BadResponse
+time_answer (Some time) = Time time
+
+abbrev pub size_answer : Option ℕ → Answer
+size_answer None = Fault BadResponse
+size_answer (Some size) = Size size
+
+abbrev pub features_answer : Option Entries → Answer
+features_answer None = Fault BadResponse
+features_answer (Some features) = answer.Features features
+
+-- A data connection: RFC 959, sections 3.2 and 5.2; RFC 1123, section 4.1.2.7; RFC 2428
+
+-- an address with another port
+abbrev pub at_port : ℕ → SocketAddr → SocketAddr
+at_port port (V4 address) = V4 (record address { port = port })
+at_port port (V6 address) = V6 (record address { port = port })
+
+-- what the address leads to that a request came to; where there is none the fault is the answer
+abbrev pub on_address : State → (SocketAddr → Tree) → RequestOutcome → Tree
+on_address state next Made = Leaf (Fault (Connection Nowhere)) state
+on_address state next (Address address) = next address
+on_address state next (Refused fault) = Leaf (Fault (Connection fault)) state
+
+-- a connection to an address is asked for
+abbrev pub on_connection : State → Tree → RequestOutcome → Tree
+on_connection state next Made = next
+on_connection state next (Address address) = next
+on_connection state next (Refused fault) = Leaf (Fault (Connection fault)) state
+
+-- a connection that the builder makes; its fault is the answer as it is
+abbrev pub on_built : State → Tree → Option FtpError → Tree
+on_built state next None = next
+on_built state next (Some fault) = Leaf (Fault fault) state
+
+abbrev pub connecting_to : SocketAddr → State → Tree → Tree
+connecting_to address state next =
+    if state.settings.stream_builder then Build address (on_built state next)
+    else Ask (Connect address None) (on_connection state next)
+
+-- a connection to a port of the control connection's peer
+abbrev pub connecting_to_peer : ℕ → State → Tree → Tree
+connecting_to_peer port state next =
+    Look There (λ peer. connecting_to (at_port port peer) state next)
+
+-- a reply that tells no address, or can't be read
+abbrev pub no_address : Response → NoAddress → FtpError
+no_address reply Absent = UnexpectedResponse reply
+no_address reply Unreadable = BadResponse
+
+-- the address that the server told; behind a router that rewrites addresses the peer's takes its host's place
+abbrev pub to_address : State → Response → Tree → Result SocketAddr NoAddress → Tree
+to_address state reply next (Ok address) =
+    if state.settings.passive_nat_workaround then connecting_to_peer (socket_port address) state next
+    else connecting_to address state next
+to_address state reply next (Err cause) = Leaf (Fault (no_address reply cause)) state
+
+-- the port that the server told
+abbrev pub to_port : State → Response → Tree → Result ℕ NoAddress → Tree
+to_port state reply next (Ok port) = connecting_to_peer port state next
+to_port state reply next (Err cause) = Leaf (Fault (no_address reply cause)) state
+
+-- a transfer is live from now on
+abbrev pub with_transfer : State → State
+with_transfer state = record state { counts = one_more state.counts }
+
+-- a peer that is let in opens the data connection; others are dropped
+abbrev pub admitting : Bool → Answer → State → Tree → Tree
+admitting allowed answer state others = if allowed then Leaf answer (with_transfer state) else others
+
+abbrev pub lets_in : State → SocketAddr → SocketAddr → Bool
+lets_in state peer from = allows state.settings.active_peer_check (socket_ip from) (socket_ip peer)
+
+-- peers are accepted until one is let in; so many others may come before, and one more counts as the deadline
+unfoldable pub accepting : Answer → SocketAddr → ℕ → State → Tree
+accepting answer peer zero state =
+    Ask (Accept state.settings.active_deadline) (on_address state (λ from. admitting (lets_in state peer from) answer state (Leaf (Fault (Connection TimedOut)) state)))
+accepting answer peer (suc left) state =
+    Ask (Accept state.settings.active_deadline) (on_address state (λ from. admitting (lets_in state peer from) answer state (accepting answer peer left state)))
+
+-- how many strangers one data command drops
+abbrev pub strangers : ℕ
+strangers = 1000
+
+-- the command was accepted: the data connection stands, or the server opens it now
+abbrev pub opening : Mode → Answer → State → Tree
+opening mode.Active answer state = Look There (λ peer. accepting answer peer strangers state)
+opening mode.Passive answer state = Leaf answer (with_transfer state)
+opening mode.ExtendedPassive answer state = Leaf answer (with_transfer state)
+
+abbrev pub opened_answer : Bool → Response → Answer
+opened_answer gives_reply reply = if gives_reply then OpenedWith reply else Opened
+
+-- A transfer
+
+-- what was done on a data connection is the answer
+abbrev pub moved_answer : DealOutcome → Answer
+moved_answer (came.Answered outcome) = Unit
+moved_answer (came.Built fault) = Unit
+moved_answer (came.Read bytes) = answer.Bytes bytes
+moved_answer (came.Wrote count) = answer.Count count
+moved_answer came.Closed = Unit
+moved_answer (came.Failed kind) = Fault (Connection (Io kind))
+
+-- the transfer is left
+abbrev pub with_left : State → State
+with_left state = record state { counts = left_behind state.counts }
+
+-- bytes go over the data connection; a read or a write of nothing asks nothing; or it is closed, and the transfer is left
+abbrev pub carrying : Movement → State → Tree
+carrying (movement.Read most) state =
+    if most == 0 then Leaf (answer.Bytes []) state else Move (movement.Read most) (λ came. Leaf (moved_answer came) state)
+carrying (movement.Write bytes) state =
+    if length bytes == 0 then Leaf (answer.Count 0) state else Move (movement.Write bytes) (λ came. Leaf (moved_answer came) state)
+carrying movement.Close state = Move movement.Close (λ came. Leaf Unit (with_left state))
+
+-- the transfer has come to its end
+abbrev pub with_finished : State → State
+with_finished state = record state { counts = one_finished state.counts }
+
+-- the transfer that was left has come to its end
+abbrev pub with_drained : State → State
+with_drained state = record state { counts = one_drained state.counts }
+
+-- ABOR went out: the transfer was aborted
+abbrev pub with_aborted : State → State
+with_aborted state = record state { counts = one_aborted state.counts }
+
+-- the fault of a close
+abbrev pub fault_of_close : DealOutcome → Option ErrorKind
+fault_of_close (came.Failed kind) = Some kind
+fault_of_close other = None
+
+-- the fault of an upload's close is told before the reply's
+abbrev pub told_of_close : Bool → DealOutcome → Option ErrorKind
+told_of_close uploads outcome = if uploads then fault_of_close outcome else None
+
+abbrev pub finish_answer : Option ErrorKind → Answer
+finish_answer None = Unit
+finish_answer (Some kind) = Fault (Connection (Io kind))
+
+abbrev pub finish_fault : Option ErrorKind → FtpError → FtpError
+finish_fault None fault = fault
+finish_fault (Some kind) fault = Connection (Io kind)
+
+-- a reply of another status ends a transfer that was left as well
+abbrev pub drain_answer : FtpError → Answer
+drain_answer (UnexpectedResponse reply) = Unit
+drain_answer fault = Fault fault
+
+-- a fault is heard in place of a reply: what is answered, and in which state
+abbrev pub answer_to_fault : Ending → FtpError → Answer
+answer_to_fault (Finishes close) fault = Fault (finish_fault close fault)
+answer_to_fault Drains fault = drain_answer fault
+answer_to_fault other fault = Fault fault
+
+abbrev pub after_fault_of : Ending → State → State
+after_fault_of (Finishes close) state = with_finished state
+after_fault_of Drains state = with_drained state
+after_fault_of Stops state = with_aborted state
+after_fault_of other state = state
+
+-- Exchanges
+
+-- what an accepted reply does, where `later` is the next exchange
+abbrev pub accepted : Coding → Ending → State → Response → (State → Tree) → Tree
+accepted coding Done state reply later = Leaf Unit state
+accepted coding GivesReply state reply later = Leaf (Reply reply) state
+accepted coding Greets state reply later = Leaf Unit (record state { welcome = Some (greeting_of coding reply.body) })
+accepted coding GivesPath state reply later = Leaf (path_answer reply (path_of coding.decode reply.body)) state
+accepted coding GivesSecondLine state reply later = Leaf (line_answer (second_line_of coding.decode reply.body)) state
+accepted coding GivesTime state reply later = Leaf (time_answer (time_of reply.body)) state
+accepted coding GivesSize state reply later = Leaf (size_answer (size_of reply.body)) state
+accepted coding GivesFeatures state reply later = Leaf (features_answer (features_in reply.body)) state
+accepted coding (SetsText text) state reply later = Leaf Unit (record state { settings = record state.settings { text = text } })
+accepted coding (GoesOn status) state reply later = if code_of reply.status == code_of status then later state else Leaf Unit state
+accepted coding Continues state reply later = later state
+accepted coding GivesAddress state reply later = to_address state reply (later state) (passive_address_of reply.body)
+accepted coding GivesPort state reply later = to_port state reply (later state) (extended_port_of reply.body)
+accepted coding (Opens gives_reply) state reply later = opening state.settings.mode (opened_answer gives_reply reply) state
+accepted coding (Finishes close) state reply later = Leaf (finish_answer close) (with_finished state)
+accepted coding Drains state reply later = Leaf Unit (with_drained state)
+accepted coding Stops state reply later = if code_of reply.status == code_of TransferAborted then later state else Leaf Unit (with_aborted state)
+
+-- a reply is accepted, or a fault is the answer
+abbrev pub concluded : Coding → Ending → State → (State → Tree) → Result Response FtpError → Tree
+concluded coding ending state later (Ok reply) = accepted coding ending state reply later
+concluded coding ending state later (Err fault) = Leaf (answer_to_fault ending fault) (after_fault_of ending state)
+
+-- a reply is awaited
+abbrev pub awaiting : Coding → Expected → Ending → State → (State → Tree) → Tree
+awaiting coding expected ending state later = Hear expected (concluded coding ending state later)
+
+-- a command is said first, where there is one
+abbrev pub saying : Coding → Option Command → Tree → Tree
+saying coding None next = next
+saying coding (Some command) next = Say (wire coding.encode (text_of command)) next
+
+-- one exchange, and what comes after it
+abbrev pub exchanging : Coding → Exchange → State → (State → Tree) → Tree
+exchanging coding exchange state later =
+    saying coding exchange.says (awaiting coding (expected_of exchange.hears) exchange.ending state later)
+
+-- the next transfer begins at this offset
+abbrev pub armed : ℕ → State → State
+armed offset state = record state { settings = record state.settings { restart_offset = offset } }
+
+-- a setting changes
+abbrev pub changed : Setting → Settings → Settings
+changed (setting.Mode mode) s = record s { mode = mode }
+changed (setting.PassiveNatWorkaround enabled) s = record s { passive_nat_workaround = enabled }
+changed (setting.ActivePeerCheck check) s = record s { active_peer_check = check }
+changed (setting.ActiveDeadline deadline) s = record s { active_deadline = deadline }
+
+abbrev pub set_to : Setting → State → State
+set_to setting state = record state { settings = changed setting state.settings }
+
+-- a row, and what comes after it: one exchange, a change of settings, or bytes on the data connection
+abbrev pub doing : Coding → Row → State → (State → Tree) → Tree
+doing coding (Exchanges exchange) state later = exchanging coding exchange state later
+doing coding (Arms offset) state later = Leaf Unit (armed offset state)
+doing coding (Sets setting) state later = Leaf Unit (set_to setting state)
+doing coding (Moves movement) state later = carrying movement state
+
+-- the last turn, and the one before it where an offset is told
+abbrev pub last_turn : Coding → Call → State → Tree
+last_turn coding call state = doing coding (row_of call Second) state (λ s. Leaf Unit s)
+
+abbrev pub restart_turn : Coding → Call → ℕ → State → Tree
+restart_turn coding call offset state =
+    if restarts call && nat_lt 0 offset then doing coding (row_of call (Restart offset)) state (last_turn coding call)
+    else last_turn coding call state
+
+-- what comes after the row of this turn: the next one, or nothing
+abbrev pub later : Coding → Call → Turn → State → Tree
+later coding call First state = last_turn coding call state
+later coding call Second state = Leaf Unit state
+later coding call (Passive offset) state = restart_turn coding call offset state
+later coding call (ExtendedPassive offset) state = restart_turn coding call offset state
+later coding call (Active address offset) state = restart_turn coding call offset state
+later coding call (Restart offset) state = last_turn coding call state
+later coding call (Closed close) state = Leaf Unit state
+later coding call Aborted state = last_turn coding call state
+
+-- the dialogue of a call from this turn on
+abbrev pub from_turn : Coding → Call → Turn → State → Tree
+from_turn coding call turn state = doing coding (row_of call turn) state (later coding call turn)
+
+-- the client listens at its own end of the control connection, at any free port, and tells the server where
+abbrev pub listening_at : Coding → Call → ℕ → State → SocketAddr → Tree
+listening_at coding call offset state local =
+    Ask (Listen (at_port 0 local)) (on_address state (λ bound. from_turn coding call (Active (at_port (socket_port bound) local) offset) state))
+
+abbrev pub listening : Coding → Call → ℕ → State → Tree
+listening coding call offset state = Look Here (listening_at coding call offset state)
+
+-- who opens the data connection, and how it is asked for
+abbrev pub agreeing : Mode → Coding → Call → ℕ → State → Tree
+agreeing mode.Active coding call offset state = listening coding call offset state
+agreeing mode.Passive coding call offset state = from_turn coding call (Passive offset) state
+agreeing mode.ExtendedPassive coding call offset state = from_turn coding call (ExtendedPassive offset) state
+
+-- a data connection is negotiated, for a transfer that begins at this offset, where it can be opened
+abbrev pub negotiating_unless : Option FtpError → Coding → Call → ℕ → State → Tree
+negotiating_unless (Some fault) coding call offset state = Leaf (Fault fault) state
+negotiating_unless None coding call offset state = agreeing state.settings.mode coding call offset state
+
+abbrev pub negotiating : Coding → Call → ℕ → State → Tree
+negotiating coding call offset state = negotiating_unless (cannot_open state.counts) coding call offset state
+
+-- the data connection is closed, and the transfer's last reply is heard
+abbrev pub closing : Coding → Call → State → Tree
+closing coding call state = Move movement.Close (λ came. from_turn coding call (Closed (told_of_close state.uploads came)) state)
+
+-- ABOR goes out, the data connection is closed, and what the server says of it is heard
+abbrev pub breaking_off : Coding → Call → State → Tree
+breaking_off coding call state = Move movement.Close (λ came. from_turn coding call Aborted state)
+
+abbrev pub aborting : Coding → Call → State → Tree
+aborting coding call state = saying coding (Some command.Abor) (breaking_off coding call state)
+
+-- how a transfer is brought to its end
+abbrev pub parting : Coding → Call → State → Tree
+parting coding call state = if aborts call then aborting coding call state else closing coding call state
+
+-- whether a transfer is an upload, of the one that is opened, or of the one that is owed
+abbrev pub uploads_beside : Owed → Bool → Bool → Bool
+uploads_beside owed.Nothing opened before = opened
+uploads_beside (owed.Live number) opened before = before
+uploads_beside (owed.Left number) opened before = before
+
+-- the state in which a call begins: one that opens a data connection takes the offset away; one that brings a transfer
+-- to its end has left it
+abbrev pub opened_from : Call → State → State
+opened_from call state = record (armed 0 state) { uploads = uploads_beside state.counts.owed (uploads call) state.uploads }
+
+abbrev pub entered : Call → State → State
+entered call state = if negotiates call then opened_from call state else if finishes call then with_left state else state
+
+-- the dialogue of a call; one that opens a data connection takes the offset away, whatever comes of it
+abbrev pub dialogue : Coding → Call → State → Tree
+dialogue coding call state =
+    if negotiates call then negotiating coding call state.settings.restart_offset (opened_from call state)
+    else if finishes call then parting coding call (with_left state)
+    else from_turn coding call First state

@@ -1,0 +1,12 @@
+pub mod Coding
+pub mod Deals
+pub mod Dialogue
+pub mod Laws
+pub mod Link
+pub mod Play
+pub mod Promises
+pub mod Reading
+pub mod Run
+pub mod Sound
+pub mod State
+pub mod Steps

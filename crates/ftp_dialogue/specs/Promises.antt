@@ -1,0 +1,486 @@
+-- What a session promises of a call and of a list of calls: what their definition says of all that the server sends,
+-- until the connection fails or memory runs out.
+use Rattle.std.specs.Prelude.{◌≡◌, ◌⊎◌, ◌≤◌, ◌<◌, ◌+◌, ◌==◌, ◌||◌, is_none, ℕ, Bool, true, false, Option, Some, None, List, [], ◌∷◌, ◌++◌, length, Result, Ok, Err}
+use Rattle.std.specs.declared.io.ErrorKind.{ErrorKind}
+use Rattle.futures.specs.declared.task.Poll.{Poll}
+use Rattle.futures.specs.declared.task.Poll.TheVariants.{Ready, Pending}
+use Rattle.ftp_base.specs.declared.status.Status.TheVariants.{TransferAborted}
+use Rattle.ftp_base.specs.Status.{code_of, status_of}
+use Rattle.ftp_base.specs.declared.command.Command.{Command}
+use Rattle.ftp_base.specs.Command.{text_of}
+use Rattle.ftp_base.specs.Wire.{wire}
+use Rattle.ftp_control.specs.declared.control.outcome.Outcome.TheVariants.{Whole}
+use Rattle.ftp_control.specs.Grammar.{outcome, left_by}
+use Rattle.ftp_control.specs.Answer.{is_among}
+use Rattle.ftp_base.specs.declared.types.reply.Response.{Response}
+use Rattle.ftp_base.specs.declared.types.fault.FtpError.{FtpError}
+use Rattle.ftp_base.specs.declared.types.fault.FtpError.TheVariants.{ConnectionError, OutOfMemory, SessionFailed}
+use Rattle.ftp_base.specs.declared.types.fault.ConnectionError.TheVariants.{Io}
+use Rattle.ftp_control.specs.declared.transport.room.Room.{Room}
+use Rattle.ftp_dialogue.specs.declared.model.DealOutcome.{DealOutcome}
+use Rattle.ftp_control.specs.Told.{Told, HasRoomFor, HasFailed, NoneFailed}
+use Rattle.ftp_control.specs.Memory.{IsGiven}
+use Rattle.ftp_control.specs.Reading.{GoesOn as GoesBeyond}
+use Rattle.ftp_control.specs.Channel.{untaken}
+use Rattle.ftp_control.specs.Saying.{said}
+use Rattle.ftp_calls.specs.declared.call.Answer.{Answer}
+use Rattle.ftp_calls.specs.declared.call.Answer.TheVariants.{Fault}
+use Rattle.ftp_calls.specs.declared.call.Answer.TheVariants as answers
+use Rattle.ftp_calls.specs.declared.exchange.Turn.TheVariants.{First, Second}
+use Rattle.ftp_calls.specs.declared.exchange.Ending.{Ending}
+use Rattle.ftp_calls.specs.declared.exchange.Ending.TheVariants.{Done, GivesReply, Greets, GivesPath, GivesSecondLine, GivesTime, GivesSize, GivesFeatures, SetsText, GoesOn, Continues, GivesAddress, GivesPort, Opens, Finishes, Drains, Stops}
+use Rattle.ftp_calls.specs.declared.exchange.Exchange.{Exchange}
+use Rattle.ftp_calls.specs.declared.exchange.Row.{Row}
+use Rattle.ftp_calls.specs.declared.exchange.Row.TheVariants.{Exchanges, Arms, Sets, Moves}
+use Rattle.ftp_calls.specs.declared.call.Call.{Call}
+use Rattle.ftp_calls.specs.declared.call.Call.TheVariants.{Drain}
+use Rattle.ftp_dialogue.specs.declared.model.Standing.{Standing}
+use Rattle.ftp_dialogue.specs.declared.model.Played.TheVariants as played
+use Rattle.ftp_dialogue.specs.declared.model.Ran.{Ran}
+use Rattle.ftp_dialogue.specs.declared.model.Ran.TheVariants.{Finished}
+use Rattle.ftp_dialogue.specs.State.{SessionValue, LetsGo}
+use Rattle.ftp_dialogue.specs.Coding.{Coding}
+use Rattle.ftp_dialogue.specs.Deals.{Deal, Deals, PartedIs, dealings_of, outcomes_of}
+use Rattle.ftp_dialogue.specs.declared.state.State.{State}
+use Rattle.ftp_calls.specs.Exchanges.{row_of, drains, finishes, is_local, negotiates}
+use Rattle.ftp_dialogue.specs.Dialogue.{Expected, expected_of, Tree, Say, Hear, Look, Ask, Build, Move, Leaf, dialogue, entered, with_left}
+use Rattle.ftp_dialogue.specs.Play.{Refusal, Taken, Lacking, Failing, is_due, is_unit, lacks, play, refusal}
+use Rattle.ftp_dialogue.specs.Run.{run, before, OneView, Resumes}
+use Rattle.ftp_dialogue.specs.Link.{Link}
+
+-- What a call that succeeded did on the wire
+
+abbrev pub IsSuccess : Answer → Type 0
+IsSuccess answers.Unit = Unit {0}
+IsSuccess (answers.Reply reply) = Unit {0}
+IsSuccess (answers.Text text) = Unit {0}
+IsSuccess (answers.Time time) = Unit {0}
+IsSuccess (answers.Size size) = Unit {0}
+IsSuccess (answers.Features features) = Unit {0}
+IsSuccess answers.Opened = Unit {0}
+IsSuccess (answers.OpenedWith reply) = Unit {0}
+IsSuccess (answers.Bytes bytes) = Unit {0}
+IsSuccess (answers.Count count) = Unit {0}
+IsSuccess answers.NoTransfer = ⊥
+IsSuccess (Fault fault) = ⊥
+
+-- a command's line was said after what was unsent, or nothing was
+abbrev pub Says : Coding → Option Command → Standing → Standing → Type 0
+Says coding None s t = (t.said ≡ s.said) × (t.unsent ≡ s.unsent)
+Says coding (Some command) s t = (line : List ℕ) × (wire coding.encode (text_of command) ≡ Ok line) × (t.said ≡ s.said ++ s.unsent ++ line) × (t.unsent ≡ [])
+
+-- one exchange: its line was said, if it has one, and then one reply of an accepted status was consumed
+pub record Exchanged (coding : Coding) (exchange : Exchange) (reply : Response) (s t : Standing) : Type 0 where
+  pub says : Says coding exchange.says s t
+  pub code : ℕ
+  pub whole : outcome s.rule (expected_of exchange.hears).form s.bytes s.ended ≡ Whole reply.body code
+  pub status : reply.status ≡ status_of code
+  pub accepted : is_among (expected_of exchange.hears).statuses reply.status ≡ true
+  pub consumed : t.bytes ≡ left_by (Whole reply.body code) s.bytes
+
+-- a reply goes on to the second exchange
+abbrev pub goes_on_with : Ending → Response → Bool
+goes_on_with Done reply = false
+goes_on_with GivesReply reply = false
+goes_on_with Greets reply = false
+goes_on_with GivesPath reply = false
+goes_on_with GivesSecondLine reply = false
+goes_on_with GivesTime reply = false
+goes_on_with GivesSize reply = false
+goes_on_with GivesFeatures reply = false
+goes_on_with (SetsText text) reply = false
+goes_on_with (GoesOn status) reply = code_of reply.status == code_of status
+goes_on_with Continues reply = true
+goes_on_with GivesAddress reply = true
+goes_on_with GivesPort reply = true
+goes_on_with (Opens replies) reply = false
+goes_on_with (Finishes close) reply = false
+goes_on_with Drains reply = false
+goes_on_with Stops reply = code_of reply.status == code_of TransferAborted
+
+-- nothing was said or consumed
+abbrev pub IsSilent : Standing → Standing → Type 0
+IsSilent s t = (t.said ≡ s.said) × (t.unsent ≡ s.unsent) × (t.bytes ≡ s.bytes)
+
+-- an exchange where a row is one and it was made, else nothing
+abbrev pub ExchangedIf : Bool → Coding → Row → Standing → Standing → Type 0
+ExchangedIf true coding (Exchanges exchange) s t = (reply : Response) × Exchanged coding exchange reply s t
+ExchangedIf true coding (Arms offset) s t = IsSilent s t
+ExchangedIf true coding (Sets setting) s t = IsSilent s t
+ExchangedIf true coding (Moves movement) s t = IsSilent s t
+ExchangedIf false coding row s t = IsSilent s t
+
+-- an exchange, and the next row where its reply goes on
+pub record ExchangesTwo (coding : Coding) (exchange : Exchange) (next : Row) (s t : Standing) : Type 0 where
+  pub reply : Response
+  pub between : Standing
+  pub first : Exchanged coding exchange reply s between
+  pub second : ExchangedIf (goes_on_with exchange.ending reply) coding next between t
+
+-- a call that succeeded: its first row, and its second where the first is an exchange whose reply goes on
+abbrev pub SucceedsBy : Coding → Row → Row → Standing → Standing → Type 0
+SucceedsBy coding (Exchanges exchange) next s t = ExchangesTwo coding exchange next s t
+SucceedsBy coding (Arms offset) next s t = IsSilent s t
+SucceedsBy coding (Sets setting) next s t = IsSilent s t
+SucceedsBy coding (Moves movement) next s t = IsSilent s t
+
+-- of a call that opens a data connection, or hears the end of a transfer, the dialogue alone says what it did
+abbrev pub SucceedsUnless : Bool → Coding → Call → Standing → Standing → Type 0
+SucceedsUnless true coding call s t = Unit {0}
+SucceedsUnless false coding call s t = SucceedsBy coding (row_of call First) (row_of call Second) s t
+
+abbrev pub Succeeds : Coding → Call → Standing → Standing → Type 0
+Succeeds coding call s t = SucceedsUnless (negotiates call || finishes call || drains call) coding call s t
+
+-- a call failed
+abbrev pub IsFault : Answer → Type 0
+IsFault answers.Unit = ⊥
+IsFault (answers.Reply reply) = ⊥
+IsFault (answers.Text text) = ⊥
+IsFault (answers.Time time) = ⊥
+IsFault (answers.Size size) = ⊥
+IsFault (answers.Features features) = ⊥
+IsFault answers.Opened = ⊥
+IsFault (answers.OpenedWith reply) = ⊥
+IsFault (answers.Bytes bytes) = ⊥
+IsFault (answers.Count count) = ⊥
+IsFault answers.NoTransfer = ⊥
+IsFault (Fault fault) = Unit {0}
+
+-- an answer that a call may give which is none of the control connection
+abbrev pub IsApart : Answer → Type 0
+IsApart answers.Unit = Unit {0}
+IsApart (answers.Bytes bytes) = Unit {0}
+IsApart (answers.Count count) = Unit {0}
+IsApart (Fault fault) = (fault ≡ OutOfMemory) ⊎ ((kind : ErrorKind) × (fault ≡ ConnectionError (Io kind)))
+IsApart other = ⊥
+
+-- where a run stands in a session, where these bytes are still to come, and these outcomes
+abbrev pub standing : SessionValue → List ℕ → Bool → List DealOutcome → Standing
+standing v more ended outcomes = record {
+  state = v.state;
+  failed = v.channel.failed;
+  rule = v.channel.rule;
+  said = v.channel.told.sent;
+  unsent = v.channel.unsent;
+  local = v.channel.told.given.local;
+  peer = v.channel.told.given.peer;
+  dealings = dealings_of v.net;
+  bytes = untaken v.channel ++ more;
+  ended = ended;
+  outcomes = outcomes;
+}
+
+-- whatever still comes, and whatever room there is, this holds of where a run stood in a session and where it
+-- stands now, where these bytes came between and this happened beside the control connection
+abbrev pub However : SessionValue → List ℕ → List Deal → SessionValue → (Room → Standing → Standing → Type 0) → Type 0
+However old came answered new Holds =
+    (room : Room) (more : List ℕ) (ended : Bool) (outcomes : List DealOutcome)
+    → HasRoomFor room (length new.channel.told.sent) → GoesBeyond new.channel.ended more ended
+    → Holds room (standing old (came ++ more) ended (outcomes_of answered ++ outcomes)) (standing new more ended outcomes)
+
+-- these bytes came, this happened beside the control connection, other bytes may have gone out, and no call failed;
+-- what was said stays said, no more is untaken than was and came, and what is received was at hand, if it was before
+pub record Goes (link : Link) (came : List ℕ) (answered : List Deal) (old new : SessionValue) : Type 0 where
+  pub over : GoesBeyond old.channel.ended came new.channel.ended
+  pub received : link.tells → new.channel.told.received ≡ old.channel.told.received ++ came
+  pub given : link.tells → new.channel.told.given ≡ old.channel.told.given
+  pub failures : link.tells → NoneFailed old.channel.told new.channel.told
+  pub sent : link.tells → length old.channel.told.sent ≤ length new.channel.told.sent
+  pub said : link.tells → length (said old.channel) ≤ length (said new.channel)
+  pub untaken : length (untaken new.channel) ≤ length (untaken old.channel) + length came
+  pub at_hand : link.tells → IsGiven old.channel.told → IsGiven new.channel.told
+  pub deals : link.tells → Deals link.builds answered old.net new.net
+  pub rule : new.channel.rule ≡ old.channel.rule
+
+-- one tree is left of another
+pub record Leads (link : Link) (tree tree' : Tree) (old new : SessionValue) : Type 0 where
+  pub came : List ℕ
+  pub answered : List Deal
+  pub goes : Goes link came answered old new
+  pub plays : link.tells → Resumes old.channel.rule old.channel.kept tree → However old came answered new (λ room s t. play room tree s ≡ play room tree' t)
+
+-- a tree comes to its answer
+pub record Completes (link : Link) (tree : Tree) (answer : Answer) (old new : SessionValue) : Type 0 where
+  pub came : List ℕ
+  pub answered : List Deal
+  pub goes : Goes link came answered old new
+  pub plays : link.tells → Resumes old.channel.rule old.channel.kept tree → However old came answered new (λ room s t. play room tree s ≡ played.Done answer t)
+
+-- a node fails where a line is said, a reply is read or an address is looked up, with a fault that the connection may
+-- answer there
+abbrev pub MayFailAt : Link → Tree → Told → ErrorKind → Type 0
+MayFailAt link (Say line next) told kind = link.tells → link.writes told kind
+MayFailAt link (Hear codes next) told kind = link.reads kind
+MayFailAt link (Look end next) told kind = link.ends kind
+MayFailAt link (Ask request next) told kind = ⊥
+MayFailAt link (Build address next) told kind = ⊥
+MayFailAt link (Move movement next) told kind = ⊥
+MayFailAt link (Leaf answer state) told kind = ⊥
+
+-- the session fails where a line or a reply may be lost, and goes on where an address isn't known
+abbrev pub fails_at : Tree → Bool
+fails_at (Say line next) = true
+fails_at (Hear codes next) = true
+fails_at (Look end next) = false
+fails_at (Ask request next) = true
+fails_at (Build address next) = true
+fails_at (Move movement next) = true
+fails_at (Leaf answer state) = true
+
+-- what a tree that is over answers, and leaves
+abbrev pub answer_of : Tree → Answer → Answer
+answer_of (Leaf answer state) other = answer
+answer_of tree other = other
+
+abbrev pub state_of : Tree → State → State
+state_of (Leaf answer state) other = state
+state_of tree other = other
+
+-- where a reply is awaited a fault takes its place; elsewhere it is the answer, and the state stays
+abbrev pub answer_at : Tree → FtpError → Answer
+answer_at (Hear codes next) fault = answer_of (next (Err fault)) (Fault fault)
+answer_at tree fault = Fault fault
+
+abbrev pub state_at : Tree → FtpError → State → State
+state_at (Hear codes next) fault state = state_of (next (Err fault)) state
+state_at tree fault state = state
+
+-- the connection failed at this node, which was counted and is told, and nothing else happened but what the tree says of
+-- such a fault
+pub record Fails (link : Link) (place : Tree) (fault : FtpError) (at new : SessionValue) : Type 0 where
+  pub kind : ErrorKind
+  pub is : Fault fault ≡ answer_at place (ConnectionError (Io kind))
+  pub may : MayFailAt link place at.channel.told kind
+  pub same : new ≡ record at { channel = record at.channel { told = new.channel.told; failed = fails_at place }; state = state_at place (ConnectionError (Io kind)) at.state }
+  pub failed : link.tells → HasFailed kind at.channel.told new.channel.told
+
+-- nothing was said and no reply was taken
+pub record Untouched (link : Link) (came : List ℕ) (old new : SessionValue) : Type 0 where
+  pub said : link.tells → said new.channel ≡ said old.channel
+  pub untaken : untaken new.channel ≡ untaken old.channel ++ came
+
+-- something was said, or a reply was taken: fewer bytes are untaken than were and came
+abbrev pub SaidOrTaken : SessionValue → SessionValue → Type 0
+SaidOrTaken old new =
+    (length (said old.channel) < length (said new.channel)) ⊎ (length old.channel.told.received + length (untaken new.channel) < length new.channel.told.received + length (untaken old.channel))
+
+abbrev pub Touched : Link → Tree → SessionValue → SessionValue → Type 0
+Touched link tree old new = link.tells → Resumes old.channel.rule old.channel.kept tree → SaidOrTaken old new
+
+abbrev pub failed_from : SessionValue → SessionValue
+failed_from v = record v { channel = record v.channel { failed = true } }
+
+-- memory ran out: where nothing of the dialogue was said or taken, nothing happened; where something was, in this
+-- poll or before, the session has failed
+pub record LacksMemory (link : Link) (begun : Bool) (tree : Tree) (came : List ℕ) (fault : FtpError) (old at new : SessionValue) : Type 0 where
+  pub is : fault ≡ OutOfMemory
+  pub leaves : ((new ≡ at) × (begun ≡ false) × Untouched link came old at) ⊎ ((new ≡ failed_from at) × ((begun ≡ true) ⊎ Touched link tree old at))
+
+-- a dialogue is aborted at some place of its tree; it may have begun before
+pub record Aborts (link : Link) (begun : Bool) (tree : Tree) (answer : Answer) (old new : SessionValue) : Type 0 where
+  pub place : Tree
+  pub at : SessionValue
+  pub leads : Leads link tree place old at
+  pub state : at.state ≡ old.state
+  pub going : at.channel.failed ≡ old.channel.failed
+  pub fault : FtpError
+  pub is : answer ≡ Fault fault
+  pub cause : Fails link place fault at new ⊎ LacksMemory link begun tree leads.came fault old at new
+
+-- a call isn't made: nothing changes, but where the session has failed a call that would bring a transfer to its end
+-- leaves it, and its data connection is closed
+abbrev pub LeavesIf : Bool → Type 0 → SessionValue → SessionValue → Type 0
+LeavesIf true tells old new = (new ≡ record old { state = with_left old.state; net = new.net }) × (tells → PartedIs old.net new.net)
+LeavesIf false tells old new = new ≡ old
+
+abbrev pub Refuses : Refusal → Type 0 → Call → SessionValue → SessionValue → Answer → Type 0
+Refuses Taken tells call old new answer = ⊥
+Refuses Lacking tells call old new answer = (answer ≡ answers.NoTransfer) × (new ≡ old)
+Refuses Failing tells call old new answer = (answer ≡ Fault SessionFailed) × LeavesIf (finishes call) tells old new
+
+abbrev pub lacks_of : Call → SessionValue → Bool
+lacks_of call v = lacks call (is_none v.net.data_conn) v.state.counts.owed
+
+abbrev pub refusal_of : Call → SessionValue → Refusal
+refusal_of call v = refusal call v.channel.failed (lacks_of call v)
+
+abbrev pub IsRefused : Type 0 → Call → SessionValue → SessionValue → Answer → Type 0
+IsRefused tells call old new answer = Refuses (refusal_of call old) tells call old new answer
+
+-- a call, whole: it is refused, or its dialogue comes to its answer or is aborted; one that is none of the control
+-- connection says and hears nothing there
+
+-- where a call begins
+abbrev pub begun_by : Call → SessionValue → SessionValue
+begun_by call v = record v { state = entered call v.state }
+
+pub record IsPlayed (link : Link) (coding : Coding) (call : Call) (old new : SessionValue) (answer : Answer) : Type 0 where
+  pub going : refusal_of call old ≡ Taken
+  pub apart : is_local call ≡ true → new.channel ≡ old.channel
+  pub last : SessionValue
+  pub plays : Completes link (dialogue coding call old.state) answer (begun_by call old) last ⊎ Aborts link false (dialogue coding call old.state) answer (begun_by call old) last
+  pub lets_go : LetsGo link.tells last new
+
+-- its arguments found no memory, and nothing happened
+pub record IsWithheld (old new : SessionValue) (answer : Answer) : Type 0 where
+  pub going : old.channel.failed ≡ false
+  pub is : answer ≡ Fault OutOfMemory
+  pub unchanged : new ≡ old
+
+-- what a call that succeeded did on the wire comes first: these lines were said, these replies were consumed
+pub record Wired (link : Link) (coding : Coding) (call : Call) (old new : SessionValue) : Type 0 where
+  pub last : SessionValue
+  pub lets_go : LetsGo link.tells last new
+  pub came : List ℕ
+  pub answered : List Deal
+  pub goes : Goes link came answered (begun_by call old) last
+  pub succeeds : link.tells → Resumes old.channel.rule old.channel.kept (dialogue coding call old.state) → Succeeds coding call (standing old came last.channel.ended (outcomes_of answered)) (standing last [] last.channel.ended [])
+
+pub record PlaysAlone (link : Link) (coding : Coding) (call : Call) (old new : SessionValue) (answer : Answer) : Type 0 where
+  pub wired : IsSuccess answer → Wired link coding call old new
+  pub made : IsRefused link.tells call old new answer ⊎ IsPlayed link coding call old new answer ⊎ IsWithheld old new answer
+  pub fails : new.channel.failed ≡ true → (old.channel.failed ≡ true) ⊎ IsFault answer
+
+-- whether the last reply of a transfer that was left is due before a call
+abbrev pub due_of : Call → SessionValue → Bool
+due_of call v = is_due call v.channel.failed v.state.counts.owed
+
+-- what is made of a call after the drain: the call goes on, or a fault of the drain is its answer
+abbrev pub MakesAfter : Bool → Answer → (SessionValue → SessionValue → Answer → Type 0) → SessionValue → SessionValue → Answer → Type 0
+MakesAfter true first Makes middle new answer = Makes middle new answer
+MakesAfter false first Makes middle new answer = (answer ≡ first) × (new ≡ middle)
+
+pub record DrainsFirst (Makes : Call → SessionValue → SessionValue → Answer → Type 0) (call : Call) (old new : SessionValue) (answer : Answer) : Type 0 where
+  pub middle : SessionValue
+  pub first : Answer
+  pub drains : Makes Drain old middle first
+  pub then_makes : MakesAfter (is_unit first) first (Makes call) middle new answer
+
+abbrev pub DrainsIf : Bool → (Call → SessionValue → SessionValue → Answer → Type 0) → Call → SessionValue → SessionValue → Answer → Type 0
+DrainsIf true Makes call old new answer = DrainsFirst Makes call old new answer
+DrainsIf false Makes call old new answer = Makes call old new answer
+
+-- a call, after the last reply of a transfer that was left, where one is due
+pub record Plays (link : Link) (coding : Coding) (call : Call) (old new : SessionValue) (answer : Answer) : Type 0 where
+  pub makes : DrainsIf (due_of call old) (PlaysAlone link coding) call old new answer
+
+-- a read that waits leaves a run where it stood: what came is untaken, and nothing else happened
+pub record Rests (link : Link) (old new : SessionValue) : Type 0 where
+  pub came : List ℕ
+  pub goes : Goes link came [] old new
+  pub failed : new.channel.failed ≡ old.channel.failed
+  pub stays : link.tells → (more : List ℕ) (ended : Bool) (outcomes : List DealOutcome) → standing old (came ++ more) ended outcomes ≡ standing new more ended outcomes
+
+-- the connection failed in a read, which was counted
+pub record FailsRead (link : Link) (fault : FtpError) (at new : SessionValue) : Type 0 where
+  pub kind : ErrorKind
+  pub is : fault ≡ ConnectionError (Io kind)
+  pub may : link.reads kind
+  pub same : new ≡ record at { channel = record at.channel { told = new.channel.told; failed = true } }
+  pub failed : link.tells → HasFailed kind at.channel.told new.channel.told
+
+-- a read is aborted: the connection failed, which was counted; or memory ran out, and nothing is lost
+pub record AbortsRead (link : Link) (codes : Expected) (next : Result Response FtpError → Tree) (fault : FtpError) (old new : SessionValue) : Type 0 where
+  pub at : SessionValue
+  pub leads : Leads link (Hear codes next) (Hear codes next) old at
+  pub state : at.state ≡ old.state
+  pub going : at.channel.failed ≡ false
+  pub cause : FailsRead link fault at new ⊎ ((fault ≡ OutOfMemory) × (new ≡ at) × Untouched link leads.came old at)
+
+-- a read of one reply: it is heard, or a fault in its place; or the read is aborted, or waits
+abbrev pub Reads : Link → Expected → (Result Response FtpError → Tree) → SessionValue → SessionValue → Poll (Result Response FtpError) → Type 0
+Reads link codes next old new (Ready (Ok reply)) = Leads link (Hear codes next) (next (Ok reply)) old new
+Reads link codes next old new (Ready (Err fault)) =
+    Leads link (Hear codes next) (next (Err fault)) old new ⊎ AbortsRead link codes next fault old new
+Reads link codes next old new Pending = Leads link (Hear codes next) (Hear codes next) old new × Rests link old new
+
+-- a read gives a fault
+abbrev pub GivesFault : Poll (Result Response FtpError) → Type 0
+GivesFault (Ready (Ok reply)) = ⊥
+GivesFault (Ready (Err fault)) = Unit {0}
+GivesFault Pending = ⊥
+
+-- one view of System: what is kept is no whole reply under the first list that these calls hear under
+abbrev pub Agrees : Coding → SessionValue → List Call → Type 0
+Agrees coding v calls = v.channel.failed ≡ false → OneView v.channel.rule v.channel.kept coding calls
+
+-- answers before those of later calls
+abbrev pub before_all : List Answer → Ran → Ran
+before_all [] ran = ran
+before_all (answer ∷ answers) ran = before answer (before_all answers ran)
+
+-- a run that got so far: these calls of it are done and come to these answers, and it comes to what is left of it
+-- from here
+pub record RanTo (link : Link) (coding : Coding) (calls to_make : List Call) (old new : SessionValue) (answers : List Answer) : Type 0 where
+  pub done : List Call
+  pub split : calls ≡ done ++ to_make
+  pub count : length answers ≡ length done
+  pub came : List ℕ
+  pub answered : List Deal
+  pub goes : Goes link came answered old new
+  pub runs : link.tells → Agrees coding old calls → However old came answered new (λ room s t. run room coding calls s ≡ before_all answers (run room coding to_make t))
+
+-- a run that came to its end: these are the answers, and here it stands, whatever else the server sends
+pub record RunsTo (link : Link) (coding : Coding) (calls : List Call) (old new : SessionValue) (answers : List Answer) : Type 0 where
+  pub came : List ℕ
+  pub answered : List Deal
+  pub goes : Goes link came answered old new
+  pub runs : link.tells → Agrees coding old calls → However old came answered new (λ room s t. run room coding calls s ≡ Finished answers t)
+
+-- some call failed
+abbrev pub HasFault : List Answer → Type 0
+HasFault [] = ⊥
+HasFault (answer ∷ answers) = IsFault answer ⊎ HasFault answers
+
+-- a session fails only where a call does
+abbrev pub FailsWith : SessionValue → SessionValue → List Answer → Type 0
+FailsWith v w answers = w.channel.failed ≡ true → (v.channel.failed ≡ true) ⊎ HasFault answers
+
+-- a session that has failed refuses each call that goes over the control connection
+abbrev pub IsRefusal : Answer → Type 0
+IsRefusal answer = (answer ≡ Fault SessionFailed) ⊎ (answer ≡ answers.NoTransfer)
+
+abbrev pub AllRefused : List Call → List Answer → Type 0
+AllRefused [] answers = answers ≡ []
+AllRefused (call ∷ calls) [] = ⊥
+AllRefused (call ∷ calls) (answer ∷ answers) = (is_local call ≡ false → IsRefusal answer) × AllRefused calls answers
+
+-- calls made one after another: each is its dialogue, or is refused, or is aborted
+abbrev pub Makes : Link → Coding → List Call → SessionValue → SessionValue → List Answer → Type 0
+Makes link coding [] old new answers = (new ≡ old) × (answers ≡ [])
+Makes link coding (call ∷ calls) old new answers =
+    (middle : SessionValue) × (answer : Answer) × (later : List Answer) × (answers ≡ answer ∷ later) × Plays link coding call old middle answer × Makes link coding calls middle new later
+
+-- the dialogue that was aborted: a call's own, after the drain where one was due; or that of the drain
+abbrev pub BeginsAfter : Bool → Link → Coding → Call → Call → SessionValue → SessionValue → Type 0
+BeginsAfter true link coding call part before middle =
+    ((part ≡ Drain) × (middle ≡ before)) ⊎ ((part ≡ call) × IsPlayed link coding Drain before middle answers.Unit)
+BeginsAfter false link coding call part before middle = (part ≡ call) × (middle ≡ before)
+
+-- a run in which a call was aborted, where these are left to make: the answers before it are the definition's, and
+-- each later call that was made is its dialogue again; where the session has failed, each that goes over the control
+-- connection is refused, and nothing is said or read there
+pub record RunAborts (link : Link) (coding : Coding) (calls to_make : List Call) (old new : SessionValue) (answers : List Answer) : Type 0 where
+  pub first : List Answer
+  pub call : Call
+  pub made : List Call
+  pub before : SessionValue
+  pub ran : RanTo link coding calls (call ∷ made ++ to_make) old before first
+  pub part : Call
+  pub middle : SessionValue
+  pub begins : BeginsAfter (due_of call before) link coding call part before middle
+  pub going : refusal_of part middle ≡ Taken
+  pub fault : FtpError
+  pub last : SessionValue
+  pub aborts : Aborts link false (dialogue coding part middle.state) (Fault fault) (begun_by part middle) last
+  pub after : SessionValue
+  pub lets_go : LetsGo link.tells last after
+  pub later : List Answer
+  pub answers_are : answers ≡ first ++ Fault fault ∷ later
+  pub makes : Makes link coding made after new later
+  pub failed : after.channel.failed ≡ true → (new.channel ≡ after.channel) × AllRefused made later
+
+-- the run of a list of calls
+abbrev pub Runs : Link → Coding → List Call → SessionValue → SessionValue → List Answer → Type 0
+Runs link coding calls old new answers = RunsTo link coding calls old new answers ⊎ RunAborts link coding calls [] old new answers

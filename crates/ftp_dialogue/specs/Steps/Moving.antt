@@ -1,0 +1,496 @@
+-- What a step of a dialogue does: whatever the server still sends, and whatever room there is, the tree before it and
+-- the tree after it come to the same. Beside what is promised it keeps how much is kept of a reply under way.
+use Rattle.std.specs.Prelude.{◌++◌, ◌==◌, ◌≡◌, ◌<◌, ◌≤◌, ◌+◌, ◌⊎◌, ℕ, zero, suc, Bool, true, false, ◌&&◌, if◌then◌else◌, Option, None, List, [], length, Result, Ok, Err}
+use Rattle.futures.specs.declared.task.Poll.{Poll}
+use Rattle.futures.specs.declared.task.Poll.TheVariants as poll
+use Rattle.ftp_base.specs.declared.types.reply.Response.{Response}
+use Rattle.ftp_base.specs.declared.types.fault.FtpError.{FtpError}
+use Rattle.ftp_base.specs.declared.types.fault.FtpError.TheVariants.{ConnectionError, SecureError, UnexpectedResponse, BadResponse, InvalidAddress, DataConnectionAlreadyOpen, OutOfMemory, SessionFailed}
+use Rattle.ftp_control.specs.Told.{IsDry, IsFull}
+use Rattle.ftp_control.specs.declared.control.rule.ReplyRule.{ReplyRule}
+use Rattle.ftp_control.specs.declared.transport.request.Request.{Request}
+use Rattle.ftp_control.specs.declared.transport.request.RequestOutcome.{RequestOutcome}
+use Rattle.ftp_control.specs.declared.transport.request.RequestOutcome.TheVariants as outcomes
+use Rattle.std.specs.declared.alloc.AllocError.{AllocError}
+use Rattle.std.specs.declared.io.ErrorKind.{ErrorKind}
+use Rattle.std.specs.declared.net.socket_addr.SocketAddr.{SocketAddr}
+use Rattle.ftp_base.specs.declared.types.fault.ConnectionError.TheVariants.{Io, NoAddress, TimedOut}
+use Rattle.ftp_dialogue.specs.Play.{Taken, play}
+use Rattle.ftp_control.specs.Channel.{untaken}
+use Rattle.ftp_control.specs.Saying.{due, said}
+use Rattle.ftp_dialogue.specs.declared.state.State.{State}
+use Rattle.ftp_calls.specs.declared.call.Answer.{Answer}
+use Rattle.ftp_calls.specs.declared.call.Answer.TheVariants.{Fault}
+use Rattle.ftp_calls.specs.declared.call.Answer.TheVariants as answers
+use Rattle.ftp_calls.specs.declared.call.Setting.{Setting}
+use Rattle.ftp_calls.specs.declared.exchange.Movement.TheVariants as movement
+use Rattle.ftp_calls.specs.declared.call.Call.{Call}
+use Rattle.ftp_calls.specs.declared.exchange.Ending.{Ending}
+use Rattle.ftp_calls.specs.declared.exchange.Ending.TheVariants.{GivesAddress, GivesPort, Opens}
+use Rattle.ftp_dialogue.specs.declared.nodes.Accepted.{Accepted}
+use Rattle.ftp_dialogue.specs.declared.nodes.Accepted.TheVariants as accepts
+use Rattle.ftp_dialogue.specs.declared.stage.Asking.{Asking}
+use Rattle.ftp_dialogue.specs.declared.stage.Asking.TheVariants.{PeerPort, Connection, Peer, Accepting}
+use Rattle.ftp_dialogue.specs.declared.stage.Awaits.{Awaits}
+use Rattle.ftp_dialogue.specs.declared.stage.Stage.{Stage}
+use Rattle.ftp_dialogue.specs.declared.stage.Stage.TheVariants.{Agreeing}
+use Rattle.ftp_dialogue.specs.declared.stage.Agreeing.TheVariants.{Asking as Asks}
+use Rattle.ftp_dialogue.specs.declared.stage.Step.{Step}
+use Rattle.ftp_dialogue.specs.declared.stage.Step.TheVariants.{Next, Pending, Done}
+use Rattle.ftp_dialogue.specs.State.{SessionValue, LetsGo}
+use Rattle.ftp_dialogue.specs.Coding.{Coding}
+use Rattle.ftp_dialogue.specs.Deals.{Deal, MovementIs, outcomes_of}
+use Rattle.ftp_calls.specs.declared.exchange.Movement.{Movement}
+use Rattle.ftp_dialogue.specs.declared.model.DealOutcome.{DealOutcome}
+use Rattle.ftp_calls.specs.declared.exchange.Turn.{Turn}
+use Rattle.ftp_calls.specs.declared.exchange.Turn.TheVariants.{First}
+use Rattle.ftp_calls.specs.declared.exchange.Row.{Row}
+use Rattle.ftp_calls.specs.declared.exchange.Row.TheVariants.{Exchanges, Arms}
+use Rattle.ftp_calls.specs.declared.exchange.Row.TheVariants as row
+use Rattle.ftp_control.specs.Refusal.{IsRefusalOf}
+use Rattle.ftp_calls.specs.Exchanges.{is_draining, is_local, is_read, row_of, says_of, Kind, Nothing, kind_of}
+use Rattle.ftp_dialogue.specs.Dialogue.{Expected, End, Tree, Say, Hear, Look, Ask, Build, Move, Leaf, accepted, later, lets_in, moved_answer, set_to, answer_to_fault, after_fault_of, with_aborted, with_left, with_transfer, dialogue}
+use Rattle.ftp_dialogue.specs.Run.{Resumes, Silent}
+use Rattle.ftp_dialogue.specs.Promises.{DrainsIf, due_of, AbortsRead, IsFault, Leads, Completes, Aborts, However, SaidOrTaken, Untouched, Rests, IsRefused, begun_by, failed_from, refusal_of, IsApart}
+use Rattle.ftp_dialogue.specs.Steps.Stages.{AnswersKind, Begun, GoesOnTo, StageAfter, StepAnswers, asking_of, nodes_left, remaining, begun_at, is_later, is_out, line_of}
+use Rattle.ftp_dialogue.specs.Link.{Link}
+
+-- what is kept afterwards: nothing, as after a reply; or what was, where none was read
+abbrev pub Keeps : Type 0 → List ℕ → SessionValue → SessionValue → Type 0
+Keeps untouched came old new = (new.channel.kept ≡ []) ⊎ ((new.channel.kept ≡ old.channel.kept) × (new.channel.ahead ≡ old.channel.ahead) × (came ≡ []) × untouched)
+
+-- no more lies ahead than lay there and came
+abbrev pub Shrinks : List ℕ → SessionValue → SessionValue → Type 0
+Shrinks came old new = length new.channel.ahead ≤ length old.channel.ahead + length came
+
+-- the first node hears nothing
+abbrev pub Calm : Tree → Type 0
+Calm (Say line next) = Unit {0}
+Calm (Hear codes next) = ⊥
+Calm (Look end next) = Unit {0}
+Calm (Ask request next) = Unit {0}
+Calm (Build address next) = Unit {0}
+Calm (Move movement next) = Unit {0}
+Calm (Leaf answer state) = Unit {0}
+
+-- the tree asks nothing of the transport, and does nothing on the data connection
+abbrev pub Apart : Tree → Type 0
+Apart (Say (Ok line) next) = Apart next
+Apart (Say (Err cause) next) = Unit {0}
+Apart (Hear codes next) = (heard : Result Response FtpError) → Apart (next heard)
+Apart (Look end next) = (address : SocketAddr) → Apart (next address)
+Apart (Ask request next) = ⊥
+Apart (Build address next) = ⊥
+Apart (Move movement next) = ⊥
+Apart (Leaf answer state) = Unit {0}
+
+-- a line is said first
+abbrev pub Speaks : Tree → Type 0
+Speaks (Say (Ok line) next) = Unit {0}
+Speaks (Say (Err cause) next) = ⊥
+Speaks (Hear codes next) = ⊥
+Speaks (Look end next) = ⊥
+Speaks (Ask request next) = ⊥
+Speaks (Build address next) = ⊥
+Speaks (Move movement next) = ⊥
+Speaks (Leaf answer state) = ⊥
+
+-- the line that was said first still goes out, and that is all: what is kept of a reply doesn't matter yet
+pub record StillSays (link : Link) (tree tree' : Tree) (came : List ℕ) (answered : List Deal) (line : List ℕ) (old new : SessionValue) : Type 0 where
+  pub rest : List ℕ
+  pub next : Tree
+  pub is : tree' ≡ Say (Ok rest) next
+  pub count : length (said new.channel) + length rest ≡ length (said old.channel) + length line
+  pub resumes : (rule : ReplyRule) (kept : List ℕ) → Resumes rule kept tree → Resumes rule kept tree'
+  pub plays : However old came answered new (λ room s t. play room tree s ≡ play room tree' t)
+
+-- all of a line has gone out
+abbrev pub HasGoneOut : List ℕ → SessionValue → SessionValue → Type 0
+HasGoneOut line old new = length (said old.channel) + length line ≤ length new.channel.told.sent
+
+-- the line that a tree says first still goes out, or has gone out
+abbrev pub SaysFirst : Link → Tree → Tree → List ℕ → List Deal → SessionValue → SessionValue → Type 0
+SaysFirst link tree tree' came answered old new =
+    (line : List ℕ) (next : Tree) → tree ≡ Say (Ok line) next → link.tells → StillSays link tree tree' came answered line old new ⊎ HasGoneOut line old new
+
+-- one tree is left of another
+pub record Moves (link : Link) (tree tree' : Tree) (old new : SessionValue) : Type 0 where
+  pub leads : Leads link tree tree' old new
+  pub state : new.state ≡ old.state
+  pub resumes : Resumes old.channel.rule old.channel.kept tree → Resumes new.channel.rule new.channel.kept tree'
+  pub keeps : Silent tree' → Keeps (Silent tree) leads.came old new
+  pub calm : Calm tree' → Keeps (Calm tree) leads.came old new
+  pub shrinks : Shrinks leads.came old new
+  pub says : SaysFirst link tree tree' leads.came leads.answered old new
+  pub apart : Apart tree → (outcomes_of leads.answered ≡ []) × Apart tree'
+
+-- the same, and the session goes on
+pub record Advances (link : Link) (tree tree' : Tree) (old new : SessionValue) : Type 0 where
+  pub moves : Moves link tree tree' old new
+  pub failed : new.channel.failed ≡ old.channel.failed
+
+-- a tree comes to its answer
+pub record Ends (link : Link) (tree : Tree) (answer : Answer) (old new : SessionValue) : Type 0 where
+  pub completes : Completes link tree answer old new
+  pub fails : new.channel.failed ≡ true → (old.channel.failed ≡ true) ⊎ IsFault answer
+  pub keeps : Keeps (Silent tree) completes.came old new
+  pub calm : Keeps (Calm tree) completes.came old new
+  pub shrinks : Shrinks completes.came old new
+  pub gone : (line : List ℕ) (next : Tree) → tree ≡ Say (Ok line) next → link.tells → HasGoneOut line old new
+
+-- a tree waits: for room, for the line that is begun; or for bytes, where all were read and more may come
+pub record WaitsToSay (link : Link) (tree : Tree) (v : SessionValue) : Type 0 where
+  pub line : List ℕ
+  pub next : Tree
+  pub is : tree ≡ Say (Ok line) next
+  pub some : v.channel.unsent ≡ [] → ⊥
+  pub full : link.tells → IsFull v.channel.told
+
+pub record WaitsToHear (link : Link) (tree : Tree) (v : SessionValue) : Type 0 where
+  pub codes : Expected
+  pub next : Result Response FtpError → Tree
+  pub is : tree ≡ Hear codes next
+  pub unended : v.channel.ended ≡ false
+  pub none_ahead : v.channel.ahead ≡ []
+  pub dry : link.tells → IsDry v.channel.told
+
+-- or for an outcome, where requests may wait
+pub record WaitsToAsk (link : Link) (tree : Tree) : Type 0 where
+  pub request : Request
+  pub next : RequestOutcome → Tree
+  pub is : tree ≡ Ask request next
+  pub may : link.asks_wait
+
+abbrev pub WaitsFor : Link → Tree → SessionValue → Type 0
+WaitsFor link tree v = WaitsToSay link tree v ⊎ WaitsToHear link tree v ⊎ WaitsToAsk link tree
+
+-- a step: the next node is reached, or the connection waits, or the dialogue has its answer or is aborted
+abbrev pub Steps : Link → Bool → Tree → Tree → SessionValue → SessionValue → Step → Type 0
+Steps link begun tree tree' old new Next = Advances link tree tree' old new
+Steps link begun tree tree' old new Pending = Advances link tree tree' old new × WaitsFor link tree' new
+Steps link begun tree tree' old new (Done answer) = Ends link tree answer old new ⊎ Aborts link begun tree answer old new
+
+-- a poll: the call has its answer or is aborted, or the connection waits
+abbrev pub PollSteps : Link → Bool → Tree → Tree → SessionValue → SessionValue → Poll Answer → Type 0
+PollSteps link begun tree tree' old new (poll.Ready answer) = Ends link tree answer old new ⊎ Aborts link begun tree answer old new
+PollSteps link begun tree tree' old new poll.Pending = Advances link tree tree' old new × WaitsFor link tree' new
+
+-- a call that has its answer lets go of what it doesn't need
+abbrev pub AfterPoll : Type 0 → Poll Answer → SessionValue → SessionValue → Type 0
+AfterPoll tells (poll.Ready answer) v w = LetsGo tells v w
+AfterPoll tells poll.Pending v w = w ≡ v
+
+abbrev pub PollsTo : Link → Bool → Tree → Tree → SessionValue → SessionValue → Poll Answer → Type 0
+PollsTo link begun tree tree' old new result = (last : SessionValue) × PollSteps link begun tree tree' old last result × AfterPoll link.tells result last new
+
+-- the result of sending a line
+abbrev pub step_of : Poll (Result (Unit {0}) FtpError) → Step
+step_of (poll.Ready (Ok done)) = Next
+step_of (poll.Ready (Err fault)) = Done (Fault fault)
+step_of poll.Pending = Pending
+
+-- what is left where a line goes out
+abbrev pub after_line : Step → Option (List ℕ) → Tree → Tree
+after_line Next line next = next
+after_line Pending line next = Say (Ok (due line)) next
+after_line (Done answer) line next = next
+
+-- a line is said
+abbrev pub SaysNode : Link → Option (List ℕ) → Option (List ℕ) → SessionValue → SessionValue → Step → Type 0
+SaysNode link line line' old new result =
+    (begun : Bool) (next : Tree) → Steps link begun (Say (Ok (due line)) next) (after_line result line' next) old new result
+
+-- a reply was taken: fewer bytes are untaken than were and came
+abbrev pub Takes : Link → Tree → SessionValue → SessionValue → Type 0
+Takes link tree old new =
+    link.tells → Resumes old.channel.rule old.channel.kept tree → length old.channel.told.received + length (untaken new.channel) < length new.channel.told.received + length (untaken old.channel)
+
+-- nothing was said and no reply was taken: what came is untaken
+abbrev pub NothingTouched : Link → SessionValue → SessionValue → Type 0
+NothingTouched link old new =
+    link.tells → (came : List ℕ) × (new.channel.told.received ≡ old.channel.told.received ++ came) × (said new.channel ≡ said old.channel) × (untaken new.channel ≡ untaken old.channel ++ came)
+
+-- a line that was taken to go out: it was before, or it was said, and a line isn't empty
+pub record TakesLine (link : Link) (line line' : Option (List ℕ)) (old new : SessionValue) (result : Step) : Type 0 where
+  pub whole : (line' ≡ line) ⊎ (line' ≡ None)
+  pub gone : result ≡ Next → line' ≡ None
+  pub stays : line' ≡ line → NothingTouched link old new
+  pub begins : line' ≡ None → (line ≡ None) ⊎ (link.tells → length (said old.channel) < length (said new.channel))
+
+-- a fault that was heard in place of a reply: memory didn't run out, and after a reply of another status the session goes
+-- on
+pub record HeardFault (fault : FtpError) (old new : SessionValue) : Type 0 where
+  pub other : fault ≡ OutOfMemory → ⊥
+  pub goes_on : (reply : Response) → fault ≡ UnexpectedResponse reply → new.channel.failed ≡ old.channel.failed
+
+-- a reply is heard, or a fault in its place; or it is waited for, or the read is aborted
+abbrev pub Hears : Link → Expected → (Result Response FtpError → Tree) → SessionValue → SessionValue → Poll (Result Response FtpError) → Type 0
+Hears link codes next old new (poll.Ready (Ok reply)) = Advances link (Hear codes next) (next (Ok reply)) old new × Takes link (Hear codes next) old new
+Hears link codes next old new (poll.Ready (Err fault)) =
+    (Moves link (Hear codes next) (next (Err fault)) old new × HeardFault fault old new) ⊎ AbortsRead link codes next fault old new
+Hears link codes next old new poll.Pending = Advances link (Hear codes next) (Hear codes next) old new × WaitsFor link (Hear codes next) new × Rests link old new
+
+-- an accepted reply: the next exchange, or the answer with the change of state
+abbrev pub Accepts : Coding → Ending → Response → State → State → Accepted → Type 0
+Accepts coding ending reply state state' accepts.GoesOn = (state' ≡ state) × ((later : State → Tree) → accepted coding ending state reply later ≡ later state)
+Accepts coding ending reply state state' (accepts.Asks asking) = (state' ≡ state) × ((later : State → Tree) → accepted coding ending state reply later ≡ asking_of asking state (later state))
+Accepts coding ending reply state state' (accepts.Done answer) = (later : State → Tree) → accepted coding ending state reply later ≡ Leaf answer state'
+
+abbrev pub wants_memory : FtpError → Bool
+wants_memory (ConnectionError cause) = false
+wants_memory (SecureError text) = false
+wants_memory (UnexpectedResponse reply) = false
+wants_memory BadResponse = false
+wants_memory InvalidAddress = false
+wants_memory DataConnectionAlreadyOpen = false
+wants_memory OutOfMemory = true
+wants_memory SessionFailed = false
+
+-- what a fault that is heard in place of a reply comes to: where memory ran out nothing more
+abbrev pub FaultLeavesIf : Bool → Ending → FtpError → State → State → Answer → Type 0
+FaultLeavesIf true ending fault state state' told = (told ≡ Fault fault) × (state' ≡ state)
+FaultLeavesIf false ending fault state state' told = (told ≡ answer_to_fault ending fault) × (state' ≡ after_fault_of ending state)
+
+abbrev pub FaultLeaves : Ending → FtpError → State → State → Answer → Type 0
+FaultLeaves ending fault state state' told = FaultLeavesIf (wants_memory fault) ending fault state state' told
+
+-- out of memory after a dialogue has begun fails the session
+abbrev pub after_fault : Bool → FtpError → SessionValue → SessionValue
+after_fault begun fault v = if wants_memory fault && begun then failed_from v else v
+
+-- a dialogue ends with a fault in place of a reply
+abbrev pub EndsFaulty : Bool → Ending → FtpError → SessionValue → SessionValue → Answer → Type 0
+EndsFaulty begun ending fault old new told =
+    (new ≡ record (after_fault begun fault old) { state = new.state }) × FaultLeaves ending fault (after_fault begun fault old).state new.state told
+
+-- nothing was said or read, and this is left
+pub record Still (link : Link) (tree tree' : Tree) (old new : SessionValue) : Type 0 where
+  pub advances : Advances link tree tree' old new
+  pub none : advances.moves.leads.came ≡ []
+  pub untouched : Untouched link [] old new
+
+-- as long as nothing was said or taken, the transport was asked at most; a plain read asks nothing
+pub record NothingYet (link : Link) (coding : Coding) (call : Call) (stage stage' : Stage) (old new : SessionValue) : Type 0 where
+  pub still : Still link (remaining coding call old.state stage) (remaining coding call old.state stage') old new
+  pub begun : begun_at stage ≡ false
+  pub speaks : Speaks (remaining coding call old.state stage) → Speaks (remaining coding call old.state stage')
+  pub read : is_read call ≡ true → new ≡ old
+
+-- the address of an end of the control connection was looked up; or that failed, which was counted
+abbrev pub LooksUp : Link → End → SessionValue → SessionValue → Result SocketAddr ErrorKind → Type 0
+LooksUp link end old new (Ok address) = (next : SocketAddr → Tree) → Still link (Look end next) (next address) old new
+LooksUp link end old new (Err kind) = (begun : Bool) (next : SocketAddr → Tree) → Aborts link begun (Look end next) (Fault (ConnectionError (Io kind))) old new
+
+-- something was done on the data connection
+abbrev pub MovesBy : Link → Movement → SessionValue → SessionValue → DealOutcome → Type 0
+MovesBy link movement old new outcome = (next : DealOutcome → Tree) → Still link (Move movement next) (next outcome) old new
+
+-- the transport was asked, or will be again
+abbrev pub AsksFor : Link → Request → SessionValue → SessionValue → Poll (Result RequestOutcome AllocError) → Type 0
+AsksFor link request old new (poll.Ready (Ok outcome)) = (next : RequestOutcome → Tree) → Still link (Ask request next) (next outcome) old new
+AsksFor link request old new (poll.Ready (Err full)) = (tree : Tree) → Still link tree tree old new
+AsksFor link request old new poll.Pending = ((tree : Tree) → Still link tree tree old new) × link.asks_wait
+
+-- the builder was asked; or memory ran out, and it wasn't
+abbrev pub BuildsFor : Link → SocketAddr → SessionValue → SessionValue → Result (Option FtpError) AllocError → Type 0
+BuildsFor link address old new (Ok fault) = (next : Option FtpError → Tree) → Still link (Build address next) (next fault) old new
+BuildsFor link address old new (Err full) = (tree : Tree) → Still link tree tree old new
+
+-- a dialogue begins: a line that is said first is said, whatever is kept of a reply
+abbrev pub BeginsHere : Link → Tree → SessionValue → SessionValue → Type 0
+BeginsHere link tree old new = link.tells → Speaks tree ⊎ Resumes old.channel.rule old.channel.kept tree → SaidOrTaken old new
+
+-- a dialogue that has begun had begun before, or something was said or taken; where it hasn't, nothing was
+abbrev pub HasBegun : Link → Bool → Bool → Tree → SessionValue → SessionValue → Type 0
+HasBegun link begun begun' tree old new =
+    (begun' ≡ true → (begun ≡ true) ⊎ BeginsHere link tree old new) × (begun' ≡ false → (begun ≡ false) × NothingTouched link old new)
+
+abbrev pub Tracks : Link → Bool → Bool → Tree → SessionValue → SessionValue → Step → Type 0
+Tracks link begun begun' tree old new Next = HasBegun link begun begun' tree old new
+Tracks link begun begun' tree old new Pending = HasBegun link begun begun' tree old new
+Tracks link begun begun' tree old new (Done answer) = Unit {0}
+
+abbrev pub Quiet : Link → Coding → Call → Stage → Stage → SessionValue → SessionValue → Step → Type 0
+Quiet link coding call stage stage' old new Next = begun_at stage' ≡ false → NothingYet link coding call stage stage' old new
+Quiet link coding call stage stage' old new Pending = Unit {0}
+Quiet link coding call stage stage' old new (Done answer) = Unit {0}
+
+-- a step of an abort
+pub record BreaksOff (link : Link) (coding : Coding) (call : Call) (stage stage' : Stage) (old new : SessionValue) (result : Step) : Type 0 where
+  pub steps : Steps link (begun_at stage) (remaining coding call old.state stage) (remaining coding call old.state stage') old new result
+  pub quiet : Quiet link coding call stage stage' old new result
+  pub begun : Tracks link (begun_at stage) (begun_at stage') (remaining coding call old.state stage) old new result
+  pub answers : StepAnswers call result
+  pub fewer : result ≡ Next → nodes_left stage' < nodes_left stage
+  pub stage_of : StageAfter call stage' result
+
+-- a step on the way to a data connection
+pub record Walks (link : Link) (coding : Coding) (call : Call) (stage stage' : Stage) (old new : SessionValue) (result : Step) : Type 0 where
+  pub steps : Steps link (begun_at stage) (remaining coding call old.state stage) (remaining coding call old.state stage') old new result
+  pub quiet : Quiet link coding call stage stage' old new result
+  pub begun : Tracks link (begun_at stage) (begun_at stage') (remaining coding call old.state stage) old new result
+  pub answers : StepAnswers call result
+  pub fewer : result ≡ Next → nodes_left stage' < nodes_left stage
+  pub stage_of : StageAfter call stage' result
+  pub waits : result ≡ Pending → link.asks_wait
+
+-- an exchange begins, and nothing else happens; or its line is refused, or finds no memory
+pub record IsRefusedLine (coding : Coding) (call : Call) (turn : Turn) (old new : SessionValue) (answer : Answer) : Type 0 where
+  pub fault : FtpError
+  pub is : answer ≡ Fault fault
+  pub cause : IsRefusalOf (line_of coding (says_of (row_of call turn))) fault
+  pub leaves : new ≡ after_fault (is_later turn) fault old
+
+abbrev pub BeginsExchange : Coding → Call → Turn → Stage → SessionValue → SessionValue → Step → Type 0
+BeginsExchange coding call turn stage old new Next = (new ≡ old) × Begun coding call turn stage
+BeginsExchange coding call turn stage old new Pending = ⊥
+BeginsExchange coding call turn stage old new (Done answer) = IsRefusedLine coding call turn old new answer
+
+-- an accepted reply leads to a data connection
+abbrev pub agrees : Ending → Bool
+agrees GivesAddress = true
+agrees GivesPort = true
+agrees (Opens replies) = true
+agrees other = false
+
+abbrev pub AskingAnswers : Kind → Asking → Type 0
+AskingAnswers kind (PeerPort port) = Unit {0}
+AskingAnswers kind (Connection address) = Unit {0}
+AskingAnswers kind (Peer answer) = AnswersKind kind answer
+AskingAnswers kind (Accepting peer left answer) = ⊥
+
+-- the kind of an answer is its ending's
+abbrev pub AnswersAs : Ending → Accepted → Type 0
+AnswersAs ending accepts.GoesOn = (kind_of ending ≡ Nothing) × (is_draining ending ≡ false)
+AnswersAs ending (accepts.Asks asking) = (agrees ending ≡ true) × AskingAnswers (kind_of ending) asking
+AnswersAs ending (accepts.Done answer) = AnswersKind (kind_of ending) answer
+
+-- a reply that was heard is accepted: the next exchange is reached, or the answer with the change of state; where
+-- memory ran out the session has failed
+pub record EndsWith (coding : Coding) (call : Call) (a : Awaits) (reply : Response) (old new : SessionValue) (answer : Answer) : Type 0 where
+  pub leaf : accepted coding a.ending old.state reply (later coding call a.turn) ≡ Leaf answer new.state
+  pub channel : new.channel ≡ old.channel
+  pub net : new.net ≡ old.net
+
+abbrev pub Concludes : Coding → Call → Awaits → Response → Stage → SessionValue → SessionValue → Step → Type 0
+Concludes coding call a reply stage old new Next = (new ≡ old) × (accepted coding a.ending old.state reply (later coding call a.turn) ≡ remaining coding call old.state stage)
+Concludes coding call a reply stage old new Pending = ⊥
+Concludes coding call a reply stage old new (Done answer) = EndsWith coding call a reply old new answer ⊎ ((answer ≡ Fault OutOfMemory) × (new ≡ failed_from old))
+
+-- a call, whole, with how much is kept afterwards
+pub record IsMade (link : Link) (coding : Coding) (call : Call) (old new : SessionValue) (answer : Answer) : Type 0 where
+  pub going : refusal_of call old ≡ Taken
+  pub apart : is_local call ≡ true → new.channel ≡ old.channel
+  pub last : SessionValue
+  pub plays : Ends link (dialogue coding call old.state) answer (begun_by call old) last ⊎ Aborts link false (dialogue coding call old.state) answer (begun_by call old) last
+  pub lets_go : LetsGo link.tells last new
+
+abbrev pub Made : Link → Coding → Call → SessionValue → SessionValue → Answer → Type 0
+Made link coding call old new answer = IsRefused link.tells call old new answer ⊎ IsMade link coding call old new answer
+
+-- the same, after the last reply of a transfer that was left, where one is due
+pub record MadeDrained (link : Link) (coding : Coding) (call : Call) (old new : SessionValue) (answer : Answer) : Type 0 where
+  pub makes : DrainsIf (due_of call old) (Made link coding) call old new answer
+
+-- why a call isn't made whose arguments found no memory
+abbrev pub withheld : SessionValue → FtpError
+withheld v = if v.channel.failed then SessionFailed else OutOfMemory
+
+-- a stranger was dropped: another may come, or the one after so many was as good as the deadline
+abbrev pub dropped : SessionValue → SessionValue
+dropped v = record v { net = record v.net { data_conn = None } }
+
+abbrev pub TurnsAway : Turn → SocketAddr → ℕ → Answer → Stage → SessionValue → SessionValue → Step → Type 0
+TurnsAway turn peer left answer stage old new Next = (rest : ℕ) × (left ≡ suc rest) × (stage ≡ Agreeing (Asks turn (Accepting peer rest answer))) × (new ≡ dropped old)
+TurnsAway turn peer left answer stage old new Pending = ⊥
+TurnsAway turn peer left answer stage old new (Done last) = (left ≡ zero) × (last ≡ Fault (ConnectionError TimedOut)) × (new ≡ old)
+
+-- a connection was made, and the next turn begins; or it was refused
+abbrev pub ConnectsTo : Call → Turn → RequestOutcome → Stage → Step → Type 0
+ConnectsTo call turn outcomes.Done stage result = GoesOnTo call turn stage result
+ConnectsTo call turn (outcomes.Address address) stage result = GoesOnTo call turn stage result
+ConnectsTo call turn (outcomes.Refused fault) stage result = result ≡ Done (Fault (ConnectionError fault))
+
+-- a peer came: one that is let in opens the transfer, another is dropped; or none came
+abbrev pub MeetsIf : Bool → Turn → SocketAddr → ℕ → Answer → Stage → SessionValue → SessionValue → Step → Type 0
+MeetsIf true turn peer left answer stage old new result = (result ≡ Done answer) × (new ≡ record old { state = with_transfer old.state })
+MeetsIf false turn peer left answer stage old new result = TurnsAway turn peer left answer stage old new result
+
+abbrev pub Meets : RequestOutcome → Turn → SocketAddr → ℕ → Answer → Stage → SessionValue → SessionValue → Step → Type 0
+Meets (outcomes.Address from) turn peer left answer stage old new result = MeetsIf (lets_in old.state peer from) turn peer left answer stage old new result
+Meets (outcomes.Refused fault) turn peer left answer stage old new result = (new ≡ old) × (result ≡ Done (Fault (ConnectionError fault)))
+Meets outcomes.Done turn peer left answer stage old new result = (new ≡ old) × (result ≡ Done (Fault (ConnectionError NoAddress)))
+
+-- a setting changes; or there is no memory for a copy of it, and nothing does
+abbrev pub Sets : Setting → SessionValue → SessionValue → Answer → Type 0
+Sets setting old new answer =
+    ((answer ≡ answers.Unit) × (new ≡ record old { state = set_to setting old.state })) ⊎ ((answer ≡ Fault OutOfMemory) × (new ≡ old))
+
+-- the movement is of no byte
+abbrev pub moves_nothing : Movement → Bool
+moves_nothing (movement.Read most) = most == 0
+moves_nothing (movement.Write bytes) = length bytes == 0
+moves_nothing movement.Close = false
+
+abbrev pub nothing_moved : Movement → Answer
+nothing_moved (movement.Read most) = answers.Bytes []
+nothing_moved (movement.Write bytes) = answers.Count 0
+nothing_moved movement.Close = answers.Unit
+
+-- what a movement answers, and leaves: after a close the transfer is left
+abbrev pub answer_moved : Movement → DealOutcome → Answer
+answer_moved (movement.Read most) outcome = moved_answer outcome
+answer_moved (movement.Write bytes) outcome = moved_answer outcome
+answer_moved movement.Close outcome = answers.Unit
+
+abbrev pub state_moved : Movement → State → State
+state_moved (movement.Read most) state = state
+state_moved (movement.Write bytes) state = state
+state_moved movement.Close state = with_left state
+
+-- bytes went over the data connection, and that is the answer; or it was closed, and the transfer is left; or there were
+-- no bytes to go, or no memory for those that are read, and nothing happened
+pub record CarriesBy (tells : Type 0) (movement : Movement) (old new : SessionValue) (answer : Answer) : Type 0 where
+  pub outcome : DealOutcome
+  pub some : moves_nothing movement ≡ false
+  pub is : answer ≡ answer_moved movement outcome
+  pub beside : new ≡ record old { state = state_moved movement old.state; net = new.net }
+  pub deal : tells → MovementIs movement outcome old.net new.net
+  pub apart : IsApart (answer_moved movement outcome)
+
+-- a read needs memory for its bytes
+abbrev pub needs_memory : Movement → Bool
+needs_memory (movement.Read most) = true
+needs_memory (movement.Write bytes) = false
+needs_memory movement.Close = false
+
+abbrev pub Carries : Type 0 → Movement → SessionValue → SessionValue → Answer → Type 0
+Carries tells movement old new answer =
+    CarriesBy tells movement old new answer ⊎ ((moves_nothing movement ≡ true) × (answer ≡ nothing_moved movement) × (new ≡ old)) ⊎ ((needs_memory movement ≡ true) × (answer ≡ Fault OutOfMemory) × (new ≡ old))
+
+-- an abort is dropped: the data connection of the transfer, which was left as it began, is closed and handed back; the
+-- transfer was aborted where ABOR has gone out whole, and else its last reply is still owed
+abbrev pub after_abort : Bool → State → State
+after_abort out state = if out then with_aborted state else state
+
+pub record DropsAbort (tells : Type 0) (stage : Stage) (old new : SessionValue) : Type 0 where
+  pub closed : SessionValue
+  pub lets_go : LetsGo tells old closed
+  pub counts : new ≡ record closed { state = after_abort (is_out stage) closed.state }
+
+-- what a call does that is none of the control connection
+abbrev pub DoesRow : Row → Type 0 → SessionValue → SessionValue → Answer → Type 0
+DoesRow (Exchanges exchange) tells old new answer = ⊥
+DoesRow (Arms offset) tells old new answer = ⊥
+DoesRow (row.Sets setting) tells old new answer = Sets setting old new answer
+DoesRow (row.Moves movement) tells old new answer = Carries tells movement old new answer
+
+pub record CarriedOut (tells : Type 0) (call : Call) (old new : SessionValue) (answer : Answer) : Type 0 where
+  pub going : refusal_of call old ≡ Taken
+  pub last : SessionValue
+  pub does : DoesRow (row_of call First) tells old last answer
+  pub lets_go : LetsGo tells last new
+
+-- it is refused, or carried out
+abbrev pub CarriesOut : Type 0 → Call → SessionValue → SessionValue → Answer → Type 0
+CarriesOut tells call old new answer = IsRefused tells call old new answer ⊎ CarriedOut tells call old new answer

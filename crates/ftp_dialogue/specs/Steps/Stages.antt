@@ -1,0 +1,290 @@
+-- The stages of a call: what of its dialogue is left at each.
+use Rattle.std.specs.Prelude.{◌≡◌, ◌<◌, ◌-◌, ◌+◌, ◌⊎◌, ℕ, Bool, true, false, Option, Some, None, is_none, List, [], Result, Ok, Err}
+use Rattle.futures.specs.declared.task.Poll.{Poll}
+use Rattle.futures.specs.declared.task.Poll.TheVariants.{Ready, Pending}
+use Rattle.ftp_base.specs.declared.command.Command.{Command}
+use Rattle.ftp_base.specs.Command.{text_of}
+use Rattle.ftp_base.specs.Wire.{wire}
+use Rattle.ftp_base.specs.declared.types.fault.FtpError.{FtpError}
+use Rattle.ftp_base.specs.declared.types.fault.ConnectionError.{ConnectionError as Cause}
+use Rattle.ftp_control.specs.Refusal.{IsRefusalOf}
+use Rattle.ftp_control.specs.Saying.{due}
+use Rattle.ftp_dialogue.specs.declared.state.State.{State}
+use Rattle.ftp_base.specs.declared.types.mode.Mode.{Mode}
+use Rattle.ftp_base.specs.declared.types.mode.Mode.TheVariants as mode
+use Rattle.ftp_calls.specs.declared.call.Call.{Call}
+use Rattle.ftp_calls.specs.declared.call.Answer.{Answer}
+use Rattle.ftp_calls.specs.declared.call.Answer.TheVariants as answer
+use Rattle.ftp_calls.specs.declared.exchange.Turn.{Turn}
+use Rattle.ftp_calls.specs.declared.exchange.Turn.TheVariants.{First, Second, Passive, ExtendedPassive, Active, Restart, Closed, Aborted}
+use Rattle.ftp_calls.specs.declared.exchange.Exchange.{Exchange}
+use Rattle.ftp_dialogue.specs.declared.stage.Awaits.{Awaits}
+use Rattle.ftp_dialogue.specs.declared.stage.Stage.{Stage}
+use Rattle.ftp_dialogue.specs.declared.stage.Stage.TheVariants.{At, Saying, Hearing, Arming, Agreeing, Closing, Aborting}
+use Rattle.ftp_dialogue.specs.declared.stage.Agreeing.{Agreeing as Way}
+use Rattle.ftp_dialogue.specs.declared.stage.Agreeing.TheVariants.{Negotiating, Locating, Binding, Asking}
+use Rattle.ftp_dialogue.specs.declared.stage.Aborting.{Aborting as Abort}
+use Rattle.ftp_dialogue.specs.declared.stage.Aborting.TheVariants.{Wording, Sending, Parting}
+use Rattle.ftp_dialogue.specs.declared.stage.Asking.{Asking as Asked}
+use Rattle.ftp_dialogue.specs.declared.stage.Asking.TheVariants.{PeerPort, Connection, Peer, Accepting}
+use Rattle.ftp_dialogue.specs.declared.stage.Step.{Step}
+use Rattle.ftp_dialogue.specs.declared.stage.Step.TheVariants as step
+use Rattle.ftp_dialogue.specs.Coding.{Coding}
+use Rattle.ftp_dialogue.specs.Promises.{IsFault}
+use Rattle.ftp_calls.specs.declared.exchange.Row.TheVariants.{Arms}
+use Rattle.ftp_calls.specs.Exchanges.{row_of, aborts, finishes, is_local, is_read, negotiates, next_turn, of_transfer, Movements, Kind, Nothing, Replies, Texts, Times, Sizes, Lists, Connections, ending_of, given_by, says_of}
+use Rattle.ftp_dialogue.specs.Dialogue.{expected_of, Tree, Say, Look, There, Leaf, armed, awaiting, aborting, breaking_off, closing, later, from_turn, negotiating, listening, listening_at, connecting_to, connecting_to_peer, accepting, strangers}
+
+-- an exchange was made before
+abbrev pub is_later : Turn → Bool
+is_later First = false
+is_later Second = true
+is_later (Passive offset) = false
+is_later (ExtendedPassive offset) = false
+is_later (Active address offset) = false
+is_later (Restart offset) = true
+is_later (Closed close) = false
+is_later Aborted = true
+
+-- what an outcome is awaited for, on the way to a data connection
+abbrev pub asking_of : Asked → State → Tree → Tree
+asking_of (PeerPort port) state next = connecting_to_peer port state next
+asking_of (Connection address) state next = connecting_to address state next
+asking_of (Peer answer) state next = Look There (λ peer. accepting answer peer strangers state)
+asking_of (Accepting peer left answer) state next = accepting answer peer left state
+
+-- a reply is awaited
+abbrev pub awaited : Coding → Call → State → Awaits → Tree
+awaited coding call state a = awaiting coding (expected_of a.hears) a.ending state (later coding call a.turn)
+
+-- the first node on the way, by who opens the data connection
+abbrev pub first_by : Mode → ℕ → Stage
+first_by mode.Active offset = Agreeing (Locating offset)
+first_by mode.Passive offset = At (Passive offset)
+first_by mode.ExtendedPassive offset = At (ExtendedPassive offset)
+
+-- what is left of the way to a data connection, and of what comes after it
+abbrev pub way_of : Coding → Call → State → Way → Tree
+way_of coding call state (Negotiating offset) = negotiating coding call offset state
+way_of coding call state (Locating offset) = listening coding call offset state
+way_of coding call state (Binding local offset) = listening_at coding call offset state local
+way_of coding call state (Asking turn asking) = asking_of asking state (later coding call turn state)
+
+-- what is left of an abort
+abbrev pub abort_left : Coding → Call → State → Abort → Tree
+abort_left coding call state Wording = aborting coding call state
+abort_left coding call state (Sending line) = Say (Ok (due line)) (breaking_off coding call state)
+abort_left coding call state Parting = breaking_off coding call state
+
+-- what is left of a call's dialogue
+abbrev pub remaining : Coding → Call → State → Stage → Tree
+remaining coding call state (At turn) = from_turn coding call turn state
+remaining coding call state (Saying line a) = Say (Ok (due line)) (awaited coding call state a)
+remaining coding call state (Hearing a) = awaited coding call state a
+remaining coding call state (Arming turn offset) = Leaf answer.Unit (armed offset state)
+remaining coding call state (Agreeing agreeing) = way_of coding call state agreeing
+remaining coding call state Closing = closing coding call state
+remaining coding call state (Aborting abort) = abort_left coding call state abort
+
+-- a reply was taken on that way
+abbrev pub has_asked : Way → Bool
+has_asked (Negotiating offset) = false
+has_asked (Locating offset) = false
+has_asked (Binding local offset) = false
+has_asked (Asking turn asking) = true
+
+-- ABOR goes out, or has
+abbrev pub has_sent : Abort → Bool
+has_sent Wording = false
+has_sent (Sending None) = true
+has_sent (Sending (Some line)) = false
+has_sent Parting = true
+
+-- ABOR has gone out whole, where the call is an abort
+abbrev pub is_out : Stage → Bool
+is_out (Aborting Wording) = false
+is_out (Aborting (Sending line)) = false
+is_out (At First) = false
+is_out stage = true
+
+-- something of the dialogue was said or taken
+abbrev pub begun_at : Stage → Bool
+begun_at (At turn) = is_later turn
+begun_at (Saying None a) = true
+begun_at (Saying (Some line) a) = a.begun
+begun_at (Hearing a) = a.begun
+begun_at (Arming turn offset) = is_later turn
+begun_at (Agreeing agreeing) = has_asked agreeing
+begun_at Closing = false
+begun_at (Aborting abort) = has_sent abort
+
+-- the nodes that are left
+abbrev pub nodes_from : Turn → ℕ
+nodes_from First = strangers + 80
+nodes_from (Passive offset) = strangers + 40
+nodes_from (ExtendedPassive offset) = strangers + 40
+nodes_from (Active address offset) = strangers + 40
+nodes_from (Restart offset) = strangers + 30
+nodes_from Second = strangers + 20
+nodes_from (Closed close) = strangers + 20
+nodes_from Aborted = strangers + 25
+
+abbrev pub nodes_asked : Asked → Turn → ℕ
+nodes_asked (PeerPort port) turn = nodes_from turn - 3
+nodes_asked (Connection address) turn = nodes_from turn - 4
+nodes_asked (Peer answer) turn = nodes_from turn - 3
+nodes_asked (Accepting peer left answer) turn = left + 1
+
+abbrev pub nodes_of : Way → ℕ
+nodes_of (Negotiating offset) = strangers + 70
+nodes_of (Locating offset) = strangers + 60
+nodes_of (Binding local offset) = strangers + 50
+nodes_of (Asking turn asking) = nodes_asked asking turn
+
+abbrev pub nodes_of_abort : Abort → ℕ
+nodes_of_abort Wording = strangers + 33
+nodes_of_abort (Sending line) = strangers + 32
+nodes_of_abort Parting = strangers + 31
+
+abbrev pub nodes_left : Stage → ℕ
+nodes_left (At turn) = nodes_from turn
+nodes_left (Saying line a) = nodes_from a.turn - 1
+nodes_left (Hearing a) = nodes_from a.turn - 2
+nodes_left (Arming turn offset) = nodes_from turn - 1
+nodes_left (Agreeing agreeing) = nodes_of agreeing
+nodes_left Closing = strangers + 30
+nodes_left (Aborting abort) = nodes_of_abort abort
+
+-- the line of a command, where there is one
+abbrev pub line_of : Coding → Option Command → Result (List ℕ) Cause
+line_of coding None = Ok []
+line_of coding (Some command) = wire coding.encode (text_of command)
+
+-- the first node of an exchange, or the refusal of its line
+abbrev pub awaits_of : Turn → Exchange → Awaits
+awaits_of turn exchange = record { turn = turn; begun = is_later turn; hears = exchange.hears; ending = exchange.ending }
+
+abbrev pub NodeOf : Coding → Turn → Exchange → Stage → Type 0
+NodeOf coding turn exchange (At other) = ⊥
+NodeOf coding turn exchange (Saying line a) = (line_of coding exchange.says ≡ Ok (due line)) × (is_none line ≡ false) × (is_none exchange.says ≡ false) × (a ≡ awaits_of turn exchange)
+NodeOf coding turn exchange (Hearing a) = (exchange.says ≡ None) × (a ≡ awaits_of turn exchange)
+NodeOf coding turn exchange (Arming other offset) = ⊥
+NodeOf coding turn exchange (Agreeing agreeing) = ⊥
+NodeOf coding turn exchange Closing = ⊥
+NodeOf coding turn exchange (Aborting abort) = ⊥
+
+abbrev pub FirstNode : Coding → Turn → Exchange → Result Stage FtpError → Type 0
+FirstNode coding turn exchange (Ok stage) = NodeOf coding turn exchange stage
+FirstNode coding turn exchange (Err fault) = IsRefusalOf (line_of coding exchange.says) fault
+
+-- an answer of a kind, or a fault
+abbrev pub AnswersKind : Kind → Answer → Type 0
+AnswersKind kind answer.Unit = kind ≡ Nothing
+AnswersKind kind (answer.Reply reply) = kind ≡ Replies
+AnswersKind kind (answer.Text text) = kind ≡ Texts
+AnswersKind kind (answer.Time time) = kind ≡ Times
+AnswersKind kind (answer.Size size) = kind ≡ Sizes
+AnswersKind kind (answer.Features features) = kind ≡ Lists
+AnswersKind kind answer.Opened = kind ≡ Connections
+AnswersKind kind (answer.OpenedWith reply) = kind ≡ Connections
+AnswersKind kind (answer.Bytes bytes) = kind ≡ Movements
+AnswersKind kind (answer.Count count) = kind ≡ Movements
+AnswersKind kind answer.NoTransfer = kind ≡ Movements
+AnswersKind kind (answer.Fault fault) = Unit {0}
+
+-- the turns of a call that goes over the control connection: one that opens a data connection negotiates first, one that
+-- brings a transfer to its end has closed its data connection, and a plain read has one exchange
+abbrev pub TurnOf : Call → Turn → Type 0
+TurnOf call First = (negotiates call ≡ false) × (is_local call ≡ false) × (finishes call ≡ false)
+TurnOf call Second = (is_read call ≡ false) × (is_local call ≡ false)
+TurnOf call (Passive offset) = negotiates call ≡ true
+TurnOf call (ExtendedPassive offset) = negotiates call ≡ true
+TurnOf call (Active address offset) = negotiates call ≡ true
+TurnOf call (Restart offset) = negotiates call ≡ true
+TurnOf call (Closed close) = finishes call ≡ true
+TurnOf call Aborted = aborts call ≡ true
+
+-- the kind of an answer is that of some exchange of the call, or it is a fault
+abbrev pub MayAnswer : Call → Answer → Type 0
+MayAnswer call answer = (turn : Turn) × (TurnOf call turn ⊎ IsFault answer) × AnswersKind (given_by (row_of call turn)) answer
+
+-- the answer that is kept while an outcome is awaited
+abbrev pub AskingOf : Call → Asked → Type 0
+AskingOf call (PeerPort port) = Unit {0}
+AskingOf call (Connection address) = Unit {0}
+AskingOf call (Peer answer) = MayAnswer call answer
+AskingOf call (Accepting peer left answer) = MayAnswer call answer
+
+abbrev pub WayOf : Call → Way → Type 0
+WayOf call (Negotiating offset) = Unit {0}
+WayOf call (Locating offset) = Unit {0}
+WayOf call (Binding local offset) = Unit {0}
+WayOf call (Asking turn asking) = AskingOf call asking
+
+-- the stages of a call; a plain read says nothing
+abbrev pub StageOf : Call → Stage → Type 0
+StageOf call (At turn) = TurnOf call turn
+StageOf call (Saying line a) = (ending_of (row_of call a.turn) ≡ Some a.ending) × (is_read call ≡ false) × TurnOf call a.turn
+StageOf call (Hearing a) = (ending_of (row_of call a.turn) ≡ Some a.ending) × (a.begun ≡ true → is_read call ≡ false) × TurnOf call a.turn
+StageOf call (Arming turn offset) = (row_of call turn ≡ Arms offset) × TurnOf call turn
+StageOf call (Agreeing agreeing) = (negotiates call ≡ true) × WayOf call agreeing
+StageOf call Closing = finishes call ≡ true
+StageOf call (Aborting abort) = aborts call ≡ true
+
+-- where a call stands after a step that doesn't end it
+abbrev pub StageAfter : Call → Stage → Step → Type 0
+StageAfter call stage step.Next = StageOf call stage
+StageAfter call stage step.Pending = StageOf call stage
+StageAfter call stage (step.Done answer) = Unit {0}
+
+abbrev pub StepAnswers : Call → Step → Type 0
+StepAnswers call step.Next = Unit {0}
+StepAnswers call step.Pending = Unit {0}
+StepAnswers call (step.Done answer) = MayAnswer call answer
+
+abbrev pub PollAnswers : Call → Poll Answer → Type 0
+PollAnswers call (Ready answer) = MayAnswer call answer
+PollAnswers call Pending = Unit {0}
+
+-- a call says and hears, and needs no data connection
+abbrev pub IsPlain : Call → Type 0
+IsPlain call = (negotiates call ≡ false) × (is_local call ≡ false) × (of_transfer call ≡ false)
+
+-- each exchange of a call gives this, and no data connection is needed
+abbrev pub Gives : Kind → Call → Type 0
+Gives kind call = (given_by (row_of call First) ≡ kind) × (given_by (row_of call Second) ≡ kind) × IsPlain call
+
+abbrev pub GivesNothing : Call → Type 0
+GivesNothing call = Gives Nothing call
+
+abbrev pub GivesReply : Call → Type 0
+GivesReply call = Gives Replies call
+
+abbrev pub GivesText : Call → Type 0
+GivesText call = Gives Texts call
+
+abbrev pub GivesTime : Call → Type 0
+GivesTime call = Gives Times call
+
+abbrev pub GivesSize : Call → Type 0
+GivesSize call = Gives Sizes call
+
+abbrev pub GivesFeatures : Call → Type 0
+GivesFeatures call = Gives Lists call
+
+-- an exchange begins: its first node, or the refusal of its line
+pub record Begun (coding : Coding) (call : Call) (turn : Turn) (stage : Stage) : Type 0 where
+  pub same : (state : State) → remaining coding call state stage ≡ from_turn coding call turn state
+  pub fewer : nodes_left stage < nodes_from turn
+  pub stage_of : StageOf call stage
+  pub begun : begun_at stage ≡ is_later turn
+
+abbrev pub Begins : Coding → Call → Turn → Result Stage FtpError → Type 0
+Begins coding call turn (Ok stage) = Begun coding call turn stage
+Begins coding call turn (Err fault) = IsRefusalOf (line_of coding (says_of (row_of call turn))) fault
+
+-- the next turn begins, or the call is done
+abbrev pub GoesOnTo : Call → Turn → Stage → Step → Type 0
+GoesOnTo call turn stage step.Next = (next : Turn) × (next_turn call turn ≡ Some next) × (stage ≡ At next)
+GoesOnTo call turn stage step.Pending = ⊥
+GoesOnTo call turn stage (step.Done last) = (next_turn call turn ≡ None) × (last ≡ answer.Unit)

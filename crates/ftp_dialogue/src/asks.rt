@@ -1,0 +1,175 @@
+//! How the machine asks its transport, and the caller's builder.
+//!
+//! Most calls ask nothing, and take no runtime; so the machine is passed what asks for it: a runtime, by which its
+//! transport is polled, with the builder, where there is one; or nothing, of which no contract says anything.
+
+ghost use Rattle.std.specs.Prelude.{◌≡◌, None, Result};
+ghost use Rattle.std.specs.declared.net.socket_addr.SocketAddr.{SocketAddr as Address};
+ghost use Rattle.ftp_base.specs.declared.types.fault.FtpError.{FtpError as Faults};
+ghost use Rattle.ftp_control.specs.Told.{Told};
+ghost use Rattle.ftp_dialogue.specs.Link.{built_by};
+ghost use Rattle.futures.specs.declared.task.Poll.TheVariants as poll;
+ghost use Rattle.ftp_control.specs.Asking.{Asks as Records, Supplies, built_as, comes_as, connects_as, done, done_at};
+ghost use Rattle.ftp_control.specs.declared.transport.request.Request.TheVariants.{Accept, Connect, Listen};
+
+use ftp_base::types::{ConnectionError, FtpError, FtpResult};
+use ftp_control::transport::{
+    Accepted, Connected, Listening, Network, PassiveStreamBuilder, PollTransport,
+};
+use futures::task::Poll;
+use std::alloc::AllocError;
+use std::net::SocketAddr;
+use std::time::Duration;
+
+/// What asks a transport, and a builder, for the machine.
+pub trait Asks<Tr: Network, W> {
+    /// Whether it may be used.
+    ghost may_ask: { Type 0 };
+
+    /// Whether a request may have to wait.
+    ghost may_wait: { Type 0 };
+
+    /// What the builder may answer for an address.
+    ghost builds: { Self → Address → Result Told Faults → Type 0 };
+
+    /// Asks the builder for a connection to this address.
+    fn build(&self, address: SocketAddr) -> FtpResult<Tr::Conn>
+        ensures builds { may_ask → builds self.now address (built_as Tr.Conn.told result) };
+
+    /// Asks for a connection to this address.
+    fn connect(
+        &self,
+        transport: &mut Tr,
+        w: &mut W,
+        address: SocketAddr,
+    ) -> Poll<Connected<Tr::Conn>>
+        ensures waits { may_ask → result ≡ poll.Pending → may_wait }
+        ensures asks { may_ask → Tr.Conn.tells → Records (Connect address None) done result
+            (Tr.asked transport.old) (Tr.asked transport.new) }
+        ensures supplies { may_ask → Tr.Conn.tells → Supplies (connects_as Tr.Conn.told) Tr.refuses
+            result (Tr.ready transport.old) (Tr.ready transport.new) }
+        ensures closed { Tr.closed transport.new ≡ Tr.closed transport.old }
+        ensures room { Tr.has_room transport.old → Tr.has_room transport.new };
+
+    /// Asks for a listener on this address.
+    fn listen(
+        &self,
+        transport: &mut Tr,
+        w: &mut W,
+        address: SocketAddr,
+    ) -> Poll<Listening<Tr::Listener>>
+        ensures waits { may_ask → result ≡ poll.Pending → may_wait }
+        ensures asks { may_ask → Tr.Conn.tells → Records (Listen address) done_at result
+            (Tr.asked transport.old) (Tr.asked transport.new) }
+        ensures ready { may_ask → Tr.ready transport.new ≡ Tr.ready transport.old }
+        ensures closed { Tr.closed transport.new ≡ Tr.closed transport.old }
+        ensures room { Tr.has_room transport.old → Tr.has_room transport.new };
+
+    /// Asks for a peer's connection.
+    fn accept(
+        &self,
+        transport: &mut Tr,
+        w: &mut W,
+        listener: &mut Tr::Listener,
+        deadline: Duration,
+    ) -> Poll<Accepted<Tr::Conn>>
+        ensures waits { may_ask → result ≡ poll.Pending → may_wait }
+        ensures asks { may_ask → Tr.Conn.tells → Records (Accept deadline) done_at result
+            (Tr.asked transport.old) (Tr.asked transport.new) }
+        ensures supplies { may_ask → Tr.Conn.tells → Supplies (comes_as Tr.Conn.told)
+            Tr.accept_refuses result (Tr.ready transport.old) (Tr.ready transport.new) }
+        ensures closed { Tr.closed transport.new ≡ Tr.closed transport.old }
+        ensures room { Tr.has_room transport.old → Tr.has_room transport.new };
+}
+
+/// Asks by a runtime, and a builder, where there is one.
+#[derive(Drop)]
+pub struct By<'r, R, B>(pub &'r R, pub &'r Option<B>);
+
+impl<'r, R, W, Tr: PollTransport<R, W>, B: PassiveStreamBuilder<Tr::Conn>> Asks<Tr, W>
+    for By<'r, R, B> {
+    ghost may_ask = { Unit {0} };
+
+    ghost may_wait = { Tr.PollTransport.may_wait };
+
+    ghost builds = { λ by. built_by B.PassiveStreamBuilder.answers by.1.now };
+
+    fn build(&self, address: SocketAddr) -> FtpResult<Tr::Conn> {
+        match self.1 {
+            Some(builder) => builder.build(address),
+            None => Err(FtpError::ConnectionError(ConnectionError::NoAddress)),
+        }
+    }
+
+    fn connect(
+        &self,
+        transport: &mut Tr,
+        w: &mut W,
+        address: SocketAddr,
+    ) -> Poll<Connected<Tr::Conn>> {
+        transport.poll_connect(self.0, w, address, None)
+    }
+
+    fn listen(
+        &self,
+        transport: &mut Tr,
+        w: &mut W,
+        address: SocketAddr,
+    ) -> Poll<Listening<Tr::Listener>> {
+        transport.poll_listen(self.0, w, address)
+    }
+
+    fn accept(
+        &self,
+        transport: &mut Tr,
+        w: &mut W,
+        listener: &mut Tr::Listener,
+        deadline: Duration,
+    ) -> Poll<Accepted<Tr::Conn>> {
+        transport.poll_accept(self.0, w, listener, deadline)
+    }
+}
+
+/// Asks nothing: what the calls are passed that open no data connection.
+#[derive(Drop)]
+pub struct Nothing;
+
+impl<Tr: Network, W> Asks<Tr, W> for Nothing {
+    ghost may_ask = { ⊥ };
+
+    ghost may_wait = { ⊥ };
+
+    ghost builds = { λ _ _ _. ⊥ };
+
+    fn build(&self, _address: SocketAddr) -> FtpResult<Tr::Conn> {
+        Err(FtpError::ConnectionError(ConnectionError::NoAddress))
+    }
+
+    fn connect(
+        &self,
+        _transport: &mut Tr,
+        _w: &mut W,
+        _address: SocketAddr,
+    ) -> Poll<Connected<Tr::Conn>> {
+        Poll::Ready(Err(AllocError))
+    }
+
+    fn listen(
+        &self,
+        _transport: &mut Tr,
+        _w: &mut W,
+        _address: SocketAddr,
+    ) -> Poll<Listening<Tr::Listener>> {
+        Poll::Ready(Err(AllocError))
+    }
+
+    fn accept(
+        &self,
+        _transport: &mut Tr,
+        _w: &mut W,
+        _listener: &mut Tr::Listener,
+        _deadline: Duration,
+    ) -> Poll<Accepted<Tr::Conn>> {
+        Poll::Ready(Err(AllocError))
+    }
+}

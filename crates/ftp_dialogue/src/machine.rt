@@ -1,0 +1,98 @@
+//! The state that all dialogues share.
+//!
+//! It is a session without its encoding, since what a contract sees of a machine is plain data, and an encoding is two
+//! functions. `transitions` plays dialogues on it; the session's `run` and `run_polled` play lists of them.
+
+use super::carrying::pass_over;
+use super::state::{Owed, State};
+use ftp_control::control::ControlChannel;
+use ftp_control::transport::Network;
+use std::alloc::Global;
+use std::marker::Model;
+
+/// A transport, the control channel on one of its connections, and the state of the dialogues. Beside them stand the
+/// listener while a data connection is waited for, and the data connection, from the moment that it was made. As long as
+/// it stands there is room for its record where it is handed back to.
+#[derive(Drop)]
+pub struct Machine<Tr: Network> {
+    /// The transport, which makes the data connections.
+    pub transport: Tr,
+    /// The control channel.
+    pub channel: ControlChannel<Tr::Conn>,
+    /// What the dialogues change.
+    pub state: State,
+    pub(crate) listener: Option<Tr::Listener>,
+    /// The data connection, unless it was handed out.
+    pub data_conn: Option<Tr::Conn>,
+}
+
+impl<Tr: Network> Model for Machine<Tr> {
+    ghost use Rattle.std.specs.Prelude.{◌≡◌, false, is_none, option_map};
+    ghost use Rattle.ftp_dialogue.specs.State.{SessionValue};
+
+    ghost Value = { SessionValue };
+
+    ghost view = { λ m. record {
+      channel = m.channel;
+      state = m.state;
+      net = record {
+        asked = Tr.asked m.transport;
+        ready = Tr.ready m.transport;
+        closed = Tr.closed m.transport;
+        data_conn = option_map (λ conn. Tr.Conn.told conn) m.data_conn;
+      };
+    } };
+
+    ghost invariant = { λ m. is_none m.data_conn ≡ false → Tr.has_room m.transport };
+}
+
+impl<Tr: Network> Machine<Tr> {
+    ghost use Rattle.std.specs.Prelude.{◌≡◌, is_none};
+    ghost use Rattle.ftp_control.specs.Channel.{IsSound};
+    ghost use Rattle.ftp_dialogue.specs.Deals.{first_net};
+    ghost use Rattle.ftp_dialogue.specs.Sound.{Sound, holds};
+    ghost use Rattle.ftp_dialogue.specs.State.{Begins, LetsGo};
+
+    /// A machine on a connection. Nothing is read and nothing is sent.
+    pub fn new(alloc: Global, transport: Tr, conn: Tr::Conn) -> Machine<Tr>
+        ensures begins { Begins Tr.Conn.tells (Tr.Conn.told conn)
+            (first_net (Tr.asked transport) (Tr.ready transport) (Tr.closed transport)) result }
+        ensures sound { IsSound Tr.Conn.tells result.channel }
+    {
+        Machine {
+            transport,
+            channel: ControlChannel::new(alloc, conn),
+            state: State::new(),
+            listener: None,
+            data_conn: None,
+        }
+    }
+
+    /// A call is done: its listener is closed, and a data connection that carries no transfer. That of a transfer that
+    /// was left is closed and handed back.
+    pub(super) fn let_go(&mut self)
+        ensures { LetsGo Tr.Conn.tells self.old self.new }
+    {
+        self.listener = None;
+        match self.state.counts.owed() {
+            Owed::Nothing => self.data_conn = None,
+            Owed::Live(_) => {}
+            Owed::Left(_) => pass_over(self.close_data()),
+        }
+    }
+
+    /// Whether a transfer is held: it is live, and its data connection wasn't handed out.
+    pub fn holds_transfer(&self) -> bool
+        ensures { result ≡ holds (is_none self.now.net.data_conn) self.now.state.counts.owed }
+    {
+        matches!(self.state.counts.owed(), Owed::Live(_)) && self.data_conn.is_some()
+    }
+
+    /// What always holds of a machine: its channel and its counts are sound. Nothing happens.
+    pub fn holds(&self)
+        ensures { Sound Tr.Conn.tells self.now.channel self.now.state.counts }
+    {
+        self.state.counts.opened();
+        self.channel.untaken();
+    }
+}

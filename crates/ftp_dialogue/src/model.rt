@@ -1,0 +1,155 @@
+//! What the definitions of runs speak of: where a run stands, what a call and a run come to, and what events made of
+//! a session.
+//!
+//! They are types of code and not of specs alone, so that the definitions can be computed, and a session be compared
+//! with them.
+
+use crate::{Answer, Call, State};
+use ftp_base::types::{Bytes, FtpError, Items};
+use ftp_control::control::{ReplyForm, ReplyRule};
+use ftp_control::transport::{Request, RequestOutcome, Room};
+use std::io::ErrorKind;
+use std::net::SocketAddr;
+
+/// What went over a data connection.
+#[derive(Clone, Drop)]
+pub struct Traffic {
+    /// The bytes that were read from it.
+    pub received: Bytes,
+    /// The bytes that were written to it.
+    pub sent: Bytes,
+}
+
+/// What stands beside the control connection.
+#[derive(Clone, Drop)]
+pub struct Dealings {
+    /// What the transport and the builder were asked, in order.
+    pub asked: Items<Request>,
+    /// What went over the data connections that were closed and handed back, in order.
+    pub closed: Items<Traffic>,
+    /// What went over the data connection, from the moment that it was made.
+    pub data_conn: Option<Traffic>,
+}
+
+/// What the transport or the builder was asked for, or what was done on the data connection, came to.
+#[derive(Clone, Drop)]
+pub enum DealOutcome {
+    /// A request of the transport came to this.
+    Answered(RequestOutcome),
+    /// The caller's builder made a connection; or gave this fault.
+    Built(Option<FtpError>),
+    /// A read gave these bytes; none at the end.
+    Read(Bytes),
+    /// A write took so many bytes.
+    Wrote(usize),
+    /// A close was done.
+    Closed,
+    /// A read, a write or a close failed.
+    Failed(ErrorKind),
+}
+
+/// Where a run stands.
+#[derive(Clone, Drop)]
+pub struct Standing {
+    /// What the session keeps beside its channel.
+    pub state: State,
+    /// Whether the session has failed.
+    pub failed: bool,
+    /// Which lines open and end a reply.
+    pub rule: ReplyRule,
+    /// All that was said: it goes out as far as there is room.
+    pub said: Bytes,
+    /// The unsent tail of a line that was begun before, which goes out before the next line.
+    pub unsent: Bytes,
+    /// The address of the control connection at this end.
+    pub local: SocketAddr,
+    /// The address of its peer.
+    pub peer: SocketAddr,
+    /// What stands beside the control connection.
+    pub dealings: Dealings,
+    /// The bytes that are part of no reply yet.
+    pub bytes: Bytes,
+    /// Whether no others come.
+    pub ended: bool,
+    /// The outcomes to come of the transport's requests, and of what is done on the data connection.
+    pub outcomes: Items<DealOutcome>,
+}
+
+/// What a call waits for.
+#[derive(Clone, Copy, Debug, PartialEq, Eq)]
+pub enum Wait {
+    /// Room for the line that was said last.
+    Room,
+    /// More bytes, or their end, for a reply of this form.
+    Bytes(ReplyForm),
+    /// The outcome of a request.
+    Outcome,
+}
+
+/// What a call comes to.
+#[derive(Drop)]
+pub enum Played {
+    /// Its answer, and where the run stands then.
+    Done(Answer, Standing),
+    /// It waits for this, here.
+    Pending(Wait, Standing),
+}
+
+/// What a list of calls comes to.
+#[derive(Drop)]
+pub enum Ran {
+    /// Their answers, and where the run stands then.
+    Finished(Items<Answer>, Standing),
+    /// The answers of those before the one that waits for this, here.
+    Waiting(Items<Answer>, Wait, Standing),
+}
+
+/// A call of a script that is done.
+#[derive(Clone, Drop)]
+pub enum Item {
+    /// Its answer is one of the script's.
+    Shown(Call),
+    /// Its answer is told to nobody.
+    Hidden(Call),
+}
+
+/// What events have made of a session.
+#[derive(Drop)]
+pub struct Script {
+    /// The calls that are done. The last reply of a transfer that was left is an item by itself, where one was read.
+    pub items: Items<Item>,
+    /// Their answers.
+    pub answers: Items<Answer>,
+    /// The call under way.
+    pub call: Option<Call>,
+    /// Whether it was polled.
+    pub polled: bool,
+    /// Whether the transfer that is held is left once it is over.
+    pub leaving: bool,
+    /// Whether it has heard: not while it waits for room for its first line.
+    pub heard: bool,
+    /// All bytes that came.
+    pub bytes: Bytes,
+    /// Whether they ended.
+    pub ended: bool,
+    /// How much may be written.
+    pub room: Room,
+    /// All that was said, the line that waits for room with it.
+    pub said: Bytes,
+    /// The bytes that went out.
+    pub sent: Bytes,
+    /// The unsent tail of a line that was begun before.
+    pub unsent: Bytes,
+    /// The bytes that are part of no reply.
+    pub untaken: Bytes,
+    /// What stands beside the control connection.
+    pub dealings: Dealings,
+    /// How many of these a Poll has read.
+    pub seen: usize,
+    /// The form of the reply that it read them as.
+    pub form: ReplyForm,
+    /// What the session keeps beside its channel.
+    pub state: State,
+    /// Whether it has failed.
+    pub failed: bool,
+}

@@ -1,0 +1,343 @@
+//! The nodes of a dialogue: a line is said, a reply is heard, a reply is accepted.
+//!
+//! Each is one step on the channel or on the session's state, with a contract that says what the dialogue's tree says
+//! of it, for whatever comes behind it (`(next : ..) → ..`).
+
+ghost use Rattle.std.specs.Prelude.{◌≡◌, IfOk, IfErr, OnErr, Result, false};
+ghost use Rattle.futures.specs.declared.task.Poll.TheVariants as poll;
+ghost use Rattle.ftp_base.specs.declared.types.reply.Response.{Response as Heard};
+ghost use Rattle.ftp_base.specs.declared.types.fault.FtpError.{FtpError as Faults};
+ghost use Rattle.ftp_control.specs.Told.{EndsAsTold};
+ghost use Rattle.ftp_dialogue.specs.Coding.{Coding, coding_of};
+ghost use Rattle.ftp_dialogue.specs.Dialogue.{Tree, drain_answer, expected_of, expecting, finish_answer, opened_answer};
+ghost use Rattle.ftp_dialogue.specs.declared.state.State.{State as States};
+ghost use Rattle.ftp_dialogue.specs.Link.{building};
+ghost use Rattle.ftp_dialogue.specs.Steps.Moving.{Accepts, AnswersAs, FaultLeaves, Hears, SaysNode, TakesLine, step_of, wants_memory};
+
+use super::answers::{features_answer, line_answer, path_answer, size_answer, time_answer};
+use super::asks::Asks;
+use super::machine::Machine;
+use super::stage::{Asking, Step};
+use super::{Answer, State};
+use ftp_answers::{NoAddress, read_extended_port, read_passive_address};
+use ftp_base::encoding::{Encoding, WelcomeMessage};
+use ftp_base::status::Status;
+use ftp_base::types::{ConnectionError, FtpError, FtpResult, Mode, Response};
+use ftp_calls::exchange::{Codes, Ending};
+use ftp_control::control::{ReplyForm, WireLine, form_of};
+use ftp_control::transport::{Network, PollConn};
+use futures::task::Poll;
+use std::alloc::{AllocError, Global};
+use std::io::ErrorKind;
+
+impl<Tr: Network> Machine<Tr> {
+    /// Sends a line, after the unsent tail of the one before.
+    pub(super) fn say<W, A: Asks<Tr, W>>(
+        &mut self,
+        _asker: &A,
+        line: &mut Option<WireLine>,
+        w: &mut W,
+    ) -> Step
+    where
+        Tr::Conn: PollConn<W>,
+        requires { self.old.channel.failed ≡ false }
+        ensures waits { result ≡ Step.Pending → Tr.Conn.may_wait }
+        ensures net { self.new.net ≡ self.old.net }
+        ensures answer { (answer : Answer) → result ≡ Step.Done answer →
+            (fault : Faults) × (answer ≡ Answer.Fault fault) }
+        ensures end { Tr.Conn.tells → Tr.Conn.may_wait →
+            EndsAsTold self.old.channel.ended self.new.channel.ended self.old.channel.told }
+        ensures takes { TakesLine (building (A.builds _asker.now) Tr.Conn.tells Tr.Conn.read_faults Tr.Conn.write_faults Tr.Conn.end_faults A.may_wait) line.old line.new self.old
+            self.new result }
+        ensures says { SaysNode (building (A.builds _asker.now) Tr.Conn.tells Tr.Conn.read_faults Tr.Conn.write_faults Tr.Conn.end_faults A.may_wait) line.old line.new self.old self.new result }
+    {
+        step_of(self.channel.poll_perform(line, w))
+    }
+
+    /// Reads a reply of one of these statuses. A read that waits may be dropped and made again.
+    ///
+    /// # Errors
+    /// `UnexpectedResponse` where its status is another, `BadResponse` where its first line opens no reply; the fault of
+    /// the connection, the end of its input, or a reply that is too large, each of which fails the session; `OutOfMemory`.
+    pub fn hear<W, A: Asks<Tr, W>>(
+        &mut self,
+        asker: &A,
+        alloc: Global,
+        expected: &[Status],
+        w: &mut W,
+    ) -> Poll<FtpResult<Response>>
+    where
+        Tr::Conn: PollConn<W>,
+        requires { self.old.channel.failed ≡ false }
+        ensures waits { result ≡ poll.Pending → Tr.Conn.may_wait }
+        ensures net { self.new.net ≡ self.old.net }
+        ensures end { Tr.Conn.tells → Tr.Conn.may_wait →
+            EndsAsTold self.old.channel.ended self.new.channel.ended self.old.channel.told }
+        ensures hears { (next : Result Heard Faults → Tree) →
+            Hears (building (A.builds asker.now) Tr.Conn.tells Tr.Conn.read_faults Tr.Conn.write_faults Tr.Conn.end_faults A.may_wait) (expecting expected.now) next self.old self.new result }
+    {
+        self.hear_reply_of(asker, alloc, form_of(expected), expected, w)
+    }
+
+    /// Reads a reply of this form and one of these statuses.
+    fn hear_reply_of<W, A: Asks<Tr, W>>(
+        &mut self,
+        _asker: &A,
+        alloc: Global,
+        form: ReplyForm,
+        expected: &[Status],
+        w: &mut W,
+    ) -> Poll<FtpResult<Response>>
+    where
+        Tr::Conn: PollConn<W>,
+        requires { self.old.channel.failed ≡ false }
+        ensures waits { result ≡ poll.Pending → Tr.Conn.may_wait }
+        ensures net { self.new.net ≡ self.old.net }
+        ensures end { Tr.Conn.tells → Tr.Conn.may_wait →
+            EndsAsTold self.old.channel.ended self.new.channel.ended self.old.channel.told }
+        ensures hears { (next : Result Heard Faults → Tree) →
+            Hears (building (A.builds _asker.now) Tr.Conn.tells Tr.Conn.read_faults Tr.Conn.write_faults Tr.Conn.end_faults A.may_wait) (record { form = form; statuses = expected.now })
+            next self.old self.new result }
+    {
+        self.channel.poll_read_reply(alloc, form, expected, w)
+    }
+
+    /// Reads the reply that an exchange awaits.
+    pub(super) fn hear_codes<W, A: Asks<Tr, W>>(
+        &mut self,
+        asker: &A,
+        alloc: Global,
+        codes: &Codes,
+        w: &mut W,
+    ) -> Poll<FtpResult<Response>>
+    where
+        Tr::Conn: PollConn<W>,
+        requires { self.old.channel.failed ≡ false }
+        ensures waits { result ≡ poll.Pending → Tr.Conn.may_wait }
+        ensures net { self.new.net ≡ self.old.net }
+        ensures end { Tr.Conn.tells → Tr.Conn.may_wait →
+            EndsAsTold self.old.channel.ended self.new.channel.ended self.old.channel.told }
+        ensures hears { (next : Result Heard Faults → Tree) →
+            Hears (building (A.builds asker.now) Tr.Conn.tells Tr.Conn.read_faults Tr.Conn.write_faults Tr.Conn.end_faults A.may_wait) (expected_of codes.now) next self.old self.new result }
+    {
+        match codes {
+            Codes::One(status) => self.hear(asker, alloc, &[*status], w),
+            Codes::Either(one, other) => self.hear(asker, alloc, &[*one, *other], w),
+            Codes::Given(statuses) => self.hear(asker, alloc, statuses.as_slice(), w),
+            Codes::Features => self.hear_reply_of(
+                asker,
+                alloc,
+                ReplyForm::Features,
+                &[Status::System],
+                w,
+            ),
+        }
+    }
+}
+
+/// What an accepted reply comes to.
+#[derive(Drop)]
+pub(crate) enum Accepted {
+    /// The next exchange.
+    GoesOn,
+    /// The transport is asked, or an address looked up, before the next exchange or the answer.
+    Asks(Asking),
+    /// The answer.
+    Done(Answer),
+}
+
+/// Accepts a reply: the answer and the change of state, or the next exchange. On an error nothing changes.
+pub(crate) fn accept<E: Encoding>(
+    alloc: Global,
+    encoding: &E,
+    ending: Ending,
+    reply: Response,
+    state: &mut State,
+) -> FtpResult<Accepted>
+    ensures accepts { IfOk result (λ accepted.
+        Accepts (coding_of E.decoded E.encoded encoding.now) ending reply state.old state.new accepted) }
+    ensures answers { IfOk result (λ accepted. AnswersAs ending accepted) }
+    ensures unchanged { OnErr result (state.new ≡ state.old) }
+    ensures memory { IfErr result (λ fault. fault ≡ FtpError.OutOfMemory) }
+{
+    match ending {
+        Ending::Done => Ok(Accepted::Done(Answer::Unit)),
+        Ending::GivesReply => Ok(Accepted::Done(Answer::Reply(reply))),
+        Ending::Greets => {
+            let welcome = WelcomeMessage::new(alloc, reply.body, encoding)?;
+            state.welcome = Some(welcome);
+            Ok(Accepted::Done(Answer::Unit))
+        }
+        Ending::GivesPath => Ok(Accepted::Done(path_answer(alloc, encoding, reply)?)),
+        Ending::GivesSecondLine => Ok(Accepted::Done(line_answer(alloc, encoding, &reply)?)),
+        Ending::GivesTime => Ok(Accepted::Done(time_answer(&reply))),
+        Ending::GivesSize => Ok(Accepted::Done(size_answer(&reply))),
+        Ending::GivesFeatures => Ok(Accepted::Done(features_answer(alloc, &reply)?)),
+        Ending::SetsText(text) => {
+            state.settings.text = text;
+            Ok(Accepted::Done(Answer::Unit))
+        }
+        Ending::Continues => Ok(Accepted::GoesOn),
+        Ending::GivesAddress => Ok(address_told(reply, state)),
+        Ending::GivesPort => Ok(port_told(reply)),
+        Ending::Opens(gives_reply) => Ok(opens(gives_reply, reply, state)),
+        Ending::Finishes(close) => {
+            state.counts.finish();
+            Ok(Accepted::Done(finish_answer(close)))
+        }
+        Ending::Drains => {
+            state.counts.drain();
+            Ok(Accepted::Done(Answer::Unit))
+        }
+        Ending::Stops => Ok(aborted(&reply, state)),
+        Ending::GoesOn(status) => {
+            if reply.status.code() == status.code() {
+                Ok(Accepted::GoesOn)
+            } else {
+                Ok(Accepted::Done(Answer::Unit))
+            }
+        }
+    }
+}
+
+/// The transfer was aborted; after 426 another reply follows.
+fn aborted(reply: &Response, state: &mut State) -> Accepted
+    ensures accepts { (coding : Coding) →
+        Accepts coding Ending.Stops reply.now state.old state.new result }
+    ensures answers { AnswersAs Ending.Stops result }
+{
+    if reply.status.code() == Status::TransferAborted.code() {
+        return Accepted::GoesOn;
+    }
+    state.counts.abort();
+    Accepted::Done(Answer::Unit)
+}
+
+/// The reply tells the address to connect to. Behind a router that rewrites addresses its host is the control peer's.
+fn address_told(reply: Response, state: &State) -> Accepted
+    ensures accepts { (coding : Coding) →
+        Accepts coding Ending.GivesAddress reply state.now state.now result }
+    ensures answers { AnswersAs Ending.GivesAddress result }
+{
+    match read_passive_address(reply.body.as_slice()) {
+        Ok(address) => {
+            if state.settings.passive_nat_workaround {
+                Accepted::Asks(Asking::PeerPort(address.port()))
+            } else {
+                Accepted::Asks(Asking::Connection(address))
+            }
+        }
+        Err(NoAddress::Absent) => Accepted::Done(Answer::Fault(FtpError::UnexpectedResponse(
+            reply,
+        ))),
+        Err(NoAddress::Unreadable) => Accepted::Done(Answer::Fault(FtpError::BadResponse)),
+    }
+}
+
+/// The reply tells the port to connect to.
+fn port_told(reply: Response) -> Accepted
+    ensures accepts { (coding : Coding) (state : States) →
+        Accepts coding Ending.GivesPort reply state state result }
+    ensures answers { AnswersAs Ending.GivesPort result }
+{
+    match read_extended_port(reply.body.as_slice()) {
+        Ok(port) => Accepted::Asks(Asking::PeerPort(port)),
+        Err(NoAddress::Absent) => Accepted::Done(Answer::Fault(FtpError::UnexpectedResponse(
+            reply,
+        ))),
+        Err(NoAddress::Unreadable) => Accepted::Done(Answer::Fault(FtpError::BadResponse)),
+    }
+}
+
+/// The answer of a call that opens a data connection.
+fn opened(gives_reply: bool, reply: Response) -> Answer
+    ensures { result ≡ opened_answer gives_reply reply }
+{
+    if gives_reply {
+        Answer::OpenedWith(reply)
+    } else {
+        Answer::Opened
+    }
+}
+
+/// The answer of a transfer that has come to its end, after this fault of its close, if it is told.
+fn finish_answer(close: Option<ErrorKind>) -> Answer
+    ensures { result ≡ finish_answer close }
+{
+    match close {
+        None => Answer::Unit,
+        Some(kind) => Answer::Fault(FtpError::ConnectionError(ConnectionError::Io(kind))),
+    }
+}
+
+/// The answer where a fault was heard in place of a reply, and what it leaves. Where memory ran out nothing changes.
+pub(crate) fn conclude_fault(ending: Ending, fault: FtpError, state: &mut State) -> Answer
+    ensures { FaultLeaves ending fault state.old state.new result }
+{
+    if wants_memory(&fault) {
+        return Answer::Fault(fault);
+    }
+    match ending {
+        Ending::Finishes(close) => {
+            state.counts.finish();
+            match close {
+                None => Answer::Fault(fault),
+                Some(kind) => Answer::Fault(FtpError::ConnectionError(ConnectionError::Io(kind))),
+            }
+        }
+        Ending::Drains => {
+            state.counts.drain();
+            drain_answer(fault)
+        }
+        Ending::Stops => {
+            state.counts.abort();
+            Answer::Fault(fault)
+        }
+        _ => Answer::Fault(fault),
+    }
+}
+
+/// The answer where a fault was heard in place of the last reply of a transfer that was left: a reply of another status
+/// ends the transfer as well.
+fn drain_answer(fault: FtpError) -> Answer
+    ensures { result ≡ drain_answer fault }
+{
+    match fault {
+        FtpError::UnexpectedResponse(_reply) => Answer::Unit,
+        fault => Answer::Fault(fault),
+    }
+}
+
+/// Whether memory ran out.
+pub(super) fn wants_memory(fault: &FtpError) -> bool
+    ensures { result ≡ wants_memory fault.now }
+{
+    matches!(fault, FtpError::OutOfMemory)
+}
+
+/// The command was accepted: the data connection stands, or the server opens it now.
+fn opens(gives_reply: bool, reply: Response, state: &mut State) -> Accepted
+    ensures accepts { (coding : Coding) →
+        Accepts coding (Ending.Opens gives_reply) reply state.old state.new result }
+    ensures answers { AnswersAs (Ending.Opens gives_reply) result }
+{
+    let answer = opened(gives_reply, reply);
+    match state.settings.mode {
+        Mode::Active => Accepted::Asks(Asking::Peer(answer)),
+        Mode::Passive | Mode::ExtendedPassive => {
+            state.counts.open();
+            Accepted::Done(answer)
+        }
+    }
+}
+
+/// The result of sending a line.
+fn step_of(performed: Poll<FtpResult<()>>) -> Step
+    ensures { result ≡ step_of performed }
+{
+    match performed {
+        Poll::Ready(Ok(())) => Step::Next,
+        Poll::Ready(Err(fault)) => Step::Done(Answer::Fault(fault)),
+        Poll::Pending => Step::Pending,
+    }
+}

@@ -1,0 +1,136 @@
+//! What is asked for a data connection: of the transport, or of the caller's builder.
+//!
+//! Each function is one question. What comes of it is kept in the machine, and is on the transport's record.
+
+ghost use Rattle.std.specs.Prelude.{◌≡◌, None};
+ghost use Rattle.ftp_control.specs.declared.transport.request.Request.TheVariants.{Accept, Connect, Listen};
+ghost use Rattle.ftp_dialogue.specs.Link.{building};
+ghost use Rattle.ftp_dialogue.specs.Steps.Moving.{AsksFor, BuildsFor};
+
+use super::asks::Asks;
+use super::machine::Machine;
+use ftp_base::types::FtpError;
+use ftp_control::transport::{Network, PollConn, RequestOutcome, Tells};
+use futures::task::Poll;
+use std::alloc::AllocError;
+use std::net::SocketAddr;
+
+impl<Tr: Network> Machine<Tr> {
+    /// Asks the transport for a connection, and keeps it. The room for its record was made when the call began, so that
+    /// nothing is allocated here.
+    pub(super) fn ask_to_connect<W, A: Asks<Tr, W>>(
+        &mut self,
+        asker: &A,
+        address: SocketAddr,
+        w: &mut W,
+    ) -> Poll<Result<RequestOutcome, AllocError>>
+    where
+        Tr::Conn: PollConn<W>,
+        requires may { A.may_ask }
+        ensures end { self.new.channel.ended ≡ self.old.channel.ended }
+        ensures asks { AsksFor (building (A.builds asker.now) Tr.Conn.tells Tr.Conn.read_faults Tr.Conn.write_faults Tr.Conn.end_faults A.may_wait) (Connect address None) self.old self.new result }
+    {
+        if self.transport.make_room().is_err() {
+            return Poll::Ready(Err(AllocError));
+        }
+        match asker.connect(&mut self.transport, w, address) {
+            Poll::Ready(Ok(Ok(mut conn))) => {
+                conn.begin();
+                self.data_conn = Some(conn);
+                Poll::Ready(Ok(RequestOutcome::Done))
+            }
+            Poll::Ready(Ok(Err(fault))) => Poll::Ready(Ok(RequestOutcome::Refused(fault))),
+            Poll::Ready(Err(full)) => Poll::Ready(Err(full)),
+            Poll::Pending => Poll::Pending,
+        }
+    }
+
+    /// Asks the caller's builder for a connection, and keeps it; or gives its fault. What it is asked is put on the
+    /// transport's record first.
+    pub(super) fn ask_to_build<W, A: Asks<Tr, W>>(
+        &mut self,
+        asker: &A,
+        address: SocketAddr,
+        _w: &mut W,
+    ) -> Result<Option<FtpError>, AllocError>
+    where
+        Tr::Conn: PollConn<W>,
+        requires may { A.may_ask }
+        ensures end { self.new.channel.ended ≡ self.old.channel.ended }
+        ensures builds { BuildsFor (building (A.builds asker.now) Tr.Conn.tells Tr.Conn.read_faults Tr.Conn.write_faults Tr.Conn.end_faults A.may_wait) address self.old self.new result }
+    {
+        if self.transport.make_room().is_err() {
+            return Err(AllocError);
+        }
+        let Ok(()) = self.transport.note_build(address) else {
+            return Err(AllocError);
+        };
+        match asker.build(address) {
+            Ok(mut conn) => {
+                conn.begin();
+                self.data_conn = Some(conn);
+                Ok(None)
+            }
+            Err(fault) => Ok(Some(fault)),
+        }
+    }
+
+    /// Asks the transport for a listener, and keeps it.
+    pub(super) fn ask_to_listen<W, A: Asks<Tr, W>>(
+        &mut self,
+        asker: &A,
+        address: SocketAddr,
+        w: &mut W,
+    ) -> Poll<Result<RequestOutcome, AllocError>>
+    where
+        Tr::Conn: PollConn<W>,
+        requires may { A.may_ask }
+        ensures end { self.new.channel.ended ≡ self.old.channel.ended }
+        ensures asks { AsksFor (building (A.builds asker.now) Tr.Conn.tells Tr.Conn.read_faults Tr.Conn.write_faults Tr.Conn.end_faults A.may_wait) (Listen address) self.old self.new result }
+    {
+        match asker.listen(&mut self.transport, w, address) {
+            Poll::Ready(Ok(Ok((listener, bound)))) => {
+                self.listener = Some(listener);
+                Poll::Ready(Ok(RequestOutcome::Address(bound)))
+            }
+            Poll::Ready(Ok(Err(fault))) => Poll::Ready(Ok(RequestOutcome::Refused(fault))),
+            Poll::Ready(Err(full)) => Poll::Ready(Err(full)),
+            Poll::Pending => Poll::Pending,
+        }
+    }
+
+    /// Asks the transport for a connection on the listener, and keeps it. A listener stands from the moment that the
+    /// server was told of it.
+    pub(super) fn ask_to_accept<W, A: Asks<Tr, W>>(
+        &mut self,
+        asker: &A,
+        w: &mut W,
+    ) -> Poll<Result<RequestOutcome, AllocError>>
+    where
+        Tr::Conn: PollConn<W>,
+        requires may { A.may_ask }
+        ensures end { self.new.channel.ended ≡ self.old.channel.ended }
+        ensures asks { AsksFor (building (A.builds asker.now) Tr.Conn.tells Tr.Conn.read_faults Tr.Conn.write_faults Tr.Conn.end_faults A.may_wait) (Accept self.old.state.settings.active_deadline) self.old self.new result }
+    {
+        let Some(listener) = &mut self.listener else {
+            return Poll::Ready(Err(AllocError));
+        };
+        if self.transport.make_room().is_err() {
+            return Poll::Ready(Err(AllocError));
+        }
+        let deadline = self.state.settings.active_deadline;
+        match asker.accept(&mut self.transport, w, listener, deadline) {
+            Poll::Ready(Ok(Ok((mut conn, from)))) => {
+                conn.begin();
+                self.data_conn = Some(conn);
+                Poll::Ready(Ok(RequestOutcome::Address(from)))
+            }
+            Poll::Ready(Ok(Err(fault))) => {
+                self.data_conn = None;
+                Poll::Ready(Ok(RequestOutcome::Refused(fault)))
+            }
+            Poll::Ready(Err(full)) => Poll::Ready(Err(full)),
+            Poll::Pending => Poll::Pending,
+        }
+    }
+}

@@ -1,0 +1,193 @@
+//! How far a call has come.
+//!
+//! A stage is the node of the call's dialogue that comes next, with what it needs: a line that wasn't begun, the
+//! statuses that a reply may have, a setting that changes, what is asked. It also keeps whether something of the
+//! dialogue was said or heard, on which depends what a failed allocation leaves.
+
+ghost use Rattle.std.specs.Prelude.{◌≡◌, Ok, IfOk, IfErr, true, false};
+ghost use Rattle.ftp_base.specs.Command.{text_of};
+ghost use Rattle.ftp_base.specs.Wire.{wire};
+ghost use Rattle.ftp_control.specs.Refusal.{IsRefusalOf};
+ghost use Rattle.ftp_dialogue.specs.Coding.{coding_of};
+ghost use Rattle.ftp_calls.specs.Exchanges.{row_of};
+ghost use Rattle.ftp_dialogue.specs.Steps.Stages.{Begins, FirstNode, GoesOnTo, TurnOf, is_later};
+
+use super::{Answer, Call};
+use ftp_base::command::Command;
+use ftp_base::encoding::Encoding;
+use ftp_base::types::FtpResult;
+use ftp_calls::exchange::{Codes, Ending, Exchange, Row, Turn, next_turn, row_at};
+use ftp_control::control::WireLine;
+use std::alloc::Global;
+use std::net::SocketAddr;
+
+/// Where a call stands: the node of its dialogue that comes next.
+#[derive(Drop)]
+pub enum Stage {
+    /// An exchange begins.
+    At(Turn),
+    /// Its line goes out, whole; none once it has begun to.
+    Saying(Option<WireLine>, Awaits),
+    /// Its reply is read.
+    Hearing(Awaits),
+    /// Nothing is said or heard: the next transfer begins at this offset, in bytes.
+    Arming(Turn, u64),
+    /// The way to a data connection, beside the exchanges.
+    Agreeing(Agreeing),
+    /// The transfer's data connection is closed.
+    Closing,
+    /// The transfer is aborted.
+    Aborting(Aborting),
+}
+
+/// How far an abort has come, before its replies are read.
+#[derive(Drop)]
+pub enum Aborting {
+    /// `ABOR` is put into a line.
+    Wording,
+    /// The line goes out, whole; none once it has begun to.
+    Sending(Option<WireLine>),
+    /// The data connection is closed.
+    Parting,
+}
+
+/// How far the way to a data connection was gone.
+#[derive(Drop)]
+pub enum Agreeing {
+    /// It begins, for a transfer at this offset.
+    Negotiating(u64),
+    /// The address of this end of the control connection is looked up.
+    Locating(u64),
+    /// The transport is asked to listen at this address.
+    Binding(SocketAddr, u64),
+    /// After the reply of this turn the transport is asked, or the peer's address looked up.
+    Asking(Turn, Asking),
+}
+
+/// What is asked after a reply.
+#[derive(Drop)]
+pub enum Asking {
+    /// The peer's address, to connect to this port of it.
+    PeerPort(u16),
+    /// A connection to this address.
+    Connection(SocketAddr),
+    /// The peer's address, which is compared with those that connect; the answer is given once one is let in.
+    Peer(Answer),
+    /// A connection of this peer, or of another that is let in; so many others may come before.
+    Accepting(SocketAddr, u64, Answer),
+}
+
+/// The reply that is awaited.
+#[derive(Drop)]
+pub struct Awaits {
+    /// Of which exchange.
+    pub(super) turn: Turn,
+    /// Whether something of the dialogue was said or taken.
+    pub(super) begun: bool,
+    /// The statuses that are accepted.
+    pub(super) hears: Codes,
+    /// What an accepted reply does.
+    pub(super) ending: Ending,
+}
+
+/// The result of a step of a dialogue.
+#[derive(Drop)]
+pub(crate) enum Step {
+    /// The next node was reached.
+    Next,
+    /// The connection waits.
+    Pending,
+    /// The call has its answer.
+    Done(Answer),
+}
+
+/// A stage is reached.
+pub(super) fn go_to(stage: &mut Stage, next: Stage)
+    ensures { stage.new ≡ next }
+{
+    *stage = next;
+}
+
+/// The next turn begins, or the call is done.
+pub(super) fn go_on(call: &Call, turn: Turn, stage: &mut Stage) -> Step
+    ensures on { GoesOnTo call.now turn stage.new result }
+{
+    match next_turn(call, turn) {
+        Some(next) => {
+            go_to(stage, Stage::At(next));
+            Step::Next
+        }
+        None => Step::Done(Answer::Unit),
+    }
+}
+
+/// The first node of a row: its line, its reply, or a change of settings.
+///
+/// # Errors
+/// The command has no wire line, or `OutOfMemory`.
+pub(super) fn begin<E: Encoding>(
+    alloc: Global,
+    encoding: &E,
+    call: &Call,
+    turn: Turn,
+) -> FtpResult<Stage>
+    requires { TurnOf call.now turn }
+    ensures { Begins (coding_of E.decoded E.encoded encoding.now) call.now turn result }
+{
+    match row_at(alloc, call, turn)? {
+        Row::Exchanges(exchange) => first_node(alloc, encoding, turn, exchange),
+        Row::Arms(offset) => Ok(Stage::Arming(turn, offset)),
+        Row::Sets(_) | Row::Moves(_) => unreachable!(),
+    }
+}
+
+/// The first node of an exchange.
+fn first_node<E: Encoding>(
+    alloc: Global,
+    encoding: &E,
+    turn: Turn,
+    exchange: Exchange,
+) -> FtpResult<Stage>
+    ensures { FirstNode (coding_of E.decoded E.encoded encoding.now) turn exchange result }
+{
+    let Exchange {
+        says,
+        hears,
+        ending,
+    } = exchange;
+    let awaits = Awaits {
+        turn,
+        begun: is_later(turn),
+        hears,
+        ending,
+    };
+    match says {
+        None => Ok(Stage::Hearing(awaits)),
+        Some(command) => match line_of(alloc, encoding, command) {
+            Ok(line) => Ok(Stage::Saying(Some(line), awaits)),
+            Err(fault) => Err(fault),
+        },
+    }
+}
+
+/// Whether an exchange was made before.
+pub(super) fn is_later(turn: Turn) -> bool
+    ensures { result ≡ is_later turn }
+{
+    match turn {
+        Turn::Second | Turn::Restart(_) | Turn::Aborted => true,
+        Turn::First
+        | Turn::Passive(_)
+        | Turn::ExtendedPassive(_)
+        | Turn::Active(..)
+        | Turn::Closed(_) => false,
+    }
+}
+
+/// The line of a command.
+fn line_of<E: Encoding>(alloc: Global, encoding: &E, command: Command) -> FtpResult<WireLine>
+    ensures line { IfOk result (λ line. wire (E.encoded encoding.now) (text_of command) ≡ Ok line) }
+    ensures refused { IfErr result (IsRefusalOf (wire (E.encoded encoding.now) (text_of command))) }
+{
+    WireLine::of(alloc, &command, encoding)
+}

@@ -1,0 +1,275 @@
+//! What a session keeps beside its channel: settings, counts of transfers, and what the server greeted with.
+//!
+//! A call changes it only by an accepted reply. The counts have an invariant, so no call can forget a transfer: each
+//! that was opened was finished, aborted or drained, or is owed.
+
+ghost use Rattle.std.specs.Prelude.{◌≡◌};
+ghost use Rattle.ftp_dialogue.specs.Sound.{SoundCounts, cannot_open, is_live, is_owed, left_behind, next_number, no_transfers, one_aborted, one_drained, one_finished, one_more};
+ghost use Rattle.ftp_dialogue.specs.State.{IsFirst};
+
+use ftp_base::encoding::WelcomeMessage;
+use ftp_base::types::{ActivePeerCheck, FtpError, Mode};
+use std::marker::Model;
+use std::time::Duration;
+
+/// How many seconds a session waits for an active data connection, unless it is told otherwise.
+pub const ACTIVE_DEADLINE_SECONDS: u64 = 60;
+
+/// What a session was told to do.
+#[derive(Clone, Drop)]
+pub struct Settings {
+    /// Who opens data connections.
+    pub mode: Mode,
+    /// Whether the host of a reply to PASV is passed over for the control peer's.
+    pub passive_nat_workaround: bool,
+    /// Which peers may open an active data connection.
+    pub active_peer_check: ActivePeerCheck,
+    /// How long an active data connection is waited for.
+    pub active_deadline: Duration,
+    /// Whether transfers are of text.
+    pub text: bool,
+    /// Whether data connections are secure.
+    pub secure: bool,
+    /// Where the next transfer begins, in bytes (RFC 3659, section 5).
+    pub restart_offset: u64,
+    /// Whether the caller's builder makes passive data connections, in the transport's place.
+    pub stream_builder: bool,
+}
+
+/// The transfer whose last reply hasn't been read.
+#[derive(Clone, Copy, Debug, PartialEq, Eq)]
+pub enum Owed {
+    /// None.
+    Nothing,
+    /// One that is still held, of this number.
+    Live(u64),
+    /// One that was left, of this number.
+    Left(u64),
+}
+
+/// How many transfers were opened, and how they came to their end.
+#[derive(Clone, Drop)]
+pub struct Counts {
+    opened: u64,
+    finished: u64,
+    aborted: u64,
+    drained: u64,
+    owed: Owed,
+}
+
+impl Model for Counts {
+    ghost use Rattle.ftp_dialogue.specs.Sound.{Transfers, SoundCounts};
+
+    ghost Value = { Transfers };
+
+    ghost view = { λ c. record {
+      opened = c.opened;
+      finished = c.finished;
+      aborted = c.aborted;
+      drained = c.drained;
+      owed = c.owed;
+    } };
+
+    ghost invariant = { λ c. SoundCounts (record {
+      opened = c.opened;
+      finished = c.finished;
+      aborted = c.aborted;
+      drained = c.drained;
+      owed = c.owed;
+    }) };
+}
+
+impl Counts {
+    /// No transfer was opened.
+    pub fn new() -> Counts
+        ensures { result ≡ no_transfers }
+    {
+        Counts {
+            opened: 0,
+            finished: 0,
+            aborted: 0,
+            drained: 0,
+            owed: Owed::Nothing,
+        }
+    }
+
+    /// Why no transfer can be opened: `DataConnectionAlreadyOpen` where one is owed, `SessionFailed` where no other
+    /// can be counted.
+    pub fn cannot_open(&self) -> Option<FtpError>
+        ensures { result ≡ cannot_open self.now }
+    {
+        match self.owed {
+            Owed::Live(_) | Owed::Left(_) => Some(FtpError::DataConnectionAlreadyOpen),
+            Owed::Nothing => {
+                if self.opened == u64::MAX {
+                    Some(FtpError::SessionFailed)
+                } else {
+                    None
+                }
+            }
+        }
+    }
+
+    /// The number that the next transfer has.
+    pub fn next_number(&self) -> u64
+        ensures { result ≡ next_number self.now }
+    {
+        if self.opened == u64::MAX {
+            self.opened
+        } else {
+            self.opened + 1
+        }
+    }
+
+    /// Whether the transfer of this number is live.
+    pub fn is_live(&self, number: u64) -> bool
+        ensures { result ≡ is_live number self.now.owed }
+    {
+        match self.owed {
+            Owed::Live(live) => number == live,
+            Owed::Nothing | Owed::Left(_) => false,
+        }
+    }
+
+    /// Whether the last reply of the transfer of this number is still owed.
+    pub fn is_owed(&self, number: u64) -> bool
+        ensures { result ≡ is_owed number self.now.owed }
+    {
+        match self.owed {
+            Owed::Live(owed) | Owed::Left(owed) => number == owed,
+            Owed::Nothing => false,
+        }
+    }
+
+    /// One transfer more is opened, and is owed, where it can be.
+    pub fn open(&mut self)
+        ensures { self.new ≡ one_more self.old }
+    {
+        if let Owed::Nothing = self.owed {
+            if self.opened < u64::MAX {
+                self.opened += 1;
+                self.owed = Owed::Live(self.opened);
+            }
+        }
+    }
+
+    /// The transfer that is owed has come to its end, if there is one: its last reply was read, or its read failed.
+    pub fn finish(&mut self)
+        ensures { self.new ≡ one_finished self.old }
+    {
+        match self.owed {
+            Owed::Nothing => {}
+            Owed::Live(_) | Owed::Left(_) => {
+                self.finished += 1;
+                self.owed = Owed::Nothing;
+            }
+        }
+    }
+
+    /// The transfer that was left has come to its end, if one is owed: its last reply was read, or its read failed.
+    pub fn drain(&mut self)
+        ensures { self.new ≡ one_drained self.old }
+    {
+        match self.owed {
+            Owed::Nothing => {}
+            Owed::Live(_) | Owed::Left(_) => {
+                self.drained += 1;
+                self.owed = Owed::Nothing;
+            }
+        }
+    }
+
+    /// The transfer that is owed was aborted, if there is one.
+    pub fn abort(&mut self)
+        ensures { self.new ≡ one_aborted self.old }
+    {
+        match self.owed {
+            Owed::Nothing => {}
+            Owed::Live(_) | Owed::Left(_) => {
+                self.aborted += 1;
+                self.owed = Owed::Nothing;
+            }
+        }
+    }
+
+    /// The transfer that is live, if there is one, is left: its last reply is still owed.
+    pub fn leave(&mut self)
+        ensures { self.new ≡ left_behind self.old }
+    {
+        if let Owed::Live(number) = self.owed {
+            self.owed = Owed::Left(number);
+        }
+    }
+
+    /// The transfer whose last reply hasn't been read.
+    pub fn owed(&self) -> Owed
+        ensures { result ≡ self.now.owed }
+    {
+        self.owed
+    }
+
+    /// How many transfers were opened. Each was finished, aborted or drained since, but for the one that is owed.
+    pub fn opened(&self) -> u64
+        ensures value { result ≡ self.now.opened }
+        ensures sound { SoundCounts self.now }
+    {
+        self.opened
+    }
+
+    /// How many came to their end by `finish`: their last reply was read, or its read failed.
+    pub fn finished(&self) -> u64
+        ensures { result ≡ self.now.finished }
+    {
+        self.finished
+    }
+
+    /// How many were aborted: `ABOR` went out, whatever the server said of it.
+    pub fn aborted(&self) -> u64
+        ensures { result ≡ self.now.aborted }
+    {
+        self.aborted
+    }
+
+    /// How many were left, and had their last reply read before a later command, or its read failed.
+    pub fn drained(&self) -> u64
+        ensures { result ≡ self.now.drained }
+    {
+        self.drained
+    }
+}
+
+/// What a session keeps beside its control channel.
+#[derive(Clone, Drop)]
+pub struct State {
+    /// What it was told to do.
+    pub settings: Settings,
+    /// The transfers that it counted.
+    pub counts: Counts,
+    /// Whether the transfer that is live, or that was opened last, is an upload.
+    pub uploads: bool,
+    /// What the server greeted with, once the greeting was taken.
+    pub welcome: Option<WelcomeMessage>,
+}
+
+impl State {
+    /// A session begins: passive, its transfers of text, the control peer alone let in.
+    pub fn new() -> State
+        ensures { IsFirst result }
+    {
+        State {
+            settings: Settings {
+                mode: Mode::Passive,
+                passive_nat_workaround: false,
+                active_peer_check: ActivePeerCheck::ControlPeer,
+                active_deadline: Duration::from_secs(ACTIVE_DEADLINE_SECONDS),
+                text: true,
+                secure: false,
+                restart_offset: 0,
+                stream_builder: false,
+            },
+            counts: Counts::new(),
+            uploads: false,
+            welcome: None,
+        }
+    }
+}

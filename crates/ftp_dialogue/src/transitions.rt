@@ -1,0 +1,509 @@
+//! The machine of all dialogues: polled, and blocking as the same poll that never waits.
+//!
+//! `step` does one node and is the only function that does I/O; `poll_call` makes steps until the call has its answer
+//! or the connection waits. A step that waits may be dropped and made again.
+
+ghost use Rattle.std.specs.Prelude.{◌≡◌, ◌<◌, ◌⊎◌, None, Some, true, false};
+ghost use Rattle.futures.specs.declared.task.Poll.TheVariants as poll;
+ghost use Rattle.ftp_control.specs.Told.{EndsAsTold};
+ghost use Rattle.ftp_dialogue.specs.Coding.{Coding, coding_of};
+ghost use Rattle.ftp_dialogue.specs.Dialogue.{Tree, armed, dialogue};
+ghost use Rattle.ftp_calls.specs.Exchanges.{finishes, is_local, is_read, negotiates};
+ghost use Rattle.ftp_dialogue.specs.Link.{building};
+ghost use Rattle.ftp_dialogue.specs.Play.{Lacking};
+ghost use Rattle.ftp_dialogue.specs.Promises.{HasFault, Rests, begun_by, refusal_of};
+ghost use Rattle.ftp_dialogue.specs.Steps.Polls.{MayPollAt, RefusesFrom, StageIn, StartsTo, entered_at, entered_stage, entered_state, entered_tree, first_stage, is_first, polled_answer};
+ghost use Rattle.ftp_dialogue.specs.Steps.Moving.{BeginsExchange, Concludes, EndsFaulty, HasBegun, Made, PollSteps, PollsTo, Quiet, Steps, Tracks, after_fault, wants_memory};
+ghost use Rattle.ftp_dialogue.specs.Steps.Stages.{MayAnswer, PollAnswers, StageAfter, StageOf, StepAnswers, begun_at, nodes_left, remaining};
+
+use super::asks::Asks;
+use super::machine::Machine;
+use super::nodes::{Accepted, accept, conclude_fault, wants_memory};
+use super::stage::{Aborting, Agreeing, Awaits, Stage, Step, begin, go_on, go_to, is_later};
+use super::{Answer, Call, Owed};
+use ftp_base::encoding::Encoding;
+use ftp_base::types::{FtpError, Response};
+use ftp_calls::exchange::{Ending, Turn, aborts, finishes, negotiates, uploads};
+use ftp_control::control::WireLine;
+use ftp_control::transport::{Conn, Network, NeverWaits, PollConn};
+use futures::task::Poll;
+use std::alloc::Global;
+use std::mem;
+
+impl<Tr: Network> Machine<Tr> {
+    /// One node of a call's dialogue. One that waits may be dropped and made again.
+    pub(super) fn step<W, E: Encoding, A: Asks<Tr, W>>(
+        &mut self,
+        asker: &A,
+        alloc: Global,
+        encoding: &E,
+        call: &Call,
+        stage: &mut Stage,
+        w: &mut W,
+    ) -> Step
+    where
+        Tr::Conn: PollConn<W>,
+        requires going { self.old.channel.failed ≡ false }
+        requires stage { StageOf call.now stage.old }
+        requires may { negotiates call.now ≡ true → A.may_ask }
+        ensures stage { StageAfter call.now stage.new result }
+        ensures waits { result ≡ Step.Pending → Tr.Conn.may_wait ⊎ A.may_wait }
+        ensures net { negotiates call.now ≡ false → finishes call.now ≡ false → self.new.net ≡ self.old.net }
+        ensures end { Tr.Conn.tells → Tr.Conn.may_wait →
+            EndsAsTold self.old.channel.ended self.new.channel.ended self.old.channel.told }
+        ensures answers { StepAnswers call.now result }
+        ensures fewer { result ≡ Step.Next → nodes_left stage.new < nodes_left stage.old }
+        ensures steps { let coding = coding_of E.decoded E.encoded encoding.now in
+            Steps (building (A.builds asker.now) Tr.Conn.tells Tr.Conn.read_faults Tr.Conn.write_faults Tr.Conn.end_faults A.may_wait) (begun_at stage.old)
+            (remaining coding call.now self.old.state stage.old)
+            (remaining coding call.now self.old.state stage.new) self.old self.new result }
+        ensures quiet { Quiet (building (A.builds asker.now) Tr.Conn.tells Tr.Conn.read_faults Tr.Conn.write_faults Tr.Conn.end_faults A.may_wait) (coding_of E.decoded E.encoded encoding.now) call.now stage.old
+            stage.new self.old self.new result }
+        ensures begun { let coding = coding_of E.decoded E.encoded encoding.now in
+            Tracks (building (A.builds asker.now) Tr.Conn.tells Tr.Conn.read_faults Tr.Conn.write_faults Tr.Conn.end_faults A.may_wait) (begun_at stage.old) (begun_at stage.new)
+            (remaining coding call.now self.old.state stage.old) self.old self.new result }
+        ensures rests { result ≡ Step.Pending → is_read call.now ≡ true →
+            Rests (building (A.builds asker.now) Tr.Conn.tells Tr.Conn.read_faults Tr.Conn.write_faults Tr.Conn.end_faults A.may_wait) self.old self.new }
+    {
+        match mem::replace(stage, Stage::At(Turn::First)) {
+            Stage::At(turn) => self.begin_exchange(alloc, encoding, call, turn, stage),
+            Stage::Saying(line, awaits) => self.say_line(asker, line, awaits, stage, w),
+            Stage::Hearing(awaits) => self.hear_reply(
+                asker, alloc, encoding, call, awaits, stage, w,
+            ),
+            Stage::Arming(_turn, offset) => self.arm(offset),
+            Stage::Agreeing(agreeing) => self.walk(asker, call, agreeing, stage, w),
+            Stage::Closing => self.close(asker, call, stage, w),
+            Stage::Aborting(aborting) => self.abort(
+                asker, alloc, encoding, call, aborting, stage, w,
+            ),
+        }
+    }
+
+    /// The next transfer begins at this offset.
+    pub(super) fn arm(&mut self, offset: u64) -> Step
+        ensures done { result ≡ Step.Done Answer.Unit }
+        ensures armed { self.new ≡ record self.old { state = armed offset self.old.state } }
+    {
+        self.state.settings.restart_offset = offset;
+        Step::Done(Answer::Unit)
+    }
+
+    /// An exchange begins.
+    fn begin_exchange<E: Encoding>(
+        &mut self,
+        alloc: Global,
+        encoding: &E,
+        call: &Call,
+        turn: Turn,
+        stage: &mut Stage,
+    ) -> Step
+        requires going { self.old.channel.failed ≡ false }
+        requires stage { StageOf call.now (Stage.At turn) }
+        ensures stage { StageAfter call.now stage.new result }
+        ensures net { self.new.net ≡ self.old.net }
+        ensures end { self.new.channel.ended ≡ self.old.channel.ended }
+        ensures answers { StepAnswers call.now result }
+        ensures fewer { result ≡ Step.Next → nodes_left stage.new < nodes_left (Stage.At turn) }
+        ensures begins { BeginsExchange (coding_of E.decoded E.encoded encoding.now) call.now turn
+            stage.new self.old self.new result }
+    {
+        match begin(alloc, encoding, call, turn) {
+            Ok(next) => {
+                go_to(stage, next);
+                Step::Next
+            }
+            Err(fault) => {
+                self.abort_dialogue(is_later(turn), &fault);
+                Step::Done(Answer::Fault(fault))
+            }
+        }
+    }
+
+    /// The line of an exchange goes out.
+    fn say_line<W, A: Asks<Tr, W>>(
+        &mut self,
+        asker: &A,
+        mut line: Option<WireLine>,
+        awaits: Awaits,
+        stage: &mut Stage,
+        w: &mut W,
+    ) -> Step
+    where
+        Tr::Conn: PollConn<W>,
+        requires going { self.old.channel.failed ≡ false }
+        ensures stage { (call : Call) →
+            StageOf call (Stage.Saying line awaits) → StageAfter call stage.new result }
+        ensures waits { result ≡ Step.Pending → Tr.Conn.may_wait ⊎ A.may_wait }
+        ensures net { self.new.net ≡ self.old.net }
+        ensures end { Tr.Conn.tells → Tr.Conn.may_wait →
+            EndsAsTold self.old.channel.ended self.new.channel.ended self.old.channel.told }
+        ensures answers { (call : Call) → StepAnswers call result }
+        ensures fewer { result ≡ Step.Next →
+            nodes_left stage.new < nodes_left (Stage.Saying line awaits) }
+        ensures steps { (coding : Coding) (call : Call) → Steps (building (A.builds asker.now) Tr.Conn.tells Tr.Conn.read_faults Tr.Conn.write_faults Tr.Conn.end_faults A.may_wait)
+            (begun_at (Stage.Saying line awaits)) (remaining coding call self.old.state (Stage.Saying line awaits))
+            (remaining coding call self.old.state stage.new) self.old self.new result }
+        ensures goes_on { result ≡ Step.Next → begun_at stage.new ≡ true }
+        ensures begun { (tree : Tree) → Tracks (building (A.builds asker.now) Tr.Conn.tells Tr.Conn.read_faults Tr.Conn.write_faults Tr.Conn.end_faults A.may_wait) (begun_at (Stage.Saying line awaits))
+            (begun_at stage.new) tree self.old self.new result }
+    {
+        match self.say(asker, &mut line, w) {
+            Step::Next => {
+                go_to(stage, Stage::Hearing(begun(awaits)));
+                Step::Next
+            }
+            Step::Pending => {
+                go_to(stage, Stage::Saying(line, awaits));
+                Step::Pending
+            }
+            Step::Done(answer) => Step::Done(answer),
+        }
+    }
+
+    /// The reply of an exchange is read and accepted. Out of memory after the dialogue has begun fails the session.
+    fn hear_reply<W, E: Encoding, A: Asks<Tr, W>>(
+        &mut self,
+        asker: &A,
+        alloc: Global,
+        encoding: &E,
+        call: &Call,
+        awaits: Awaits,
+        stage: &mut Stage,
+        w: &mut W,
+    ) -> Step
+    where
+        Tr::Conn: PollConn<W>,
+        requires going { self.old.channel.failed ≡ false }
+        requires stage { StageOf call.now (Stage.Hearing awaits) }
+        ensures stage { StageAfter call.now stage.new result }
+        ensures waits { result ≡ Step.Pending → Tr.Conn.may_wait ⊎ A.may_wait }
+        ensures net { self.new.net ≡ self.old.net }
+        ensures end { Tr.Conn.tells → Tr.Conn.may_wait →
+            EndsAsTold self.old.channel.ended self.new.channel.ended self.old.channel.told }
+        ensures answers { StepAnswers call.now result }
+        ensures fewer { result ≡ Step.Next →
+            nodes_left stage.new < nodes_left (Stage.Hearing awaits) }
+        ensures steps { let coding = coding_of E.decoded E.encoded encoding.now in
+            Steps (building (A.builds asker.now) Tr.Conn.tells Tr.Conn.read_faults Tr.Conn.write_faults Tr.Conn.end_faults A.may_wait) awaits.begun
+            (remaining coding call.now self.old.state (Stage.Hearing awaits))
+            (remaining coding call.now self.old.state stage.new) self.old self.new result }
+        ensures goes_on { result ≡ Step.Next → begun_at stage.new ≡ true }
+        ensures begun { let coding = coding_of E.decoded E.encoded encoding.now in
+            Tracks (building (A.builds asker.now) Tr.Conn.tells Tr.Conn.read_faults Tr.Conn.write_faults Tr.Conn.end_faults A.may_wait) awaits.begun (begun_at stage.new)
+            (remaining coding call.now self.old.state (Stage.Hearing awaits)) self.old self.new result }
+        ensures rests { result ≡ Step.Pending → Rests (building (A.builds asker.now) Tr.Conn.tells Tr.Conn.read_faults Tr.Conn.write_faults Tr.Conn.end_faults A.may_wait) self.old self.new }
+    {
+        match self.hear_codes(asker, alloc, &awaits.hears, w) {
+            Poll::Ready(Ok(reply)) => self.accept_reply(
+                alloc, encoding, call, awaits, reply, stage,
+            ),
+            Poll::Ready(Err(fault)) => {
+                Step::Done(self.end_dialogue(awaits.begun, awaits.ending, fault))
+            }
+            Poll::Pending => {
+                go_to(stage, Stage::Hearing(awaits));
+                Step::Pending
+            }
+        }
+    }
+
+    /// A reply is accepted. Out of memory fails the session, since the reply was taken.
+    fn accept_reply<E: Encoding>(
+        &mut self,
+        alloc: Global,
+        encoding: &E,
+        call: &Call,
+        awaits: Awaits,
+        reply: Response,
+        stage: &mut Stage,
+    ) -> Step
+        requires stage { StageOf call.now (Stage.Hearing awaits) }
+        ensures stage { StageAfter call.now stage.new result }
+        ensures moves { result ≡ Step.Pending → ⊥ }
+        ensures net { self.new.net ≡ self.old.net }
+        ensures end { self.new.channel.ended ≡ self.old.channel.ended }
+        ensures answers { StepAnswers call.now result }
+        ensures fewer { result ≡ Step.Next →
+            nodes_left stage.new < nodes_left (Stage.Hearing awaits) }
+        ensures concludes { let coding = coding_of E.decoded E.encoded encoding.now in
+            Concludes coding call.now awaits reply stage.new self.old self.new result }
+        ensures goes_on { result ≡ Step.Next → begun_at stage.new ≡ true }
+    {
+        match accept(alloc, encoding, awaits.ending, reply, &mut self.state) {
+            Ok(Accepted::Done(answer)) => Step::Done(answer),
+            Ok(Accepted::GoesOn) => go_on(call, awaits.turn, stage),
+            Ok(Accepted::Asks(asking)) => {
+                go_to(
+                    stage,
+                    Stage::Agreeing(Agreeing::Asking(awaits.turn, asking)),
+                );
+                Step::Next
+            }
+            Err(fault) => {
+                self.abort_dialogue(true, &fault);
+                Step::Done(Answer::Fault(fault))
+            }
+        }
+    }
+
+    /// A dialogue ends with a fault: out of memory after it has begun fails the session.
+    fn abort_dialogue(&mut self, begun: bool, fault: &FtpError)
+        ensures { self.new ≡ after_fault begun fault.now self.old }
+    {
+        if wants_memory(fault) && begun {
+            self.channel.fail();
+        }
+    }
+
+    /// A dialogue ends with a fault in place of a reply: what is answered, and what it leaves.
+    fn end_dialogue(&mut self, begun: bool, ending: Ending, fault: FtpError) -> Answer
+        ensures { EndsFaulty begun ending fault self.old self.new result }
+    {
+        self.abort_dialogue(begun, &fault);
+        conclude_fault(ending, fault, &mut self.state)
+    }
+
+    /// Goes on with a call as far as it gets.
+    pub(super) fn poll_call<W, E: Encoding, A: Asks<Tr, W>>(
+        &mut self,
+        asker: &A,
+        alloc: Global,
+        encoding: &E,
+        call: &Call,
+        stage: &mut Stage,
+        w: &mut W,
+    ) -> Poll<Answer>
+    where
+        Tr::Conn: PollConn<W>,
+        requires going { self.old.channel.failed ≡ false }
+        requires stage { StageOf call.now stage.old }
+        requires may { negotiates call.now ≡ true → A.may_ask }
+        ensures stage { result ≡ poll.Pending → StageOf call.now stage.new }
+        ensures waits { result ≡ poll.Pending → Tr.Conn.may_wait ⊎ A.may_wait }
+        ensures net { negotiates call.now ≡ false → finishes call.now ≡ false → self.new.net ≡ self.old.net }
+        ensures end { Tr.Conn.tells → Tr.Conn.may_wait →
+            EndsAsTold self.old.channel.ended self.new.channel.ended self.old.channel.told }
+        ensures answers { PollAnswers call.now result }
+        ensures rests { result ≡ poll.Pending → is_read call.now ≡ true →
+            Rests (building (A.builds asker.now) Tr.Conn.tells Tr.Conn.read_faults Tr.Conn.write_faults Tr.Conn.end_faults A.may_wait) self.old self.new }
+        ensures begun { result ≡ poll.Pending →
+            let coding = coding_of E.decoded E.encoded encoding.now in
+            HasBegun (building (A.builds asker.now) Tr.Conn.tells Tr.Conn.read_faults Tr.Conn.write_faults Tr.Conn.end_faults A.may_wait) (begun_at stage.old) (begun_at stage.new)
+            (remaining coding call.now self.old.state stage.old) self.old self.new }
+        ensures polls { let coding = coding_of E.decoded E.encoded encoding.now in
+            PollSteps (building (A.builds asker.now) Tr.Conn.tells Tr.Conn.read_faults Tr.Conn.write_faults Tr.Conn.end_faults A.may_wait) (begun_at stage.old)
+            (remaining coding call.now self.old.state stage.old)
+            (remaining coding call.now self.old.state stage.new) self.old self.new result }
+    {
+        loop {
+            match self.step(asker, alloc, encoding, call, stage, w) {
+                Step::Next => {}
+                Step::Pending => return Poll::Pending,
+                Step::Done(answer) => return Poll::Ready(answer),
+            }
+        }
+    }
+
+    /// Makes a call, whole, by itself: the last reply of a transfer that was left isn't read first.
+    ///
+    /// The answer is `NoTransfer` where the call is of a transfer and none is held; `SessionFailed` on a session that has
+    /// failed; else what the dialogue comes to, which is a fault where its command has no line, a reply isn't the one
+    /// that is expected, a connection fails, or memory runs out.
+    pub fn call_alone<E: Encoding, A: Asks<Tr, NeverWaits>>(
+        &mut self,
+        asker: &A,
+        alloc: Global,
+        encoding: &E,
+        call: &Call,
+    ) -> Answer
+    where
+        Tr::Conn: Conn,
+        requires may { negotiates call.now ≡ true → A.may_ask }
+        requires channel { is_local call.now ≡ false }
+        requires blocks { A.may_wait → ⊥ }
+        ensures answers { (refusal_of call.now self.old ≡ Lacking → ⊥) → MayAnswer call.now result }
+        ensures made { Made (building (A.builds asker.now) Tr.Conn.tells Tr.Conn.blocking_read_faults Tr.Conn.blocking_write_faults Tr.Conn.end_faults A.may_wait) (coding_of E.decoded E.encoded encoding.now) call.now
+            self.old self.new result }
+    {
+        if let Some(answer) = self.refuse(call) {
+            return answer;
+        }
+        let mut stage = self.enter(call);
+        match self.poll_call(asker, alloc, encoding, call, &mut stage, &mut NeverWaits) {
+            Poll::Ready(answer) => {
+                self.let_go();
+                answer
+            }
+            Poll::Pending => unreachable!(),
+        }
+    }
+
+    /// A call begins. One that opens a data connection takes the offset with it; one that brings a transfer to its end
+    /// has left it.
+    pub(super) fn enter(&mut self, call: &Call) -> Stage
+        requires channel { is_local call.now ≡ false }
+        ensures state { self.new ≡ begun_by call.now self.old }
+        ensures stage { StageOf call.now result }
+        ensures begun { begun_at result ≡ false }
+        ensures at { result ≡ first_stage call.now self.old.state }
+        ensures enters { (coding : Coding) →
+            remaining coding call.now self.new.state result ≡ dialogue coding call.now self.old.state }
+    {
+        if negotiates(call) {
+            let offset = mem::replace(&mut self.state.settings.restart_offset, 0);
+            if matches!(self.state.counts.owed(), Owed::Nothing) {
+                self.state.uploads = uploads(call);
+            }
+            Stage::Agreeing(Agreeing::Negotiating(offset))
+        } else if finishes(call) {
+            self.state.counts.leave();
+            if aborts(call) {
+                Stage::Aborting(Aborting::Wording)
+            } else {
+                Stage::Closing
+            }
+        } else {
+            Stage::At(Turn::First)
+        }
+    }
+
+    /// A call begins where it stands at its beginning.
+    fn begin_call(&mut self, call: &Call, stage: &mut Stage)
+        requires stage { StageIn (Some call.now) stage.old }
+        requires channel { is_local call.now ≡ false }
+        ensures stage { StageOf call.now stage.new }
+        ensures entered { self.new ≡ entered_at call.now stage.old self.old }
+        ensures at { stage.new ≡ entered_stage call.now stage.old self.old.state }
+        ensures begun { begun_at stage.new ≡ begun_at stage.old }
+        ensures enters { (coding : Coding) →
+            remaining coding call.now self.new.state stage.new ≡ entered_tree coding call.now stage.old self.old.state }
+    {
+        if is_first(stage) {
+            let first = self.enter(call);
+            go_to(stage, first);
+        }
+    }
+
+    /// Goes on with a call as far as it gets, unless it is refused. One that waits may be dropped, or polled again at the
+    /// stage that it has reached.
+    ///
+    /// The answer is that of `call_alone`; where the session has failed since the call began it is `SessionFailed`.
+    pub fn poll_started<W, E: Encoding, A: Asks<Tr, W>>(
+        &mut self,
+        asker: &A,
+        alloc: Global,
+        encoding: &E,
+        call: &Call,
+        stage: &mut Stage,
+        w: &mut W,
+    ) -> Poll<Answer>
+    where
+        Tr::Conn: PollConn<W>,
+        requires stage { StageIn (Some call.now) stage.old }
+        requires may { negotiates call.now ≡ true → A.may_ask }
+        requires channel { is_local call.now ≡ false }
+        ensures stage { result ≡ poll.Pending → StageOf call.now stage.new }
+        ensures starts { StartsTo (building (A.builds asker.now) Tr.Conn.tells Tr.Conn.read_faults Tr.Conn.write_faults Tr.Conn.end_faults A.may_wait) Tr.Conn.may_wait (coding_of E.decoded E.encoded encoding.now) call.now stage.old
+            stage.new self.old self.new result }
+    {
+        if let Some(answer) = self.refuse_at(call, stage) {
+            return Poll::Ready(answer);
+        }
+        self.poll_taken(asker, alloc, encoding, call, stage, w)
+    }
+
+    /// The answer of a call that isn't made: where it begins it is refused, later its session has failed.
+    fn refuse_at(&mut self, call: &Call, stage: &Stage) -> Option<Answer>
+        requires channel { is_local call.now ≡ false }
+        ensures taken { result ≡ None → (MayPollAt stage.now call.now self.old) ×
+            (self.old.channel.failed ≡ false) × (self.new ≡ self.old) }
+        ensures refused { (answer : Answer) → result ≡ Some answer →
+            RefusesFrom (is_first stage.now) Tr.Conn.tells call.now self.old self.new answer }
+    {
+        if !is_first(stage) {
+            return self.failed_since();
+        }
+        self.refuse(call)
+    }
+
+    /// The answer of a call whose session has failed since it began.
+    fn failed_since(&self) -> Option<Answer>
+        ensures none { result ≡ None → self.now.channel.failed ≡ false }
+        ensures some { (answer : Answer) → result ≡ Some answer →
+            (self.now.channel.failed ≡ true) × (answer ≡ Answer.Fault FtpError.SessionFailed) }
+    {
+        if self.channel.failed() {
+            Some(Answer::Fault(FtpError::SessionFailed))
+        } else {
+            None
+        }
+    }
+
+    /// Goes on with a call that isn't refused.
+    fn poll_taken<W, E: Encoding, A: Asks<Tr, W>>(
+        &mut self,
+        asker: &A,
+        alloc: Global,
+        encoding: &E,
+        call: &Call,
+        stage: &mut Stage,
+        w: &mut W,
+    ) -> Poll<Answer>
+    where
+        Tr::Conn: PollConn<W>,
+        requires stage { StageIn (Some call.now) stage.old }
+        requires may { negotiates call.now ≡ true → A.may_ask }
+        requires channel { is_local call.now ≡ false }
+        requires going { self.old.channel.failed ≡ false }
+        ensures stage { result ≡ poll.Pending → StageOf call.now stage.new }
+        ensures polls { let coding = coding_of E.decoded E.encoded encoding.now in
+            PollsTo (building (A.builds asker.now) Tr.Conn.tells Tr.Conn.read_faults Tr.Conn.write_faults Tr.Conn.end_faults A.may_wait) (begun_at stage.old)
+            (entered_tree coding call.now stage.old self.old.state)
+            (remaining coding call.now (entered_state call.now stage.old self.old.state) stage.new)
+            (entered_at call.now stage.old self.old) self.new result }
+        ensures rests { result ≡ poll.Pending → is_read call.now ≡ true →
+            Rests (building (A.builds asker.now) Tr.Conn.tells Tr.Conn.read_faults Tr.Conn.write_faults Tr.Conn.end_faults A.may_wait) self.old self.new }
+        ensures begun { result ≡ poll.Pending →
+            let coding = coding_of E.decoded E.encoded encoding.now in
+            HasBegun (building (A.builds asker.now) Tr.Conn.tells Tr.Conn.read_faults Tr.Conn.write_faults Tr.Conn.end_faults A.may_wait) (begun_at stage.old) (begun_at stage.new)
+            (entered_tree coding call.now stage.old self.old.state) (entered_at call.now stage.old self.old) self.new }
+        ensures fails { self.new.channel.failed ≡ true → (self.old.channel.failed ≡ true) ⊎ HasFault (polled_answer result) }
+        ensures end { Tr.Conn.tells → Tr.Conn.may_wait →
+            EndsAsTold self.old.channel.ended self.new.channel.ended self.old.channel.told }
+    {
+        self.begin_call(call, stage);
+        match self.poll_call(asker, alloc, encoding, call, stage, w) {
+            Poll::Ready(answer) => {
+                self.let_go();
+                Poll::Ready(answer)
+            }
+            Poll::Pending => Poll::Pending,
+        }
+    }
+}
+
+/// The reply is awaited after a line that went out.
+fn begun(awaits: Awaits) -> Awaits
+    ensures { result ≡ record awaits { begun = true } }
+{
+    Awaits {
+        begun: true,
+        ..awaits
+    }
+}
+
+/// Whether nothing was made of a call yet.
+fn is_first(stage: &Stage) -> bool
+    ensures { result ≡ is_first stage.now }
+{
+    match stage {
+        Stage::At(turn) => matches!(turn, Turn::First),
+        Stage::Saying(..)
+        | Stage::Hearing(_)
+        | Stage::Arming(..)
+        | Stage::Agreeing(_)
+        | Stage::Closing
+        | Stage::Aborting(_) => false,
+    }
+}

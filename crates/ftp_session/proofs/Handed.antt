@@ -1,0 +1,181 @@
+-- Lemmas on the look, and on transfers that are handed out.
+use Rattle.std.proofs.Common.{◌≡◌, ℕ, [], Option, Some, None, Bool, true, false, Result, Ok, Err, inl, inr, ◌⊎◌, refl, ap, sym, ◌∙◌, subst}
+use Rattle.std.specs.Prelude.{IfOk, ◌&&◌, not, is_none}
+use Rattle.futures.specs.declared.task.Poll.{Poll}
+use Rattle.std.specs.declared.alloc.AllocError.{AllocError}
+use Rattle.ftp_base.specs.declared.types.fault.FtpError.{FtpError}
+use Rattle.ftp_base.specs.declared.types.reply.Response.{Response}
+use Rattle.ftp_calls.specs.declared.call.Answer.{Answer}
+use Rattle.ftp_calls.specs.declared.call.Answer.TheVariants.{Fault}
+use Rattle.ftp_calls.specs.declared.call.Call.{Call}
+use Rattle.ftp_calls.specs.declared.call.Call.TheVariants.{Drain}
+use Rattle.ftp_control.specs.Mark.{End}
+use Rattle.ftp_control.specs.Told.{Told}
+use Rattle.ftp_transfer.specs.Transfer.{TransferValue}
+use Rattle.ftp_transfer.specs.declared.direction.Direction.{Direction}
+use Rattle.ftp_dialogue.specs.Coding.{Coding}
+use Rattle.ftp_session.specs.Handed.{BringsToEnd, BringsToEndIf, TakesBack, TakesBackIf, ComesTo, GivesUp, HandsOut, IsOpening, LooksIf, ReadsSeen, OpensAs, OpensEither, OpensFrom, Opens, OpensReplied, PlaysSeen, Settles, SettlesIf, SettlesUnless, as_seen, found, left_if, opened_as, watches, with_data, with_reply, without_reply}
+use Rattle.ftp_dialogue.specs.Link.{Link}
+use Rattle.ftp_dialogue.specs.Dialogue.{Expected}
+use Rattle.ftp_dialogue.specs.Promises.{GivesFault, IsFault, Plays, PlaysAlone}
+use Rattle.ftp_dialogue.specs.Reading.{PollsRead}
+use Rattle.ftp_dialogue.specs.Sound.{is_live, is_owed, next_number}
+use Rattle.ftp_dialogue.specs.Steps.Moving.{withheld}
+use Rattle.ftp_dialogue.proofs.TransitionsLemmas.{withheld_plays}
+use Rattle.ftp_dialogue.specs.State.{SessionValue}
+
+-- a session that handed out no transfer finds none
+pub unmarked : (mark after : Option End) (v : SessionValue) → mark ≡ None → LooksIf (watches mark v) mark after → after ≡ None
+unmarked mark after v none looks =
+    let P : Option End → Type 0 = λ m. LooksIf (watches m v) m after in
+    subst P none looks
+
+-- a call after the look
+pub seen_plays : (link : Link) (coding : Coding) (call : Call) (mark after : Option End) (old seen new : SessionValue) (answer : Answer) → LooksIf (watches mark old) mark after → seen ≡ as_seen after old → Plays link coding call seen new answer → PlaysSeen link coding call mark after old new answer
+seen_plays link coding call mark after old seen new answer looks is plays =
+    let P : SessionValue → Type 0 = λ v. Plays link coding call v new answer in
+    record { looks = looks; plays = subst P is plays }
+
+-- a polled read after the look
+pub seen_reads : (link : Link) (coding : Coding) (codes : Expected) (mark after : Option End) (old seen new : SessionValue) (result : Poll (Result Response FtpError)) → LooksIf (watches mark old) mark after → seen ≡ as_seen after old → PollsRead link coding codes seen new result → ReadsSeen link coding codes mark after old new result
+seen_reads link coding codes mark after old seen new result looks is reads =
+    let P : SessionValue → Type 0 = λ v. PollsRead link coding codes v new result in
+    record { looks = looks; reads = subst P is reads }
+
+-- a look fails no session
+pub seen_failing : (after : Option End) (old seen new : SessionValue) (result : Poll (Result Response FtpError)) → seen ≡ as_seen after old → (new.channel.failed ≡ true → (seen.channel.failed ≡ true) ⊎ GivesFault result) → new.channel.failed ≡ true → (old.channel.failed ≡ true) ⊎ GivesFault result
+seen_failing after old seen new result is fails failed = go (fails failed)
+  where
+    same : (b : Bool) → (left_if b old).channel.failed ≡ old.channel.failed
+    same true = refl
+    same false = refl
+
+    go : (seen.channel.failed ≡ true) ⊎ GivesFault result → (old.channel.failed ≡ true) ⊎ GivesFault result
+    go (inl was) = inl (sym (ap (λ v. v.channel.failed) is ∙ same (watches after old && found after)) ∙ was)
+    go (inr fault) = inr fault
+
+-- what is made of a call whose arguments were copied
+pub copied_plays : (link : Link) (coding : Coding) (call : Result Call AllocError) (copy made : Call) (mark after : Option End) (old new : SessionValue) (answer : Answer) → call ≡ Ok copy → IfOk call (λ c. c ≡ made) → PlaysSeen link coding copy mark after old new answer → PlaysSeen link coding made mark after old new answer
+copied_plays link coding call copy made mark after old new answer is same plays =
+    let P : Result Call AllocError → Type 0 = λ r. IfOk r (λ c. c ≡ made) in
+    let Q : Call → Type 0 = λ c. PlaysSeen link coding c mark after old new answer in
+    subst Q (subst P is same) plays
+
+-- a transfer that was taken back is brought to its end
+pub taken_back : (link : Link) (coding : Coding) (call : Call) (transfer : TransferValue) (mark after : Option End) (old middle new : SessionValue) (answer : Answer) → TakesBack transfer mark after old middle (Ok tt) → PlaysAlone link coding call middle new answer → BringsToEnd link coding call transfer mark after old new answer
+taken_back link coding call transfer mark after old middle new answer takes plays =
+    elim (is_live transfer.end.number old.state.counts.owed) as (λ b. TakesBackIf b transfer mark after old middle (Ok tt) → BringsToEndIf b link coding call transfer mark after old new answer) [
+      | true ↦ λ taken. inl (record { mark = taken.0; made = (let P : SessionValue → Type 0 = λ v. PlaysAlone link coding call v new answer in subst P taken.1 plays) })
+      | false ↦ λ none. absurd none
+    ] takes
+
+-- one that wasn't
+pub not_taken_back : (link : Link) (coding : Coding) (call : Call) (transfer : TransferValue) (mark after : Option End) (old new : SessionValue) (fault : FtpError) → TakesBack transfer mark after old new (Err fault) → BringsToEnd link coding call transfer mark after old new (Fault fault)
+not_taken_back link coding call transfer mark after old new fault takes =
+    elim (is_live transfer.end.number old.state.counts.owed) as (λ b. TakesBackIf b transfer mark after old new (Err fault) → BringsToEndIf b link coding call transfer mark after old new (Fault fault)) [
+      | true ↦ λ without. inr without
+      | false ↦ λ passes. passes
+    ] takes
+
+-- a transfer that is live is taken back
+pub takes_live : (transfer : TransferValue) (mark : Option End) (old middle : SessionValue) (number : ℕ) (live : Bool) → number ≡ transfer.end.number → live ≡ is_live number old.state.counts.owed → live ≡ true → middle ≡ with_data (Some transfer.told) old → TakesBack transfer mark None old middle (Ok tt)
+takes_live transfer mark old middle number live numbers is live_now taken =
+    let P : Bool → Type 0 = λ b. TakesBackIf b transfer mark None old middle (Ok tt) in
+    let held : is_live transfer.end.number old.state.counts.owed ≡ true = ap (λ n. is_live n old.state.counts.owed) (sym numbers) ∙ sym is ∙ live_now in
+    subst P (sym held) (refl, taken)
+
+-- a receipt's transfer is drained, where it is owed
+pub settles_owed : (link : Link) (coding : Coding) (receipt : End) (old middle new : SessionValue) (number : ℕ) (failed owed : Bool) (answer : Answer) → number ≡ receipt.number → failed ≡ old.channel.failed → failed ≡ false → owed ≡ is_owed number old.state.counts.owed → owed ≡ true → middle ≡ left_if true old → PlaysAlone link coding Drain middle new answer → Settles link coding receipt old new answer
+settles_owed link coding receipt old middle new number failed owed answer numbers fails going is owed_now left plays =
+    let P : Bool → Type 0 = λ b. SettlesIf b link coding old new answer in
+    let Q : SessionValue → Type 0 = λ v. PlaysAlone link coding Drain v new answer in
+    let R : Bool → Type 0 = λ b. SettlesUnless b link coding receipt old new answer in
+    let held : is_owed receipt.number old.state.counts.owed ≡ true = ap (λ n. is_owed n old.state.counts.owed) (sym numbers) ∙ sym is ∙ owed_now in
+    subst R (sym (sym fails ∙ going)) (subst P (sym held) (subst Q left plays))
+
+-- what an opening call returns, without its reply and with it
+pub opens_plain : (link : Link) (coding : Coding) (call : Call) (direction : Direction) (mark after former kept : Option End) (old new : SessionValue) (result : Result (Option Response × TransferValue) FtpError) → OpensAs link coding call false direction mark after former kept old new result → Opens link coding call direction mark after former kept old new (without_reply result)
+opens_plain link coding call direction mark after former kept old new (Ok opened) opens =
+    let P : Option Response → Type 0 = λ r. OpensFrom link coding call direction (as_seen opens.between old) r opened.1 after new in
+    record { between = opens.between; looks = opens.looks; goes_on = (opens.goes_on.0, subst P (none opened.0 opens.goes_on.1) opens.goes_on.2) }
+  where
+    none : (r : Option Response) → is_none r ≡ not false → r ≡ None
+    none None is = refl
+    none (Some reply) is = let clash : false ≡ true = is in cc
+opens_plain link coding call direction mark after former kept old new (Err fault) opens = record { between = opens.between; looks = opens.looks; goes_on = opens.goes_on }
+
+pub opens_replied : (link : Link) (coding : Coding) (call : Call) (direction : Direction) (mark after former kept : Option End) (old new : SessionValue) (opened : Result (Option Response × TransferValue) FtpError) (result : Result (Response × TransferValue) FtpError) → opened ≡ with_reply result → OpensAs link coding call true direction mark after former kept old new opened → OpensReplied link coding call direction mark after former kept old new result
+opens_replied link coding call direction mark after former kept old new opened result is opens =
+    let P : Result (Option Response × TransferValue) FtpError → Type 0 = λ r. OpensAs link coding call true direction mark after former kept old new r in
+    go result (subst P is opens)
+  where
+    go : (r : Result (Response × TransferValue) FtpError) → OpensAs link coding call true direction mark after former kept old new (with_reply r) → OpensReplied link coding call direction mark after former kept old new r
+    go (Ok both) made = record { between = made.between; looks = made.looks; goes_on = (made.goes_on.0, made.goes_on.2) }
+    go (Err fault) made = record { between = made.between; looks = made.looks; goes_on = made.goes_on }
+
+-- an opening call after the look
+pub opens_seen : (link : Link) (coding : Coding) (call : Result Call AllocError) (copy made : Call) (replies : Bool) (direction : Direction) (mark between after former kept : Option End) (old seen new : SessionValue) (result : Result (Option Response × TransferValue) FtpError) → call ≡ Ok copy → IfOk call (λ c. c ≡ made) → LooksIf (watches mark old) mark between → seen ≡ as_seen between old → OpensEither link coding copy replies direction between after former kept seen new result → OpensAs link coding made replies direction mark after former kept old new result
+opens_seen link coding call copy made replies direction mark between after former kept old seen new result is same looks sees opens =
+    let P : Result Call AllocError → Type 0 = λ r. IfOk r (λ c. c ≡ made) in
+    let Q : Call → Type 0 = λ c. OpensEither link coding c replies direction between after former kept seen new result in
+    let R : SessionValue → Type 0 = λ v. OpensEither link coding made replies direction between after former kept v new result in
+    record { between = between; looks = looks; goes_on = subst R sees (subst Q (subst P is same) opens) }
+
+-- an opening call that isn't made, since memory ran out
+pub opens_withheld : (link : Link) (coding : Coding) (call : Call) (replies : Bool) (direction : Direction) (mark former : Option End) (v : SessionValue) → IsOpening call → OpensEither link coding call replies direction mark mark former former v v (Err (withheld v))
+opens_withheld link coding call replies direction mark former v opening =
+    (refl, refl, record { answer = Fault (withheld v); given = v; plays = withheld_plays link coding call v opening.1 opening.2; ends = inl (refl, refl) })
+
+-- a call opens no transfer
+pub opens_none : (link : Link) (coding : Coding) (call : Call) (replies : Bool) (direction : Direction) (mark former : Option End) (old given new : SessionValue) (answer : Answer) (result : Result (Option Response) (Option FtpError)) (fault : Option FtpError) (cause : FtpError) → Plays link coding call old given answer → ComesTo replies answer result → result ≡ Err fault → GivesUp fault cause given new → OpensEither link coding call replies direction mark mark former former old new (Err cause)
+opens_none link coding call replies direction mark former old given new answer result fault cause plays comes is gives =
+    let P : Result (Option Response) (Option FtpError) → Type 0 = λ r. ComesTo replies answer r in
+    go fault (subst P is comes) gives
+  where
+    go : (f : Option FtpError) → ComesTo replies answer (Err f) → GivesUp f cause given new → OpensEither link coding call replies direction mark mark former former old new (Err cause)
+    go (Some f) failed gives = (refl, refl, record { answer = answer; given = given; plays = plays; ends = inl (failed ∙ ap Fault (sym gives.0), gives.1) })
+    go None other gives = (refl, refl, record { answer = answer; given = given; plays = plays; ends = inr (record { no_fault = other.0; lacks = λ opened. (let clash : true ≡ false = sym opened ∙ other.1 in cc); is = gives.0; left = gives.1 }) })
+
+-- an answer that opened a transfer is no fault
+opened_no_fault : (reply : Option Response) → IsFault (opened_as reply) → ⊥
+opened_no_fault None fault = fault
+opened_no_fault (Some reply) fault = fault
+
+-- a call opens a transfer that doesn't stand
+pub opens_stray : (link : Link) (coding : Coding) (call : Call) (replies : Bool) (direction : Direction) (mark former : Option End) (old given same new : SessionValue) (answer : Answer) (result : Result (Option Response) (Option FtpError)) (reply : Option Response) (number : ℕ) (cause : FtpError) → Plays link coding call old given answer → ComesTo replies answer result → result ≡ Ok reply → number ≡ next_number old.state.counts → (is_none given.net.data_conn ≡ true) ⊎ (is_live number given.state.counts.owed ≡ false) → same ≡ given → GivesUp None cause same new → OpensEither link coding call replies direction mark mark former former old new (Err cause)
+opens_stray link coding call replies direction mark former old given same new answer result reply number cause plays comes is numbers lacks stays gives =
+    let P : Result (Option Response) (Option FtpError) → Type 0 = λ r. ComesTo replies answer r in
+    let Q : Answer → Type 0 = λ a. IsFault a → ⊥ in
+    let N : ℕ → Type 0 = λ n. (is_none given.net.data_conn ≡ true) ⊎ (is_live n given.state.counts.owed ≡ false) in
+    let G : SessionValue → Type 0 = λ v. new ≡ left_if true v in
+    let opened : ComesTo replies answer (Ok reply) = subst P is comes in
+    (refl, refl, record { answer = answer; given = given; plays = plays; ends = inr (record { no_fault = subst Q (sym opened.1) (opened_no_fault reply); lacks = λ one. subst N numbers lacks; is = gives.0; left = subst G stays gives.1 }) })
+
+-- the two ends of a mark that wasn't looked at
+same_end : (a b : End) → a.mark ≡ b.mark → a.number ≡ b.number → a.loads ≡ b.loads → a ≡ b
+same_end a b marks numbers loads =
+    ap (λ m. record a { mark = m }) marks ∙ ap (λ n. record a { mark = b.mark; number = n }) numbers ∙ ap (λ l. record b { loads = l }) loads
+
+-- a transfer on the data connection, with its end of the mark
+pub handed_out : (direction : Direction) (given new : SessionValue) (transfer : TransferValue) (session_end transfer_end : End) (after : Option End) (told : Told) (number : ℕ) → after ≡ Some session_end → given.net.data_conn ≡ Some told → transfer.told ≡ told → transfer.end ≡ transfer_end → transfer.direction ≡ direction → is_live number given.state.counts.owed ≡ true → (session_end.number ≡ number) × (transfer_end.number ≡ number) → (session_end.loads ≡ []) × (transfer_end.loads ≡ []) → session_end.mark ≡ transfer_end.mark → new ≡ with_data None given → HandsOut direction given transfer after new
+handed_out direction given new transfer session_end transfer_end after told number now conn tells ends goes live numbers loads marks taken = record {
+  told = conn ∙ ap Some (sym tells);
+  live = ap (λ e. is_live e.number given.state.counts.owed) ends ∙ ap (λ n. is_live n given.state.counts.owed) numbers.1 ∙ live;
+  direction_is = goes;
+  mark = (ap (λ e. e.loads) ends ∙ loads.1, now ∙ ap Some (same_end session_end transfer_end marks (numbers.0 ∙ sym numbers.1) (loads.0 ∙ sym loads.1) ∙ sym ends));
+  new_is = taken;
+}
+
+-- a call opens a transfer
+pub opens_transfer : (link : Link) (coding : Coding) (call : Call) (replies : Bool) (direction : Direction) (mark after former kept : Option End) (old given new : SessionValue) (answer : Answer) (result : Result (Option Response) (Option FtpError)) (reply : Option Response) (transfer : TransferValue) → kept ≡ mark → Plays link coding call old given answer → ComesTo replies answer result → result ≡ Ok reply → HandsOut direction given transfer after new → OpensEither link coding call replies direction mark after former kept old new (Ok (reply, transfer))
+opens_transfer link coding call replies direction mark after former kept old given new answer result reply transfer keeps plays comes is hands =
+    let P : Result (Option Response) (Option FtpError) → Type 0 = λ r. ComesTo replies answer r in
+    let Q : Answer → Type 0 = λ a. Plays link coding call old given a in
+    let opened : ComesTo replies answer (Ok reply) = subst P is comes in
+    (keeps, opened.0, record { given = given; plays = subst Q opened.1 plays; hands = hands })
+
+-- an opening call isn't made, after the look, since memory ran out
+pub opens_out : (link : Link) (coding : Coding) (call : Call) (replies : Bool) (direction : Direction) (mark after former : Option End) (old seen : SessionValue) → LooksIf (watches mark old) mark after → seen ≡ as_seen after old → IsOpening call → OpensAs link coding call replies direction mark after former former old seen (Err (withheld seen))
+opens_out link coding call replies direction mark after former old seen looks sees opening =
+    let R : SessionValue → Type 0 = λ v. OpensEither link coding call replies direction after after former former v seen (Err (withheld seen)) in
+    record { between = after; looks = looks; goes_on = subst R sees (opens_withheld link coding call replies direction after former seen opening) }

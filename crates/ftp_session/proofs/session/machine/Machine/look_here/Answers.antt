@@ -1,9 +1,0 @@
-use Rattle.std.proofs.Common.{ap, ◌∙◌}
-use Rattle.ftp_session.specs.Dialogue.{Here}
-use Rattle.ftp_session.proofs.Negotiation.{looks_up}
-use Rattle.ftp_session.proofs.session.machine.Machine.look_here.Goals as goal
-
-pub returns-clause-looks : goal.returns-clause-looks
-returns-clause-looks g c =
-    let here = c.local_addr.ensures in
-    looks_up _ Here _ _ _ c.self.view_is here.same c.local_addr.result (ap (λ v. v.channel.failed) c.self.view_is ∙ c.requires.going) here.fault here.told

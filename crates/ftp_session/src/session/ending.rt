@@ -1,0 +1,192 @@
+//! How a transfer that was handed out comes to its end by its session (RFC 959, section 3.2).
+//!
+//! A session knows transfers and receipts by number alone; that they are its own is the caller's care. A transfer of
+//! another number is left, and nothing of the session changes.
+
+ghost use Rattle.std.specs.Prelude.{◌≡◌, OnErr, OnOk, Some, true};
+ghost use Rattle.ftp_control.specs.Mark.{loaded};
+ghost use Rattle.ftp_session.specs.Calls.{unit_answer};
+ghost use Rattle.ftp_dialogue.specs.Coding.{chosen};
+ghost use Rattle.ftp_session.specs.Handed.{BringsToEnd, EndsOnly, Settles, TakesBack, left_if, with_data};
+ghost use Rattle.ftp_dialogue.specs.Link.{link};
+ghost use Rattle.ftp_dialogue.specs.Sound.{is_live, is_owed};
+
+use super::client::Session;
+use super::{Answer, Call};
+use ftp_base::encoding::Encoding;
+use ftp_base::types::{ConnectionError, FtpError, FtpResult};
+use ftp_control::mark::Left;
+use ftp_control::transport::{Conn, Network};
+use ftp_dialogue::asks::Nothing;
+use ftp_dialogue::machine::Machine;
+use ftp_transfer::Transfer;
+use std::alloc::Global;
+
+impl<Tr: Network, K: Drop, E: Encoding, B: Drop> Session<Tr, K, E, B>
+where
+    Tr::Conn: Conn,
+{
+    /// Brings a transfer to its end: closes its data connection, which ends an upload's file, and reads its last reply
+    /// (226, 250). Whatever that is, the transfer is over.
+    ///
+    /// # Errors
+    /// Those of a read of one reply; before them, of an upload, the fault of the close. `NotOwed` where the session owes
+    /// no transfer of this number: that is left, and nothing of the session changes. On a session that has failed
+    /// `SessionFailed`; where there is no memory for the record of the data connection `OutOfMemory`; the transfer is
+    /// left then.
+    pub fn finish(&mut self, alloc: Global, transfer: Transfer<Tr::Conn>) -> FtpResult<()>
+        ensures finishes { BringsToEnd (link Tr.Conn.tells Tr.Conn.blocking_read_faults Tr.Conn.blocking_write_faults Tr.Conn.end_faults) (chosen E.decoded E.encoded self.old.encoding.0) Call.Finish transfer
+            self.old.mark self.new.mark self.old.machine self.new.machine (unit_answer result) }
+        ensures encoding { self.new.encoding ≡ self.old.encoding }
+        ensures builder { self.new.builder ≡ self.old.builder }
+    {
+        match self.take_back(transfer) {
+            Ok(()) => ended(
+                self.machine
+                    .call_alone(&Nothing, alloc, &self.encoding, &Call::Finish),
+            ),
+            Err(fault) => Err(fault),
+        }
+    }
+
+    /// Aborts a transfer: `ABOR` goes out, its data connection is closed, and what the server says of it is read (226, or
+    /// 426 and then 226; RFC 959, section 4.1.3). Once `ABOR` is out the transfer is over, whatever is read.
+    ///
+    /// # Errors
+    /// Those of a command that goes out: where it can't, the transfer is left, and the next command reads its last reply
+    /// first. Those of a read of one reply. `NotOwed` where the session owes no transfer of this number: that is left, and
+    /// nothing of the session changes. On a session that has failed `SessionFailed`; where there is no memory for the
+    /// record of the data connection `OutOfMemory`; the transfer is left then.
+    pub fn abort(&mut self, alloc: Global, transfer: Transfer<Tr::Conn>) -> FtpResult<()>
+        ensures aborts { BringsToEnd (link Tr.Conn.tells Tr.Conn.blocking_read_faults Tr.Conn.blocking_write_faults Tr.Conn.end_faults) (chosen E.decoded E.encoded self.old.encoding.0) Call.Abort transfer
+            self.old.mark self.new.mark self.old.machine self.new.machine (unit_answer result) }
+        ensures encoding { self.new.encoding ≡ self.old.encoding }
+        ensures builder { self.new.builder ≡ self.old.builder }
+    {
+        match self.take_back(transfer) {
+            Ok(()) => ended(
+                self.machine
+                    .call_alone(&Nothing, alloc, &self.encoding, &Call::Abort),
+            ),
+            Err(fault) => Err(fault),
+        }
+    }
+
+    /// Takes a transfer that is live back into the session, to be brought to its end. One of another number is left.
+    ///
+    /// # Errors
+    /// `NotOwed` for one of another number; `OutOfMemory`, or `SessionFailed` on a session that has failed, where there is
+    /// no memory for the record that a close will need, and the transfer is left.
+    fn take_back(&mut self, transfer: Transfer<Tr::Conn>) -> FtpResult<()>
+        ensures takes { TakesBack transfer self.old.mark self.new.mark self.old.machine self.new.machine result }
+        ensures encoding { self.new.encoding ≡ self.old.encoding }
+        ensures builder { self.new.builder ≡ self.old.builder }
+    {
+        if !is_live(&self.machine, transfer.number()) {
+            return Err(FtpError::ConnectionError(ConnectionError::NotOwed));
+        }
+        match take_back(&mut self.machine, transfer) {
+            Ok(()) => {
+                self.mark = None;
+                Ok(())
+            }
+            Err(_transfer) => {
+                leave_behind(&mut self.machine);
+                Err(self.withheld())
+            }
+        }
+    }
+
+    /// Reads the last reply of a transfer that was left (226, 250), by its receipt. A reply of another status ends the
+    /// transfer as well. One whose last reply was read before is over, and nothing is read.
+    ///
+    /// # Errors
+    /// Those of a read of one reply, but for `UnexpectedResponse`; `SessionFailed` on a session that has failed.
+    pub fn settle(&mut self, alloc: Global, left: &mut Left) -> FtpResult<()>
+        ensures settles { Settles (link Tr.Conn.tells Tr.Conn.blocking_read_faults Tr.Conn.blocking_write_faults Tr.Conn.end_faults) (chosen E.decoded E.encoded self.old.encoding.0) left.old
+            self.old.machine self.new.machine (unit_answer result) }
+        ensures looks { left.new ≡ loaded true left.old }
+        ensures mark { self.new.mark ≡ self.old.mark }
+        ensures encoding { self.new.encoding ≡ self.old.encoding }
+        ensures builder { self.new.builder ≡ self.old.builder }
+    {
+        left.look_after();
+        if has_failed(&self.machine) {
+            return Err(FtpError::SessionFailed);
+        }
+        if !is_owed(&self.machine, left.number()) {
+            return Ok(());
+        }
+        leave_behind(&mut self.machine);
+        ended(
+            self.machine
+                .call_alone(&Nothing, alloc, &self.encoding, &Call::Drain),
+        )
+    }
+}
+
+/// Whether the session has failed.
+fn has_failed<Tr: Network>(machine: &Machine<Tr>) -> bool
+    ensures { result ≡ machine.now.channel.failed }
+{
+    machine.channel.failed()
+}
+
+/// Whether the transfer of this number is live.
+fn is_live<Tr: Network>(machine: &Machine<Tr>, number: u64) -> bool
+    ensures { result ≡ is_live number machine.now.state.counts.owed }
+{
+    machine.state.counts.is_live(number)
+}
+
+/// Whether the last reply of the transfer of this number is owed.
+fn is_owed<Tr: Network>(machine: &Machine<Tr>, number: u64) -> bool
+    ensures { result ≡ is_owed number machine.now.state.counts.owed }
+{
+    machine.state.counts.is_owed(number)
+}
+
+/// The transfer that is live, if there is one, is left.
+pub(super) fn leave_behind<Tr: Network>(machine: &mut Machine<Tr>)
+    ensures { machine.new ≡ left_if true machine.old }
+{
+    machine.state.counts.leave();
+}
+
+/// The data connection of a transfer stands beside the control connection again. Where there is no memory for the
+/// record that a close will need, the transfer is given back.
+fn take_back<Tr: Network>(
+    machine: &mut Machine<Tr>,
+    transfer: Transfer<Tr::Conn>,
+) -> Result<(), Transfer<Tr::Conn>>
+    ensures taken { OnOk result (machine.new ≡ with_data (Some transfer.told) machine.old) }
+    ensures unchanged { OnErr result (machine.new ≡ machine.old) }
+{
+    if machine.transport.make_room().is_err() {
+        return Err(transfer);
+    }
+    let (conn, _end) = transfer.into_parts();
+    machine.data_conn = Some(conn);
+    Ok(())
+}
+
+/// The result of a call that brings a transfer to its end.
+fn ended(answer: Answer) -> FtpResult<()>
+    requires { EndsOnly answer }
+    ensures { unit_answer result ≡ answer }
+{
+    match answer {
+        Answer::Unit => Ok(()),
+        Answer::Fault(fault) => Err(fault),
+        Answer::Reply(_) => unreachable!(),
+        Answer::Text(_) => unreachable!(),
+        Answer::Time(_) => unreachable!(),
+        Answer::Size(_) => unreachable!(),
+        Answer::Features(_) => unreachable!(),
+        Answer::Opened => unreachable!(),
+        Answer::OpenedWith(_) => unreachable!(),
+        Answer::Bytes(_) => unreachable!(),
+        Answer::Count(_) => unreachable!(),
+        Answer::NoTransfer => unreachable!(),
+    }
+}

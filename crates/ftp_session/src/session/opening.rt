@@ -1,0 +1,315 @@
+//! The calls that open a data connection and hand the transfer on it to their caller (RFC 959, sections 3.2 and 4.1.3).
+//!
+//! The mark by which the session learns that the transfer was left is made before anything is said, so a transfer that
+//! stands always has one.
+
+ghost use Rattle.std.specs.Prelude.{◌≡◌, ◌⊎◌, IfOk, Some, None, true, false, is_none, not};
+ghost use Rattle.ftp_calls.specs.declared.call.Call.{Call as Called};
+ghost use Rattle.ftp_dialogue.specs.Coding.{chosen};
+ghost use Rattle.ftp_session.specs.Handed.{ComesTo, GivesUp, IsOpening, OpensAs, OpensEither, Opens, OpensReplied, with_data, with_reply, without_reply};
+ghost use Rattle.ftp_dialogue.specs.Sound.{is_live, next_number};
+ghost use Rattle.ftp_dialogue.specs.Link.{building, built_by};
+ghost use Rattle.ftp_transfer.specs.declared.direction.Direction.TheVariants as directions;
+
+use super::client::Session;
+use super::ending::leave_behind;
+use super::looking::look;
+use super::run::make;
+use super::{Answer, Call};
+use ftp_base::encoding::Encoding;
+use ftp_base::status::Status;
+use ftp_base::types::{ConnectionError, FtpError, FtpResult, Items, Response, Text};
+use ftp_control::mark::mark;
+use ftp_control::transport::{Conn, Network, PassiveStreamBuilder, Tells, Transport};
+use ftp_dialogue::machine::Machine;
+use ftp_transfer::{Direction, Transfer};
+use std::alloc::{AllocError, Global};
+use std::mem;
+
+impl<Tr: Network, K: Drop, E: Encoding, B: PassiveStreamBuilder<Tr::Conn>> Session<Tr, K, E, B>
+where
+    Tr::Conn: Conn,
+{
+    /// Opens a download of this file: `RETR` (150, 125). It begins at the offset that `resume_transfer` set, if it did;
+    /// the offset is taken away.
+    ///
+    /// # Errors
+    /// Those of a data command: `DataConnectionAlreadyOpen` where a transfer is live, and nothing is said.
+    pub fn retr_as_stream<R>(
+        &mut self,
+        alloc: Global,
+        rt: &R,
+        path: &str,
+    ) -> FtpResult<Transfer<Tr::Conn>>
+    where
+        Tr: Transport<R>,
+        ensures opens { Opens (building (built_by B.answers self.old.builder) Tr.Conn.tells Tr.Conn.blocking_read_faults Tr.Conn.blocking_write_faults Tr.Conn.end_faults ⊥) (chosen E.decoded E.encoded self.old.encoding.0) (Call.RetrAsStream path.now)
+            directions.Download self.old.mark self.new.mark self.old.former self.new.former self.old.machine self.new.machine result }
+        ensures encoding { self.new.encoding ≡ self.old.encoding }
+        ensures builder { self.new.builder ≡ self.old.builder }
+    {
+        without_reply(self.open(
+            alloc,
+            rt,
+            retr_call(alloc, path),
+            false,
+            Direction::Download,
+        ))
+    }
+
+    /// Opens an upload to this file: `STOR` (125, 150). The offset is taken as by `retr_as_stream`.
+    ///
+    /// # Errors
+    /// Those of a data command: `DataConnectionAlreadyOpen` where a transfer is live, and nothing is said.
+    pub fn put_with_stream<R>(
+        &mut self,
+        alloc: Global,
+        rt: &R,
+        path: &str,
+    ) -> FtpResult<Transfer<Tr::Conn>>
+    where
+        Tr: Transport<R>,
+        ensures opens { Opens (building (built_by B.answers self.old.builder) Tr.Conn.tells Tr.Conn.blocking_read_faults Tr.Conn.blocking_write_faults Tr.Conn.end_faults ⊥) (chosen E.decoded E.encoded self.old.encoding.0) (Call.PutWithStream path.now)
+            directions.Upload self.old.mark self.new.mark self.old.former self.new.former self.old.machine self.new.machine result }
+        ensures encoding { self.new.encoding ≡ self.old.encoding }
+        ensures builder { self.new.builder ≡ self.old.builder }
+    {
+        without_reply(self.open(alloc, rt, put_call(alloc, path), false, Direction::Upload))
+    }
+
+    /// Opens an upload to the end of this file: `APPE` (125, 150). The offset is taken as by `retr_as_stream`.
+    ///
+    /// # Errors
+    /// Those of a data command: `DataConnectionAlreadyOpen` where a transfer is live, and nothing is said.
+    pub fn append_with_stream<R>(
+        &mut self,
+        alloc: Global,
+        rt: &R,
+        path: &str,
+    ) -> FtpResult<Transfer<Tr::Conn>>
+    where
+        Tr: Transport<R>,
+        ensures opens { Opens (building (built_by B.answers self.old.builder) Tr.Conn.tells Tr.Conn.blocking_read_faults Tr.Conn.blocking_write_faults Tr.Conn.end_faults ⊥) (chosen E.decoded E.encoded self.old.encoding.0) (Call.AppendWithStream path.now)
+            directions.Upload self.old.mark self.new.mark self.old.former self.new.former self.old.machine self.new.machine result }
+        ensures encoding { self.new.encoding ≡ self.old.encoding }
+        ensures builder { self.new.builder ≡ self.old.builder }
+    {
+        without_reply(self.open(
+            alloc,
+            rt,
+            append_call(alloc, path),
+            false,
+            Direction::Upload,
+        ))
+    }
+
+    /// Opens a data connection by a caller-supplied line, whose reply's status is among the expected, and gives that
+    /// reply. The offset is taken as by `retr_as_stream`.
+    ///
+    /// # Errors
+    /// Those of a data command: `DataConnectionAlreadyOpen` where a transfer is live, and nothing is said. `LineBreak` where CR or LF
+    /// stands in the line.
+    pub fn custom_data_command<R>(
+        &mut self,
+        alloc: Global,
+        rt: &R,
+        line: &str,
+        expected: &[Status],
+    ) -> FtpResult<(Response, Transfer<Tr::Conn>)>
+    where
+        Tr: Transport<R>,
+        ensures opens { OpensReplied (building (built_by B.answers self.old.builder) Tr.Conn.tells Tr.Conn.blocking_read_faults Tr.Conn.blocking_write_faults Tr.Conn.end_faults ⊥) (chosen E.decoded E.encoded self.old.encoding.0) (Call.CustomDataCommand line.now expected.now)
+            directions.Download self.old.mark self.new.mark self.old.former self.new.former self.old.machine self.new.machine result }
+        ensures encoding { self.new.encoding ≡ self.old.encoding }
+        ensures builder { self.new.builder ≡ self.old.builder }
+    {
+        with_reply(self.open(
+            alloc,
+            rt,
+            custom_data_call(alloc, line, expected),
+            true,
+            Direction::Download,
+        ))
+    }
+
+    /// Opens a data connection, after the look, and hands the transfer out. Where memory runs out for the call's texts,
+    /// nothing is said.
+    fn open<R>(
+        &mut self,
+        alloc: Global,
+        rt: &R,
+        call: Result<Call, AllocError>,
+        replies: bool,
+        direction: Direction,
+    ) -> FtpResult<(Option<Response>, Transfer<Tr::Conn>)>
+    where
+        Tr: Transport<R>,
+        requires { IfOk call IsOpening }
+        ensures opens { (made : Called) → IsOpening made → IfOk call (λ c. c ≡ made) →
+            OpensAs (building (built_by B.answers self.old.builder) Tr.Conn.tells Tr.Conn.blocking_read_faults Tr.Conn.blocking_write_faults Tr.Conn.end_faults ⊥) (chosen E.decoded E.encoded self.old.encoding.0) made
+            replies direction self.old.mark self.new.mark self.old.former self.new.former self.old.machine self.new.machine result }
+        ensures replies { IfOk result (λ opened. is_none opened.0 ≡ not replies) }
+        ensures encoding { self.new.encoding ≡ self.old.encoding }
+        ensures builder { self.new.builder ≡ self.old.builder }
+    {
+        look(&mut self.machine, &mut self.mark);
+        match call {
+            Ok(call) => self.open_call(alloc, rt, &call, replies, direction),
+            Err(AllocError) => Err(self.withheld()),
+        }
+    }
+
+    /// Opens a data connection, and hands the transfer out. Where memory runs out for its mark, nothing is said.
+    fn open_call<R>(
+        &mut self,
+        alloc: Global,
+        rt: &R,
+        call: &Call,
+        replies: bool,
+        direction: Direction,
+    ) -> FtpResult<(Option<Response>, Transfer<Tr::Conn>)>
+    where
+        Tr: Transport<R>,
+        requires { IsOpening call.now }
+        ensures opens { OpensEither (building (built_by B.answers self.old.builder) Tr.Conn.tells Tr.Conn.blocking_read_faults Tr.Conn.blocking_write_faults Tr.Conn.end_faults ⊥) (chosen E.decoded E.encoded self.old.encoding.0) call.now
+            replies direction self.old.mark self.new.mark self.old.former self.new.former self.old.machine self.new.machine result }
+        ensures replies { IfOk result (λ opened. is_none opened.0 ≡ not replies) }
+        ensures encoding { self.new.encoding ≡ self.old.encoding }
+        ensures builder { self.new.builder ≡ self.old.builder }
+    {
+        let number = next_number(&self.machine);
+        let Ok((session_end, transfer_end)) = mark(alloc, number) else {
+            return Err(self.withheld());
+        };
+        let answer = make(
+            &mut self.machine,
+            alloc,
+            rt,
+            &self.builder,
+            &self.encoding,
+            call,
+        );
+        let reply = match opened(answer, replies) {
+            Ok(reply) => reply,
+            Err(fault) => return Err(give_up(&mut self.machine, fault)),
+        };
+        match hand_out(&mut self.machine, number) {
+            Some(conn) => {
+                self.former = mem::replace(&mut self.mark, Some(session_end));
+                Ok((reply, Transfer::new(conn, direction, transfer_end)))
+            }
+            None => Err(give_up(&mut self.machine, None)),
+        }
+    }
+}
+
+/// Takes the data connection out of the session, where the transfer of this number is live on it.
+fn hand_out<Tr: Network>(machine: &mut Machine<Tr>, number: u64) -> Option<Tr::Conn>
+    ensures told { (conn : Tr.Conn) → result ≡ Some conn → machine.old.net.data_conn ≡ Some (Tr.Conn.told conn) }
+    ensures live { is_none result ≡ false → is_live number machine.old.state.counts.owed ≡ true }
+    ensures taken { is_none result ≡ false → machine.new ≡ with_data None machine.old }
+    ensures lacks { is_none result ≡ true →
+        (is_none machine.old.net.data_conn ≡ true) ⊎ (is_live number machine.old.state.counts.owed ≡ false) }
+    ensures unchanged { is_none result ≡ true → machine.new ≡ machine.old }
+{
+    if !machine.state.counts.is_live(number) {
+        return None;
+    }
+    machine.data_conn.take()
+}
+
+/// The number that the next transfer has.
+fn next_number<Tr: Network>(machine: &Machine<Tr>) -> u64
+    ensures { result ≡ next_number machine.now.state.counts }
+{
+    machine.state.counts.next_number()
+}
+
+/// Why no transfer is handed out. Where there is no fault, which no dialogue comes to, the transfer that is live is
+/// left, if there is one.
+fn give_up<Tr: Network>(machine: &mut Machine<Tr>, fault: Option<FtpError>) -> FtpError
+    ensures { GivesUp fault result machine.old machine.new }
+{
+    match fault {
+        Some(fault) => fault,
+        None => {
+            leave_behind(machine);
+            FtpError::ConnectionError(ConnectionError::NotOwed)
+        }
+    }
+}
+
+/// What the answer of an opening call comes to: its reply, where that is part of it; or a fault, if it is one.
+fn opened(answer: Answer, replies: bool) -> Result<Option<Response>, Option<FtpError>>
+    ensures { ComesTo replies answer result }
+{
+    match answer {
+        Answer::Opened if !replies => Ok(None),
+        Answer::OpenedWith(reply) if replies => Ok(Some(reply)),
+        Answer::Fault(fault) => Err(Some(fault)),
+        _ => Err(None),
+    }
+}
+
+/// A transfer that was opened without a reply.
+fn without_reply<C: Tells + Drop>(
+    opened: FtpResult<(Option<Response>, Transfer<C>)>,
+) -> FtpResult<Transfer<C>>
+    ensures { result ≡ without_reply opened }
+{
+    match opened {
+        Ok((_reply, transfer)) => Ok(transfer),
+        Err(fault) => Err(fault),
+    }
+}
+
+/// A transfer that was opened with a reply.
+fn with_reply<C: Tells + Drop>(
+    opened: FtpResult<(Option<Response>, Transfer<C>)>,
+) -> FtpResult<(Response, Transfer<C>)>
+    requires { IfOk opened (λ o. is_none o.0 ≡ false) }
+    ensures { opened ≡ with_reply result }
+{
+    let (reply, transfer) = match opened {
+        Ok(pair) => pair,
+        Err(fault) => return Err(fault),
+    };
+    match reply {
+        Some(reply) => Ok((reply, transfer)),
+        None => unreachable!(),
+    }
+}
+
+/// `RETR` as a call.
+fn retr_call(alloc: Global, path: &str) -> Result<Call, AllocError>
+    ensures call { IfOk result (λ call. call ≡ Call.RetrAsStream path.now) }
+    ensures kind { IfOk result IsOpening }
+{
+    Ok(Call::RetrAsStream(Text::from_str(alloc, path)?))
+}
+
+/// `STOR` as a call.
+fn put_call(alloc: Global, path: &str) -> Result<Call, AllocError>
+    ensures call { IfOk result (λ call. call ≡ Call.PutWithStream path.now) }
+    ensures kind { IfOk result IsOpening }
+{
+    Ok(Call::PutWithStream(Text::from_str(alloc, path)?))
+}
+
+/// `APPE` as a call.
+fn append_call(alloc: Global, path: &str) -> Result<Call, AllocError>
+    ensures call { IfOk result (λ call. call ≡ Call.AppendWithStream path.now) }
+    ensures kind { IfOk result IsOpening }
+{
+    Ok(Call::AppendWithStream(Text::from_str(alloc, path)?))
+}
+
+/// A caller-supplied line that opens a data connection, as a call.
+fn custom_data_call(alloc: Global, line: &str, expected: &[Status]) -> Result<Call, AllocError>
+    ensures call { IfOk result (λ call. call ≡ Call.CustomDataCommand line.now expected.now) }
+    ensures kind { IfOk result IsOpening }
+{
+    let line = Text::from_str(alloc, line)?;
+    let expected = Items::from_vec(Vec::from_slice(alloc, expected)?);
+    Ok(Call::CustomDataCommand(line, expected))
+}

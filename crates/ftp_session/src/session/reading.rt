@@ -1,0 +1,73 @@
+//! Polled reads of one reply.
+//!
+//! Each poll is a read of its own, which is begun, polled and dropped where it waits: so each looks at the mark, and polls
+//! the last reply of a transfer that was left before its own, where that is due.
+
+ghost use Rattle.std.specs.Prelude.{◌⊎◌, ◌≡◌, true, [], ◌∷◌};
+ghost use Rattle.futures.specs.declared.task.Poll.TheVariants as poll;
+ghost use Rattle.ftp_dialogue.specs.Coding.{chosen};
+ghost use Rattle.ftp_dialogue.specs.Dialogue.{expecting};
+ghost use Rattle.ftp_dialogue.specs.Link.{link};
+ghost use Rattle.ftp_dialogue.specs.Promises.{GivesFault};
+ghost use Rattle.ftp_session.specs.Handed.{ReadsSeen};
+
+use super::client::Session;
+use super::looking::look;
+use ftp_base::encoding::Encoding;
+use ftp_base::status::Status;
+use ftp_base::types::{FtpResult, Response};
+use ftp_control::transport::{Network, PollConn};
+use futures::task::Poll;
+use std::alloc::Global;
+
+impl<Tr: Network, K: Drop, E: Encoding, B: Drop> Session<Tr, K, E, B> {
+    /// Polls a read of one reply whose status is among the expected. Whether a transfer was left is looked at first; the
+    /// last reply of one that was is polled before the read: while it is waited for the read waits, too, and once it is
+    /// over the read is polled at once. What came of a reply that waits is kept, and a read that was dropped resumes
+    /// where it stopped.
+    ///
+    /// # Errors
+    /// Those of a read of one reply, also of that last reply, but for `UnexpectedResponse` of it; `SessionFailed`.
+    pub fn poll_read_response_in<W>(
+        &mut self,
+        alloc: Global,
+        expected: &[Status],
+        w: &mut W,
+    ) -> Poll<FtpResult<Response>>
+    where
+        Tr::Conn: PollConn<W>,
+        ensures reads { ReadsSeen (link Tr.Conn.tells Tr.Conn.read_faults Tr.Conn.write_faults Tr.Conn.end_faults) (chosen E.decoded E.encoded self.old.encoding.0) (expecting expected.now)
+            self.old.mark self.new.mark self.old.machine self.new.machine result }
+        ensures waits { result ≡ poll.Pending → Tr.Conn.may_wait }
+        ensures fails { self.new.machine.channel.failed ≡ true →
+            (self.old.machine.channel.failed ≡ true) ⊎ GivesFault result }
+        ensures encoding { self.new.encoding ≡ self.old.encoding }
+        ensures builder { self.new.builder ≡ self.old.builder }
+    {
+        look(&mut self.machine, &mut self.mark);
+        self.machine.poll_read(alloc, &self.encoding, expected, w)
+    }
+
+    /// Polls a read of one reply of this status, as `poll_read_response_in` does.
+    ///
+    /// # Errors
+    /// Those of `poll_read_response_in`.
+    pub fn poll_read_response<W>(
+        &mut self,
+        alloc: Global,
+        expected: Status,
+        w: &mut W,
+    ) -> Poll<FtpResult<Response>>
+    where
+        Tr::Conn: PollConn<W>,
+        ensures reads { ReadsSeen (link Tr.Conn.tells Tr.Conn.read_faults Tr.Conn.write_faults Tr.Conn.end_faults) (chosen E.decoded E.encoded self.old.encoding.0) (expecting (expected ∷ []))
+            self.old.mark self.new.mark self.old.machine self.new.machine result }
+        ensures waits { result ≡ poll.Pending → Tr.Conn.may_wait }
+        ensures fails { self.new.machine.channel.failed ≡ true →
+            (self.old.machine.channel.failed ≡ true) ⊎ GivesFault result }
+        ensures encoding { self.new.encoding ≡ self.old.encoding }
+        ensures builder { self.new.builder ≡ self.old.builder }
+    {
+        self.poll_read_response_in(alloc, &[expected], w)
+    }
+}

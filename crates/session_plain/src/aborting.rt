@@ -1,0 +1,81 @@
+//! A transfer is aborted: `ABOR` goes out, its data connection is closed, and what the server says of it is heard.
+
+ghost use Rattle.std.specs.Prelude.{◌≡◌, IfOk};
+ghost use Rattle.ftp_dialogue.specs.Coding.{coding_of};
+ghost use Rattle.ftp_dialogue.specs.Dialogue.{aborting, breaking_off, parting, with_aborted};
+ghost use Rattle.ftp_dialogue.specs.Play.{play};
+
+use crate::carrying::{Carried, moved_by};
+use crate::exchange::{Progress, say};
+use crate::finishing::closing;
+use crate::turns::from_turn;
+use ftp_base::command::Command;
+use ftp_base::encoding::Encoding;
+use ftp_calls::exchange::{Movement, Turn, aborts};
+use ftp_control::transport::Room;
+use ftp_session::model::{Played, Standing, Wait};
+use ftp_session::session::Call;
+use std::alloc::{AllocError, Global};
+
+/// How a transfer is brought to its end.
+pub(crate) fn parting<E: Encoding>(
+    alloc: Global,
+    room: Room,
+    encoding: &E,
+    call: &Call,
+    standing: Standing,
+) -> Result<Played, AllocError>
+    ensures { IfOk result (λ played. played ≡ play room (parting
+        (coding_of E.decoded E.encoded encoding.now) call.now standing.state) standing) }
+{
+    if aborts(call) {
+        aborting(alloc, room, encoding, call, standing)
+    } else {
+        closing(alloc, room, encoding, call, standing)
+    }
+}
+
+/// `ABOR` goes out, and what comes after it.
+fn aborting<E: Encoding>(
+    alloc: Global,
+    room: Room,
+    encoding: &E,
+    call: &Call,
+    standing: Standing,
+) -> Result<Played, AllocError>
+    ensures { IfOk result (λ played. played ≡ play room (aborting
+        (coding_of E.decoded E.encoded encoding.now) call.now standing.state) standing) }
+{
+    match say(alloc, room, encoding, Some(Command::Abor), standing)? {
+        Progress::Stops(played) => Ok(played),
+        Progress::Continues(here) => breaking_off(alloc, room, encoding, call, here),
+    }
+}
+
+/// The data connection is closed, and what the server says of it is heard.
+#[tactic(auto, unfolding(ftp_dialogue::specs::Play::play))]
+fn breaking_off<E: Encoding>(
+    alloc: Global,
+    room: Room,
+    encoding: &E,
+    call: &Call,
+    standing: Standing,
+) -> Result<Played, AllocError>
+    ensures { IfOk result (λ played. played ≡ play room (breaking_off
+        (coding_of E.decoded E.encoded encoding.now) call.now standing.state) standing) }
+{
+    match moved_by(alloc, Movement::Close, standing)? {
+        Carried::Unknown(here) => Ok(Played::Pending(Wait::Outcome, here)),
+        Carried::Known(_outcome, here) => {
+            from_turn(alloc, room, encoding, call, Turn::Aborted, here)
+        }
+    }
+}
+
+/// The transfer was aborted.
+pub(crate) fn aborted(mut standing: Standing) -> Standing
+    ensures { result ≡ record standing { state = with_aborted standing.state } }
+{
+    standing.state.counts.abort();
+    standing
+}

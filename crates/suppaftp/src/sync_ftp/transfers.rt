@@ -1,0 +1,129 @@
+//! The calls that open data connections, a method each: the session's call of that name, in one hold of the lock.
+//!
+//! Each fails with `DataConnectionAlreadyOpen` while a transfer is live, and says nothing then. The transfer of before is
+//! over once it was finished, or once it was left: a call reads the last reply of one that was left before anything of its
+//! own.
+
+use super::ImplFtpStream;
+use crate::transfer_stream::TransferStream;
+use ftp_base::encoding::Encoding;
+use ftp_base::status::Status;
+use ftp_base::types::{FtpResult, Response};
+use ftp_control::mark::Left;
+use ftp_control::transport::{Conn, Network, PassiveStreamBuilder, Transport};
+use std::sync::Wait;
+
+impl<Tr: Network, K: Drop, E: Encoding, B: PassiveStreamBuilder<Tr::Conn>> ImplFtpStream<
+    Tr,
+    K,
+    E,
+    B,
+>
+where
+    Tr::Conn: Conn,
+{
+    /// Opens a download of this file: `RETR` (150, 125; RFC 959, section 4.1.3). It begins at the offset that
+    /// `resume_transfer` set, if it did; the offset is taken away.
+    ///
+    /// # Errors
+    /// Those of a data command.
+    pub fn retr_as_stream<R: Wait + AllocGlobal>(
+        &self,
+        rt: &R,
+        path: &str,
+    ) -> FtpResult<TransferStream<Tr, K, E, B>>
+    where
+        Tr: Transport<R>,
+    {
+        let session = self.session.clone()?;
+        let transfer = self.session.lock(rt).retr_as_stream(rt.alloc(), rt, path)?;
+        Ok(TransferStream::new(transfer, session))
+    }
+
+    /// Opens an upload to this file: `STOR` (125, 150; RFC 959, section 4.1.3). The offset is taken as by
+    /// `retr_as_stream`.
+    ///
+    /// # Errors
+    /// Those of a data command.
+    pub fn put_with_stream<R: Wait + AllocGlobal>(
+        &self,
+        rt: &R,
+        path: &str,
+    ) -> FtpResult<TransferStream<Tr, K, E, B>>
+    where
+        Tr: Transport<R>,
+    {
+        let session = self.session.clone()?;
+        let transfer = self.session.lock(rt).put_with_stream(rt.alloc(), rt, path)?;
+        Ok(TransferStream::new(transfer, session))
+    }
+
+    /// Opens an upload to the end of this file: `APPE` (125, 150; RFC 959, section 4.1.3). The offset is taken as by
+    /// `retr_as_stream`.
+    ///
+    /// # Errors
+    /// Those of a data command.
+    pub fn append_with_stream<R: Wait + AllocGlobal>(
+        &self,
+        rt: &R,
+        path: &str,
+    ) -> FtpResult<TransferStream<Tr, K, E, B>>
+    where
+        Tr: Transport<R>,
+    {
+        let session = self.session.clone()?;
+        let transfer = self
+            .session
+            .lock(rt)
+            .append_with_stream(rt.alloc(), rt, path)?;
+        Ok(TransferStream::new(transfer, session))
+    }
+
+    /// Opens a data connection by a caller-supplied line, whose reply's status is among the expected, and gives that
+    /// reply. The offset is taken as by `retr_as_stream`.
+    ///
+    /// # Errors
+    /// Those of a data command: `LineBreak` where CR or LF stands in the line.
+    pub fn custom_data_command<R: Wait + AllocGlobal>(
+        &self,
+        rt: &R,
+        line: &str,
+        expected: &[Status],
+    ) -> FtpResult<(Response, TransferStream<Tr, K, E, B>)>
+    where
+        Tr: Transport<R>,
+    {
+        let session = self.session.clone()?;
+        let (reply, transfer) = self
+            .session
+            .lock(rt)
+            .custom_data_command(rt.alloc(), rt, line, expected)?;
+        Ok((reply, TransferStream::new(transfer, session)))
+    }
+}
+
+impl<Tr: Network, K: Drop, E: Encoding, B: Drop> ImplFtpStream<Tr, K, E, B>
+where
+    Tr::Conn: Conn,
+{
+    /// Reads the last reply of a transfer of this client that was left (226, 250), by its receipt. One whose last reply
+    /// was read before is over, and nothing is read.
+    ///
+    /// # Errors
+    /// Those of a read of one reply, but for `UnexpectedResponse`.
+    pub fn settle<R: Wait + AllocGlobal>(&self, rt: &R, left: &mut Left) -> FtpResult<()> {
+        self.session.lock(rt).settle(rt.alloc(), left)
+    }
+
+    /// Aborts a transfer, as its own `abort` does: `ABOR` goes out on the control connection of the client that opened it.
+    ///
+    /// # Errors
+    /// Those of `TransferStream::abort`.
+    pub fn abort<R: Wait + AllocGlobal>(
+        &self,
+        rt: &R,
+        stream: TransferStream<Tr, K, E, B>,
+    ) -> FtpResult<()> {
+        stream.abort(rt)
+    }
+}
