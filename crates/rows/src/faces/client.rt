@@ -67,18 +67,41 @@ pub fn called<R: Wait + AllocGlobal>(
     if let Some(encoding) = play.encoding {
         had(client.set_encoding(rt, encoding))?;
     }
-    let mut transfers = Transfers::new(rt.alloc());
-    for call in others {
-        let answer = make(rt, &client, &mut transfers, call)?;
-        transfers.made(call, &answer);
-        answers.push(answer)?;
-    }
-    let mut end = stands(rt, &client, &answers)?;
+    let mut end = made(rt, &client, others, &mut answers)?;
     if !play.opens_data() {
         end.asked = asked;
     }
+    Ok(end)
+}
+
+/// Where a client stands that made these calls after those with these answers.
+fn made<R: Wait + AllocGlobal>(
+    rt: &R,
+    client: &Client,
+    calls: &[Call],
+    answers: &mut Vec<Answer>,
+) -> Result<Standing, RowError> {
+    let mut transfers = Transfers::new(rt.alloc());
+    for call in calls {
+        make_next(rt, client, &mut transfers, call, answers)?;
+    }
+    let mut end = stands(rt, client, &answers[..])?;
     end.uploaded = transfers.uploaded;
     Ok(end)
+}
+
+/// Makes the next call, and notes its answer.
+fn make_next<R: Wait + AllocGlobal>(
+    rt: &R,
+    client: &Client,
+    transfers: &mut Transfers<Stream>,
+    call: &Call,
+    answers: &mut Vec<Answer>,
+) -> Result<(), RowError> {
+    let answer = make(rt, client, transfers, call)?;
+    transfers.made(call, &answer);
+    answers.push(answer)?;
+    Ok(())
 }
 
 /// What fails only where memory ran out.

@@ -92,15 +92,37 @@ pub fn called(alloc: Global, calls: &[Call], play: &Play) -> Result<Standing, Ro
         others,
     } = greeted(alloc, calls, play)?;
     let mut session = encoded(alloc, session, play)?;
+    made(alloc, &mut session, others, &mut answers)
+}
+
+/// Where a session stands that made these calls after those with these answers.
+fn made(
+    alloc: Global,
+    session: &mut NamedSession,
+    calls: &[Call],
+    answers: &mut Vec<Answer>,
+) -> Result<Standing, RowError> {
     let mut transfers = Transfers::new(alloc);
-    for call in others {
-        let answer = make(alloc, &mut session, &mut transfers, call)?;
-        transfers.made(call, &answer);
-        answers.push(answer)?;
+    for call in calls {
+        make_next(alloc, session, &mut transfers, call, answers)?;
     }
-    let mut end = stands(alloc, &session, &answers)?;
+    let mut end = stands(alloc, session, &answers[..])?;
     end.uploaded = transfers.uploaded;
     Ok(end)
+}
+
+/// Makes the next call, and notes its answer.
+fn make_next(
+    alloc: Global,
+    session: &mut NamedSession,
+    transfers: &mut Transfers<Transfer<MemoryConn>>,
+    call: &Call,
+    answers: &mut Vec<Answer>,
+) -> Result<(), RowError> {
+    let answer = make(alloc, session, transfers, call)?;
+    transfers.made(call, &answer);
+    answers.push(answer)?;
+    Ok(())
 }
 
 /// A first answer.
