@@ -1,5 +1,5 @@
 -- Lemmas on polls after the last reply of a transfer that was left.
-use Rattle.std.proofs.Common.{◌≡◌, ◌||◌, Bool, true, false, cond, Option, Some, None, List, [], ◌∷◌, ◌++◌, length, inl, inr, ◌⊎◌, refl, ap, sym, ◌∙◌, subst, append_assoc, append-nil, Result, Ok, Err}
+use Rattle.std.proofs.Common.{◌≡◌, ◌||◌, Bool, true, false, cond, Option, Some, None, List, [], ◌∷◌, ◌++◌, length, inl, inr, ◌⊎◌, refl, ap, sym, ◌∙◌, subst, Result, Ok, Err}
 use Rattle.futures.specs.declared.task.Poll.{Poll}
 use Rattle.futures.specs.declared.task.Poll.TheVariants.{Ready, Pending}
 use Rattle.ftp_base.specs.declared.types.reply.Response.{Response}
@@ -20,20 +20,19 @@ use Rattle.ftp_calls.specs.declared.call.Call.{Call}
 use Rattle.ftp_calls.specs.declared.call.Call.TheVariants.{Drain}
 use Rattle.ftp_calls.specs.declared.exchange.Ending.TheVariants.{Drains}
 use Rattle.ftp_calls.specs.declared.exchange.Turn.TheVariants.{First}
-use Rattle.ftp_calls.specs.Exchanges.{drains_first, finishes}
+use Rattle.ftp_calls.specs.Exchanges.{drains_first}
 use Rattle.ftp_dialogue.specs.Coding.{Coding}
 use Rattle.ftp_dialogue.specs.Deals.{Deal, Deals, outcomes_of}
 use Rattle.ftp_dialogue.specs.Dialogue.{answer_to_fault, entered, expecting, later, Expected, Tree, Hear, Leaf, concluded, dialogue, with_drained}
 use Rattle.ftp_dialogue.specs.Link.{Builds, over_memory}
 use Rattle.ftp_dialogue.specs.Play.{Taken, finally, heard_then, is_due, is_unit, play, taken}
-use Rattle.ftp_dialogue.specs.Promises.{FailsWith, HasFault, IsFault, begun_by, due_of, refusal_of, standing, before_all}
+use Rattle.ftp_dialogue.specs.Promises.{FailsWith, HasFault, IsFault, begun_by, due_of, refusal_of, standing}
 use Rattle.ftp_dialogue.specs.Run.{Resumes, Silent}
-use Rattle.ftp_session.specs.Script.{is_over, start_of, unread, draining, drained_as, drained_to, last_of, poll_if, poll_next, poll_script, polled_as, run_with, succeeded, without_call, MayCancel, MayPoll, MayPollIf, MayPollNext}
-use Rattle.ftp_session.specs.Scripted.{AreRefused, IsDrained, IsPolledIf, IsPolled, Stands}
+use Rattle.ftp_session.specs.Script.{is_over, start_of, unread, draining, drained_as, drained_to, last_of, poll_if, poll_next, poll_script, polled_as, run_with, succeeded, without_call, MayPoll, MayPollIf, MayPollNext}
+use Rattle.ftp_session.specs.Scripted.{AreRefused, IsDrained, IsPolledIf, IsPolled}
 use Rattle.ftp_dialogue.specs.Sound.{none_left}
 use Rattle.ftp_dialogue.specs.State.{SessionValue}
 use Rattle.ftp_dialogue.specs.declared.model.DealOutcome.{DealOutcome}
-use Rattle.ftp_dialogue.specs.declared.model.Item.TheVariants.{Shown, Hidden}
 use Rattle.ftp_dialogue.specs.declared.model.Played.{Played}
 use Rattle.ftp_dialogue.specs.declared.model.Played.TheVariants as played
 use Rattle.ftp_dialogue.specs.declared.model.Wait.TheVariants as wait
@@ -50,14 +49,13 @@ use Rattle.ftp_session.specs.Steps.Following.{AbortsAt, AbortsCall, DrainsHere, 
 use Rattle.ftp_dialogue.specs.Steps.Polls.{polled_answer}
 use Rattle.ftp_dialogue.specs.Steps.Moving.{Keeps, PollsTo}
 use Rattle.ftp_dialogue.specs.Steps.Stages.{remaining}
-use Rattle.ftp_session.proofs.Carried.{Carried, outcomes_on}
-use Rattle.ftp_dialogue.proofs.CarryingLemmas.{taken_plays}
+use Rattle.ftp_session.proofs.Carried.{outcomes_on}
 use Rattle.ftp_dialogue.proofs.Deals.{deals-append}
-use Rattle.ftp_dialogue.proofs.DrainingLemmas.{due_so, due_taken, failed_undue, finishes_first, not_first, unit_is}
+use Rattle.ftp_dialogue.proofs.DrainingLemmas.{due_taken, failed_undue, not_first, unit_is}
 use Rattle.ftp_session.proofs.Events.{begins_call, cancels, polls_here_fail}
-use Rattle.ftp_session.proofs.Following.{Goes_on, Kept, PollFollows, carry, done_with, here, placed, poll_happens, ran_done, reaches_stands, stands_reaches}
+use Rattle.ftp_session.proofs.Following.{Goes_on, Kept, PollFollows, here, placed, poll_happens}
 use Rattle.ftp_dialogue.proofs.Hearing.{nothing_resumes, play-Hear}
-use Rattle.ftp_dialogue.proofs.Moving.{Finishes, finishes as finishes_by, fitted, goes_after, play-Leaf}
+use Rattle.ftp_dialogue.proofs.Moving.{Finishes, finishes as finishes_by, play-Leaf}
 use Rattle.ftp_session.proofs.HiddenCalls.{done as done_hidden, hidden_before, hidden_ran}
 use Rattle.ftp_dialogue.proofs.TransitionsLemmas.{given_by}
 
@@ -125,8 +123,7 @@ module _ (builds : Builds) (coding : Coding) (outcomes : List DealOutcome) where
     -- the drain is polled in its place
     pub drains : Follows builds coding outcomes due old (draining s) v (Some Drain) (At First) answers
     drains =
-        let M : Option Call → Type 0 = λ c. MayCancel c s.polled in
-        begins_call builds coding outcomes due old (without_call s) v Drain stage answers (cancels builds coding outcomes due old s v (Some call) stage stage answers f (subst M (sym f.call_is) (inl started.unpolled)))
+        begins_call builds coding outcomes due old (without_call s) v Drain stage answers (cancels builds coding outcomes due old s v (Some call) stage stage answers f (inl started.unpolled))
 
     may_drain : MayPollNext coding start s.call s → MayPoll coding start (Some Drain) (draining s)
     may_drain may =

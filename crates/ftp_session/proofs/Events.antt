@@ -1,6 +1,6 @@
 -- Lemmas on the events of a script but Poll.
 use Rattle.ftp_control.specs.declared.control.form.ReplyForm.{ReplyForm}
-use Rattle.std.proofs.Common.{◌≡◌, ℕ, Bool, true, false, cond, ◌||◌, Option, Some, None, List, [], ◌++◌, length, drop, inl, inr, ◌⊎◌, refl, ap, sym, ◌∙◌, subst, append_assoc, append-nil}
+use Rattle.std.proofs.Common.{◌≡◌, ℕ, Bool, true, false, cond, ◌||◌, Option, Some, None, List, [], ◌∷◌, ◌++◌, length, drop, inl, inr, ◌⊎◌, refl, ap, sym, ◌∙◌, subst, append_assoc, append-nil}
 use Rattle.std.proofs.Math.Seq.{drop-append_seam}
 use Rattle.ftp_control.specs.Told.{Told, Given}
 use Rattle.ftp_control.specs.Memory.{IsGiven, fed, closed_memory, widened, more_room}
@@ -9,6 +9,8 @@ use Rattle.ftp_control.specs.Grammar.{outcome}
 use Rattle.ftp_control.specs.Channel.{Channel, IsSound, untaken}
 use Rattle.ftp_calls.specs.declared.call.Answer.{Answer}
 use Rattle.ftp_calls.specs.declared.call.Call.{Call}
+use Rattle.ftp_calls.specs.declared.call.Call.TheVariants.{Finish, Leave}
+use Rattle.ftp_calls.specs.Exchanges.{is_read}
 use Rattle.ftp_calls.specs.declared.call.Event.{Event}
 use Rattle.ftp_calls.specs.declared.call.Event.TheVariants as event
 use Rattle.ftp_dialogue.specs.declared.stage.Stage.{Stage}
@@ -20,6 +22,7 @@ use Rattle.ftp_dialogue.specs.Deals.{Deal, Net}
 use Rattle.ftp_dialogue.specs.declared.model.DealOutcome.{DealOutcome}
 use Rattle.ftp_dialogue.specs.declared.state.State.{State}
 use Rattle.ftp_dialogue.specs.declared.model.Item.{Item}
+use Rattle.ftp_dialogue.specs.declared.model.Item.TheVariants.{Hidden}
 use Rattle.ftp_dialogue.specs.declared.model.Script.{Script}
 use Rattle.ftp_dialogue.specs.State.{SessionValue}
 use Rattle.ftp_dialogue.specs.Coding.{Coding}
@@ -30,7 +33,7 @@ use Rattle.ftp_dialogue.specs.Promises.{HasFault, FailsWith, before_all, standin
 use Rattle.ftp_control.specs.Saying.{said}
 use Rattle.ftp_session.specs.Scripted.{Stands, Reaches}
 use Rattle.ftp_dialogue.specs.Run.{replay, and_then}
-use Rattle.ftp_dialogue.specs.Play.{finally, play}
+use Rattle.ftp_dialogue.specs.Play.{finally, needs_data, play}
 use Rattle.ftp_dialogue.specs.Dialogue.{Tree}
 use Rattle.ftp_dialogue.specs.declared.model.Standing.{Standing}
 use Rattle.futures.specs.declared.task.Poll.{Poll}
@@ -38,6 +41,16 @@ use Rattle.ftp_dialogue.specs.Steps.Stages.{remaining}
 use Rattle.ftp_dialogue.proofs.TransitionsLemmas.{given_by}
 use Rattle.ftp_session.proofs.Carried.{unread_is}
 use Rattle.ftp_dialogue.specs.Link.{Builds}
+
+-- a call of which no trace is left where it is dropped: it wasn't polled, or is a plain read
+abbrev pub LeavesNoTrace : Option Call → Bool → Type 0
+LeavesNoTrace None polled = Unit {0}
+LeavesNoTrace (Some call) polled = (polled ≡ false) ⊎ (is_read call ≡ true)
+
+may_cancel : (call : Option Call) (polled : Bool) → LeavesNoTrace call polled → MayCancel call polled
+may_cancel None polled none = tt
+may_cancel (Some call) polled (inl new) = inl new
+may_cancel (Some call) polled (inr read) = inr (inl read)
 
 module _ (builds : Builds) (coding : Coding) (outcomes left : List DealOutcome) where
   -- what is given to a connection
@@ -61,23 +74,23 @@ module _ (builds : Builds) (coding : Coding) (outcomes left : List DealOutcome) 
           let s : Standing = standing v more ended outcomes in
           ap (λ a. record s { local = a }) (sym local) ∙ ap (λ a. record s { local = given.local; peer = a }) (sym peer)
 
-      stands_given : Stands coding old s.items came answered v s.answers → Stands coding old s.items came answered (with_given v given) s.answers
-      stands_given stands = λ later room more ended outcomes fit on. stands later room more ended outcomes fit on ∙ ap (λ x. before_all s.answers (replay room coding later x)) (same_standing more ended outcomes)
+      stands_given : (items : List Item) → Stands coding old items came answered v s.answers → Stands coding old items came answered (with_given v given) s.answers
+      stands_given items stands = λ later room more ended outcomes fit on. stands later room more ended outcomes fit on ∙ ap (λ x. before_all s.answers (replay room coding later x)) (same_standing more ended outcomes)
 
       reaches_given : (call : Call) (tree : Tree) → Reaches coding old s.items came answered v s.answers call tree → Reaches coding old s.items came answered (with_given v given) s.answers call tree
       reaches_given call tree reaches = λ later room more ended outcomes fit on. reaches later room more ended outcomes fit on ∙ ap (λ x. before_all s.answers (and_then (finally (play room tree x)) (λ t. replay room coding later t))) (same_standing more ended outcomes)
 
       go : (call : Option Call) (stage : Stage) → Place coding old s came answered v call stage → Place coding old s came answered (with_given v given) call stage
-      go None stage place = stands_given place
-      go (Some call) stage (inl place) = inl (record { at = place.at; unpolled = place.unpolled; unheard = place.unheard; stands = stands_given place.stands })
-      go (Some call) stage (inr (inl place)) = inr (inl (record { stage_of = place.stage_of; polled = place.polled; undue = place.undue; going = place.going; reaches = reaches_given call (remaining coding call v.state stage) place.reaches; resumes = place.resumes; apart = place.apart; read = λ r. stands_given (place.read r); since = record { start = place.since.start; before = place.since.before; later = place.since.later; split = place.since.split; asked_before = place.since.asked_before; asked_later = place.since.asked_later; asked_split = place.since.asked_split; stands = place.since.stands; said = place.since.said; taken = place.since.taken; has_begun = place.since.has_begun; not_begun = place.since.not_begun } }))
-      go (Some call) stage (inr (inr place)) = inr (inr (record { plain = place.plain; stage_of = place.stage_of; polled = place.polled; unheard = place.unheard; undue = place.undue; going = place.going; no_read = place.no_read; reaches = reaches_given call (remaining coding call v.state stage) place.reaches; resumes = place.resumes; since = record { start = place.since.start; before = place.since.before; later = place.since.later; split = place.since.split; asked_before = place.since.asked_before; asked_later = place.since.asked_later; asked_split = place.since.asked_split; stands = place.since.stands; said = place.since.said; taken = place.since.taken; has_begun = place.since.has_begun; not_begun = place.since.not_begun } }))
+      go None stage place = stands_given s.items place
+      go (Some call) stage (inl place) = inl (record { at = place.at; unpolled = place.unpolled; unheard = place.unheard; stands = stands_given s.items place.stands })
+      go (Some call) stage (inr (inl place)) = inr (inl (record { stage_of = place.stage_of; polled = place.polled; undue = place.undue; going = place.going; reaches = reaches_given call (remaining coding call v.state stage) place.reaches; resumes = place.resumes; apart = place.apart; read = λ r. stands_given s.items (place.read r); since = record { start = place.since.start; before = place.since.before; later = place.since.later; split = place.since.split; asked_before = place.since.asked_before; asked_later = place.since.asked_later; asked_split = place.since.asked_split; stands = place.since.stands; sent = place.since.sent; over = place.since.over; said = place.since.said; taken = place.since.taken; has_begun = place.since.has_begun; not_begun = place.since.not_begun }; leaves = λ is. stands_given (s.items ++ Hidden Leave ∷ []) (place.leaves is); unsent = place.unsent }))
+      go (Some call) stage (inr (inr place)) = inr (inr (record { plain = place.plain; stage_of = place.stage_of; polled = place.polled; unheard = place.unheard; undue = place.undue; going = place.going; no_read = place.no_read; reaches = reaches_given call (remaining coding call v.state stage) place.reaches; resumes = place.resumes; since = record { start = place.since.start; before = place.since.before; later = place.since.later; split = place.since.split; asked_before = place.since.asked_before; asked_later = place.since.asked_later; asked_split = place.since.asked_split; stands = place.since.stands; sent = place.since.sent; over = place.since.over; said = place.since.said; taken = place.since.taken; has_begun = place.since.has_begun; not_begun = place.since.not_begun } }))
 
       back : (call : Option Call) (stage : Stage) → Place coding old (record s { items = t.items; answers = t.answers; polled = t.polled; heard = t.heard }) came answered (with_given v given) call stage → Place coding old t came answered (with_given v given) call stage
       back None stage place = place
       back (Some call) stage (inl place) = inl (record { at = place.at; unpolled = place.unpolled; unheard = place.unheard; stands = place.stands })
-      back (Some call) stage (inr (inl place)) = inr (inl (record { stage_of = place.stage_of; polled = place.polled; undue = place.undue; going = place.going; reaches = place.reaches; resumes = place.resumes; apart = place.apart; read = place.read; since = record { start = place.since.start; before = place.since.before; later = place.since.later; split = place.since.split; asked_before = place.since.asked_before; asked_later = place.since.asked_later; asked_split = place.since.asked_split; stands = place.since.stands; said = place.since.said; taken = place.since.taken; has_begun = place.since.has_begun; not_begun = place.since.not_begun } }))
-      back (Some call) stage (inr (inr place)) = inr (inr (record { plain = place.plain; stage_of = place.stage_of; polled = place.polled; unheard = place.unheard; undue = place.undue; going = place.going; no_read = place.no_read; reaches = place.reaches; resumes = place.resumes; since = record { start = place.since.start; before = place.since.before; later = place.since.later; split = place.since.split; asked_before = place.since.asked_before; asked_later = place.since.asked_later; asked_split = place.since.asked_split; stands = place.since.stands; said = place.since.said; taken = place.since.taken; has_begun = place.since.has_begun; not_begun = place.since.not_begun } }))
+      back (Some call) stage (inr (inl place)) = inr (inl (record { stage_of = place.stage_of; polled = place.polled; undue = place.undue; going = place.going; reaches = place.reaches; resumes = place.resumes; apart = place.apart; read = place.read; since = record { start = place.since.start; before = place.since.before; later = place.since.later; split = place.since.split; asked_before = place.since.asked_before; asked_later = place.since.asked_later; asked_split = place.since.asked_split; stands = place.since.stands; sent = place.since.sent; over = place.since.over; said = place.since.said; taken = place.since.taken; has_begun = place.since.has_begun; not_begun = place.since.not_begun }; leaves = λ is. place.leaves is; unsent = place.unsent }))
+      back (Some call) stage (inr (inr place)) = inr (inr (record { plain = place.plain; stage_of = place.stage_of; polled = place.polled; unheard = place.unheard; undue = place.undue; going = place.going; no_read = place.no_read; reaches = place.reaches; resumes = place.resumes; since = record { start = place.since.start; before = place.since.before; later = place.since.later; split = place.since.split; asked_before = place.since.asked_before; asked_later = place.since.asked_later; asked_split = place.since.asked_split; stands = place.since.stands; sent = place.since.sent; over = place.since.over; said = place.since.said; taken = place.since.taken; has_begun = place.since.has_begun; not_begun = place.since.not_begun } }))
 
   -- what is fed is unread
   fed_unread : (t : Told) (more : List ℕ) → IsGiven t → drop (length t.received) (t.given.bytes ++ more) ≡ unread t ++ more
@@ -201,34 +214,40 @@ module _ (builds : Builds) (coding : Coding) (outcomes left : List DealOutcome) 
         } in
         subst P (sym is) wide has sound
 
+  -- the session stands where it stood: of the call under way something else is known, and of what is done
+  module _ (old : SessionValue) (s : Script) (v : SessionValue) (call : Option Call) (stage : Stage) (answers : List Answer) (f : Follows builds coding outcomes left old s v call stage answers) where
+    with_known : (items : List Item) (under call' : Option Call) (polled heard leaving : Bool) (stage' : Stage) → under ≡ call' → Place coding old (record s { items = items; call = under; polled = polled; heard = heard; leaving = leaving }) f.came f.answered v call' stage' → (MayCancel call' polled → MayCancel call s.polled) → Follows builds coding outcomes left old (record s { items = items; call = under; polled = polled; heard = heard; leaving = leaving }) v call' stage' answers
+    with_known items under call' polled heard leaving stage' call_is place may = record {
+      came = f.came;
+      answered = f.answered;
+      deals = f.deals;
+      outcomes_are = f.outcomes_are;
+      dealings = f.dealings;
+      place = place;
+      rule = f.rule;
+      failures = f.failures;
+      given = f.given;
+      sound = f.sound;
+      bytes = f.bytes;
+      ended = f.ended;
+      room = f.room;
+      sent = f.sent;
+      said = record { rest = f.said.rest; is = f.said.is; whole = f.said.whole };
+      received = f.received;
+      unsent = λ may_cancel'. f.unsent (may may_cancel');
+      untaken = f.untaken;
+      seen = f.seen;
+      waits = f.waits;
+      state = f.state;
+      failed = f.failed;
+      call_is = call_is;
+      answers_are = f.answers_are;
+    }
+
   -- a call begins, where none is under way
   pub begins_call : (old : SessionValue) (s : Script) (v : SessionValue) (next : Call) (stage : Stage) (answers : List Answer) → Follows builds coding outcomes left old s v None stage answers → Follows builds coding outcomes left old (with_call next s) v (Some next) (At First) answers
-  begins_call old s v next stage answers f = record {
-    came = f.came;
-    answered = f.answered;
-    deals = f.deals;
-    outcomes_are = f.outcomes_are;
-    dealings = f.dealings;
-    place = inl (record { at = refl; unpolled = refl; unheard = refl; stands = f.place });
-    rule = f.rule;
-    failures = f.failures;
-    given = f.given;
-    sound = f.sound;
-    bytes = f.bytes;
-    ended = f.ended;
-    room = f.room;
-    sent = f.sent;
-    said = record { rest = f.said.rest; is = f.said.is; whole = f.said.whole };
-    received = f.received;
-    unsent = λ may. f.unsent tt;
-    untaken = f.untaken;
-    seen = f.seen;
-    waits = f.waits;
-    state = f.state;
-    failed = f.failed;
-    call_is = refl;
-    answers_are = f.answers_are;
-  }
+  begins_call old s v next stage answers f =
+      with_known old s v None stage answers f s.items (Some next) (Some next) false false s.leaving (At First) refl (inl (record { at = refl; unpolled = refl; unheard = refl; stands = f.place })) (λ may. tt)
 
   pub starts : (old : SessionValue) (s : Script) (v : SessionValue) (next : Call) (call call' : Option Call) (stage stage' : Stage) (course course' : Course) (answers : List Answer) → Attended builds coding outcomes left old s v call stage course answers → Starts next call call' stage stage' course course' → Attended builds coding outcomes left old (after_event coding (start_of old outcomes) s (event.Start next)) v call' stage' course' answers
   starts old s v next None call' stage stage' course course' answers (f, a) is =
@@ -248,35 +267,11 @@ module _ (builds : Builds) (coding : Coding) (outcomes left : List DealOutcome) 
       subst P (sym f.call_is) (subst Q (sym is.0) (subst R (sym is.1) (subst C (sym is.2) (f, a))))
 
   -- the call under way is dropped, of which no trace is left
-  pub cancels : (old : SessionValue) (s : Script) (v : SessionValue) (call : Option Call) (stage stage' : Stage) (answers : List Answer) → Follows builds coding outcomes left old s v call stage answers → MayCancel s.call s.polled → Follows builds coding outcomes left old (without_call s) v None stage' answers
-  cancels old s v call stage stage' answers f dropped = record {
-    came = f.came;
-    answered = f.answered;
-    deals = f.deals;
-    outcomes_are = f.outcomes_are;
-    dealings = f.dealings;
-    place = go call stage f.place (let P : Option Call → Type 0 = λ c. MayCancel c s.polled in subst P f.call_is dropped);
-    rule = f.rule;
-    failures = f.failures;
-    given = f.given;
-    sound = f.sound;
-    bytes = f.bytes;
-    ended = f.ended;
-    room = f.room;
-    sent = f.sent;
-    said = record { rest = f.said.rest; is = f.said.is; whole = f.said.whole };
-    received = f.received;
-    unsent = λ may. f.unsent (let P : Option Call → Type 0 = λ c. MayCancel c s.polled in subst P f.call_is dropped);
-    untaken = f.untaken;
-    seen = f.seen;
-    waits = f.waits;
-    state = f.state;
-    failed = f.failed;
-    call_is = refl;
-    answers_are = f.answers_are;
-  }
+  pub cancels : (old : SessionValue) (s : Script) (v : SessionValue) (call : Option Call) (stage stage' : Stage) (answers : List Answer) → Follows builds coding outcomes left old s v call stage answers → LeavesNoTrace call s.polled → Follows builds coding outcomes left old (without_call s) v None stage' answers
+  cancels old s v call stage stage' answers f dropped =
+      with_known old s v call stage answers f s.items None None false false s.leaving stage' refl (go call stage f.place dropped) (λ may. may_cancel call s.polled dropped)
     where
-      go : (call : Option Call) (stage : Stage) → Place coding old s f.came f.answered v call stage → MayCancel call s.polled → Stands coding old s.items f.came f.answered v s.answers
+      go : (call : Option Call) (stage : Stage) → Place coding old s f.came f.answered v call stage → LeavesNoTrace call s.polled → Stands coding old s.items f.came f.answered v s.answers
       go None stage place may = place
       go (Some call) stage (inl place) may = place.stands
       go (Some call) stage (inr (inl place)) (inl new) = let clash : true ≡ false = sym place.polled ∙ new in cc
@@ -284,63 +279,25 @@ module _ (builds : Builds) (coding : Coding) (outcomes left : List DealOutcome) 
       go (Some call) stage (inr (inr place)) (inl new) = let clash : true ≡ false = sym place.polled ∙ new in cc
       go (Some call) stage (inr (inr place)) (inr read) = let clash : true ≡ false = sym read ∙ place.no_read in cc
 
+  -- `Finish` is dropped that was polled: it has left its transfer
+  pub leaves_end : (old : SessionValue) (s : Script) (v : SessionValue) (call : Call) (stage stage' : Stage) (answers : List Answer) → Follows builds coding outcomes left old s v (Some call) stage answers → call ≡ Finish → s.polled ≡ true → Follows builds coding outcomes left old (record (idle s) { items = s.items ++ Hidden Leave ∷ [] }) v None stage' answers
+  leaves_end old s v call stage stage' answers f is polled =
+      with_known old s v (Some call) stage answers f (s.items ++ Hidden Leave ∷ []) None None false false false stage' refl (go f.place) (λ may. inr (inr is))
+    where
+      go : Place coding old s f.came f.answered v (Some call) stage → Stands coding old (s.items ++ Hidden Leave ∷ []) f.came f.answered v s.answers
+      go (inl started) = let clash : true ≡ false = sym polled ∙ started.unpolled in cc
+      go (inr (inl u)) = u.leaves is
+      go (inr (inr u)) = let clash : true ≡ false = sym (ap needs_data is) ∙ u.plain in cc
+
   -- no call is under way
   pub idles : (old : SessionValue) (s : Script) (v : SessionValue) (stage : Stage) (answers : List Answer) → Follows builds coding outcomes left old s v None stage answers → Follows builds coding outcomes left old (idle s) v None stage answers
-  idles old s v stage answers f = record {
-    came = f.came;
-    answered = f.answered;
-    deals = f.deals;
-    outcomes_are = f.outcomes_are;
-    dealings = f.dealings;
-    place = f.place;
-    rule = f.rule;
-    failures = f.failures;
-    given = f.given;
-    sound = f.sound;
-    bytes = f.bytes;
-    ended = f.ended;
-    room = f.room;
-    sent = f.sent;
-    said = record { rest = f.said.rest; is = f.said.is; whole = f.said.whole };
-    received = f.received;
-    unsent = λ may. f.unsent tt;
-    untaken = f.untaken;
-    seen = f.seen;
-    waits = f.waits;
-    state = f.state;
-    failed = f.failed;
-    call_is = refl;
-    answers_are = f.answers_are;
-  }
+  idles old s v stage answers f =
+      with_known old s v None stage answers f s.items None None false false false stage refl f.place (λ may. tt)
 
   -- a transfer is to be left once the call under way is over
   pub leaves_later : (old : SessionValue) (s : Script) (v : SessionValue) (call : Option Call) (stage : Stage) (answers : List Answer) → Follows builds coding outcomes left old s v call stage answers → Follows builds coding outcomes left old (record s { leaving = true }) v call stage answers
-  leaves_later old s v call stage answers f = record {
-    came = f.came;
-    answered = f.answered;
-    deals = f.deals;
-    outcomes_are = f.outcomes_are;
-    dealings = f.dealings;
-    place = place_given old s (record s { leaving = true }) f.came f.answered v v.channel.told.given call stage refl refl refl refl refl refl f.place;
-    rule = f.rule;
-    failures = f.failures;
-    given = f.given;
-    sound = f.sound;
-    bytes = f.bytes;
-    ended = f.ended;
-    room = f.room;
-    sent = f.sent;
-    said = record { rest = f.said.rest; is = f.said.is; whole = f.said.whole };
-    received = f.received;
-    unsent = f.unsent;
-    untaken = f.untaken;
-    seen = f.seen;
-    waits = f.waits;
-    state = f.state;
-    failed = f.failed;
-    call_is = f.call_is;
-    answers_are = f.answers_are;
-  }
+  leaves_later old s v call stage answers f =
+      with_known old s v call stage answers f s.items s.call call s.polled s.heard true stage f.call_is (place_given old s (record s { leaving = true }) f.came f.answered v v.channel.told.given call stage refl refl refl refl refl refl f.place) (λ may. may)
 
   -- a script begins
   pub begins : (v : SessionValue) (form : ReplyForm) (stage : Stage) → outcomes ≡ left → IsGiven v.channel.told → IsSound (Unit {0}) v.channel → outcome v.channel.rule form v.channel.kept false ≡ Waits → Follows builds coding outcomes left v (script_of v form) v None stage []

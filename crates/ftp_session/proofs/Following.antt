@@ -31,6 +31,7 @@ use Rattle.ftp_control.specs.Grammar.{outcome}
 use Rattle.ftp_dialogue.specs.declared.state.State.{State}
 use Rattle.ftp_calls.specs.declared.call.Answer.{Answer}
 use Rattle.ftp_calls.specs.declared.call.Call.{Call}
+use Rattle.ftp_calls.specs.declared.call.Call.TheVariants.{Finish, Leave}
 use Rattle.ftp_calls.specs.declared.exchange.Turn.{Turn}
 use Rattle.ftp_calls.specs.declared.exchange.Turn.TheVariants.{First, Second, Passive, ExtendedPassive, Active, Restart, Closed, Aborted}
 use Rattle.ftp_dialogue.specs.declared.stage.Stage.{Stage}
@@ -42,7 +43,7 @@ use Rattle.ftp_dialogue.specs.declared.model.Played.TheVariants as played
 use Rattle.ftp_dialogue.specs.declared.model.Ran.{Ran}
 use Rattle.ftp_dialogue.specs.declared.model.Ran.TheVariants.{Finished, Waiting}
 use Rattle.ftp_dialogue.specs.declared.model.Item.{Item}
-use Rattle.ftp_dialogue.specs.declared.model.Item.TheVariants.{Shown}
+use Rattle.ftp_dialogue.specs.declared.model.Item.TheVariants.{Shown, Hidden}
 use Rattle.ftp_dialogue.specs.declared.model.Script.{Script}
 use Rattle.ftp_dialogue.specs.State.{SessionValue}
 use Rattle.ftp_dialogue.specs.Coding.{Coding}
@@ -72,6 +73,7 @@ use Rattle.ftp_dialogue.proofs.Sorts.{stage_no_local, unheld_drains_none}
 use Rattle.ftp_calls.proofs.Openings.{draining_reads}
 use Rattle.ftp_dialogue.specs.Play.{Refusal, Taken, Lacking, Failing}
 use Rattle.ftp_dialogue.proofs.DrainingLemmas.{undue_on}
+use Rattle.ftp_session.proofs.Parting.{HasParted, began, end_waits, leaves_on, same_unsent}
 use Rattle.ftp_session.proofs.Replay.{replay-nil, replay-shown, shown_on}
 use Rattle.ftp_session.proofs.Running.{before_all-snoc, before_all-Finished, before_all-Waiting}
 use Rattle.ftp_dialogue.specs.Link.{Builds, over_memory}
@@ -419,6 +421,8 @@ module _ (builds : Builds) (coding : Coding) (outcomes : List DealOutcome) where
     asked_later = [];
     asked_split = sym (append-nil answered);
     stands = stands;
+    sent = omega arith;
+    over = λ more ended on. on;
     said = omega arith;
     taken = omega arith;
     has_begun = λ has. let clash : false ≡ true = has in cc;
@@ -435,6 +439,8 @@ module _ (builds : Builds) (coding : Coding) (outcomes : List DealOutcome) where
     asked_later = since.asked_later ++ answered;
     asked_split = ap (λ c. c ++ answered) since.asked_split ∙ append_assoc since.asked_before since.asked_later answered;
     stands = since.stands;
+    sent = omega (arith, since.sent, goes.sent tt);
+    over = λ next ended on. rw (append_assoc since.later more next) (since.over (more ++ next) ended (goes_after v.channel.ended more next w.channel.ended ended goes.over on));
     said = omega (arith, since.said, goes.said tt);
     taken = omega (arith, since.taken, goes.untaken, length-append came more);
     has_begun = λ has. go (here.0 has);
@@ -474,6 +480,7 @@ module _ (builds : Builds) (coding : Coding) (outcomes : List DealOutcome) where
     pub apart : is_read call ≡ true → Apart tree
     pub read : is_read call ≡ true → Stands coding old s.items came asked v s.answers
     pub since : Since coding old s.items s.answers came asked e begun
+    pub unsent : call ≡ Finish → v.channel.unsent ≡ since.start.channel.unsent
 
   -- where a poll begins that waits for room and hears nothing
   pub record KeptWaiting (old : SessionValue) (s : Script) (came : List ℕ) (asked : List Deal) (v : SessionValue) (call : Call) (begun : Bool) (e : SessionValue) (state : State) (tree : Tree) : Type 0 where
@@ -496,7 +503,7 @@ module _ (builds : Builds) (coding : Coding) (outcomes : List DealOutcome) where
 
   module _ (left : List DealOutcome) (old : SessionValue) (s : Script) (v w : SessionValue) (call : Call) (stage : Stage) (answers : List Answer) (stage' : Stage) (advances : Advances (over_memory builds) (entered_tree coding call stage v.state) (remaining coding call (entered_state call stage v.state) stage') (entered_at call stage v) w) (f : Follows builds coding outcomes (outcomes_of advances.moves.leads.answered ++ left) old s v (Some call) stage answers) (c : Carried builds v w advances.moves.leads.came advances.moves.leads.answered) where
     -- a poll that waits for room
-    room_waits : WaitsToSay (over_memory builds) (remaining coding call (entered_state call stage v.state) stage') w → Reaches coding old s.items (f.came ++ advances.moves.leads.came) (f.answered ++ advances.moves.leads.answered) w s.answers call (remaining coding call (entered_state call stage v.state) stage') → (MayCancel (Some call) true → s.unsent ≡ w.channel.unsent) → ((t : Standing) → run_with coding (start_of old outcomes) call s ≡ Waiting s.answers wait.Room t → Place coding old (polled_as (Waiting s.answers wait.Room t) call s) (f.came ++ advances.moves.leads.came) (f.answered ++ advances.moves.leads.answered) w (Some call) stage') → Follows builds coding outcomes left old (poll_script coding (start_of old outcomes) (Some call) s) w (Some call) stage' answers
+    room_waits : WaitsToSay (over_memory builds) (remaining coding call (entered_state call stage v.state) stage') w → Reaches coding old s.items (f.came ++ advances.moves.leads.came) (f.answered ++ advances.moves.leads.answered) w s.answers call (remaining coding call (entered_state call stage v.state) stage') → ((t : Standing) → run_with coding (start_of old outcomes) call s ≡ Waiting s.answers wait.Room t → MayCancel (Some call) true → s.unsent ≡ w.channel.unsent) → ((t : Standing) → run_with coding (start_of old outcomes) call s ≡ Waiting s.answers wait.Room t → Place coding old (polled_as (Waiting s.answers wait.Room t) call s) (f.came ++ advances.moves.leads.came) (f.answered ++ advances.moves.leads.answered) w (Some call) stage') → Follows builds coding outcomes left old (poll_script coding (start_of old outcomes) (Some call) s) w (Some call) stage' answers
     room_waits says reaches' unsent' place =
         let moves = advances.moves in
         let asked = moves.leads.answered in
@@ -510,7 +517,7 @@ module _ (builds : Builds) (coding : Coding) (outcomes : List DealOutcome) where
         let says_nothing = waits_kept (Calm before) s v w moves.leads.came c.rule f.waits calm in
         let there = subst P says.is reaches' in
         let ran = waits_ran left asked old s v w call stage answers f moves.leads.came c (Say (Ok says.line) says.next) wait.Room t there stuck.0 in
-        wait_on left asked old s v w call stage answers f moves.leads.came c (Say (Ok says.line) says.next) stage' wait.Room t there stuck.0 stuck.1 (line_front w.channel says.line says.some) refl seen says_nothing refl refl refl unsent' (place t ran)
+        wait_on left asked old s v w call stage answers f moves.leads.came c (Say (Ok says.line) says.next) stage' wait.Room t there stuck.0 stuck.1 (line_front w.channel says.line says.some) refl seen says_nothing refl refl refl (unsent' t ran) (place t ran)
 
     -- it still waits for room, where it was kept waiting
     still_waits : due_of call v ≡ false → v.channel.failed ≡ false → Kept old s f.came f.answered v call stage → StageOf call stage' → WaitsFor (over_memory builds) (remaining coding call (entered_state call stage v.state) stage') w → HasBegun (over_memory builds) (begun_at stage) (begun_at stage') (entered_tree coding call stage v.state) (entered_at call stage v) w → Follows builds coding outcomes left old (poll_script coding (start_of old outcomes) (Some call) s) w (Some call) stage' answers
@@ -527,7 +534,8 @@ module _ (builds : Builds) (coding : Coding) (outcomes : List DealOutcome) where
 
         unsent' : MayCancel (Some call) true → s.unsent ≡ w.channel.unsent
         unsent' (inl new) = let clash : true ≡ false = new in cc
-        unsent' (inr read) = let clash : true ≡ false = sym read ∙ from.no_read in cc
+        unsent' (inr (inl read)) = let clash : true ≡ false = sym read ∙ from.no_read in cc
+        unsent' (inr (inr is)) = let clash : true ≡ false = sym (ap needs_data is) ∙ from.plain in cc
 
         speaks : Speaks before
         speaks = let P : Tree → Type 0 = Speaks in subst P (sym from.lacks.is) tt
@@ -552,10 +560,11 @@ module _ (builds : Builds) (coding : Coding) (outcomes : List DealOutcome) where
         go (inl still) (inr (inr asks)) = absurd asks.may
         go (inl still) (inl says) =
             let reaches' = reaches_on old e w s.items f.came f.answered s.answers call before tree' from.reaches advances.moves.leads still.plays in
-            room_waits says reaches' unsent' (place still reaches')
+            room_waits says reaches' (λ t ran. unsent') (place still reaches')
 
     -- a poll that waits
     pending : due_of call v ≡ false → v.channel.failed ≡ false → Goes_on old s f.came f.answered v call stage → StageOf call stage' → WaitsFor (over_memory builds) (remaining coding call (entered_state call stage v.state) stage') w → (is_read call ≡ true → Rests (over_memory builds) v w) → HasBegun (over_memory builds) (begun_at stage) (begun_at stage') (entered_tree coding call stage v.state) (entered_at call stage v) w → Follows builds coding outcomes left old (poll_script coding (start_of old outcomes) (Some call) s) w (Some call) stage' answers
+    unfolding since_on
     pending undue going from stage_of waits rests begun = go waits
       where
         e : SessionValue
@@ -589,12 +598,37 @@ module _ (builds : Builds) (coding : Coding) (outcomes : List DealOutcome) where
             let P : List ℕ → Type 0 = λ x. Stands coding old s.items (f.came ++ x) asked' w s.answers in
             subst P came (stands_same old w s.items (f.came ++ rest.came) (f.answered ++ []) asked' s.answers same (stands_rests old v w s.items f.came f.answered s.answers (from.read is) rest))
 
-        unsent' : MayCancel (Some call) true → s.unsent ≡ w.channel.unsent
-        unsent' (inl new) = let clash : true ≡ false = new in cc
-        unsent' (inr read) = f.unsent (inr read) ∙ ap (λ t. t.unsent) ((rests read).stays tt [] false [])
+        since' : Since coding old s.items s.answers came' asked' w (begun_at stage')
+        since' = since_on old s.items s.answers f.came f.answered e w (begun_at stage) (begun_at stage') before from.since (inr from.resumes) advances.moves.leads.came advances.moves.leads.answered advances.moves.leads.goes begun
 
-        under_way : (t : Standing) (wait : Wait) → UnderWay coding old (polled_as (Waiting s.answers wait t) call s) came' asked' w call stage'
-        under_way t wait = record {
+        -- `Finish` waits for its reply alone, and has closed the data connection
+        fits' : HasRoomFor s.room (length w.channel.told.sent)
+        fits' = fits_here left advances.moves.leads.answered old s v w call stage answers f advances.moves.leads.came c
+
+        on' : GoesOn w.channel.ended (unread w.channel.told) (is_over w.channel.told)
+        on' = going_on left advances.moves.leads.answered old s v w call stage answers f advances.moves.leads.came c
+
+        Parts : Wait → Standing → Type 0
+        Parts due t = HasParted (began coding old s.items s.answers came' asked' w (begun_at stage') since' s.room (unread w.channel.told) (is_over w.channel.told) left fits' on') due t
+
+        parts : (due : Wait) (t : Standing) → (due ≡ wait.Outcome → ⊥) → run_with coding (start_of old outcomes) call s ≡ Waiting s.answers due t → call ≡ Finish → Parts due t
+        parts due t none ran is =
+            let R : Call → Type 0 = λ x. replay s.room coding (s.items ++ Shown x ∷ []) (standing old (came' ++ unread w.channel.told) (is_over w.channel.told) (outcomes_of asked' ++ left)) ≡ Waiting s.answers due t in
+            end_waits coding old s.items s.answers came' asked' w (begun_at stage') since' s.room (unread w.channel.told) (is_over w.channel.told) left fits' on' due t none (subst R is (sym (from_start left advances.moves.leads.answered old s v w call stage answers f advances.moves.leads.came c (s.items ++ Shown call ∷ [])) ∙ ran))
+
+        no_room : (t : Standing) → run_with coding (start_of old outcomes) call s ≡ Waiting s.answers wait.Room t → call ≡ Finish → ⊥
+        no_room t ran is =
+            let found = parts wait.Room t (λ same. (let clash : wait.Room ≡ wait.Outcome = same in cc)) ran is in
+            let clash : wait.Room ≡ wait.Bytes found.form = found.waits in
+            cc
+
+        unsent' : (call ≡ Finish → s.unsent ≡ w.channel.unsent) → MayCancel (Some call) true → s.unsent ≡ w.channel.unsent
+        unsent' ends (inl new) = let clash : true ≡ false = new in cc
+        unsent' ends (inr (inl read)) = f.unsent (inr (inl read)) ∙ ap (λ t. t.unsent) ((rests read).stays tt [] false [])
+        unsent' ends (inr (inr is)) = ends is
+
+        under_way : (t : Standing) (wait : Wait) → (call ≡ Finish → Stands coding old (s.items ++ Hidden Leave ∷ []) came' asked' w s.answers) → (call ≡ Finish → w.channel.unsent ≡ since'.start.channel.unsent) → UnderWay coding old (polled_as (Waiting s.answers wait t) call s) came' asked' w call stage'
+        under_way t wait leaves unsent = record {
           stage_of = stage_of;
           polled = refl;
           undue = undue_on call stage v w advances.moves.state advances.failed undue;
@@ -603,11 +637,13 @@ module _ (builds : Builds) (coding : Coding) (outcomes : List DealOutcome) where
           resumes = let P : State → Type 0 = λ state. Resumes w.channel.rule w.channel.kept (remaining coding call state stage') in subst P (sym advances.moves.state) resumes';
           apart = λ is. let P : State → Type 0 = λ state. Apart (remaining coding call state stage') in subst P (sym advances.moves.state) (advances.moves.apart (from.apart is)).1;
           read = read';
-          since = since_on old s.items s.answers f.came f.answered e w (begun_at stage) (begun_at stage') before from.since (inr from.resumes) advances.moves.leads.came advances.moves.leads.answered advances.moves.leads.goes begun;
+          since = since';
+          leaves = leaves;
+          unsent = unsent;
         }
 
         go : WaitsFor (over_memory builds) tree' w → Follows builds coding outcomes left old (poll_script coding (start_of old outcomes) (Some call) s) w (Some call) stage' answers
-        go (inl says) = room_waits says reaches' unsent' (λ t ran. inr (inl (under_way t wait.Room)))
+        go (inl says) = room_waits says reaches' (λ t ran. unsent' (λ is. absurd (no_room t ran is))) (λ t ran. inr (inl (under_way t wait.Room (λ is. absurd (no_room t ran is)) (λ is. absurd (no_room t ran is)))))
         go (inr (inr asks)) = absurd asks.may
         go (inr (inl hears)) =
             let moves = advances.moves in
@@ -618,9 +654,14 @@ module _ (builds : Builds) (coding : Coding) (outcomes : List DealOutcome) where
             let resumed = subst R hears.is resumes' in
             let stuck = hear_waits left asked old s v w call stage answers f moves.leads.came c hears.codes hears.next (hears.dry tt) hears.none_ahead hears.unended resumed in
             let seen : length (untaken w.channel ++ unread w.channel.told) ≡ length w.channel.kept = ap length (all_read left asked old s v w call stage answers f moves.leads.came c hears.none_ahead (hears.dry tt)) in
-            let sent = front_fits s.room w.channel.told.sent (fits_here left asked old s v w call stage answers f moves.leads.came c) in
+            let sent = front_fits s.room w.channel.told.sent fits' in
             let b : Wait = wait.Bytes hears.codes.form in
-            wait_on left asked old s v w call stage answers f moves.leads.came c (Hear hears.codes hears.next) stage' b t (subst P hears.is reaches') stuck sent (all_said w.channel) refl seen resumed refl refl refl unsent' (inr (inl (under_way t b)))
+            let there = subst P hears.is reaches' in
+            let ran = waits_ran left asked old s v w call stage answers f moves.leads.came c (Hear hears.codes hears.next) b t there stuck in
+            let parted : call ≡ Finish → Parts b t = λ is. parts b t (λ same. (let clash : wait.Bytes hears.codes.form ≡ wait.Outcome = same in cc)) ran is in
+            let unsent : call ≡ Finish → w.channel.unsent ≡ since'.start.channel.unsent = λ is. same_unsent coding old s.items s.answers came' asked' w (begun_at stage') since' s.room (unread w.channel.told) (is_over w.channel.told) left fits' on' b (parted is) in
+            let leaves : call ≡ Finish → Stands coding old (s.items ++ Hidden Leave ∷ []) came' asked' w s.answers = λ is. leaves_on coding old s.items s.answers came' asked' w (begun_at stage') since' s.room (unread w.channel.told) (is_over w.channel.told) left fits' on' b (parted is) in
+            wait_on left asked old s v w call stage answers f moves.leads.came c (Hear hears.codes hears.next) stage' b t there stuck sent (all_said w.channel) refl seen resumed refl refl refl (unsent' (λ is. f.unsent (inr (inr is)) ∙ from.unsent is ∙ sym (unsent is))) (inr (inl (under_way t b leaves unsent)))
 
   module _ (left : List DealOutcome) (old : SessionValue) (s : Script) (v w : SessionValue) (call : Call) (stage : Stage) (answers : List Answer) (answer : Answer) (ends : Finishes (over_memory builds) (entered_tree coding call stage v.state) answer (entered_at call stage v) w) (f : Follows builds coding outcomes (outcomes_of ends.answered ++ left) old s v (Some call) stage answers) (c : Carried builds v w ends.came ends.answered) where
     -- a call that is kept waiting has no answer yet
@@ -669,6 +710,7 @@ module _ (builds : Builds) (coding : Coding) (outcomes : List DealOutcome) where
         record { line = lacks.line; next = lacks.next; is = lacks.is; full = lacks.full }
 
     begun_anew : Started coding old s f.came f.answered v call stage → refusal_of call v ≡ Taken → Resumes v.channel.rule v.channel.kept (dialogue coding call v.state) ⊎ ((is_local call ≡ false) × (needs_data call ≡ false) × HearsNothing (run_with coding (start_of old outcomes) call s) s) → Goes_on old s f.came f.answered v call (At First) ⊎ Kept old s f.came f.answered v call (At First)
+    unfolding since_start
     begun_anew started going (inl resumes) =
         inl (record {
           reaches = stands_reaches old v s.items f.came f.answered s.answers call going started.stands;
@@ -676,6 +718,7 @@ module _ (builds : Builds) (coding : Coding) (outcomes : List DealOutcome) where
           apart = λ r. read_apart coding call v.state r;
           read = λ r. started.stands;
           since = since_start old s.items s.answers f.came f.answered v (entered call v.state) started.stands;
+          unsent = λ is. refl;
         })
     begun_anew started going (inr nothing) =
         let plain = nothing.1 in
@@ -708,6 +751,7 @@ module _ (builds : Builds) (coding : Coding) (outcomes : List DealOutcome) where
           apart = λ is. (let clash : true ≡ false = sym is ∙ u.no_read in cc);
           read = λ is. let clash : true ≡ false = sym is ∙ u.no_read in cc;
           since = u.since;
+          unsent = λ is. (let clash : true ≡ false = sym (ap needs_data is) ∙ u.plain in cc);
         }))
     going_on_unheard u (inr nothing) =
         let P : SessionValue → State → Tree → Type 0 = λ e x t. KeptWaiting old s f.came f.answered v call (begun_at stage) e x t in
@@ -743,7 +787,7 @@ module _ (builds : Builds) (coding : Coding) (outcomes : List DealOutcome) where
             subst P (sym started.at) (anew started (subst M started.at may_poll))
         go (inr (inl u)) =
             let P : SessionValue → State → Tree → Type 0 = λ e x t. Resumed old s f.came f.answered v call (begun_at stage) e t in
-            inl (settle call stage v u.stage_of P (record { reaches = u.reaches; resumes = u.resumes; apart = u.apart; read = u.read; since = u.since }))
+            inl (settle call stage v u.stage_of P (record { reaches = u.reaches; resumes = u.resumes; apart = u.apart; read = u.read; since = u.since; unsent = u.unsent }))
         go (inr (inr u)) = going_on_unheard u (agreed u.unheard u.going)
 
     -- a call that is refused wasn't polled

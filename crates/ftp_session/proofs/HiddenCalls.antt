@@ -1,5 +1,5 @@
 -- Lemmas on a call of a script whose answer is told to nobody.
-use Rattle.std.proofs.Common.{◌≡◌, true, false, Option, Some, None, List, [], ◌∷◌, ◌++◌, inl, inr, ◌⊎◌, refl, ap, sym, ◌∙◌, append_assoc}
+use Rattle.std.proofs.Common.{◌≡◌, true, false, Some, None, List, [], ◌∷◌, ◌++◌, inl, inr, refl, ap, ◌∙◌, append_assoc}
 use Rattle.futures.specs.declared.task.Poll.TheVariants.{Ready}
 use Rattle.ftp_calls.specs.declared.call.Answer.{Answer}
 use Rattle.ftp_calls.specs.declared.call.Call.{Call}

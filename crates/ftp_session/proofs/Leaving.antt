@@ -1,12 +1,10 @@
 -- Lemmas on a transfer that is left in a script without a call of its own.
 use Rattle.std.proofs.Common.{◌≡◌, ◌||◌, ℕ, Bool, true, false, cond, Option, Some, None, is_none, List, [], ◌∷◌, ◌++◌, inl, inr, ◌⊎◌, refl, ap, sym, ◌∙◌, subst, append-nil}
-use Rattle.futures.specs.declared.task.Poll.{Poll}
 use Rattle.futures.specs.declared.task.Poll.TheVariants.{Ready, Pending}
 use Rattle.ftp_calls.specs.declared.call.Answer.{Answer}
 use Rattle.ftp_calls.specs.declared.call.Answer.TheVariants.{Unit as Nothing, Fault}
 use Rattle.ftp_calls.specs.declared.call.Call.{Call}
-use Rattle.ftp_calls.specs.declared.call.Call.TheVariants.{Leave, Drain}
-use Rattle.ftp_calls.specs.declared.call.Event.{Event}
+use Rattle.ftp_calls.specs.declared.call.Call.TheVariants.{Finish, Leave, Drain}
 use Rattle.ftp_calls.specs.declared.call.Event.TheVariants as event
 use Rattle.ftp_calls.specs.declared.exchange.Turn.TheVariants.{First}
 use Rattle.ftp_calls.specs.Exchanges.{aborts, finishes}
@@ -15,7 +13,7 @@ use Rattle.ftp_dialogue.specs.Deals.{Deal, Deals, dealings_of, outcomes_of, part
 use Rattle.ftp_dialogue.specs.declared.model.Dealings.{Dealings}
 use Rattle.ftp_dialogue.specs.Dialogue.{dialogue, entered}
 use Rattle.ftp_dialogue.specs.Link.{Builds, over_memory}
-use Rattle.ftp_dialogue.specs.Play.{Taken, Lacking, refused_if_failed, is_due, is_unit}
+use Rattle.ftp_dialogue.specs.Play.{Taken, Lacking, refused_if_failed, is_due}
 use Rattle.ftp_dialogue.specs.Promises.{FailsWith, begun_by, refusal_of}
 use Rattle.ftp_dialogue.specs.Run.{Resumes}
 use Rattle.ftp_dialogue.specs.Sound.{holds, left_of}
@@ -39,13 +37,13 @@ use Rattle.ftp_dialogue.proofs.Deals.{dealings_moved, deals-append, drops as dro
 use Rattle.ftp_dialogue.proofs.DrainingLemmas.{taken_unrefused}
 use Rattle.ftp_dialogue.proofs.Sorts.{read_finishes_none}
 use Rattle.ftp_dialogue.proofs.Moving.{Finishes, finishes as finishes_by}
-use Rattle.ftp_session.specs.Script.{after_event, after_poll, drained_as, drained_to, draining, dropped, dropped_if, end_dropped, hidden_to, holds_in, idle, leave_beside, leave_held, leave_if, leave_now, left_as, over, over_if, poll_event, poll_if, poll_next, poll_script, polled_as, run_with, start_of, succeeded, with_call, without_call, IsLawful, MayCancel, MayPollNext}
+use Rattle.ftp_session.specs.Script.{after_event, after_poll, drained_as, drained_to, draining, dropped, dropped_if, end_dropped, hidden_to, holds_in, idle, leave_beside, leave_held, leave_if, leave_now, left_as, over, over_if, poll_event, poll_if, poll_next, poll_script, polled_as, run_with, start_of, succeeded, with_call, without_call, MayCancel}
 use Rattle.ftp_session.specs.Scripted.{AreRefused, LeavesHeldIf, LeavesThen, leaves_dropped}
-use Rattle.ftp_session.specs.Steps.Following.{AbortsAt, AbortsPart, Attended, Attends, DropsCall, DropsEnd, DropsUnder, Follows, Grows, Happens, HasLeft, HasLeftIf, LeavesBeside, LeavesNow, Place, PollsHere, at_rest}
+use Rattle.ftp_session.specs.Steps.Following.{AbortsPart, Attended, Attends, DropsCall, DropsEnd, DropsUnder, Follows, Grows, Happens, HasLeft, HasLeftIf, LeavesBeside, LeavesNow, Place, PollsHere, at_rest}
 use Rattle.ftp_session.specs.declared.session.run_polled.Course.{Course}
 use Rattle.ftp_session.proofs.Carried.{outcomes_on}
 use Rattle.ftp_session.proofs.Drained.{NextFollows, NextHappens}
-use Rattle.ftp_session.proofs.Events.{begins_call, cancels, idles, leaves_later, stayed}
+use Rattle.ftp_session.proofs.Events.{LeavesNoTrace, begins_call, cancels, idles, leaves_end, leaves_later, stayed}
 use Rattle.ftp_session.proofs.Polling.{carried_here}
 use Rattle.ftp_session.proofs.HiddenCalls.{done, hidden_alone, hidden_before, hidden_ran}
 
@@ -132,12 +130,9 @@ module _ (builds : Builds) (coding : Coding) where
       ∙ ap (λ n. holds n v.state.counts.owed) (lacks_alike traffic_of v.net.data_conn)
 
   -- where a call that wasn't polled is under way, or none is
-  stands_here : (outcomes left : List DealOutcome) (old : SessionValue) (s : Script) (v : SessionValue) (call : Option Call) (stage : Stage) (answers : List Answer) → Follows builds coding outcomes left old s v call stage answers → s.polled ≡ false → MayCancel s.call s.polled
-  stands_here outcomes left old s v call stage answers f unpolled = go s.call
-    where
-      go : (c : Option Call) → MayCancel c s.polled
-      go None = tt
-      go (Some other) = inl unpolled
+  stands_here : (outcomes left : List DealOutcome) (old : SessionValue) (s : Script) (v : SessionValue) (call : Option Call) (stage : Stage) (answers : List Answer) → Follows builds coding outcomes left old s v call stage answers → s.polled ≡ false → LeavesNoTrace call s.polled
+  stands_here outcomes left old s v None stage answers f unpolled = tt
+  stands_here outcomes left old s v (Some other) stage answers f unpolled = inl unpolled
 
   first_stage : (outcomes left : List DealOutcome) (old : SessionValue) (s : Script) (v : SessionValue) (call : Call) (stage : Stage) (answers : List Answer) → Follows builds coding outcomes left old s v (Some call) stage answers → s.polled ≡ false → stage ≡ At First
   first_stage outcomes left old s v call stage answers f unpolled = go f.place
@@ -311,7 +306,7 @@ module _ (builds : Builds) (coding : Coding) where
   )
 
   -- none is under way any more
-  without : (outcomes rest : List DealOutcome) (old : SessionValue) (s : Script) (v : SessionValue) (call : Call) (stage : Stage) (answers : List Answer) → Follows builds coding outcomes rest old s v (Some call) stage answers → MayCancel s.call s.polled → Follows builds coding outcomes rest old (without_call s) v None stage answers
+  without : (outcomes rest : List DealOutcome) (old : SessionValue) (s : Script) (v : SessionValue) (call : Call) (stage : Stage) (answers : List Answer) → Follows builds coding outcomes rest old s v (Some call) stage answers → LeavesNoTrace (Some call) s.polled → Follows builds coding outcomes rest old (without_call s) v None stage answers
   without outcomes rest old s v call stage answers f may = cancels builds coding outcomes rest old s v (Some call) stage stage answers f may
 
   pub call_dropped : (call : Call) (stage : Stage) (course : Course) (v w : SessionValue) → finishes call ≡ false → HasLeftIf course.leaving v w → Happens builds coding v w (Some call) None stage stage course at_rest event.Cancel None
@@ -324,12 +319,18 @@ module _ (builds : Builds) (coding : Coding) where
         let Q : Bool → Type 0 = λ b. Attended builds coding outcomes rest old (dropped_if b coding start s) w None stage at_rest (answers ++ []) in
         let A : List Answer → Type 0 = λ a. Follows builds coding outcomes rest old (over coding start s) w None stage a in
         let O : Script → Type 0 = λ x. Follows builds coding outcomes rest old x w None stage answers in
-        let g = left.2 outcomes rest old (without_call s) stage answers (without outcomes (outcomes_of left.0 ++ rest) old s v call stage answers f.0 may) f.1.leaving in
+        let M : Option Call → Type 0 = λ c. MayCancel c s.polled in
+        let g = left.2 outcomes rest old (without_call s) stage answers (without outcomes (outcomes_of left.0 ++ rest) old s v call stage answers f.0 (no_trace s.polled (subst M f.0.call_is may))) f.1.leaving in
         inl (subst P (sym f.0.call_is) (subst Q (sym goes_on) (subst A (sym (append-nil answers)) (subst O (over_without s.leaving coding start s) g), over_attends coding start s))),
   )
     where
       left : OverHappens course.leaving v w
       left = over_happens course.leaving v w has
+
+      no_trace : (polled : Bool) → MayCancel (Some call) polled → LeavesNoTrace (Some call) polled
+      no_trace polled (inl new) = inl new
+      no_trace polled (inr (inl read)) = inr read
+      no_trace polled (inr (inr is)) = let clash : true ≡ false = sym (ap finishes is) ∙ goes_on in cc
 
   dropped_grows : (aborted : Bool) (stage : Stage) (v w : SessionValue) → DropsEnd true aborted stage v w → Grows builds v w
   dropped_grows true stage v w drops =
@@ -341,18 +342,41 @@ module _ (builds : Builds) (coding : Coding) where
   pub end_of_dropped : (call : Call) (stage : Stage) (course : Course) (v w : SessionValue) → finishes call ≡ true → DropsEnd course.polled (aborts call) stage v w → Happens builds coding v w (Some call) None stage stage course at_rest event.Cancel None
   end_of_dropped call stage course v w ends drops = go course.polled refl drops
     where
-      unpolled : (b : Bool) → course.polled ≡ b → b ≡ true → (s : Script) → Attends s course → MayCancel (Some call) s.polled → ⊥
-      unpolled b is polled s attends (inl new) = let clash : true ≡ false = sym polled ∙ sym is ∙ sym attends.polled ∙ new in cc
-      unpolled b is polled s attends (inr read) = let clash : true ≡ false = sym ends ∙ read_finishes_none call read in cc
+      -- where it was polled it is `Finish`
+      is_finish : course.polled ≡ true → (s : Script) → Attends s course → MayCancel (Some call) s.polled → call ≡ Finish
+      is_finish polled s attends (inl new) = let clash : true ≡ false = sym polled ∙ sym attends.polled ∙ new in cc
+      is_finish polled s attends (inr (inl read)) = let clash : true ≡ false = sym ends ∙ read_finishes_none call read in cc
+      is_finish polled s attends (inr (inr is)) = is
+
+      was_polled : course.polled ≡ true → (a : Bool) → aborts call ≡ a → DropsEnd true a stage v w → Happens builds coding v w (Some call) None stage stage course at_rest event.Cancel None
+      was_polled polled true aborts' drops' =
+          let grows = dropped_grows true stage v w drops' in (
+            grows.0,
+            grows.1,
+            λ outcomes rest old s answers f may.
+                let M : Option Call → Type 0 = λ c. MayCancel c s.polled in
+                let is = is_finish polled s f.1 (subst M f.0.call_is may) in
+                let clash : true ≡ false = sym aborts' ∙ ap aborts is in
+                cc,
+          )
+      was_polled polled false aborts' same = (
+        [],
+        ap (λ x. x.net) same,
+        λ outcomes rest old s answers f may.
+            let start : Standing = start_of old outcomes in
+            let M : Option Call → Type 0 = λ c. MayCancel c s.polled in
+            let is = is_finish polled s f.1 (subst M f.0.call_is may) in
+            let P : Option Call → Type 0 = λ c. Attended builds coding outcomes rest old (dropped coding start c s) w None stage at_rest (answers ++ []) in
+            let Q : Bool → Type 0 = λ b. Attended builds coding outcomes rest old (dropped_if b coding start s) w None stage at_rest (answers ++ []) in
+            let R : Bool → Type 0 = λ b. Attended builds coding outcomes rest old (end_dropped b coding start s) w None stage at_rest (answers ++ []) in
+            let there : Script = end_dropped true coding start s in
+            let A : List Answer → Type 0 = λ a. Follows builds coding outcomes rest old there w None stage a in
+            let left = stayed builds coding outcomes rest old there v w None stage answers same (leaves_end builds coding outcomes rest old s v call stage stage answers f.0 is (f.1.polled ∙ polled)) in
+            inl (subst P (sym f.0.call_is) (subst Q (sym ends) (subst R (sym (f.1.polled ∙ polled)) (subst A (sym (append-nil answers)) left, record { polled = refl; leaving = refl; resting = λ none. refl })))),
+      )
 
       go : (b : Bool) → course.polled ≡ b → DropsEnd b (aborts call) stage v w → Happens builds coding v w (Some call) None stage stage course at_rest event.Cancel None
-      go true is drops' = let grows = dropped_grows (aborts call) stage v w drops' in (
-        grows.0,
-        grows.1,
-        λ outcomes rest old s answers f may.
-            let M : Option Call → Type 0 = λ c. MayCancel c s.polled in
-            absurd (unpolled true is refl s f.1 (subst M f.0.call_is may)),
-      )
+      go true is drops' = was_polled is (aborts call) refl drops'
       go false is drops' =
           let left = left_happens v w drops' in (
             left.0,
@@ -364,7 +388,7 @@ module _ (builds : Builds) (coding : Coding) where
                 let R : Bool → Type 0 = λ b. Attended builds coding outcomes rest old (end_dropped b coding start s) w None stage at_rest (answers ++ []) in
                 let A : List Answer → Type 0 = λ a. Follows builds coding outcomes rest old (leave_held coding start (idle s)) w None stage a in
                 let due : List DealOutcome = outcomes_of left.0 ++ rest in
-                let g = left.2 outcomes rest old (idle s) None stage answers (idles builds coding outcomes due old (without_call s) v stage answers (without outcomes due old s v call stage answers f.0 may)) refl in
+                let g = left.2 outcomes rest old (idle s) None stage answers (idles builds coding outcomes due old (without_call s) v stage answers (without outcomes due old s v call stage answers f.0 (inl (f.1.polled ∙ is)))) refl in
                 inl (subst P (sym f.0.call_is) (subst Q (sym ends) (subst R (sym (f.1.polled ∙ is)) (subst A (sym (append-nil answers)) g, leave_attends coding start (idle s) at_rest refl (record { polled = refl; leaving = refl; resting = λ none. refl }))))),
           )
 

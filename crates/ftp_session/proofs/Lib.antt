@@ -6,6 +6,7 @@ pub mod Following
 pub mod Handed
 pub mod HiddenCalls
 pub mod Leaving
+pub mod Parting
 pub mod Polling
 pub mod Replay
 pub mod Running

@@ -24,7 +24,7 @@ use Rattle.ftp_dialogue.specs.declared.model.DealOutcome.{DealOutcome}
 use Rattle.ftp_dialogue.specs.Link.{Builds, over_memory}
 use Rattle.ftp_dialogue.specs.Promises.{Aborts, FailsWith}
 use Rattle.ftp_session.specs.Scripted.{AreRefused}
-use Rattle.ftp_session.specs.Scripted.{EndsAt, HoldsAt, ScriptHolds, ScriptAborts, ScriptsHold, IsScripted, Stops, StopsAtFeed, leaves_dropped}
+use Rattle.ftp_session.specs.Scripted.{EndsAt, HoldsAt, ScriptHolds, ScriptAborts, ScriptsHold, IsScripted, Stops, leaves_dropped}
 use Rattle.ftp_dialogue.specs.Steps.Stages.{begun_at}
 use Rattle.ftp_session.specs.Steps.Following.{Attended, DropsCall, Grows, Follows, FailedStays, Happens, AbortsPart, IsFeed, at_rest, given_answer}
 use Rattle.ftp_session.specs.declared.session.run_polled.Course.{Course}

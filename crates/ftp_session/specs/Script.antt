@@ -6,7 +6,7 @@ use Rattle.ftp_control.specs.declared.transport.room.Room.TheVariants.{Any, UpTo
 use Rattle.ftp_control.specs.Told.{Told}
 use Rattle.ftp_control.specs.Memory.{more_room}
 use Rattle.ftp_calls.specs.declared.call.Call.{Call}
-use Rattle.ftp_calls.specs.declared.call.Call.TheVariants.{Drain, Leave}
+use Rattle.ftp_calls.specs.declared.call.Call.TheVariants.{Drain, Finish, Leave}
 use Rattle.ftp_calls.specs.declared.call.Event.{Event}
 use Rattle.ftp_calls.specs.declared.call.Event.TheVariants as event
 use Rattle.ftp_dialogue.specs.declared.model.Script.{Script}
@@ -277,13 +277,13 @@ abbrev pub script : Coding → Standing → Script → List Event → Script
 script coding start s [] = s
 script coding start s (event ∷ events) = script coding start (after_event coding start s event) events
 
--- Lawful lists: a call is dropped before its first Poll, or it is a plain read; and a reply under way is resumed as one of the form that it was read as before, unless it is no whole reply of the
+-- Lawful lists: a call is dropped before its first Poll, or it is a plain read, or `Finish`; and a reply under way is resumed as one of the form that it was read as before, unless it is no whole reply of the
 -- call's form. Of a session that has failed, of a call that is refused and of one that needs no data connection and waits
 -- for room before it hears, nothing is asked
 
 abbrev pub MayCancel : Option Call → Bool → Type 0
 MayCancel None polled = Unit {0}
-MayCancel (Some call) polled = (polled ≡ false) ⊎ (is_read call ≡ true)
+MayCancel (Some call) polled = (polled ≡ false) ⊎ (is_read call ≡ true) ⊎ (call ≡ Finish)
 
 -- the call waits, and hasn't heard
 abbrev pub HearsNothing : Ran → Script → Type 0

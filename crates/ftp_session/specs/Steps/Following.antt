@@ -11,11 +11,12 @@ use Rattle.ftp_dialogue.specs.declared.model.DealOutcome.{DealOutcome}
 use Rattle.ftp_control.specs.declared.control.outcome.Outcome.TheVariants.{Waits}
 use Rattle.ftp_control.specs.Grammar.{outcome}
 use Rattle.ftp_control.specs.Memory.{IsGiven}
+use Rattle.ftp_control.specs.Reading.{GoesOn}
 use Rattle.ftp_control.specs.Channel.{IsSound, untaken}
 use Rattle.ftp_calls.specs.declared.call.Answer.{Answer}
 use Rattle.ftp_calls.specs.declared.call.Answer.TheVariants.{Fault, Unit as Nothing}
 use Rattle.ftp_calls.specs.declared.call.Call.{Call}
-use Rattle.ftp_calls.specs.declared.call.Call.TheVariants.{Drain, Leave}
+use Rattle.ftp_calls.specs.declared.call.Call.TheVariants.{Drain, Finish, Leave}
 use Rattle.ftp_calls.specs.declared.call.Event.{Event}
 use Rattle.ftp_calls.specs.declared.call.Event.TheVariants.{Feed, Poll as Polling}
 use Rattle.ftp_calls.specs.declared.exchange.Turn.TheVariants.{First}
@@ -36,6 +37,7 @@ use Rattle.ftp_dialogue.specs.Steps.Polls.{is_first, entered_state, entered_at, 
 use Rattle.ftp_dialogue.specs.Steps.Stages.{remaining, begun_at, StageOf}
 use Rattle.ftp_dialogue.specs.Steps.Moving.{Apart, CarriesOut, DropsAbort, HasBegun, PollsTo}
 use Rattle.ftp_dialogue.specs.declared.model.Item.{Item}
+use Rattle.ftp_dialogue.specs.declared.model.Item.TheVariants.{Hidden}
 use Rattle.ftp_dialogue.specs.declared.model.Script.{Script}
 use Rattle.ftp_session.specs.Script.{unread, is_over, start_of, after_event, IsLawful, MayCancel}
 use Rattle.ftp_dialogue.specs.Link.{Builds, over_memory}
@@ -50,12 +52,14 @@ pub record Since (coding : Coding) (old : SessionValue) (items : List Item) (ans
   pub asked_later : List Deal
   pub asked_split : answered ≡ asked_before ++ asked_later
   pub stands : Stands coding old items before asked_before start answers
+  pub sent : length start.channel.told.sent ≤ length v.channel.told.sent
+  pub over : (more : List ℕ) (ended : Bool) → GoesOn v.channel.ended more ended → GoesOn start.channel.ended (later ++ more) ended
   pub said : length (said start.channel) ≤ length (said v.channel)
   pub taken : length before + length (untaken v.channel) ≤ length came + length (untaken start.channel)
   pub has_begun : begun ≡ true → SaysOrTakes before came start v
   pub not_begun : begun ≡ false → SaysNothing later start v
 
--- a call that was polled; of a plain read no trace is left where it is dropped
+-- a call that was polled; of a plain read no trace is left where it is dropped, and `Finish` has left its transfer
 pub record UnderWay (coding : Coding) (old : SessionValue) (s : Script) (came : List ℕ) (answered : List Deal) (v : SessionValue) (call : Call) (stage : Stage) : Type 0 where
   pub stage_of : StageOf call stage
   pub polled : s.polled ≡ true
@@ -66,6 +70,8 @@ pub record UnderWay (coding : Coding) (old : SessionValue) (s : Script) (came : 
   pub apart : is_read call ≡ true → Apart (remaining coding call v.state stage)
   pub read : is_read call ≡ true → Stands coding old s.items came answered v s.answers
   pub since : Since coding old s.items s.answers came answered v (begun_at stage)
+  pub leaves : call ≡ Finish → Stands coding old (s.items ++ Hidden Leave ∷ []) came answered v s.answers
+  pub unsent : call ≡ Finish → v.channel.unsent ≡ since.start.channel.unsent
 
 -- a call that was polled and has waited for room since, before it hears: its first line still goes out
 pub record Unheard (coding : Coding) (old : SessionValue) (s : Script) (came : List ℕ) (answered : List Deal) (v : SessionValue) (call : Call) (stage : Stage) : Type 0 where

@@ -1,4 +1,3 @@
-use Rattle.std.proofs.Common.{ap, sym, ◌∙◌}
 use Rattle.ftp_session.proofs.Leaving.{has_left, has_none}
 use Rattle.ftp_session.proofs.session.run_polled.leave_held.Goals.{then-holds_transfer, else-holds_transfer}
 use Rattle.ftp_session.proofs.session.run_polled.leave_held.Goals as goal

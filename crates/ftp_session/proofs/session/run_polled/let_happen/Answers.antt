@@ -1,4 +1,4 @@
-use Rattle.std.proofs.Common.{None, inl, length, length-append, option_map, refl, ap, sym, take, ◌∙◌, arith}
+use Rattle.std.proofs.Common.{None, inl, length, length-append, option_map, refl, ap, take, ◌∙◌, arith}
 use Rattle.ftp_dialogue.specs.Coding.{Coding, coding_of}
 use Rattle.ftp_session.specs.Steps.Following.{given_answer}
 use Rattle.ftp_session.proofs.Events.{grows_none}

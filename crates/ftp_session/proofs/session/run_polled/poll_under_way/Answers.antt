@@ -1,4 +1,4 @@
-use Rattle.std.proofs.Common.{None, Option, Some, ap, option_map, subst, sym, ◌∙◌, [], ◌∷◌}
+use Rattle.std.proofs.Common.{None, Option, Some, ap, option_map, subst, sym, [], ◌∷◌}
 use Rattle.futures.specs.declared.task.Poll.TheVariants.{Ready, Pending}
 use Rattle.ftp_calls.specs.declared.call.Call.{Call}
 use Rattle.ftp_calls.specs.declared.call.Event.TheVariants as event
