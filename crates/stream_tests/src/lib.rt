@@ -4,6 +4,8 @@
 #[cfg(test)]
 mod aborted;
 #[cfg(test)]
+mod broken_data;
+#[cfg(test)]
 mod counts;
 #[cfg(test)]
 mod handed;
