@@ -1,6 +1,6 @@
 //! One reply, on all bytes at once: what they say of it, and what they leave for the next.
 
-ghost use Rattle.std.specs.Prelude.{◌≡◌, [], IfOk, drop};
+ghost use Rattle.std.specs.Prelude.{◌≡◌, [], IfOk, drop, true};
 ghost use Rattle.ftp_control.specs.Grammar.{left_by};
 ghost use Rattle.ftp_dialogue.specs.Play.{taken};
 ghost use Rattle.session_plain.specs.Progress.{Hears, HearsAs};

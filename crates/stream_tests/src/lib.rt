@@ -13,3 +13,5 @@ mod handed;
 mod scene;
 #[cfg(test)]
 mod streams;
+#[cfg(test)]
+mod whole;
