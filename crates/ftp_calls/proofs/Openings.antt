@@ -1,7 +1,7 @@
 -- Which calls open a data connection.
 use Rattle.std.proofs.Common.{◌≡◌, Bool, true, false, ◌&&◌, refl}
 use Rattle.ftp_calls.specs.declared.call.Call.{Call}
-use Rattle.ftp_calls.specs.declared.call.Call.TheVariants.{Greet, Login, Cwd, Cdup, Pwd, Noop, Eprt, Opts, Site, TransferType, Mkdir, Rmdir, Rm, Rename, Quit, Mlst, Mdtm, Size, Feat, CustomCommand, ReadResponse, ReadResponseIn, ResumeTransfer, RetrAsStream, PutWithStream, AppendWithStream, CustomDataCommand, Set, Read, Write, Finish, Abort, Leave, Drain}
+use Rattle.ftp_calls.specs.declared.call.Call.TheVariants.{Greet, Login, Cwd, Cdup, Pwd, Noop, Eprt, Opts, Site, TransferType, Mkdir, Rmdir, Rm, Rename, Quit, Mlst, Mdtm, Size, Feat, CustomCommand, ReadResponse, ReadResponseIn, ResumeTransfer, RetrAsStream, PutWithStream, AppendWithStream, CustomDataCommand, Retr, List as Listing, Nlst, Mlsd, Set, Read, Write, Finish, Abort, Leave, Drain}
 use Rattle.ftp_calls.specs.declared.exchange.Turn.TheVariants.{Second}
 use Rattle.ftp_calls.specs.Exchanges.{drains, is_read, negotiates, opens, row_of}
 
@@ -34,6 +34,10 @@ opens_alike (RetrAsStream p) = refl
 opens_alike (PutWithStream p) = refl
 opens_alike (AppendWithStream p) = refl
 opens_alike (CustomDataCommand l c) = refl
+opens_alike (Retr p) = refl
+opens_alike (Listing p) = refl
+opens_alike (Nlst p) = refl
+opens_alike (Mlsd p) = refl
 opens_alike (Set s) = refl
 opens_alike (Read n) = refl
 opens_alike (Write b) = refl
@@ -71,6 +75,10 @@ read_opens_none (RetrAsStream p) opens = refl
 read_opens_none (PutWithStream p) opens = refl
 read_opens_none (AppendWithStream p) opens = refl
 read_opens_none (CustomDataCommand l c) opens = refl
+read_opens_none (Retr p) opens = refl
+read_opens_none (Listing p) opens = refl
+read_opens_none (Nlst p) opens = refl
+read_opens_none (Mlsd p) opens = refl
 read_opens_none (Set s) opens = let clash : false ≡ true = opens in cc
 read_opens_none (Read n) opens = let clash : false ≡ true = opens in cc
 read_opens_none (Write b) opens = let clash : false ≡ true = opens in cc
@@ -108,6 +116,10 @@ draining_reads (RetrAsStream p) is = let clash : false ≡ true = is in cc
 draining_reads (PutWithStream p) is = let clash : false ≡ true = is in cc
 draining_reads (AppendWithStream p) is = let clash : false ≡ true = is in cc
 draining_reads (CustomDataCommand l c) is = let clash : false ≡ true = is in cc
+draining_reads (Retr p) is = let clash : false ≡ true = is in cc
+draining_reads (Listing p) is = let clash : false ≡ true = is in cc
+draining_reads (Nlst p) is = let clash : false ≡ true = is in cc
+draining_reads (Mlsd p) is = let clash : false ≡ true = is in cc
 draining_reads (Set s) is = let clash : false ≡ true = is in cc
 draining_reads (Read n) is = let clash : false ≡ true = is in cc
 draining_reads (Write b) is = let clash : false ≡ true = is in cc

@@ -9,13 +9,15 @@ use Rattle.ftp_base.specs.declared.types.file_type.FileType.TheVariants.{Ascii, 
 use Rattle.ftp_base.specs.declared.command.Command.{Command}
 use Rattle.ftp_base.specs.declared.command.Command.TheVariants as command
 use Rattle.ftp_calls.specs.declared.call.Call.{Call}
-use Rattle.ftp_calls.specs.declared.call.Call.TheVariants.{Greet, Login, Cwd, Cdup, Pwd, Noop, Eprt, Opts, Site, TransferType, Mkdir, Rmdir, Rm, Rename, Quit, Mlst, Mdtm, Size, Feat, CustomCommand, ReadResponse, ReadResponseIn, ResumeTransfer, RetrAsStream, PutWithStream, AppendWithStream, CustomDataCommand, Set, Read, Write, Finish, Abort, Leave, Drain}
+use Rattle.ftp_calls.specs.declared.call.Call.TheVariants.{Greet, Login, Cwd, Cdup, Pwd, Noop, Eprt, Opts, Site, TransferType, Mkdir, Rmdir, Rm, Rename, Quit, Mlst, Mdtm, Size, Feat, CustomCommand, ReadResponse, ReadResponseIn, ResumeTransfer, RetrAsStream, PutWithStream, AppendWithStream, CustomDataCommand, Retr, List as Listing, Nlst, Mlsd, Set, Read, Write, Finish, Abort, Leave, Drain}
 use Rattle.ftp_calls.specs.declared.exchange.Turn.{Turn}
 use Rattle.ftp_calls.specs.declared.exchange.Turn.TheVariants.{First, Second, Passive, ExtendedPassive, Active, Restart, Closed, Aborted}
 use Rattle.ftp_calls.specs.declared.exchange.Codes.{Codes}
 use Rattle.ftp_calls.specs.declared.exchange.Codes.TheVariants.{One, Either, Given, Features}
 use Rattle.ftp_calls.specs.declared.exchange.Ending.{Ending}
-use Rattle.ftp_calls.specs.declared.exchange.Ending.TheVariants.{Done, GivesReply, Greets, GivesPath, GivesSecondLine, GivesTime, GivesSize, GivesFeatures, SetsText, GoesOn, Continues, GivesAddress, GivesPort, Opens, Finishes, Drains, Stops}
+use Rattle.ftp_calls.specs.declared.exchange.Ending.TheVariants.{Done, GivesReply, Greets, GivesPath, GivesSecondLine, GivesTime, GivesSize, GivesFeatures, SetsText, GoesOn, Continues, GivesAddress, GivesPort, Opens, Fetches, Finishes, Drains, Stops}
+use Rattle.ftp_calls.specs.declared.exchange.Fetch.{Fetch}
+use Rattle.ftp_calls.specs.declared.exchange.Fetch.TheVariants.{Whole, Listed}
 use Rattle.ftp_calls.specs.declared.exchange.Row.{Row}
 use Rattle.ftp_calls.specs.declared.exchange.Row.TheVariants.{Exchanges, Arms, Sets, Moves}
 use Rattle.ftp_calls.specs.declared.exchange.Movement.TheVariants as movement
@@ -35,6 +37,10 @@ says command codes ending = Exchanges (record { says = Some command; hears = cod
 -- a reply alone
 abbrev pub hears : Codes → Ending → Row
 hears codes ending = Exchanges (record { says = None; hears = codes; ending = ending })
+
+-- a command whose data are the lines of a listing
+abbrev pub lists : Command → Row
+lists command = says command (Either AboutToSend AlreadyOpen) (Fetches Listed)
 
 -- text is in ASCII: RFC 959, section 3.1.1.1
 abbrev pub is_ascii : FileType → Bool
@@ -75,6 +81,10 @@ own_row (RetrAsStream path) first = says (command.Retr path) (Either AboutToSend
 own_row (PutWithStream path) first = says (command.Store path) (Either AlreadyOpen AboutToSend) (Opens false)
 own_row (AppendWithStream path) first = says (command.Appe path) (Either AlreadyOpen AboutToSend) (Opens false)
 own_row (CustomDataCommand line codes) first = says (command.Custom line) (Given codes) (Opens true)
+own_row (Retr path) first = says (command.Retr path) (Either AboutToSend AlreadyOpen) (Fetches Whole)
+own_row (Listing path) first = lists (command.List path)
+own_row (Nlst path) first = lists (command.Nlst path)
+own_row (Mlsd path) first = lists (command.Mlsd path)
 own_row (Set setting) first = Sets setting
 own_row (Read most) first = Moves (movement.Read most)
 own_row (Write bytes) first = Moves (movement.Write bytes)
@@ -96,8 +106,8 @@ row_of call (Restart offset) = says (command.Rest offset) (One RequestFilePendin
 row_of call (Closed fault) = hears (Either ClosingDataConnection RequestedFileActionOk) (Finishes fault)
 row_of call Aborted = hears (Either ClosingDataConnection TransferAborted) Stops
 
--- what a call that succeeds gives: nothing, a reply, a text, a time, a number of bytes, features, a data connection, or
--- what went over one
+-- what a call that succeeds gives: nothing, a reply, a text, a time, a number of bytes, features, a data connection,
+-- what went over one, or the lines that did
 pub data Kind : Type 0 where
   Nothing : Kind
   Replies : Kind
@@ -107,6 +117,12 @@ pub data Kind : Type 0 where
   Lists : Kind
   Connections : Kind
   Movements : Kind
+  Listings : Kind
+
+-- what the bytes of a whole data connection are given as
+abbrev pub kind_of_fetch : Fetch → Kind
+kind_of_fetch Whole = Movements
+kind_of_fetch Listed = Listings
 
 abbrev pub kind_of : Ending → Kind
 kind_of Done = Nothing
@@ -123,6 +139,7 @@ kind_of Continues = Nothing
 kind_of GivesAddress = Nothing
 kind_of GivesPort = Nothing
 kind_of (Opens gives_reply) = Connections
+kind_of (Fetches form) = kind_of_fetch form
 kind_of (Finishes fault) = Nothing
 kind_of Drains = Nothing
 kind_of Stops = Nothing
@@ -143,6 +160,7 @@ gives_reply Continues = false
 gives_reply GivesAddress = false
 gives_reply GivesPort = false
 gives_reply (Opens replies) = false
+gives_reply (Fetches form) = false
 gives_reply (Finishes fault) = false
 gives_reply Drains = false
 gives_reply Stops = false
@@ -189,6 +207,7 @@ is_read call = reads (row_of call First)
 -- an accepted reply opens a data connection
 abbrev pub is_opening : Ending → Bool
 is_opening (Opens replies) = true
+is_opening (Fetches form) = true
 is_opening other = false
 
 abbrev pub opens : Row → Bool
@@ -201,12 +220,14 @@ opens (Moves movement) = false
 abbrev pub negotiates : Call → Bool
 negotiates call = opens (row_of call First)
 
--- a transfer may begin at an offset: the commands that RFC 3659, section 5, names, and those of a caller
+-- a transfer may begin at an offset: the commands that RFC 3659, section 5, names, and those of a caller; a listing never
+-- does
 abbrev pub restarts : Call → Bool
 restarts (RetrAsStream path) = true
 restarts (PutWithStream path) = true
 restarts (AppendWithStream path) = true
 restarts (CustomDataCommand line codes) = true
+restarts (Retr path) = true
 restarts other = false
 
 -- the turn after the connection is agreed on: the offset, where there is one, and then the command

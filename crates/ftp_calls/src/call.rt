@@ -4,6 +4,7 @@
 //! the two compared. Events are what a polled run is made of: the server's bytes come, a call begins, is polled, is
 //! dropped.
 
+use crate::lines::Lines;
 use ftp_base::status::Status;
 use ftp_base::types::{
     ActivePeerCheck, Bytes, Features, FileType, FtpError, Items, Mode, Response, Text,
@@ -82,6 +83,15 @@ pub enum Call {
     AppendWithStream(Text),
     /// A data connection is opened, and a caller-supplied line; the statuses that its reply may have.
     CustomDataCommand(Text, Items<Status>),
+    /// A data connection is opened, and `RETR` (150, 125); all that comes is read, and the transfer's last reply (226,
+    /// 250).
+    Retr(Text),
+    /// `LIST`, of a path or of the current directory (150, 125), whose lines are read in the same way.
+    List(Option<Text>),
+    /// `NLST`, likewise.
+    Nlst(Option<Text>),
+    /// `MLSD`, likewise.
+    Mlsd(Option<Text>),
     /// A setting changes; nothing is said or heard, and a session that has failed takes it, too.
     Set(Setting),
     /// At most so many bytes are read from the transfer's data connection, in one read.
@@ -121,6 +131,8 @@ pub enum Answer {
     OpenedWith(Response),
     /// These bytes were read from the data connection; none at its end.
     Bytes(Bytes),
+    /// These are the lines of a listing.
+    Lines(Lines),
     /// So many bytes were written to the data connection.
     Count(u64),
     /// A call of a transfer, where the session holds none, or, for `Drain`, owes none that was left; nothing happened.

@@ -5,7 +5,7 @@
 //! of `Call`, a row of `own_row`, and its row in the definition.
 
 ghost use Rattle.std.specs.Prelude.{◌≡◌, Bool, IfOk};
-ghost use Rattle.ftp_calls.specs.Exchanges.{aborts, drains, drains_first, finishes, hears, is_local, negotiates, next_turn, of_transfer, own_row, restarted, restarts, row_of, says, uploads};
+ghost use Rattle.ftp_calls.specs.Exchanges.{aborts, drains, drains_first, finishes, hears, is_local, lists, negotiates, next_turn, of_transfer, own_row, restarted, restarts, row_of, says, uploads};
 
 use crate::active::port_command;
 use crate::call::{Call, Setting};
@@ -81,12 +81,23 @@ pub enum Ending {
     GivesPort,
     /// The data connection carries a transfer from now on; the reply is part of the answer, or isn't.
     Opens(bool),
+    /// All that the data connection carries is the answer, once the transfer has come to its end.
+    Fetches(Fetch),
     /// The transfer has come to its end; the fault of an upload's close is told before the reply's.
     Finishes(Option<ErrorKind>),
     /// The transfer that was left has come to its end, whatever the reply's status is.
     Drains,
     /// The transfer is aborted, whatever the reply is; after 426 the next exchange follows.
     Stops,
+}
+
+/// As what the bytes of a whole data connection are given.
+#[derive(Clone, Copy, Debug)]
+pub enum Fetch {
+    /// As they are.
+    Whole,
+    /// As the lines of a listing.
+    Listed,
 }
 
 /// One command and its reply, or one reply.
@@ -166,7 +177,17 @@ fn own_row_at(call: &Call, first: bool) -> Result<Row, AllocError>
 pub fn negotiates(call: &Call) -> bool
     ensures { result ≡ negotiates call.now }
 {
-    opens_data(call)
+    matches!(
+        call,
+        Call::RetrAsStream(_)
+            | Call::PutWithStream(_)
+            | Call::AppendWithStream(_)
+            | Call::CustomDataCommand(..)
+            | Call::Retr(_)
+            | Call::List(_)
+            | Call::Nlst(_)
+            | Call::Mlsd(_)
+    )
 }
 
 /// The turn that comes next, where the reply goes on.
@@ -245,17 +266,16 @@ pub fn uploads(call: &Call) -> bool
 fn restarted(call: &Call, offset: u64) -> Turn
     ensures { result ≡ restarted call.now offset }
 {
-    if opens_data(call) && 0 < offset {
+    if restarts(call) && 0 < offset {
         Turn::Restart(offset)
     } else {
         Turn::Second
     }
 }
 
-/// Whether a call opens a data connection, with a command that may begin at an offset (RFC 3659, section 5).
-fn opens_data(call: &Call) -> bool
-    ensures negotiates { result ≡ negotiates call.now }
-    ensures restarts { result ≡ restarts call.now }
+/// Whether the transfer of a call may begin at an offset (RFC 3659, section 5): that of a listing never does.
+fn restarts(call: &Call) -> bool
+    ensures { result ≡ restarts call.now }
 {
     matches!(
         call,
@@ -263,6 +283,7 @@ fn opens_data(call: &Call) -> bool
             | Call::PutWithStream(_)
             | Call::AppendWithStream(_)
             | Call::CustomDataCommand(..)
+            | Call::Retr(_)
     )
 }
 
@@ -328,6 +349,10 @@ fn own_row(call: Call, first: bool) -> Row
                 Ending::Opens(true),
             )
         }
+        Call::Retr(path) => says(Command::Retr(path), sent(), Ending::Fetches(Fetch::Whole)),
+        Call::List(path) => listed(Command::List(path)),
+        Call::Nlst(path) => listed(Command::Nlst(path)),
+        Call::Mlsd(path) => listed(Command::Mlsd(path)),
         Call::Set(setting) => Row::Sets(setting),
         Call::Read(most) => Row::Moves(Movement::Read(most)),
         Call::Write(bytes) => Row::Moves(Movement::Write(bytes)),
@@ -406,6 +431,13 @@ fn transfer_type(kind: FileType) -> Row
 {
     let text = matches!(kind, FileType::Ascii(_));
     says(Command::TransferType(kind), ok(), Ending::SetsText(text))
+}
+
+/// A command (150, 125) whose data are the lines of a listing.
+fn listed(command: Command) -> Row
+    ensures { result ≡ lists command }
+{
+    says(command, sent(), Ending::Fetches(Fetch::Listed))
 }
 
 /// 150 or 125.

@@ -7,3 +7,4 @@
 pub mod active;
 pub mod call;
 pub mod exchange;
+pub mod lines;

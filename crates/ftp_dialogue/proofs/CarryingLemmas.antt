@@ -21,7 +21,7 @@ use Rattle.ftp_calls.specs.declared.exchange.Turn.TheVariants.{First, Second, Pa
 use Rattle.ftp_calls.specs.Exchanges.{drains, finishes, is_local, is_read, local_row, negotiates, of_transfer, only_reads, reads, row_of}
 use Rattle.ftp_dialogue.specs.declared.model.DealOutcome.{DealOutcome}
 use Rattle.ftp_dialogue.specs.declared.stage.Stage.{Stage}
-use Rattle.ftp_dialogue.specs.declared.stage.Stage.TheVariants.{At, Saying, Hearing, Arming, Agreeing, Closing, Aborting}
+use Rattle.ftp_dialogue.specs.declared.stage.Stage.TheVariants.{At, Saying, Hearing, Arming, Agreeing, Closing, Aborting, Fetching}
 use Rattle.ftp_dialogue.specs.declared.stage.Step.TheVariants.{Next, Pending}
 use Rattle.ftp_dialogue.specs.declared.state.State.{State}
 use Rattle.ftp_dialogue.specs.Coding.{Coding}
@@ -116,6 +116,7 @@ may_go_on call (Arming turn offset) v undrained of going = going
 may_go_on call (Agreeing way) v undrained of going = going
 may_go_on call Closing v undrained of going = going
 may_go_on call (Aborting abort) v undrained of going = going
+may_go_on call (Fetching fetching) v undrained of going = going
 
 -- Where a call begins
 
@@ -326,6 +327,7 @@ read_apart_answer most (came.Read bytes) is = tt
 read_apart_answer most (came.Wrote count) is = tt
 read_apart_answer most came.Closed is = tt
 read_apart_answer most (came.Failed kind) is = inr (kind, refl)
+read_apart_answer most came.NoMemory is = inl refl
 
 pub write_apart_answer : (bytes : List ℕ) (outcome : DealOutcome) → answers (movement.Write bytes) outcome ≡ true → IsApart (moved_answer outcome)
 write_apart_answer bytes (came.Answered outcome) is = tt
@@ -334,6 +336,7 @@ write_apart_answer bytes (came.Read other) is = tt
 write_apart_answer bytes (came.Wrote count) is = tt
 write_apart_answer bytes came.Closed is = tt
 write_apart_answer bytes (came.Failed kind) is = inr (kind, refl)
+write_apart_answer bytes came.NoMemory is = inl refl
 
 did_row : (tells : Type 0) (call : Call) (old mid last' last new : SessionValue) (answer' answer : Answer) → refusal_of call old ≡ Taken → mid ≡ old → DoesRow (row_of call First) tells mid last' answer' → last ≡ last' → answer ≡ answer' → LetsGo tells last new → CarriesOut tells call old new answer
 did_row tells call old mid last' last new answer' answer taken same does last_is answer_is lets_go =

@@ -1,5 +1,5 @@
 -- What holds of the trees of calls that open a data connection, and of all that they come to.
-use Rattle.std.proofs.Common.{◌≡◌, ℕ, zero, suc, Bool, true, false, ◌&&◌, nat_lt, cond, is_none, List, [], ◌∷◌, ◌++◌, Option, Some, None, Result, Ok, Err, inl, inr, refl, ap, sym, ◌∙◌, subst, append-nil, append_assoc}
+use Rattle.std.proofs.Common.{◌≡◌, ℕ, zero, suc, Bool, true, false, ◌&&◌, nat_le, nat_lt, length, cond, is_none, List, [], ◌∷◌, ◌++◌, Option, Some, None, Result, Ok, Err, inl, inr, refl, ap, sym, ◌∙◌, subst, append-nil, append_assoc}
 use Rattle.std.specs.List.{AllByRecursion}
 use Rattle.std.proofs.lemmas.List.Elements.{All-from_recursion}
 use Rattle.std.specs.Net.Socket.{socket_ip, socket_port}
@@ -9,7 +9,7 @@ use Rattle.std.specs.declared.time.Duration.{Duration}
 use Rattle.ftp_base.specs.Status.{status_of}
 use Rattle.ftp_base.specs.declared.command.Command.{Command}
 use Rattle.ftp_base.specs.declared.types.fault.FtpError.{FtpError}
-use Rattle.ftp_base.specs.declared.types.fault.FtpError.TheVariants.{BadResponse, ConnectionError, DataConnectionAlreadyOpen, SessionFailed}
+use Rattle.ftp_base.specs.declared.types.fault.FtpError.TheVariants.{BadResponse, ConnectionError, DataConnectionAlreadyOpen, OutOfMemory, SessionFailed}
 use Rattle.ftp_base.specs.declared.types.fault.ConnectionError.TheVariants.{ReplyTooLarge, TimedOut, UnexpectedEof}
 use Rattle.ftp_base.specs.declared.types.mode.Mode.{Mode}
 use Rattle.ftp_base.specs.declared.types.mode.Mode.TheVariants as mode
@@ -23,7 +23,8 @@ use Rattle.ftp_calls.specs.declared.call.Answer.TheVariants.{Fault}
 use Rattle.ftp_calls.specs.declared.call.Answer.TheVariants as answer
 use Rattle.ftp_calls.specs.declared.call.Call.{Call}
 use Rattle.ftp_calls.specs.declared.exchange.Ending.{Ending}
-use Rattle.ftp_calls.specs.declared.exchange.Ending.TheVariants.{Continues, GivesAddress, GivesPort, Opens}
+use Rattle.ftp_calls.specs.declared.exchange.Ending.TheVariants.{Continues, GivesAddress, GivesPort, Opens, Fetches}
+use Rattle.ftp_calls.specs.declared.exchange.Fetch.{Fetch}
 use Rattle.ftp_calls.specs.declared.exchange.Row.{Row}
 use Rattle.ftp_calls.specs.declared.exchange.Row.TheVariants.{Exchanges, Arms, Sets, Moves}
 use Rattle.ftp_calls.specs.declared.exchange.Movement.{Movement}
@@ -41,7 +42,7 @@ use Rattle.ftp_control.specs.declared.transport.room.Room.{Room}
 use Rattle.ftp_dialogue.proofs.Sorts.{finishing_opens, opens_drains_none, opens_no_local, unheld_call}
 use Rattle.ftp_dialogue.specs.Coding.{Coding}
 use Rattle.ftp_dialogue.specs.Deals.{answers, constructed, constructing, dealing, dealt, moved, settled}
-use Rattle.ftp_dialogue.specs.Dialogue.{Here, There, Tree, Say, Hear, Look, Ask, Build, Move, Leaf, accepting, admitting, agreeing, at_port, awaiting, concluded, connecting_to, connecting_to_peer, dialogue, doing, entered, expected_of, from_turn, last_turn, later, lets_in, negotiating, negotiating_unless, on_address, on_built, on_connection, opened_answer, opened_from, opening, restart_turn, saying, strangers, to_address, to_port, with_left, parting}
+use Rattle.ftp_dialogue.specs.Dialogue.{Here, There, Tree, Say, Hear, Look, Ask, Build, Move, Leaf, accepting, admitting, agreeing, at_port, awaiting, concluded, connecting_to, connecting_to_peer, dialogue, doing, entered, expected_of, fetch_concluded, fetch_parting, fetched, fetching, from_turn, gathering, last_turn, later, lets_in, most_bytes, most_reads, negotiating, negotiating_unless, on_address, on_built, on_connection, on_data, opened_answer, opened_from, opening, restart_turn, saying, strangers, to_address, to_port, too_long, unfetched, with_left, with_transfer, parting}
 use Rattle.ftp_dialogue.specs.Laws.{AsksPeerAlone, LeadsTo, UsesPeerHost, offset_after, reached}
 use Rattle.ftp_dialogue.specs.Play.{Lacking, asked_then, built_then, finally, fits, heard_then, lacks, leaving, moved_then, play, play_call, play_unless, refusal, refused_if_failed, taken}
 use Rattle.ftp_dialogue.specs.Sound.{cannot_beside, cannot_open}
@@ -105,23 +106,51 @@ module _ (peer : SocketAddr) (Sort : Request → Type 0) (state : State) (admits
       go true = (builds, built_keeps next keeps)
       go false = (connects, connection_keeps next keeps)
 
-  admitting_keeps : (allowed : Bool) (answer : Answer) (others : Tree) → Keeps peer Sort others → Keeps peer Sort (admitting allowed answer state others)
-  admitting_keeps true answer others keeps = none
-  admitting_keeps false answer others keeps = keeps
+  admitting_keeps : (allowed : Bool) (opened others : Tree) → Keeps peer Sort opened → Keeps peer Sort others → Keeps peer Sort (admitting allowed opened others)
+  admitting_keeps true opened others first keeps = first
+  admitting_keeps false opened others first keeps = keeps
 
-  accepting_keeps : (answer : Answer) (host : SocketAddr) (left : ℕ) → Keeps peer Sort (accepting answer host left state)
-  unfolding accepting
-  accepting_keeps answer host zero =
-      let late : Tree = Leaf (Fault (ConnectionError TimedOut)) state in
-      (admits.accepts state.settings.active_deadline, address_keeps (λ from. admitting (lets_in state host from) answer state late) (λ from. admitting_keeps (lets_in state host from) answer late none))
-  accepting_keeps answer host (suc left) =
-      let others : Tree = accepting answer host left state in
-      (admits.accepts state.settings.active_deadline, address_keeps (λ from. admitting (lets_in state host from) answer state others) (λ from. admitting_keeps (lets_in state host from) answer others (accepting_keeps answer host left)))
+  module _ (opened : Tree) (first : Keeps peer Sort opened) where
+    accepting_keeps : (host : SocketAddr) (left : ℕ) → Keeps peer Sort (accepting opened host left state)
+    unfolding accepting
+    accepting_keeps host zero =
+        let late : Tree = Leaf (Fault (ConnectionError TimedOut)) state in
+        (admits.accepts state.settings.active_deadline, address_keeps (λ from. admitting (lets_in state host from) opened late) (λ from. admitting_keeps (lets_in state host from) opened late first none))
+    accepting_keeps host (suc left) =
+        let others : Tree = accepting opened host left state in
+        (admits.accepts state.settings.active_deadline, address_keeps (λ from. admitting (lets_in state host from) opened others) (λ from. admitting_keeps (lets_in state host from) opened others first (accepting_keeps host left)))
 
-  opening_keeps : (m : Mode) (answer : Answer) → Keeps peer Sort (opening m answer state)
-  opening_keeps mode.Active answer = accepting_keeps answer peer strangers
-  opening_keeps mode.Passive answer = none
-  opening_keeps mode.ExtendedPassive answer = none
+    opening_keeps : (m : Mode) → Keeps peer Sort (opening m opened state)
+    opening_keeps mode.Active = accepting_keeps peer strangers
+    opening_keeps mode.Passive = first
+    opening_keeps mode.ExtendedPassive = first
+
+  -- a whole data connection is read
+  parting_keeps : (form : Fetch) (answer : Answer) → Keeps peer Sort (fetch_parting form answer state)
+  parting_keeps form answer = λ came heard. concluded_keeps heard
+    where
+      concluded_keeps : (heard : Result Response FtpError) → Keeps peer Sort (fetch_concluded form answer state heard)
+      concluded_keeps (Ok reply) = none
+      concluded_keeps (Err fault) = none
+
+  data_keeps : (coding : Coding) (form : Fetch) (all : List ℕ) (on : List ℕ → Tree) → ((more : List ℕ) → Keeps peer Sort (on more)) → (outcome : DealOutcome) → Keeps peer Sort (on_data coding form all on (λ answer. fetch_parting form answer state) outcome)
+  data_keeps coding form all on keeps (came.Read []) = parting_keeps form (fetched coding form all)
+  data_keeps coding form all on keeps (came.Read (byte ∷ bytes)) = grown_keeps (all ++ byte ∷ bytes) (nat_le (length (all ++ byte ∷ bytes)) most_bytes)
+    where
+      grown_keeps : (more : List ℕ) (b : Bool) → Keeps peer Sort (cond b (on more) (fetch_parting form (too_long form) state))
+      grown_keeps more true = keeps more
+      grown_keeps more false = parting_keeps form (too_long form)
+  data_keeps coding form all on keeps (came.Failed kind) = parting_keeps form (unfetched form kind)
+  data_keeps coding form all on keeps came.NoMemory = parting_keeps form (Fault OutOfMemory)
+  data_keeps coding form all on keeps (came.Answered outcome) = parting_keeps form (too_long form)
+  data_keeps coding form all on keeps (came.Built fault) = parting_keeps form (too_long form)
+  data_keeps coding form all on keeps (came.Wrote count) = parting_keeps form (too_long form)
+  data_keeps coding form all on keeps came.Closed = parting_keeps form (too_long form)
+
+  gathering_keeps : (coding : Coding) (form : Fetch) (left : ℕ) (all : List ℕ) → Keeps peer Sort (gathering coding form left all state)
+  unfolding gathering
+  gathering_keeps coding form zero all = parting_keeps form (too_long form)
+  gathering_keeps coding form (suc left) all = data_keeps coding form all (λ more. gathering coding form left more state) (λ more. gathering_keeps coding form left more)
 
   saying_keeps : (coding : Coding) (command : Option Command) (next : Tree) → Keeps peer Sort next → Keeps peer Sort (saying coding command next)
   saying_keeps coding None next keeps = keeps
@@ -130,8 +159,10 @@ module _ (peer : SocketAddr) (Sort : Request → Type 0) (state : State) (admits
   -- the row of the command itself
   module _ (coding : Coding) (after : State → Tree) where
     ending_keeps : (ending : Ending) → is_opening ending ≡ true → (heard : Result Response FtpError) → Keeps peer Sort (concluded coding ending state after heard)
-    ending_keeps (Opens gives_reply) is (Ok reply) = opening_keeps state.settings.mode (opened_answer gives_reply reply)
+    ending_keeps (Opens gives_reply) is (Ok reply) = opening_keeps (Leaf (opened_answer gives_reply reply) (with_transfer state)) none state.settings.mode
     ending_keeps (Opens gives_reply) is (Err fault) = none
+    ending_keeps (Fetches form) is (Ok reply) = opening_keeps (fetching coding form state) (gathering_keeps coding form most_reads []) state.settings.mode
+    ending_keeps (Fetches form) is (Err fault) = none
     ending_keeps other is heard = let clash : false ≡ true = is in cc
 
     row_keeps : (row : Row) → opens row ≡ true → Keeps peer Sort (doing coding row state after)
@@ -265,6 +296,7 @@ module _ (Sort : Request → Type 0) where
         | came.Wrote count ∷ outcomes ↦ waits
         | came.Closed ∷ outcomes ↦ waits
         | came.Failed kind ∷ outcomes ↦ waits
+        | came.NoMemory ∷ outcomes ↦ waits
       ]
   play_reaches room (Build address next) s none keeps =
       let k : Option FtpError → Standing → Played = λ fault t. play room (next fault) t in
@@ -278,6 +310,7 @@ module _ (Sort : Request → Type 0) where
         | came.Wrote count ∷ outcomes ↦ waits
         | came.Closed ∷ outcomes ↦ waits
         | came.Failed kind ∷ outcomes ↦ waits
+        | came.NoMemory ∷ outcomes ↦ waits
       ]
   play_reaches room (Move moves next) s none keeps =
       let k : DealOutcome → Standing → Played = λ outcome t. play room (next outcome) t in

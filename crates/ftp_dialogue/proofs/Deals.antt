@@ -1,6 +1,6 @@
 -- Lemmas on what stands beside the control connection.
 use Rattle.std.proofs.lemmas.Bool.{eqb-true}
-use Rattle.std.proofs.Common.{◌≡◌, ℕ, true, false, cond, eqb, arith, length, List, [], ◌∷◌, ◌++◌, map, Option, Some, None, option_map, refl, ap, sym, ◌∙◌, append-nil, subst}
+use Rattle.std.proofs.Common.{◌≡◌, ℕ, true, false, cond, eqb, arith, length, List, [], ◌∷◌, ◌++◌, map, Option, Some, None, option_map, refl, ap, sym, ◌∙◌, append-nil, subst, inl, inr}
 use Rattle.ftp_control.proofs.Asking.{requests-append}
 use Rattle.ftp_control.specs.Asking.{requests_of}
 use Rattle.ftp_control.specs.Told.{Told, after_end, after_read, begun}
@@ -15,7 +15,7 @@ use Rattle.ftp_base.specs.declared.types.fault.FtpError.{FtpError}
 use Rattle.ftp_calls.specs.declared.exchange.Movement.{Movement}
 use Rattle.ftp_calls.specs.declared.exchange.Movement.TheVariants as movement
 use Rattle.ftp_dialogue.specs.declared.model.DealOutcome.{DealOutcome}
-use Rattle.ftp_dialogue.specs.declared.model.DealOutcome.TheVariants.{Answered, Built, Read, Wrote, Closed, Failed}
+use Rattle.ftp_dialogue.specs.declared.model.DealOutcome.TheVariants.{Answered, Built, Read, Wrote, Closed, Failed, NoMemory}
 use Rattle.ftp_dialogue.specs.Deals.{Net, Deal, Requested, Constructed, Moved, Parted, Dropped, BuiltIs, ClosesBy, ClosesFrom, CloseIs, ConstructedIs, DataIs, DataTells, Deals, MovementIs, ReadIs, RequestIs, WriteIs, constructed, data_after, data_built, dealings_of, dealt, moved, outcomes_of, parted, read_more, traffic_of, written_more, settled}
 use Rattle.ftp_dialogue.specs.Link.{Builds}
 use Rattle.ftp_dialogue.specs.declared.model.Dealings.{Dealings}
@@ -80,6 +80,8 @@ read_traffic most (Read (b ∷ bytes)) t u is =
       | false ↦ λ e same. ap traffic_of same
     ] refl is.1
 read_traffic most (Failed kind) t u is = ap traffic_of is.same
+read_traffic most NoMemory t u (inl same) = ap traffic_of same
+read_traffic most NoMemory t u (inr ended) = ap traffic_of ended
 read_traffic most (Answered outcome) t u is = absurd is
 read_traffic most (Built fault) t u is = absurd is
 read_traffic most (Wrote count) t u is = absurd is
@@ -92,6 +94,7 @@ written_traffic bytes (Answered outcome) t u is = absurd is
 written_traffic bytes (Built fault) t u is = absurd is
 written_traffic bytes (Read other) t u is = absurd is
 written_traffic bytes Closed t u is = absurd is
+written_traffic bytes NoMemory t u is = absurd is
 
 closed_traffic : (outcome : DealOutcome) (t u : Told) → CloseIs outcome t u → traffic_of u ≡ traffic_of t
 closed_traffic Closed t u is = ap traffic_of is
@@ -100,6 +103,7 @@ closed_traffic (Answered outcome) t u is = absurd is
 closed_traffic (Built fault) t u is = absurd is
 closed_traffic (Read bytes) t u is = absurd is
 closed_traffic (Wrote count) t u is = absurd is
+closed_traffic NoMemory t u is = absurd is
 
 map-snoc : (l : List Told) (t : Told) → map traffic_of (l ++ t ∷ []) ≡ map traffic_of l ++ traffic_of t ∷ []
 map-snoc [] t = refl

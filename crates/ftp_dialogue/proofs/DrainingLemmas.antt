@@ -5,12 +5,12 @@ use Rattle.ftp_calls.specs.declared.call.Answer.TheVariants as answers
 use Rattle.ftp_calls.specs.declared.call.Call.{Call}
 use Rattle.ftp_calls.specs.declared.call.Call.TheVariants.{Drain}
 use Rattle.ftp_calls.specs.declared.exchange.Ending.{Ending}
-use Rattle.ftp_calls.specs.declared.exchange.Ending.TheVariants.{Done, GivesReply, Greets, GivesPath, GivesSecondLine, GivesTime, GivesSize, GivesFeatures, SetsText, GoesOn, Continues, GivesAddress, GivesPort, Opens, Finishes, Drains, Stops}
+use Rattle.ftp_calls.specs.declared.exchange.Ending.TheVariants.{Done, GivesReply, Greets, GivesPath, GivesSecondLine, GivesTime, GivesSize, GivesFeatures, SetsText, GoesOn, Continues, GivesAddress, GivesPort, Opens, Fetches, Finishes, Drains, Stops}
 use Rattle.ftp_calls.specs.declared.exchange.Row.{Row}
 use Rattle.ftp_calls.specs.declared.exchange.Row.TheVariants.{Exchanges, Arms, Sets, Moves}
 use Rattle.ftp_calls.specs.declared.exchange.Turn.{Turn}
 use Rattle.ftp_calls.specs.declared.exchange.Turn.TheVariants.{First, Second, Passive, ExtendedPassive, Active, Restart, Closed, Aborted}
-use Rattle.ftp_calls.specs.Exchanges.{drained_row, drains_first, finishes, finishing_row, follows_reply, is_finishing, is_local, local_row, negotiates, given_by, row_of, Kind, Nothing, Replies, Texts, Times, Sizes, Lists, Connections, Movements}
+use Rattle.ftp_calls.specs.Exchanges.{drained_row, drains_first, finishes, finishing_row, follows_reply, is_finishing, is_local, local_row, negotiates, given_by, row_of, Kind, Nothing, Replies, Texts, Times, Sizes, Lists, Connections, Movements, Listings}
 use Rattle.ftp_dialogue.specs.Coding.{Coding}
 use Rattle.ftp_dialogue.specs.Deals.{Deal}
 use Rattle.ftp_dialogue.specs.Dialogue.{dialogue, entered, opened_from, with_left}
@@ -71,6 +71,7 @@ finishing_follows Continues is = let clash : false ≡ true = is in cc
 finishing_follows GivesAddress is = let clash : false ≡ true = is in cc
 finishing_follows GivesPort is = let clash : false ≡ true = is in cc
 finishing_follows (Opens replies) is = let clash : false ≡ true = is in cc
+finishing_follows (Fetches form) is = let clash : false ≡ true = is in cc
 finishing_follows Drains is = let clash : false ≡ true = is in cc
 
 pub finishes_first : (call : Call) → finishes call ≡ true → drains_first call ≡ false
@@ -137,6 +138,7 @@ drain_fails call answer may none = (First, inr (fault may), kind (given_by (row_
     by_kind (answers.OpenedWith reply) is more = let clash : Nothing ≡ Connections = is in cc
     by_kind (answers.Bytes bytes) is more = let clash : Nothing ≡ Movements = is in cc
     by_kind (answers.Count count) is more = let clash : Nothing ≡ Movements = is in cc
+    by_kind (answers.Lines lines) is more = let clash : Nothing ≡ Listings = is in cc
     by_kind answers.NoTransfer is more = let clash : Nothing ≡ Movements = is in cc
     by_kind (answers.Fault fault) is more = tt
 
@@ -165,6 +167,7 @@ drain_fails call answer may none = (First, inr (fault may), kind (given_by (row_
     kind k (answers.OpenedWith reply) is = absurd is
     kind k (answers.Bytes bytes) is = absurd is
     kind k (answers.Count count) is = absurd is
+    kind k (answers.Lines lines) is = absurd is
     kind k answers.NoTransfer is = absurd is
     kind k (answers.Fault fault) is = tt
 
@@ -186,6 +189,7 @@ unit_is answers.Opened is = let clash : false ≡ true = is in cc
 unit_is (answers.OpenedWith reply) is = let clash : false ≡ true = is in cc
 unit_is (answers.Bytes bytes) is = let clash : false ≡ true = is in cc
 unit_is (answers.Count count) is = let clash : false ≡ true = is in cc
+unit_is (answers.Lines lines) is = let clash : false ≡ true = is in cc
 unit_is answers.NoTransfer is = let clash : false ≡ true = is in cc
 unit_is (answers.Fault fault) is = let clash : false ≡ true = is in cc
 

@@ -5,6 +5,8 @@ pub mod DataCommands
 pub mod DrainingLemmas
 pub mod Deals
 pub mod Faults
+pub mod FetchingLemmas
+pub mod GatheringLemmas
 pub mod Hearing
 pub mod Sorts
 pub mod Moving

@@ -28,7 +28,11 @@ use Rattle.ftp_base.specs.declared.types.reply.Response.{Response}
 use Rattle.ftp_dialogue.specs.declared.nodes.Accepted.TheVariants as accepts
 use Rattle.ftp_dialogue.specs.declared.stage.Awaits.{Awaits}
 use Rattle.ftp_dialogue.specs.declared.stage.Stage.{Stage}
-use Rattle.ftp_dialogue.specs.declared.stage.Stage.TheVariants.{At, Agreeing}
+use Rattle.ftp_dialogue.specs.declared.stage.Stage.TheVariants.{At, Agreeing, Fetching}
+use Rattle.ftp_calls.specs.declared.exchange.Fetch.{Fetch}
+use Rattle.ftp_dialogue.specs.declared.stage.Fetching.TheVariants.{Starting}
+use Rattle.ftp_dialogue.specs.declared.stage.Opened.{Opened as Opening}
+use Rattle.ftp_dialogue.specs.declared.stage.Opened.TheVariants.{Gives as GivesAnswer, Fetches as FetchesAll}
 use Rattle.ftp_dialogue.specs.declared.stage.Step.{Step}
 use Rattle.ftp_dialogue.specs.declared.stage.Step.TheVariants.{Next, Pending, Done}
 use Rattle.ftp_dialogue.specs.Coding.{Coding}
@@ -42,7 +46,7 @@ use Rattle.ftp_dialogue.specs.declared.state.State.{State}
 use Rattle.ftp_calls.specs.declared.exchange.Turn.{Turn}
 use Rattle.ftp_control.specs.declared.transport.request.Request.TheVariants.{Accept, Connect}
 use Rattle.ftp_control.specs.declared.transport.request.RequestOutcome.TheVariants.{Done as Made, Address, Refused}
-use Rattle.ftp_dialogue.specs.Dialogue.{End, Here, There, Tree, Say, Look, Ask, Build, Move, Leaf, accepting, admitting, agreeing, connecting_to, doing, from_turn, last_turn, later, lets_in, negotiating, negotiating_unless, on_address, on_built, on_connection, restart_turn, strangers, with_transfer}
+use Rattle.ftp_dialogue.specs.Dialogue.{End, Here, There, Tree, Say, Look, Ask, Build, Move, Leaf, accepting, admitting, agreeing, connecting_to, doing, from_turn, last_turn, later, lets_in, most_reads, negotiating, negotiating_unless, on_address, on_built, on_connection, restart_turn, strangers, with_transfer}
 use Rattle.ftp_dialogue.specs.Link.{Link}
 use Rattle.ftp_calls.specs.declared.exchange.Movement.{Movement}
 use Rattle.ftp_dialogue.specs.Deals.{Deal, Deals, ConstructedIs, Constructed, Dropped, Moved, MovementIs, Net, RequestIs, Requested, answers, constructed, dealings_of, dealt, moved}
@@ -52,8 +56,8 @@ use Rattle.ftp_dialogue.proofs.Deals.{dealings_constructed, dealings_dealt, deal
 use Rattle.ftp_dialogue.specs.Play.{asked_then, play, address_at}
 use Rattle.ftp_dialogue.specs.Promises.{standing, Goes, Aborts, Untouched, failed_from}
 use Rattle.ftp_dialogue.specs.State.{SessionValue}
-use Rattle.ftp_dialogue.specs.Steps.Moving.{dropped, Accepts, Concludes, ConnectsTo, Ends, LooksUp, Meets, MeetsIf, Moves, NothingTouched, Speaks, Still, TurnsAway, Walks}
-use Rattle.ftp_dialogue.specs.Steps.Stages.{GoesOnTo, MayAnswer, StageOf, StepAnswers, TurnOf, is_later, begun_at, first_by, has_asked, nodes_from, nodes_left, nodes_of, remaining, way_of}
+use Rattle.ftp_dialogue.specs.Steps.Moving.{AsksFirst, LetsIn, dropped, Accepts, Concludes, ConnectsTo, Ends, LooksUp, Meets, MeetsIf, Moves, NothingTouched, Speaks, Still, TurnsAway, Walks}
+use Rattle.ftp_dialogue.specs.Steps.Stages.{GoesOnTo, MayAnswer, MayFetch, OpeningOf, many, opened_by, StageOf, StepAnswers, TurnOf, is_later, begun_at, first_by, has_asked, nodes_from, nodes_left, nodes_of, remaining, way_of}
 use Rattle.ftp_dialogue.proofs.Moving.{advances_on, leads_on, moves_on, leaf_ends, lacks_memory_at, nothing_leads, nothing_shrinks, stays_put}
 
 pub play-Ask : (room : Room) (request : Request) (next : RequestOutcome → Tree) (outcome : RequestOutcome) (outcomes : List DealOutcome) (s : Standing) → play room (Ask request next) (record s { outcomes = Answered outcome ∷ outcomes }) ≡ play room (next outcome) (record s { dealings = dealt request outcome s.dealings; outcomes = outcomes })
@@ -232,6 +236,11 @@ built_through link address fault view old net' is tie next =
     let P : SessionValue → Type 0 = λ v. Still link (Build address next) (next fault) v (record view { net = net' }) in
     subst P is (built_still link view net' address fault tie next)
 
+pub moved_through : (link : Link) (moves : Movement) (outcome : DealOutcome) (view old : SessionValue) (net' : Net) → view ≡ old → (link.tells → MovementIs moves outcome view.net net') → (next : DealOutcome → Tree) → Still link (Move moves next) (next outcome) old (record view { net = net' })
+moved_through link moves outcome view old net' is tie next =
+    let P : SessionValue → Type 0 = λ v. Still link (Move moves next) (next outcome) v (record view { net = net' }) in
+    subst P is (moved_still link view net' moves outcome tie next)
+
 pub accepted_through : (link : Link) (outcome : RequestOutcome) (view old : SessionValue) (net' : Net) → view ≡ old → (link.tells → RequestIs (Accept view.state.settings.active_deadline) outcome view.net net') → (next : RequestOutcome → Tree) → Still link (Ask (Accept old.state.settings.active_deadline) next) (next outcome) old (record view { net = net' })
 accepted_through link outcome view old net' is tie next =
     let P : SessionValue → Type 0 = λ v. Still link (Ask (Accept v.state.settings.active_deadline) next) (next outcome) v (record view { net = net' }) in
@@ -257,6 +266,7 @@ play-Accept room deadline next conn s =
       | came.Wrote count ∷ outcomes ↦ refl
       | came.Closed ∷ outcomes ↦ refl
       | came.Failed kind ∷ outcomes ↦ refl
+      | came.NoMemory ∷ outcomes ↦ refl
     ]
 
 -- a stranger's connection is let go before another peer is asked for
@@ -453,7 +463,7 @@ module _ (link : Link) (coding : Coding) (call : Call) (way : Way) (opens : nego
   walks_wait request next old new is still may stage_of =
       let here = still (way_of coding call old.state way) in
       record {
-        steps = (here.advances, inr (inr (record { request = request; next = next; is = is; may = may })));
+        steps = (here.advances, inr (inr (record { asks = (let A : Tree → Type 0 = AsksFirst in subst A (sym is) tt); may = may })));
         quiet = tt;
         begun = (λ has. inl has, λ none. (none, still_touched link _ _ old new here));
         answers = tt;
@@ -508,7 +518,7 @@ reached_fewer (Restart offset) = omega arith
 reached_fewer (Closed close) = omega arith
 reached_fewer Aborted = omega arith
 
-pub known_fewer : (turn : Turn) → strangers + 1 < nodes_from turn - 3
+pub known_fewer : (turn : Turn) → most_reads + strangers + 15 < nodes_from turn - 3
 known_fewer First = omega arith
 known_fewer Second = omega arith
 known_fewer (Passive offset) = omega arith
@@ -525,10 +535,10 @@ abbrev pub NextFits : Coding → Call → ℕ → (State → Tree) → Option Tu
 NextFits coding call nodes tree None = (state : State) → tree state ≡ Leaf Unit state
 NextFits coding call nodes tree (Some next) = (nodes_from next < nodes - 4) × (is_later next ≡ true) × (negotiates call ≡ true → TurnOf call next) × ((state : State) → tree state ≡ from_turn coding call next state)
 
-second_fits : (coding : Coding) (call : Call) (nodes : ℕ) → strangers + 24 < nodes → NextFits coding call nodes (last_turn coding call) (Some Second)
+second_fits : (coding : Coding) (call : Call) (nodes : ℕ) → many + 24 < nodes → NextFits coding call nodes (last_turn coding call) (Some Second)
 second_fits coding call nodes more = (omega (arith, more), refl, λ opens. (read_opens_none call opens, opens_no_local call opens), λ state. refl)
 
-restarted_fits : (coding : Coding) (call : Call) (offset nodes : ℕ) → strangers + 34 < nodes → NextFits coding call nodes (restart_turn coding call offset) (Some (restarted call offset))
+restarted_fits : (coding : Coding) (call : Call) (offset nodes : ℕ) → many + 34 < nodes → NextFits coding call nodes (restart_turn coding call offset) (Some (restarted call offset))
 restarted_fits coding call offset nodes more =
     elim (restarts call && nat_lt 0 offset) as (λ b. NextFits coding call nodes (λ state. cond b (doing coding (row_of call (Restart offset)) state (last_turn coding call)) (last_turn coding call state)) (Some (cond b (Restart offset) Second))) [
       | true ↦ (omega (arith, more), refl, λ opens. opens, λ state. refl)
@@ -630,94 +640,114 @@ unbuilt_walks link coding call turn address fault stage' old mid opens beside st
 -- A peer is accepted
 
 -- what is left where one isn't let in
-abbrev pub others_of : Answer → SocketAddr → ℕ → State → Tree
-others_of answer peer zero state = Leaf (Fault (ConnectionError TimedOut)) state
-others_of answer peer (suc left) state = accepting answer peer left state
+abbrev pub others_of : Tree → SocketAddr → ℕ → State → Tree
+others_of opened peer zero state = Leaf (Fault (ConnectionError TimedOut)) state
+others_of opened peer (suc left) state = accepting opened peer left state
 
-abbrev pub knocks : Answer → SocketAddr → ℕ → State → RequestOutcome → Tree
-knocks answer peer left state = on_address state (λ from. admitting (lets_in state peer from) answer state (others_of answer peer left state))
+abbrev pub knocks : Tree → SocketAddr → ℕ → State → RequestOutcome → Tree
+knocks opened peer left state = on_address state (λ from. admitting (lets_in state peer from) opened (others_of opened peer left state))
 
-pub accepting_is : (answer : Answer) (peer : SocketAddr) (left : ℕ) (state : State) → accepting answer peer left state ≡ Ask (Accept state.settings.active_deadline) (knocks answer peer left state)
+pub accepting_is : (opened : Tree) (peer : SocketAddr) (left : ℕ) (state : State) → accepting opened peer left state ≡ Ask (Accept state.settings.active_deadline) (knocks opened peer left state)
 unfolding accepting
-accepting_is answer peer zero state = refl
-accepting_is answer peer (suc left) state = refl
+accepting_is opened peer zero state = refl
+accepting_is opened peer (suc left) state = refl
 
-module _ (link : Link) (answer : Answer) (peer from : SocketAddr) (left : ℕ) (old mid : SessionValue) where
+module _ (link : Link) (coding : Coding) (how : Opening) (peer from : SocketAddr) (left : ℕ) (old mid : SessionValue) where
+  abbrev opened : Tree
+  opened = opened_by coding how old.state
+
   abbrev waiting : Tree
-  waiting = accepting answer peer left old.state
+  waiting = accepting opened peer left old.state
 
   -- what the request came to
   abbrev pub Knocks : Type 0
-  Knocks = Still link (Ask (Accept old.state.settings.active_deadline) (knocks answer peer left old.state)) (knocks answer peer left old.state (Address from)) old mid
+  Knocks = Still link (Ask (Accept old.state.settings.active_deadline) (knocks opened peer left old.state)) (knocks opened peer left old.state (Address from)) old mid
 
-  knocked : (allowed : Bool) → lets_in old.state peer from ≡ allowed → Knocks → Still link waiting (admitting allowed answer old.state (others_of answer peer left old.state)) old mid
+  knocked : (allowed : Bool) → lets_in old.state peer from ≡ allowed → Knocks → Still link waiting (admitting allowed opened (others_of opened peer left old.state)) old mid
   knocked allowed is still =
-      let P : Tree → Type 0 = λ t. Still link t (knocks answer peer left old.state (Address from)) old mid in
-      let Q : Bool → Type 0 = λ b. Still link waiting (admitting b answer old.state (others_of answer peer left old.state)) old mid in
-      subst Q is (subst P (sym (accepting_is answer peer left old.state)) still)
+      let P : Tree → Type 0 = λ t. Still link t (knocks opened peer left old.state (Address from)) old mid in
+      let Q : Bool → Type 0 = λ b. Still link waiting (admitting b opened (others_of opened peer left old.state)) old mid in
+      subst Q is (subst P (sym (accepting_is opened peer left old.state)) still)
 
   -- it is let in, and a transfer is live
-  pub lets_in_ends : (new : SessionValue) → lets_in old.state peer from ≡ true → Knocks → new ≡ record mid { state = with_transfer mid.state } → Ends link waiting answer old new
-  lets_in_ends new is still same =
+  pub lets_in_ends : (answer : Answer) (new : SessionValue) → how ≡ GivesAnswer answer → lets_in old.state peer from ≡ true → Knocks → new ≡ record mid { state = with_transfer mid.state } → Ends link waiting answer old new
+  lets_in_ends answer new gives is still same =
       let here = knocked true is still in
       let moves = here.advances.moves in
       let P : SessionValue → Type 0 = λ v. Ends link waiting answer old v in
       let T : Tree → Type 0 = λ t. Moves link waiting t old mid in
       let L : State → Tree = λ s. Leaf answer (with_transfer s) in
-      subst P (sym same) (leaf_ends link waiting answer old mid (record mid { state = with_transfer mid.state }) (subst T (ap L (sym moves.state)) moves) (λ f. inl (sym here.advances.failed ∙ f)) refl refl)
+      subst P (sym same) (leaf_ends link waiting answer old mid (record mid { state = with_transfer mid.state }) (subst T (ap (λ o. opened_by coding o old.state) gives ∙ ap L (sym moves.state)) moves) (λ f. inl (sym here.advances.failed ∙ f)) refl refl)
+
+  -- it is let in, and all that it carries is read
+  pub lets_in_fetches : (call : Call) (turn : Turn) (form : Fetch) → how ≡ FetchesAll form → negotiates call ≡ true → MayFetch call form → lets_in old.state peer from ≡ true → Knocks → Walks link coding call (Agreeing (Asking turn (Accepting peer left how))) (Fetching (Starting form)) old mid Next
+  lets_in_fetches call turn form fetches opens may is still =
+      let T : Opening → Type 0 = λ o. Still link waiting (opened_by coding o old.state) old mid in
+      let S : Tree → Type 0 = Speaks in
+      walks_on link coding call (Asking turn (Accepting peer left how)) opens (Fetching (Starting form)) old mid (subst T fetches (knocked true is still)) refl (λ s. absurd (subst S (accepting_is opened peer left old.state) s)) (omega arith) may
 
   -- it is turned away
-  pub turns_away : (coding : Coding) (call : Call) (turn : Turn) (stage' : Stage) (new : SessionValue) (result : Step) → negotiates call ≡ true → MayAnswer call answer → lets_in old.state peer from ≡ false → Knocks → TurnsAway turn peer left answer stage' mid new result → Walks link coding call (Agreeing (Asking turn (Accepting peer left answer))) stage' old new result
-  turns_away coding call turn stage' new Next opens may is still away =
-      let way : Way = Asking turn (Accepting peer left answer) in
-      let next : Stage = Agreeing (Asking turn (Accepting peer away.0 answer)) in
-      let T : ℕ → Type 0 = λ n. Still link waiting (others_of answer peer n old.state) old mid in
+  pub turns_away : (call : Call) (turn : Turn) (stage' : Stage) (new : SessionValue) (result : Step) → negotiates call ≡ true → OpeningOf call how → lets_in old.state peer from ≡ false → Knocks → TurnsAway turn peer left how stage' mid new result → Walks link coding call (Agreeing (Asking turn (Accepting peer left how))) stage' old new result
+  turns_away call turn stage' new Next opens may is still away =
+      let way : Way = Asking turn (Accepting peer left how) in
+      let next : Stage = Agreeing (Asking turn (Accepting peer away.0 how)) in
+      let T : ℕ → Type 0 = λ n. Still link waiting (others_of opened peer n old.state) old mid in
       let S : Tree → Type 0 = Speaks in
       let P : Stage → Type 0 = λ s. Walks link coding call (Agreeing way) s old (dropped mid) Next in
       let V : SessionValue → Type 0 = λ v. Walks link coding call (Agreeing way) stage' old v Next in
       let D : Tree → Type 0 = λ t. Still link t t mid (dropped mid) in
-      let again : Still link (accepting answer peer away.0 old.state) (accepting answer peer away.0 old.state) mid (dropped mid) = subst D (sym (accepting_is answer peer away.0 old.state)) (dropped_still link old.state.settings.active_deadline (knocks answer peer away.0 old.state) mid) in
-      subst V (sym away.3) (subst P (sym away.2) (walks_on link coding call way opens next old (dropped mid) (still_on link waiting (accepting answer peer away.0 old.state) (accepting answer peer away.0 old.state) old mid (dropped mid) (subst T away.1 (knocked false is still)) again) refl (λ s. absurd (subst S (accepting_is answer peer left old.state) s)) (omega (arith, away.1)) (opens, may)))
-  turns_away coding call turn stage' new Pending opens may is still away = absurd away
-  turns_away coding call turn stage' new (Done last) opens may is still away =
-      let way : Way = Asking turn (Accepting peer left answer) in
+      let again : Still link (accepting opened peer away.0 old.state) (accepting opened peer away.0 old.state) mid (dropped mid) = subst D (sym (accepting_is opened peer away.0 old.state)) (dropped_still link old.state.settings.active_deadline (knocks opened peer away.0 old.state) mid) in
+      subst V (sym away.3) (subst P (sym away.2) (walks_on link coding call way opens next old (dropped mid) (still_on link waiting (accepting opened peer away.0 old.state) (accepting opened peer away.0 old.state) old mid (dropped mid) (subst T away.1 (knocked false is still)) again) refl (λ s. absurd (subst S (accepting_is opened peer left old.state) s)) (omega (arith, away.1)) (opens, may)))
+  turns_away call turn stage' new Pending opens may is still away = absurd away
+  turns_away call turn stage' new (Done last) opens may is still away =
+      let way : Way = Asking turn (Accepting peer left how) in
       let fault : FtpError = ConnectionError TimedOut in
-      let T : ℕ → Type 0 = λ n. Still link waiting (others_of answer peer n old.state) old mid in
+      let T : ℕ → Type 0 = λ n. Still link waiting (others_of opened peer n old.state) old mid in
       let P : Answer → Type 0 = λ a. Walks link coding call (Agreeing way) stage' old mid (Done a) in
       let V : SessionValue → Type 0 = λ v. Walks link coding call (Agreeing way) stage' old v (Done last) in
       subst V (sym away.2) (subst P (sym away.1) (walks_end link coding call way opens stage' (Fault fault) old mid (inl (still_ends link waiting fault old mid (subst T away.0 (knocked false is still)))) (First, inr tt, tt)))
 
   -- it waits for a peer
-  pub waits_for_peer : (coding : Coding) (call : Call) (turn : Turn) → negotiates call ≡ true → MayAnswer call answer → ((tree : Tree) → Still link tree tree old mid) → link.asks_wait → Walks link coding call (Agreeing (Asking turn (Accepting peer left answer))) (Agreeing (Asking turn (Accepting peer left answer))) old mid Pending
-  waits_for_peer coding call turn opens may still waits =
-      walks_wait link coding call (Asking turn (Accepting peer left answer)) opens (Accept old.state.settings.active_deadline) (knocks answer peer left old.state) old mid (accepting_is answer peer left old.state) still waits (opens, may)
+  pub waits_for_peer : (call : Call) (turn : Turn) → negotiates call ≡ true → OpeningOf call how → ((tree : Tree) → Still link tree tree old mid) → link.asks_wait → Walks link coding call (Agreeing (Asking turn (Accepting peer left how))) (Agreeing (Asking turn (Accepting peer left how))) old mid Pending
+  waits_for_peer call turn opens may still waits =
+      walks_wait link coding call (Asking turn (Accepting peer left how)) opens (Accept old.state.settings.active_deadline) (knocks opened peer left old.state) old mid (accepting_is opened peer left old.state) still waits (opens, may)
 
   -- none came
-  pub none_comes : (fault : FtpError) → Still link (Ask (Accept old.state.settings.active_deadline) (knocks answer peer left old.state)) (Leaf (Fault fault) old.state) old mid → Ends link waiting (Fault fault) old mid
+  pub none_comes : (fault : FtpError) → Still link (Ask (Accept old.state.settings.active_deadline) (knocks opened peer left old.state)) (Leaf (Fault fault) old.state) old mid → Ends link waiting (Fault fault) old mid
   none_comes fault still =
       let P : Tree → Type 0 = λ t. Ends link t (Fault fault) old mid in
-      subst P (sym (accepting_is answer peer left old.state)) (still_ends link _ fault old mid still)
+      subst P (sym (accepting_is opened peer left old.state)) (still_ends link _ fault old mid still)
 
 -- what a request for a peer came to
-pub meets_walks : (link : Link) (coding : Coding) (call : Call) (turn : Turn) (peer : SocketAddr) (left : ℕ) (answer : Answer) (outcome : RequestOutcome) (stage' : Stage) (old mid new : SessionValue) (result : Step) → negotiates call ≡ true → MayAnswer call answer → ((next : RequestOutcome → Tree) → Still link (Ask (Accept old.state.settings.active_deadline) next) (next outcome) old mid) → Meets outcome turn peer left answer stage' mid new result → Walks link coding call (Agreeing (Asking turn (Accepting peer left answer))) stage' old new result
-meets_walks link coding call turn peer left answer (Address from) stage' old mid new result opens may still meets =
-    let here = still (knocks answer peer left old.state) in
-    let way : Way = Asking turn (Accepting peer left answer) in
+pub meets_walks : (link : Link) (coding : Coding) (call : Call) (turn : Turn) (peer : SocketAddr) (left : ℕ) (how : Opening) (outcome : RequestOutcome) (stage' : Stage) (old mid new : SessionValue) (result : Step) → negotiates call ≡ true → OpeningOf call how → ((next : RequestOutcome → Tree) → Still link (Ask (Accept old.state.settings.active_deadline) next) (next outcome) old mid) → Meets outcome turn peer left how stage' mid new result → Walks link coding call (Agreeing (Asking turn (Accepting peer left how))) stage' old new result
+meets_walks link coding call turn peer left how (Address from) stage' old mid new result opens may still meets =
+    let here = still (knocks (opened_by coding how old.state) peer left old.state) in
+    let way : Way = Asking turn (Accepting peer left how) in
     let state : lets_in mid.state peer from ≡ lets_in old.state peer from = ap (λ s. lets_in s peer from) here.advances.moves.state in
-    go (lets_in old.state peer from) refl (let M : Bool → Type 0 = λ b. MeetsIf b turn peer left answer stage' mid new result in subst M state meets)
+    go (lets_in old.state peer from) refl (let M : Bool → Type 0 = λ b. MeetsIf b turn peer left how stage' mid new result in subst M state meets)
   where
-    go : (b : Bool) → lets_in old.state peer from ≡ b → MeetsIf b turn peer left answer stage' mid new result → Walks link coding call (Agreeing (Asking turn (Accepting peer left answer))) stage' old new result
-    go true is (done, same) =
-        let P : Step → Type 0 = λ r. Walks link coding call (Agreeing (Asking turn (Accepting peer left answer))) stage' old new r in
-        subst P (sym done) (walks_end link coding call (Asking turn (Accepting peer left answer)) opens stage' answer old new (inl (lets_in_ends link answer peer from left old mid new is (still (knocks answer peer left old.state)) same)) may)
-    go false is away = turns_away link answer peer from left old mid coding call turn stage' new result opens may is (still (knocks answer peer left old.state)) away
-meets_walks link coding call turn peer left answer (Refused fault) stage' old mid new result opens may still (same, is) =
-    let way : Way = Asking turn (Accepting peer left answer) in
+    go : (b : Bool) → lets_in old.state peer from ≡ b → MeetsIf b turn peer left how stage' mid new result → Walks link coding call (Agreeing (Asking turn (Accepting peer left how))) stage' old new result
+    go true is lets = entered how refl lets
+      where
+        entered : (o : Opening) → how ≡ o → LetsIn o stage' mid new result → Walks link coding call (Agreeing (Asking turn (Accepting peer left how))) stage' old new result
+        entered (GivesAnswer answer) gives (done, same) =
+            let P : Step → Type 0 = λ r. Walks link coding call (Agreeing (Asking turn (Accepting peer left how))) stage' old new r in
+            let O : Opening → Type 0 = λ x. OpeningOf call x in
+            subst P (sym done) (walks_end link coding call (Asking turn (Accepting peer left how)) opens stage' answer old new (inl (lets_in_ends link coding how peer from left old mid answer new gives is (still (knocks (opened_by coding how old.state) peer left old.state)) same)) (subst O gives may))
+        entered (FetchesAll form) fetches (on, at, same) =
+            let P : Step → Type 0 = λ r. Walks link coding call (Agreeing (Asking turn (Accepting peer left how))) stage' old new r in
+            let Q : Stage → Type 0 = λ s. Walks link coding call (Agreeing (Asking turn (Accepting peer left how))) s old new Next in
+            let V : SessionValue → Type 0 = λ v. Walks link coding call (Agreeing (Asking turn (Accepting peer left how))) (Fetching (Starting form)) old v Next in
+            let O : Opening → Type 0 = λ x. OpeningOf call x in
+            subst P (sym on) (subst Q (sym at) (subst V (sym same) (lets_in_fetches link coding how peer from left old mid call turn form fetches opens (subst O fetches may) is (still (knocks (opened_by coding how old.state) peer left old.state)))))
+    go false is away = turns_away link coding how peer from left old mid call turn stage' new result opens may is (still (knocks (opened_by coding how old.state) peer left old.state)) away
+meets_walks link coding call turn peer left how (Refused fault) stage' old mid new result opens may still (same, is) =
+    let way : Way = Asking turn (Accepting peer left how) in
     let V : SessionValue → Type 0 = λ v. Walks link coding call (Agreeing way) stage' old v result in
     let P : Step → Type 0 = λ r. Walks link coding call (Agreeing way) stage' old mid r in
-    subst V (sym same) (subst P (sym is) (walks_end link coding call way opens stage' (Fault (ConnectionError fault)) old mid (inl (none_comes link answer peer peer left old mid (ConnectionError fault) (still (knocks answer peer left old.state)))) (First, inr tt, tt)))
-meets_walks link coding call turn peer left answer Made stage' old mid new result opens may still (same, is) =
-    let way : Way = Asking turn (Accepting peer left answer) in
+    subst V (sym same) (subst P (sym is) (walks_end link coding call way opens stage' (Fault (ConnectionError fault)) old mid (inl (none_comes link coding how peer peer left old mid (ConnectionError fault) (still (knocks (opened_by coding how old.state) peer left old.state)))) (First, inr tt, tt)))
+meets_walks link coding call turn peer left how Made stage' old mid new result opens may still (same, is) =
+    let way : Way = Asking turn (Accepting peer left how) in
     let V : SessionValue → Type 0 = λ v. Walks link coding call (Agreeing way) stage' old v result in
     let P : Step → Type 0 = λ r. Walks link coding call (Agreeing way) stage' old mid r in
-    subst V (sym same) (subst P (sym is) (walks_end link coding call way opens stage' (Fault (ConnectionError NoAddress)) old mid (inl (none_comes link answer peer peer left old mid (ConnectionError NoAddress) (still (knocks answer peer left old.state)))) (First, inr tt, tt)))
+    subst V (sym same) (subst P (sym is) (walks_end link coding call way opens stage' (Fault (ConnectionError NoAddress)) old mid (inl (none_comes link coding how peer peer left old mid (ConnectionError NoAddress) (still (knocks (opened_by coding how old.state) peer left old.state)))) (First, inr tt, tt)))

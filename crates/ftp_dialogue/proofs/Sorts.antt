@@ -1,17 +1,19 @@
 -- Which calls go over the control connection, which open a data connection, and which bring a transfer to its end.
 use Rattle.std.proofs.Common.{◌≡◌, ◌⊎◌, inl, inr, Bool, true, false, ◌&&◌, ◌||◌, is_none, refl, ap, sym, ◌∙◌}
 use Rattle.ftp_calls.specs.declared.call.Call.{Call}
-use Rattle.ftp_calls.specs.declared.call.Call.TheVariants.{Greet, Login, Cwd, Cdup, Pwd, Noop, Eprt, Opts, Site, TransferType, Mkdir, Rmdir, Rm, Rename, Quit, Mlst, Mdtm, Size, Feat, CustomCommand, ReadResponse, ReadResponseIn, ResumeTransfer, RetrAsStream, PutWithStream, AppendWithStream, CustomDataCommand, Set, Read, Write, Finish, Abort, Leave, Drain}
+use Rattle.ftp_calls.specs.declared.call.Call.TheVariants.{Greet, Login, Cwd, Cdup, Pwd, Noop, Eprt, Opts, Site, TransferType, Mkdir, Rmdir, Rm, Rename, Quit, Mlst, Mdtm, Size, Feat, CustomCommand, ReadResponse, ReadResponseIn, ResumeTransfer, RetrAsStream, PutWithStream, AppendWithStream, CustomDataCommand, Retr, List as Listing, Nlst, Mlsd, Set, Read, Write, Finish, Abort, Leave, Drain}
 use Rattle.ftp_calls.specs.declared.exchange.Ending.{Ending}
-use Rattle.ftp_calls.specs.declared.exchange.Ending.TheVariants.{Done, GivesReply, Greets, GivesPath, GivesSecondLine, GivesTime, GivesSize, GivesFeatures, SetsText, GoesOn, Continues, GivesAddress, GivesPort, Opens, Finishes, Drains, Stops}
+use Rattle.ftp_calls.specs.declared.exchange.Ending.TheVariants.{Done, GivesReply, Greets, GivesPath, GivesSecondLine, GivesTime, GivesSize, GivesFeatures, SetsText, GoesOn, Continues, GivesAddress, GivesPort, Opens, Fetches, Finishes, Drains, Stops}
 use Rattle.ftp_calls.specs.declared.exchange.Row.{Row}
 use Rattle.ftp_calls.specs.declared.exchange.Row.TheVariants.{Exchanges, Arms, Sets, Moves}
 use Rattle.ftp_calls.specs.declared.exchange.Turn.{Turn}
 use Rattle.ftp_calls.specs.declared.exchange.Turn.TheVariants.{First, Second, Passive, ExtendedPassive, Active, Restart, Closed, Aborted}
 use Rattle.ftp_calls.specs.Exchanges.{draining_row, drains, finishes, finishing_row, is_draining, is_finishing, is_local, is_opening, is_read, local_row, moving_row, negotiates, of_transfer, only_reads, opens, reads, row_of, aborting_row, aborts, is_aborting}
 use Rattle.ftp_dialogue.specs.declared.stage.Stage.{Stage}
-use Rattle.ftp_dialogue.specs.declared.stage.Stage.TheVariants.{At, Saying, Hearing, Arming, Agreeing, Closing, Aborting}
-use Rattle.ftp_dialogue.specs.Steps.Stages.{StageOf, TurnOf}
+use Rattle.ftp_dialogue.specs.declared.stage.Stage.TheVariants.{At, Saying, Hearing, Arming, Agreeing, Closing, Aborting, Fetching}
+use Rattle.ftp_dialogue.specs.declared.stage.Fetching.{Fetching as Fetched}
+use Rattle.ftp_dialogue.specs.declared.stage.Fetching.TheVariants.{Starting, Gathering, Parting, Ending as LastReply}
+use Rattle.ftp_dialogue.specs.Steps.Stages.{FetchOf, StageOf, TurnOf}
 
 -- Endings
 
@@ -30,6 +32,7 @@ finishing_gives_none Continues is = refl
 finishing_gives_none GivesAddress is = refl
 finishing_gives_none GivesPort is = refl
 finishing_gives_none (Opens replies) is = refl
+finishing_gives_none (Fetches form) is = refl
 finishing_gives_none (Finishes close) is = refl
 finishing_gives_none Drains is = let clash : false ≡ true = is in cc
 finishing_gives_none Stops is = refl
@@ -49,6 +52,7 @@ finishing_opens_none Continues is = refl
 finishing_opens_none GivesAddress is = refl
 finishing_opens_none GivesPort is = refl
 finishing_opens_none (Opens replies) is = let clash : false ≡ true = is in cc
+finishing_opens_none (Fetches form) is = let clash : false ≡ true = is in cc
 finishing_opens_none (Finishes close) is = refl
 finishing_opens_none Drains is = refl
 finishing_opens_none Stops is = refl
@@ -68,6 +72,7 @@ reply_ending Continues is = let clash : false ≡ true = is in cc
 reply_ending GivesAddress is = let clash : false ≡ true = is in cc
 reply_ending GivesPort is = let clash : false ≡ true = is in cc
 reply_ending (Opens replies) is = let clash : false ≡ true = is in cc
+reply_ending (Fetches form) is = let clash : false ≡ true = is in cc
 reply_ending (Finishes close) is = let clash : false ≡ true = is in cc
 reply_ending Drains is = inr refl
 reply_ending Stops is = let clash : false ≡ true = is in cc
@@ -87,6 +92,7 @@ opening_drains_none Continues is = refl
 opening_drains_none GivesAddress is = refl
 opening_drains_none GivesPort is = refl
 opening_drains_none (Opens replies) is = refl
+opening_drains_none (Fetches form) is = refl
 opening_drains_none (Finishes close) is = refl
 opening_drains_none Drains is = let clash : false ≡ true = is in cc
 opening_drains_none Stops is = refl
@@ -233,6 +239,7 @@ aborting_ends Continues is = let clash : false ≡ true = is in cc
 aborting_ends GivesAddress is = let clash : false ≡ true = is in cc
 aborting_ends GivesPort is = let clash : false ≡ true = is in cc
 aborting_ends (Opens replies) is = let clash : false ≡ true = is in cc
+aborting_ends (Fetches form) is = let clash : false ≡ true = is in cc
 aborting_ends (Finishes close) is = let clash : false ≡ true = is in cc
 aborting_ends Drains is = let clash : false ≡ true = is in cc
 
@@ -257,6 +264,12 @@ turn_no_local call (Restart offset) of = opens_no_local call of
 turn_no_local call (Closed close) of = finishing_no_local call of
 turn_no_local call Aborted of = finishing_no_local call (aborts_finish call of)
 
+pub fetch_opens : (call : Call) (fetching : Fetched) → FetchOf call fetching → negotiates call ≡ true
+fetch_opens call (Starting form) of = of.0
+fetch_opens call (Gathering form left all) of = of.0
+fetch_opens call (Parting form answer) of = of.0.0
+fetch_opens call (LastReply form answer) of = of.0.0
+
 pub stage_no_local : (call : Call) (stage : Stage) → StageOf call stage → is_local call ≡ false
 stage_no_local call (At turn) of = turn_no_local call turn of
 stage_no_local call (Saying line a) of = turn_no_local call a.turn of.2
@@ -265,6 +278,7 @@ stage_no_local call (Arming turn offset) of = turn_no_local call turn of.1
 stage_no_local call (Agreeing way) of = opens_no_local call of.0
 stage_no_local call Closing of = finishing_no_local call of
 stage_no_local call (Aborting abort) of = finishing_no_local call (aborts_finish call of)
+stage_no_local call (Fetching fetching) of = opens_no_local call (fetch_opens call fetching of)
 
 -- Rows of calls that are none of the control connection
 
@@ -297,6 +311,10 @@ local_alike (RetrAsStream p) = refl
 local_alike (PutWithStream p) = refl
 local_alike (AppendWithStream p) = refl
 local_alike (CustomDataCommand l c) = refl
+local_alike (Retr p) = refl
+local_alike (Listing p) = refl
+local_alike (Nlst p) = refl
+local_alike (Mlsd p) = refl
 local_alike (Set s) = refl
 local_alike (Read n) = refl
 local_alike (Write b) = refl
@@ -334,6 +352,10 @@ drains_alike (RetrAsStream p) = refl
 drains_alike (PutWithStream p) = refl
 drains_alike (AppendWithStream p) = refl
 drains_alike (CustomDataCommand l c) = refl
+drains_alike (Retr p) = refl
+drains_alike (Listing p) = refl
+drains_alike (Nlst p) = refl
+drains_alike (Mlsd p) = refl
 drains_alike (Set s) = refl
 drains_alike (Read n) = refl
 drains_alike (Write b) = refl

@@ -8,7 +8,7 @@ use Rattle.ftp_calls.specs.declared.exchange.Turn.{Turn}
 use Rattle.ftp_calls.specs.declared.exchange.Turn.TheVariants.{First, Second, Passive, ExtendedPassive, Active, Restart, Closed, Aborted}
 use Rattle.ftp_dialogue.specs.declared.stage.Awaits.{Awaits}
 use Rattle.ftp_dialogue.specs.declared.stage.Stage.{Stage}
-use Rattle.ftp_dialogue.specs.declared.stage.Stage.TheVariants.{At, Saying, Hearing, Arming, Agreeing, Closing, Aborting}
+use Rattle.ftp_dialogue.specs.declared.stage.Stage.TheVariants.{At, Saying, Hearing, Arming, Agreeing, Closing, Aborting, Fetching}
 use Rattle.ftp_dialogue.specs.Coding.{Coding}
 use Rattle.ftp_calls.specs.declared.exchange.Exchange.{Exchange}
 use Rattle.ftp_calls.specs.declared.exchange.Row.TheVariants.{Exchanges, Arms}
@@ -88,6 +88,7 @@ node_begins coding call turn e (Arming other offset) row read node = absurd node
 node_begins coding call turn e (Agreeing agreeing) row read node = absurd node
 node_begins coding call turn e Closing row read node = absurd node
 node_begins coding call turn e (Aborting abort) row read node = absurd node
+node_begins coding call turn e (Fetching fetching) row read node = absurd node
 node_begins coding call turn e (Saying line a) row read node =
     let P : Awaits → Type 0 = λ x. Begun coding call turn (Saying line x) in
     subst P (sym node.3) (record {

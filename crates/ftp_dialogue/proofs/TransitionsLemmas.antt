@@ -20,7 +20,7 @@ use Rattle.ftp_calls.specs.declared.exchange.Turn.{Turn}
 use Rattle.ftp_calls.specs.declared.exchange.Turn.TheVariants.{First, Second, Passive, ExtendedPassive, Active, Restart, Closed, Aborted}
 use Rattle.ftp_dialogue.specs.declared.stage.Awaits.{Awaits}
 use Rattle.ftp_dialogue.specs.declared.stage.Stage.{Stage}
-use Rattle.ftp_dialogue.specs.declared.stage.Stage.TheVariants.{At, Saying, Hearing, Arming, Agreeing, Closing, Aborting}
+use Rattle.ftp_dialogue.specs.declared.stage.Stage.TheVariants.{At, Saying, Hearing, Arming, Agreeing, Closing, Aborting, Fetching}
 use Rattle.ftp_dialogue.specs.declared.stage.Step.{Step}
 use Rattle.ftp_dialogue.specs.declared.stage.Step.TheVariants.{Next, Pending, Done}
 use Rattle.ftp_dialogue.specs.State.{SessionValue, LetsGo}
@@ -29,7 +29,7 @@ use Rattle.ftp_calls.specs.declared.exchange.Row.{Row}
 use Rattle.ftp_calls.specs.declared.exchange.Row.TheVariants.{Exchanges, Arms, Sets}
 use Rattle.ftp_calls.specs.declared.exchange.Row.TheVariants as row
 use Rattle.ftp_calls.specs.Exchanges.{finishes, is_local, is_read, negotiates, of_transfer, row_of, says_of}
-use Rattle.ftp_dialogue.proofs.Sorts.{read_finishes_none, aborts_finish, finishing_no_read}
+use Rattle.ftp_dialogue.proofs.Sorts.{fetch_opens, read_finishes_none, aborts_finish, finishing_no_read}
 use Rattle.ftp_dialogue.proofs.CarryingLemmas.{failing_refuses, plain_entered}
 use Rattle.ftp_dialogue.proofs.Faults.{told_failure, told_fails}
 use Rattle.ftp_dialogue.specs.Play.{Taken}
@@ -143,7 +143,7 @@ accepted_begins link coding call a reply stage' old mid new Next takes on done =
 accepted_begins link coding call a reply stage' old mid new Pending takes on done = absurd done
 accepted_begins link coding call a reply stage' old mid new (Done answer) takes on done = tt
 
-not_memory : (fault : FtpError) → (fault ≡ OutOfMemory → ⊥) → wants_memory fault ≡ false
+pub not_memory : (fault : FtpError) → (fault ≡ OutOfMemory → ⊥) → wants_memory fault ≡ false
 not_memory (ConnectionError cause) other = refl
 not_memory (SecureError text) other = refl
 not_memory (UnexpectedResponse reply) other = refl
@@ -320,6 +320,7 @@ read_is_quiet call (At (Closed close)) stage_of read = refl
 read_is_quiet call Closing stage_of read = refl
 read_is_quiet call (At Aborted) stage_of read = let clash : true ≡ false = sym read ∙ finishing_no_read call (aborts_finish call stage_of) in cc
 read_is_quiet call (Aborting abort) stage_of read = let clash : true ≡ false = sym read ∙ finishing_no_read call (aborts_finish call stage_of) in cc
+read_is_quiet call (Fetching fetching) stage_of read = let clash : true ≡ false = sym read ∙ read_opens_none call (fetch_opens call fetching stage_of) in cc
 read_is_quiet call (Saying line a) stage_of read = let clash : true ≡ false = sym read ∙ stage_of.1 in cc
 read_is_quiet call (Arming turn offset) stage_of read = later_none call turn (λ later. later_is_no_read call turn stage_of.1 later) read
 read_is_quiet call (Agreeing way) stage_of read = let clash : true ≡ false = sym read ∙ read_opens_none call stage_of.0 in cc
@@ -532,6 +533,7 @@ is_at_first (Arming turn offset) is = let clash : false ≡ true = is in cc
 is_at_first (Agreeing way) is = let clash : false ≡ true = is in cc
 is_at_first Closing is = let clash : false ≡ true = is in cc
 is_at_first (Aborting abort) is = let clash : false ≡ true = is in cc
+is_at_first (Fetching fetching) is = let clash : false ≡ true = is in cc
 
 pub stage_in_later : (call : Call) (stage : Stage) → is_first stage ≡ false → StageIn (Some call) stage → StageOf call stage
 stage_in_later call stage later (inl stage_of) = stage_of

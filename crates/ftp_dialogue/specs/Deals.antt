@@ -1,6 +1,6 @@
 -- What stands beside the control connection: the requests of the transport, and the data connection: RFC 959, section
 -- 3.2.
-use Rattle.std.specs.Prelude.{◌≡◌, ◌<◌, ◌≤◌, ◌==◌, ℕ, Bool, true, false, List, [], ◌∷◌, ◌++◌, length, map, take, Option, Some, None, option_map, Ok, Err, if◌then◌else◌}
+use Rattle.std.specs.Prelude.{◌≡◌, ◌⊎◌, ◌<◌, ◌≤◌, ◌==◌, ℕ, Bool, true, false, List, [], ◌∷◌, ◌++◌, length, map, take, Option, Some, None, option_map, Ok, Err, if◌then◌else◌}
 use Rattle.std.specs.declared.net.socket_addr.SocketAddr.{SocketAddr}
 use Rattle.ftp_calls.specs.declared.exchange.Movement.{Movement}
 use Rattle.ftp_calls.specs.declared.exchange.Movement.TheVariants as movement
@@ -15,7 +15,7 @@ use Rattle.ftp_control.specs.declared.transport.request.RequestOutcome.TheVarian
 use Rattle.ftp_control.specs.declared.transport.supply.Supply.{Supply}
 use Rattle.ftp_control.specs.declared.transport.supply.Supply.TheVariants.{Connects, Peer}
 use Rattle.ftp_dialogue.specs.declared.model.DealOutcome.{DealOutcome}
-use Rattle.ftp_dialogue.specs.declared.model.DealOutcome.TheVariants.{Answered, Built, Read, Wrote, Closed, Failed}
+use Rattle.ftp_dialogue.specs.declared.model.DealOutcome.TheVariants.{Answered, Built, Read, Wrote, Closed, Failed, NoMemory}
 use Rattle.ftp_dialogue.specs.declared.model.Dealings.{Dealings}
 use Rattle.ftp_dialogue.specs.declared.model.Traffic.{Traffic}
 use Rattle.ftp_dialogue.specs.Link.{Builds}
@@ -93,6 +93,7 @@ abbrev pub answers : Movement → DealOutcome → Bool
 answers (movement.Read most) (Read bytes) = true
 answers (movement.Write bytes) (Wrote count) = true
 answers movement.Close Closed = true
+answers (movement.Read most) NoMemory = true
 answers moves (Failed kind) = true
 answers moves other = false
 
@@ -177,10 +178,12 @@ pub record ConstructedIs (builds : Builds) (address : SocketAddr) (fault : Optio
   pub ready : m.ready ≡ n.ready
   pub closed : m.closed ≡ n.closed
 
--- a read gave at most so many bytes, or met the end where it gave none; or it failed, which was counted
+-- a read gave at most so many bytes, or met the end where it gave none; or it failed, which was counted; or there was no
+-- memory for it, or at the end for what had come
 abbrev pub ReadIs : ℕ → DealOutcome → Told → Told → Type 0
 ReadIs most (Read bytes) t u = (length bytes ≤ most) × (u ≡ (if length bytes == 0 then after_end t else after_read bytes t))
 ReadIs most (Failed kind) t u = HasFailed kind t u
+ReadIs most NoMemory t u = (u ≡ t) ⊎ (u ≡ after_end t)
 ReadIs most other t u = ⊥
 
 -- a write took some of the bytes, from the front; or it failed

@@ -1,12 +1,12 @@
 -- The dialogues of a session as trees: RFC 959, sections 5.4 and 6. A tree says, hears and asks in turn, and ends
 -- in an answer with the change of state.
-use Rattle.std.specs.Prelude.{ℕ, zero, suc, length, nat_lt, ◌&&◌, Bool, List, [], ◌∷◌, ◌==◌, Option, Some, None, Result, Ok, Err, if◌then◌else◌}
+use Rattle.std.specs.Prelude.{ℕ, zero, suc, length, nat_le, nat_lt, ◌++◌, ◌&&◌, Bool, List, [], ◌∷◌, ◌==◌, Option, Some, None, Result, Ok, Err, if◌then◌else◌}
 use Rattle.std.specs.Net.Socket.{socket_ip, socket_port}
 use Rattle.std.specs.declared.io.ErrorKind.{ErrorKind}
 use Rattle.std.specs.declared.net.socket_addr.SocketAddr.{SocketAddr}
 use Rattle.std.specs.declared.net.socket_addr.SocketAddr.TheVariants.{V4, V6}
 use Rattle.ftp_base.specs.declared.status.Status.{Status}
-use Rattle.ftp_base.specs.declared.status.Status.TheVariants.{System, TransferAborted}
+use Rattle.ftp_base.specs.declared.status.Status.TheVariants.{System, TransferAborted, ClosingDataConnection, RequestedFileActionOk}
 use Rattle.ftp_base.specs.Status.{code_of}
 use Rattle.ftp_base.specs.declared.types.reply.Response.{Response}
 use Rattle.ftp_base.specs.declared.types.fault.FtpError.{FtpError}
@@ -25,9 +25,9 @@ use Rattle.ftp_control.specs.declared.transport.request.RequestOutcome.{RequestO
 use Rattle.ftp_control.specs.declared.transport.request.RequestOutcome.TheVariants.{Done as Made, Address, Refused}
 use Rattle.ftp_dialogue.specs.declared.state.State.{State}
 use Rattle.ftp_calls.specs.declared.call.Answer.{Answer}
-use Rattle.ftp_calls.specs.declared.call.Answer.TheVariants.{Unit, Reply, Text, Time, Size, Opened, OpenedWith, Fault}
+use Rattle.ftp_calls.specs.declared.call.Answer.TheVariants.{Unit, Reply, Text, Time, Size, Opened, OpenedWith, Lines, Fault}
 use Rattle.ftp_calls.specs.declared.call.Answer.TheVariants as answer
-use Rattle.ftp_base.specs.declared.types.fault.FtpError.TheVariants.{ConnectionError as Connection, UnexpectedResponse, BadResponse}
+use Rattle.ftp_base.specs.declared.types.fault.FtpError.TheVariants.{ConnectionError as Connection, UnexpectedResponse, BadResponse, OutOfMemory}
 use Rattle.ftp_base.specs.declared.types.fault.ConnectionError.TheVariants.{Io, NoAddress as Nowhere, TimedOut}
 use Rattle.ftp_base.specs.declared.types.mode.Mode.{Mode}
 use Rattle.ftp_base.specs.declared.types.mode.Mode.TheVariants as mode
@@ -47,7 +47,9 @@ use Rattle.ftp_dialogue.specs.declared.state.Owed.TheVariants as owed
 use Rattle.ftp_calls.specs.declared.exchange.Turn.{Turn}
 use Rattle.ftp_calls.specs.declared.exchange.Turn.TheVariants.{First, Second, Passive, ExtendedPassive, Active, Restart, Closed, Aborted}
 use Rattle.ftp_calls.specs.declared.exchange.Ending.{Ending}
-use Rattle.ftp_calls.specs.declared.exchange.Ending.TheVariants.{Done, GivesReply, Greets, GivesPath, GivesSecondLine, GivesTime, GivesSize, GivesFeatures, SetsText, GoesOn, Continues, GivesAddress, GivesPort, Opens, Finishes, Drains, Stops}
+use Rattle.ftp_calls.specs.declared.exchange.Ending.TheVariants.{Done, GivesReply, Greets, GivesPath, GivesSecondLine, GivesTime, GivesSize, GivesFeatures, SetsText, GoesOn, Continues, GivesAddress, GivesPort, Opens, Fetches, Finishes, Drains, Stops}
+use Rattle.ftp_calls.specs.declared.exchange.Fetch.{Fetch}
+use Rattle.ftp_calls.specs.declared.exchange.Fetch.TheVariants.{Whole, Listed}
 use Rattle.ftp_calls.specs.declared.exchange.Exchange.{Exchange}
 use Rattle.ftp_calls.specs.declared.exchange.Row.{Row}
 use Rattle.ftp_calls.specs.declared.exchange.Row.TheVariants.{Exchanges, Arms, Sets, Moves}
@@ -57,6 +59,7 @@ use Rattle.ftp_calls.specs.declared.exchange.Codes.TheVariants.{One, Either, Giv
 use Rattle.ftp_calls.specs.Exchanges.{row_of, aborts, finishes, negotiates, restarts, uploads}
 use Rattle.ftp_answers.specs.Answers.{path_of, second_line_of, size_of, features_in}
 use Rattle.ftp_answers.specs.Times.{time_of}
+use Rattle.ftp_answers.specs.Listing.{listing}
 use Rattle.ftp_answers.specs.Addresses.{passive_address_of, extended_port_of}
 use Rattle.ftp_answers.specs.declared.addresses.NoAddress.{NoAddress}
 use Rattle.ftp_answers.specs.declared.addresses.NoAddress.TheVariants.{Absent, Unreadable}
@@ -177,28 +180,28 @@ abbrev pub with_transfer : State → State
 with_transfer state = record state { counts = one_more state.counts }
 
 -- a peer that is let in opens the data connection; others are dropped
-abbrev pub admitting : Bool → Answer → State → Tree → Tree
-admitting allowed answer state others = if allowed then Leaf answer (with_transfer state) else others
+abbrev pub admitting : Bool → Tree → Tree → Tree
+admitting allowed opened others = if allowed then opened else others
 
 abbrev pub lets_in : State → SocketAddr → SocketAddr → Bool
 lets_in state peer from = allows state.settings.active_peer_check (socket_ip from) (socket_ip peer)
 
 -- peers are accepted until one is let in; so many others may come before, and one more counts as the deadline
-unfoldable pub accepting : Answer → SocketAddr → ℕ → State → Tree
-accepting answer peer zero state =
-    Ask (Accept state.settings.active_deadline) (on_address state (λ from. admitting (lets_in state peer from) answer state (Leaf (Fault (Connection TimedOut)) state)))
-accepting answer peer (suc left) state =
-    Ask (Accept state.settings.active_deadline) (on_address state (λ from. admitting (lets_in state peer from) answer state (accepting answer peer left state)))
+unfoldable pub accepting : Tree → SocketAddr → ℕ → State → Tree
+accepting opened peer zero state =
+    Ask (Accept state.settings.active_deadline) (on_address state (λ from. admitting (lets_in state peer from) opened (Leaf (Fault (Connection TimedOut)) state)))
+accepting opened peer (suc left) state =
+    Ask (Accept state.settings.active_deadline) (on_address state (λ from. admitting (lets_in state peer from) opened (accepting opened peer left state)))
 
 -- how many strangers one data command drops
 abbrev pub strangers : ℕ
 strangers = 1000
 
 -- the command was accepted: the data connection stands, or the server opens it now
-abbrev pub opening : Mode → Answer → State → Tree
-opening mode.Active answer state = Look There (λ peer. accepting answer peer strangers state)
-opening mode.Passive answer state = Leaf answer (with_transfer state)
-opening mode.ExtendedPassive answer state = Leaf answer (with_transfer state)
+abbrev pub opening : Mode → Tree → State → Tree
+opening mode.Active opened state = Look There (λ peer. accepting opened peer strangers state)
+opening mode.Passive opened state = opened
+opening mode.ExtendedPassive opened state = opened
 
 abbrev pub opened_answer : Bool → Response → Answer
 opened_answer gives_reply reply = if gives_reply then OpenedWith reply else Opened
@@ -213,6 +216,7 @@ moved_answer (came.Read bytes) = answer.Bytes bytes
 moved_answer (came.Wrote count) = answer.Count count
 moved_answer came.Closed = Unit
 moved_answer (came.Failed kind) = Fault (Connection (Io kind))
+moved_answer came.NoMemory = Fault OutOfMemory
 
 -- the transfer is left
 abbrev pub with_left : State → State
@@ -272,6 +276,81 @@ after_fault_of Drains state = with_drained state
 after_fault_of Stops state = with_aborted state
 after_fault_of other state = state
 
+-- A whole data connection: RFC 959, sections 4.1.3 (RETR, LIST, NLST) and 5.4; RFC 3659, section 7 (MLSD)
+
+-- the answer for all that came: the bytes, or the lines of a listing
+abbrev pub fetched : Coding → Fetch → List ℕ → Answer
+fetched coding Whole all = answer.Bytes all
+fetched coding Listed all = Lines (listing coding.decode all)
+
+-- the answer where a read failed
+abbrev pub unfetched : Fetch → ErrorKind → Answer
+unfetched Whole kind = Fault (Connection (Io kind))
+unfetched Listed kind = Fault BadResponse
+
+-- where more came than can be held
+abbrev pub too_long : Fetch → Answer
+too_long Whole = Fault OutOfMemory
+too_long Listed = Fault BadResponse
+
+-- the fault of the data is told before that of the last reply, and after it where a listing is fetched
+abbrev pub fault_or : Answer → FtpError → FtpError
+fault_or (Fault first) fault = first
+fault_or other fault = fault
+
+abbrev pub first_fault : Fetch → Answer → FtpError → FtpError
+first_fault Whole answer fault = fault_or answer fault
+first_fault Listed answer fault = fault
+
+-- a transfer was opened and has come to its end
+abbrev pub with_fetched : State → State
+with_fetched state = with_finished (with_transfer state)
+
+abbrev pub fetch_concluded : Fetch → Answer → State → Result Response FtpError → Tree
+fetch_concluded form answer state (Ok reply) = Leaf answer (with_fetched state)
+fetch_concluded form answer state (Err fault) = Leaf (Fault (first_fault form answer fault)) (with_fetched state)
+
+-- the transfer's last reply is heard, whatever came of the data
+abbrev pub fetch_ending : Fetch → Answer → State → Tree
+fetch_ending form answer state = Hear (expecting (ClosingDataConnection ∷ RequestedFileActionOk ∷ [])) (fetch_concluded form answer state)
+
+-- the data connection is closed first, and what that comes to is told to nobody
+abbrev pub fetch_parting : Fetch → Answer → State → Tree
+fetch_parting form answer state = Move movement.Close (λ came. fetch_ending form answer state)
+
+-- so many bytes one read asks for; more than so many can't be held; so many reads are enough, since each gives a byte
+-- but the last
+abbrev pub chunk : ℕ
+chunk = 65536
+
+abbrev pub most_bytes : ℕ
+most_bytes = 9223372036854775807
+
+abbrev pub most_reads : ℕ
+most_reads = 9223372036854775808
+
+-- bytes came
+abbrev pub grown : Fetch → List ℕ → (List ℕ → Tree) → (Answer → Tree) → Tree
+grown form all on over = if nat_le (length all) most_bytes then on all else over (too_long form)
+
+-- what a read came to: bytes, the end, a failure, or that there was no memory
+abbrev pub on_data : Coding → Fetch → List ℕ → (List ℕ → Tree) → (Answer → Tree) → DealOutcome → Tree
+on_data coding form all on over (came.Read []) = over (fetched coding form all)
+on_data coding form all on over (came.Read (byte ∷ bytes)) = grown form (all ++ byte ∷ bytes) on over
+on_data coding form all on over (came.Failed kind) = over (unfetched form kind)
+on_data coding form all on over came.NoMemory = over (Fault OutOfMemory)
+on_data coding form all on over other = over (too_long form)
+
+-- the data connection is read to its end, by so many reads at most, after these bytes
+unfoldable pub gathering : Coding → Fetch → ℕ → List ℕ → State → Tree
+gathering coding form zero all state = fetch_parting form (too_long form) state
+gathering coding form (suc left) all state =
+    Move (movement.Read chunk) (on_data coding form all (λ more. gathering coding form left more state) (λ answer. fetch_parting form answer state))
+
+-- all that it carries is read; it is closed; and the transfer's last reply is heard
+abbrev pub fetching : Coding → Fetch → State → Tree
+fetching coding form state = gathering coding form most_reads [] state
+
 -- Exchanges
 
 -- what an accepted reply does, where `later` is the next exchange
@@ -289,7 +368,8 @@ accepted coding (GoesOn status) state reply later = if code_of reply.status == c
 accepted coding Continues state reply later = later state
 accepted coding GivesAddress state reply later = to_address state reply (later state) (passive_address_of reply.body)
 accepted coding GivesPort state reply later = to_port state reply (later state) (extended_port_of reply.body)
-accepted coding (Opens gives_reply) state reply later = opening state.settings.mode (opened_answer gives_reply reply) state
+accepted coding (Opens gives_reply) state reply later = opening state.settings.mode (Leaf (opened_answer gives_reply reply) (with_transfer state)) state
+accepted coding (Fetches form) state reply later = opening state.settings.mode (fetching coding form state) state
 accepted coding (Finishes close) state reply later = Leaf (finish_answer close) (with_finished state)
 accepted coding Drains state reply later = Leaf Unit (with_drained state)
 accepted coding Stops state reply later = if code_of reply.status == code_of TransferAborted then later state else Leaf Unit (with_aborted state)

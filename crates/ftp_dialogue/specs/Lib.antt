@@ -1,6 +1,7 @@
 pub mod Coding
 pub mod Deals
 pub mod Dialogue
+pub mod Gathering
 pub mod Laws
 pub mod Link
 pub mod Play

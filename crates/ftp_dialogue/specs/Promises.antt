@@ -28,7 +28,7 @@ use Rattle.ftp_calls.specs.declared.call.Answer.TheVariants.{Fault}
 use Rattle.ftp_calls.specs.declared.call.Answer.TheVariants as answers
 use Rattle.ftp_calls.specs.declared.exchange.Turn.TheVariants.{First, Second}
 use Rattle.ftp_calls.specs.declared.exchange.Ending.{Ending}
-use Rattle.ftp_calls.specs.declared.exchange.Ending.TheVariants.{Done, GivesReply, Greets, GivesPath, GivesSecondLine, GivesTime, GivesSize, GivesFeatures, SetsText, GoesOn, Continues, GivesAddress, GivesPort, Opens, Finishes, Drains, Stops}
+use Rattle.ftp_calls.specs.declared.exchange.Ending.TheVariants.{Done, GivesReply, Greets, GivesPath, GivesSecondLine, GivesTime, GivesSize, GivesFeatures, SetsText, GoesOn, Continues, GivesAddress, GivesPort, Opens, Fetches, Finishes, Drains, Stops}
 use Rattle.ftp_calls.specs.declared.exchange.Exchange.{Exchange}
 use Rattle.ftp_calls.specs.declared.exchange.Row.{Row}
 use Rattle.ftp_calls.specs.declared.exchange.Row.TheVariants.{Exchanges, Arms, Sets, Moves}
@@ -61,6 +61,7 @@ IsSuccess answers.Opened = Unit {0}
 IsSuccess (answers.OpenedWith reply) = Unit {0}
 IsSuccess (answers.Bytes bytes) = Unit {0}
 IsSuccess (answers.Count count) = Unit {0}
+IsSuccess (answers.Lines lines) = Unit {0}
 IsSuccess answers.NoTransfer = ⊥
 IsSuccess (Fault fault) = ⊥
 
@@ -94,6 +95,7 @@ goes_on_with Continues reply = true
 goes_on_with GivesAddress reply = true
 goes_on_with GivesPort reply = true
 goes_on_with (Opens replies) reply = false
+goes_on_with (Fetches form) reply = false
 goes_on_with (Finishes close) reply = false
 goes_on_with Drains reply = false
 goes_on_with Stops reply = code_of reply.status == code_of TransferAborted
@@ -144,6 +146,7 @@ IsFault answers.Opened = ⊥
 IsFault (answers.OpenedWith reply) = ⊥
 IsFault (answers.Bytes bytes) = ⊥
 IsFault (answers.Count count) = ⊥
+IsFault (answers.Lines lines) = ⊥
 IsFault answers.NoTransfer = ⊥
 IsFault (Fault fault) = Unit {0}
 

@@ -3,10 +3,10 @@
 //! Most calls ask nothing, and take no runtime; so the machine is passed what asks for it: a runtime, by which its
 //! transport is polled, with the builder, where there is one; or nothing, of which no contract says anything.
 
-ghost use Rattle.std.specs.Prelude.{◌≡◌, None, Result};
+ghost use Rattle.std.specs.Prelude.{◌≡◌, ◌<◌, length, None, Ok, Result};
 ghost use Rattle.std.specs.declared.net.socket_addr.SocketAddr.{SocketAddr as Address};
 ghost use Rattle.ftp_base.specs.declared.types.fault.FtpError.{FtpError as Faults};
-ghost use Rattle.ftp_control.specs.Told.{Told};
+ghost use Rattle.ftp_control.specs.Told.{ReadTells, ReadsAtMost, Told};
 ghost use Rattle.ftp_dialogue.specs.Link.{built_by};
 ghost use Rattle.futures.specs.declared.task.Poll.TheVariants as poll;
 ghost use Rattle.ftp_control.specs.Asking.{Asks as Records, Supplies, built_as, comes_as, connects_as, done, done_at};
@@ -14,10 +14,11 @@ ghost use Rattle.ftp_control.specs.declared.transport.request.Request.TheVariant
 
 use ftp_base::types::{ConnectionError, FtpError, FtpResult};
 use ftp_control::transport::{
-    Accepted, Connected, Listening, Network, PassiveStreamBuilder, PollTransport,
+    Accepted, Conn, Connected, Listening, Network, PassiveStreamBuilder, PollTransport,
 };
 use futures::task::Poll;
 use std::alloc::AllocError;
+use std::io::ErrorKind;
 use std::net::SocketAddr;
 use std::time::Duration;
 
@@ -80,14 +81,30 @@ pub trait Asks<Tr: Network, W> {
             Tr.accept_refuses result (Tr.ready transport.old) (Tr.ready transport.new) }
         ensures closed { Tr.closed transport.new ≡ Tr.closed transport.old }
         ensures room { Tr.has_room transport.old → Tr.has_room transport.new };
+
+    /// Reads bytes of a data connection into the front of the buffer. 0 bytes are their end.
+    fn read(
+        &self,
+        conn: &mut Tr::Conn,
+        w: &mut W,
+        buffer: &mut [u8],
+    ) -> Result<Poll<usize>, ErrorKind>
+        requires { 0 < length buffer.old }
+        ensures bound { may_ask → ReadsAtMost result (length buffer.old) }
+        ensures waits { may_ask → result ≡ Ok poll.Pending → may_wait }
+        ensures told { may_ask → Tr.Conn.tells →
+            ReadTells result buffer.new (Tr.Conn.told conn.old) (Tr.Conn.told conn.new) };
 }
 
-/// Asks by a runtime, and a builder, where there is one.
+/// Asks by a runtime, and a builder, where there is one. Data connections are read blocking.
 #[derive(Drop)]
 pub struct By<'r, R, B>(pub &'r R, pub &'r Option<B>);
 
 impl<'r, R, W, Tr: PollTransport<R, W>, B: PassiveStreamBuilder<Tr::Conn>> Asks<Tr, W>
-    for By<'r, R, B> {
+    for By<'r, R, B>
+where
+    Tr::Conn: Conn,
+{
     ghost may_ask = { Unit {0} };
 
     ghost may_wait = { Tr.PollTransport.may_wait };
@@ -127,6 +144,18 @@ impl<'r, R, W, Tr: PollTransport<R, W>, B: PassiveStreamBuilder<Tr::Conn>> Asks<
         deadline: Duration,
     ) -> Poll<Accepted<Tr::Conn>> {
         transport.poll_accept(self.0, w, listener, deadline)
+    }
+
+    fn read(
+        &self,
+        conn: &mut Tr::Conn,
+        _w: &mut W,
+        buffer: &mut [u8],
+    ) -> Result<Poll<usize>, ErrorKind> {
+        match conn.read(buffer) {
+            Ok(count) => Ok(Poll::Ready(count)),
+            Err(kind) => Err(kind),
+        }
     }
 }
 
@@ -171,5 +200,14 @@ impl<Tr: Network, W> Asks<Tr, W> for Nothing {
         _deadline: Duration,
     ) -> Poll<Accepted<Tr::Conn>> {
         Poll::Ready(Err(AllocError))
+    }
+
+    fn read(
+        &self,
+        _conn: &mut Tr::Conn,
+        _w: &mut W,
+        _buffer: &mut [u8],
+    ) -> Result<Poll<usize>, ErrorKind> {
+        Err(ErrorKind::Unsupported)
     }
 }

@@ -245,5 +245,6 @@ fn moved_answer(outcome: DealOutcome) -> Answer
         DealOutcome::Failed(kind) => {
             Answer::Fault(FtpError::ConnectionError(ConnectionError::Io(kind)))
         }
+        DealOutcome::NoMemory => Answer::Fault(FtpError::OutOfMemory),
     }
 }

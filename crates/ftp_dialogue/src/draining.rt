@@ -166,6 +166,7 @@ fn drained(answer: Answer) -> FtpResult<()>
         Answer::OpenedWith(_) => unreachable!(),
         Answer::Bytes(_) => unreachable!(),
         Answer::Count(_) => unreachable!(),
+        Answer::Lines(_) => unreachable!(),
         Answer::NoTransfer => unreachable!(),
     }
 }

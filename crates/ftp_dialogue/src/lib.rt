@@ -14,6 +14,8 @@ pub mod answers;
 pub mod asks;
 mod carrying;
 mod draining;
+mod fetching;
+pub mod gathered;
 pub mod laws;
 pub mod machine;
 pub mod model;

@@ -46,6 +46,8 @@ pub enum DealOutcome {
     Closed,
     /// A read, a write or a close failed.
     Failed(ErrorKind),
+    /// There was no memory for what a read would give, or for what came of all reads.
+    NoMemory,
 }
 
 /// Where a run stands.

@@ -10,12 +10,12 @@ ghost use Rattle.ftp_dialogue.specs.Coding.{Coding};
 ghost use Rattle.ftp_dialogue.specs.Dialogue.{Here, There, at_port};
 ghost use Rattle.ftp_dialogue.specs.Link.{building};
 ghost use Rattle.ftp_dialogue.specs.Promises.{failed_from};
-ghost use Rattle.ftp_dialogue.specs.Steps.Moving.{ConnectsTo, LooksUp, Meets, TurnsAway, Walks};
-ghost use Rattle.ftp_dialogue.specs.Steps.Stages.{MayAnswer, WayOf, first_by};
+ghost use Rattle.ftp_dialogue.specs.Steps.Moving.{ConnectsTo, LetsIn, LooksUp, Meets, TurnsAway, Walks};
+ghost use Rattle.ftp_dialogue.specs.Steps.Stages.{OpeningOf, WayOf, first_by};
 
 use super::asks::Asks;
 use super::machine::Machine;
-use super::stage::{Agreeing, Asking, Stage, Step, go_on, go_to};
+use super::stage::{Agreeing, Asking, Fetching, Opened, Stage, Step, go_on, go_to};
 use super::{Answer, Call};
 use ftp_base::types::{ConnectionError, FtpError, Mode};
 use ftp_calls::exchange::Turn;
@@ -59,11 +59,11 @@ impl<Tr: Network> Machine<Tr> {
             Agreeing::Asking(turn, Asking::Connection(address)) => {
                 self.reach(asker, call, turn, address, stage, w)
             }
-            Agreeing::Asking(turn, Asking::Peer(answer)) => {
-                self.know_peer(asker, call, turn, answer, stage, w)
+            Agreeing::Asking(turn, Asking::Peer(opened)) => {
+                self.know_peer(asker, call, turn, opened, stage, w)
             }
-            Agreeing::Asking(turn, Asking::Accepting(peer, left, answer)) => {
-                self.let_in(asker, call, turn, peer, left, answer, stage, w)
+            Agreeing::Asking(turn, Asking::Accepting(peer, left, opened)) => {
+                self.let_in(asker, call, turn, peer, left, opened, stage, w)
             }
         }
     }
@@ -288,7 +288,7 @@ impl<Tr: Network> Machine<Tr> {
         asker: &A,
         _call: &Call,
         turn: Turn,
-        answer: Answer,
+        opened: Opened,
         stage: &mut Stage,
         w: &mut W,
     ) -> Step
@@ -296,15 +296,15 @@ impl<Tr: Network> Machine<Tr> {
         Tr::Conn: PollConn<W>,
         requires going { self.old.channel.failed ≡ false }
         requires opens { negotiates _call.now ≡ true }
-        requires answer { MayAnswer _call.now answer }
+        requires opened { OpeningOf _call.now opened }
         ensures end { self.new.channel.ended ≡ self.old.channel.ended }
         ensures walks { (coding : Coding) →
             Walks (building (A.builds asker.now) Tr.Conn.tells Tr.Conn.read_faults Tr.Conn.write_faults Tr.Conn.end_faults A.may_wait) coding _call.now
-            (Stage.Agreeing (Agreeing.Asking turn (Asking.Peer answer))) stage.new self.old self.new result }
+            (Stage.Agreeing (Agreeing.Asking turn (Asking.Peer opened))) stage.new self.old self.new result }
     {
         match self.look_there(asker, w) {
             Ok(peer) => {
-                let asking = Asking::Accepting(peer, STRANGERS, answer);
+                let asking = Asking::Accepting(peer, STRANGERS, opened);
                 go_to(stage, Stage::Agreeing(Agreeing::Asking(turn, asking)));
                 Step::Next
             }
@@ -322,7 +322,7 @@ impl<Tr: Network> Machine<Tr> {
         turn: Turn,
         peer: SocketAddr,
         left: u64,
-        answer: Answer,
+        opened: Opened,
         stage: &mut Stage,
         w: &mut W,
     ) -> Step
@@ -331,17 +331,17 @@ impl<Tr: Network> Machine<Tr> {
         requires going { self.old.channel.failed ≡ false }
         requires opens { negotiates _call.now ≡ true }
         requires may { A.may_ask }
-        requires answer { MayAnswer _call.now answer }
+        requires opened { OpeningOf _call.now opened }
         ensures end { self.new.channel.ended ≡ self.old.channel.ended }
         ensures walks { (coding : Coding) →
             Walks (building (A.builds asker.now) Tr.Conn.tells Tr.Conn.read_faults Tr.Conn.write_faults Tr.Conn.end_faults A.may_wait) coding _call.now
-            (Stage.Agreeing (Agreeing.Asking turn (Asking.Accepting peer left answer))) stage.new self.old self.new result }
+            (Stage.Agreeing (Agreeing.Asking turn (Asking.Accepting peer left opened))) stage.new self.old self.new result }
     {
         match self.ask_to_accept(asker, w) {
-            Poll::Ready(Ok(outcome)) => self.meet(outcome, turn, peer, left, answer, stage),
+            Poll::Ready(Ok(outcome)) => self.meet(outcome, turn, peer, left, opened, stage),
             Poll::Ready(Err(AllocError)) => self.lack_memory(),
             Poll::Pending => {
-                let asking = Asking::Accepting(peer, left, answer);
+                let asking = Asking::Accepting(peer, left, opened);
                 go_to(stage, Stage::Agreeing(Agreeing::Asking(turn, asking)));
                 Step::Pending
             }
@@ -355,11 +355,11 @@ impl<Tr: Network> Machine<Tr> {
         turn: Turn,
         peer: SocketAddr,
         left: u64,
-        answer: Answer,
+        opened: Opened,
         stage: &mut Stage,
     ) -> Step
         ensures end { self.new.channel.ended ≡ self.old.channel.ended }
-        ensures meets { Meets outcome turn peer left answer stage.new self.old self.new result }
+        ensures meets { Meets outcome turn peer left opened stage.new self.old self.new result }
     {
         match outcome {
             RequestOutcome::Address(from) => {
@@ -369,14 +369,30 @@ impl<Tr: Network> Machine<Tr> {
                     .active_peer_check
                     .allows(from.ip(), peer.ip())
                 {
-                    self.state.counts.open();
-                    Step::Done(answer)
+                    self.admit(opened, stage)
                 } else {
-                    self.turn_away(turn, peer, left, answer, stage)
+                    self.turn_away(turn, peer, left, opened, stage)
                 }
             }
             RequestOutcome::Refused(fault) => refused(fault),
             RequestOutcome::Done => refused(ConnectionError::NoAddress),
+        }
+    }
+
+    /// A peer was let in: a transfer is live, or all that comes is read.
+    fn admit(&mut self, opened: Opened, stage: &mut Stage) -> Step
+        ensures end { self.new.channel.ended ≡ self.old.channel.ended }
+        ensures admits { LetsIn opened stage.new self.old self.new result }
+    {
+        match opened {
+            Opened::Gives(answer) => {
+                self.state.counts.open();
+                Step::Done(answer)
+            }
+            Opened::Fetches(form) => {
+                go_to(stage, Stage::Fetching(Fetching::Starting(form)));
+                Step::Next
+            }
         }
     }
 
@@ -386,17 +402,17 @@ impl<Tr: Network> Machine<Tr> {
         turn: Turn,
         peer: SocketAddr,
         left: u64,
-        answer: Answer,
+        opened: Opened,
         stage: &mut Stage,
     ) -> Step
         ensures end { self.new.channel.ended ≡ self.old.channel.ended }
-        ensures turned { TurnsAway turn peer left answer stage.new self.old self.new result }
+        ensures turned { TurnsAway turn peer left opened stage.new self.old self.new result }
     {
         if left == 0 {
             return refused(ConnectionError::TimedOut);
         }
         let _stranger = self.data_conn.take();
-        let asking = Asking::Accepting(peer, left - 1, answer);
+        let asking = Asking::Accepting(peer, left - 1, opened);
         go_to(stage, Stage::Agreeing(Agreeing::Asking(turn, asking)));
         Step::Next
     }
@@ -432,7 +448,7 @@ impl<Tr: Network> Machine<Tr> {
     }
 
     /// Memory ran out after a reply was taken: the session has failed.
-    fn lack_memory(&mut self) -> Step
+    pub(super) fn lack_memory(&mut self) -> Step
         ensures done { result ≡ Step.Done (Answer.Fault FtpError.OutOfMemory) }
         ensures failed { self.new ≡ failed_from self.old }
     {

@@ -17,13 +17,13 @@ ghost use Rattle.ftp_dialogue.specs.Steps.Moving.{Accepts, AnswersAs, FaultLeave
 use super::answers::{features_answer, line_answer, path_answer, size_answer, time_answer};
 use super::asks::Asks;
 use super::machine::Machine;
-use super::stage::{Asking, Step};
+use super::stage::{Asking, Opened, Step};
 use super::{Answer, State};
 use ftp_answers::{NoAddress, read_extended_port, read_passive_address};
 use ftp_base::encoding::{Encoding, WelcomeMessage};
 use ftp_base::status::Status;
 use ftp_base::types::{ConnectionError, FtpError, FtpResult, Mode, Response};
-use ftp_calls::exchange::{Codes, Ending};
+use ftp_calls::exchange::{Codes, Ending, Fetch};
 use ftp_control::control::{ReplyForm, WireLine, form_of};
 use ftp_control::transport::{Network, PollConn};
 use futures::task::Poll;
@@ -142,6 +142,8 @@ pub(crate) enum Accepted {
     GoesOn,
     /// The transport is asked, or an address looked up, before the next exchange or the answer.
     Asks(Asking),
+    /// All that the data connection carries is read.
+    Fetches(Fetch),
     /// The answer.
     Done(Answer),
 }
@@ -181,6 +183,7 @@ pub(crate) fn accept<E: Encoding>(
         Ending::GivesAddress => Ok(address_told(reply, state)),
         Ending::GivesPort => Ok(port_told(reply)),
         Ending::Opens(gives_reply) => Ok(opens(gives_reply, reply, state)),
+        Ending::Fetches(form) => Ok(fetches(form, state)),
         Ending::Finishes(close) => {
             state.counts.finish();
             Ok(Accepted::Done(finish_answer(close)))
@@ -323,11 +326,23 @@ fn opens(gives_reply: bool, reply: Response, state: &mut State) -> Accepted
 {
     let answer = opened(gives_reply, reply);
     match state.settings.mode {
-        Mode::Active => Accepted::Asks(Asking::Peer(answer)),
+        Mode::Active => Accepted::Asks(Asking::Peer(Opened::Gives(answer))),
         Mode::Passive | Mode::ExtendedPassive => {
             state.counts.open();
             Accepted::Done(answer)
         }
+    }
+}
+
+/// The command was accepted, and all is read that comes.
+fn fetches(form: Fetch, state: &State) -> Accepted
+    ensures accepts { (coding : Coding) (reply : Heard) →
+        Accepts coding (Ending.Fetches form) reply state.now state.now result }
+    ensures answers { AnswersAs (Ending.Fetches form) result }
+{
+    match state.settings.mode {
+        Mode::Active => Accepted::Asks(Asking::Peer(Opened::Fetches(form))),
+        Mode::Passive | Mode::ExtendedPassive => Accepted::Fetches(form),
     }
 }
 

@@ -12,11 +12,12 @@ ghost use Rattle.ftp_dialogue.specs.Coding.{coding_of};
 ghost use Rattle.ftp_calls.specs.Exchanges.{row_of};
 ghost use Rattle.ftp_dialogue.specs.Steps.Stages.{Begins, FirstNode, GoesOnTo, TurnOf, is_later};
 
+use super::gathered::Gathered;
 use super::{Answer, Call};
 use ftp_base::command::Command;
 use ftp_base::encoding::Encoding;
 use ftp_base::types::FtpResult;
-use ftp_calls::exchange::{Codes, Ending, Exchange, Row, Turn, next_turn, row_at};
+use ftp_calls::exchange::{Codes, Ending, Exchange, Fetch, Row, Turn, next_turn, row_at};
 use ftp_control::control::WireLine;
 use std::alloc::Global;
 use std::net::SocketAddr;
@@ -38,6 +39,30 @@ pub enum Stage {
     Closing,
     /// The transfer is aborted.
     Aborting(Aborting),
+    /// All that the data connection carries is read.
+    Fetching(Fetching),
+}
+
+/// How far a whole data connection was read, and the end of its transfer.
+#[derive(Drop)]
+pub enum Fetching {
+    /// It begins.
+    Starting(Fetch),
+    /// It is read, by so many reads more at most, after these bytes.
+    Gathering(Fetch, u64, Gathered),
+    /// It is closed. This is the answer, by what came of the data.
+    Parting(Fetch, Answer),
+    /// The transfer's last reply is read.
+    Ending(Fetch, Answer),
+}
+
+/// What follows once the data connection stands.
+#[derive(Drop)]
+pub enum Opened {
+    /// It carries a transfer, and this is the answer.
+    Gives(Answer),
+    /// All that it carries is read.
+    Fetches(Fetch),
 }
 
 /// How far an abort has come, before its replies are read.
@@ -71,10 +96,10 @@ pub enum Asking {
     PeerPort(u16),
     /// A connection to this address.
     Connection(SocketAddr),
-    /// The peer's address, which is compared with those that connect; the answer is given once one is let in.
-    Peer(Answer),
+    /// The peer's address, which is compared with those that connect; what follows once one is let in.
+    Peer(Opened),
     /// A connection of this peer, or of another that is let in; so many others may come before.
-    Accepting(SocketAddr, u64, Answer),
+    Accepting(SocketAddr, u64, Opened),
 }
 
 /// The reply that is awaited.

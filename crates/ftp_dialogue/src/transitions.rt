@@ -19,7 +19,9 @@ ghost use Rattle.ftp_dialogue.specs.Steps.Stages.{MayAnswer, PollAnswers, StageA
 use super::asks::Asks;
 use super::machine::Machine;
 use super::nodes::{Accepted, accept, conclude_fault, wants_memory};
-use super::stage::{Aborting, Agreeing, Awaits, Stage, Step, begin, go_on, go_to, is_later};
+use super::stage::{
+    Aborting, Agreeing, Awaits, Fetching, Stage, Step, begin, go_on, go_to, is_later,
+};
 use super::{Answer, Call, Owed};
 use ftp_base::encoding::Encoding;
 use ftp_base::types::{FtpError, Response};
@@ -76,6 +78,9 @@ impl<Tr: Network> Machine<Tr> {
             Stage::Closing => self.close(asker, call, stage, w),
             Stage::Aborting(aborting) => self.abort(
                 asker, alloc, encoding, call, aborting, stage, w,
+            ),
+            Stage::Fetching(fetching) => self.fetch(
+                asker, alloc, encoding, call, fetching, stage, w,
             ),
         }
     }
@@ -240,6 +245,10 @@ impl<Tr: Network> Machine<Tr> {
                 );
                 Step::Next
             }
+            Ok(Accepted::Fetches(form)) => {
+                go_to(stage, Stage::Fetching(Fetching::Starting(form)));
+                Step::Next
+            }
             Err(fault) => {
                 self.abort_dialogue(true, &fault);
                 Step::Done(Answer::Fault(fault))
@@ -248,7 +257,7 @@ impl<Tr: Network> Machine<Tr> {
     }
 
     /// A dialogue ends with a fault: out of memory after it has begun fails the session.
-    fn abort_dialogue(&mut self, begun: bool, fault: &FtpError)
+    pub(super) fn abort_dialogue(&mut self, begun: bool, fault: &FtpError)
         ensures { self.new ≡ after_fault begun fault.now self.old }
     {
         if wants_memory(fault) && begun {
@@ -504,6 +513,7 @@ fn is_first(stage: &Stage) -> bool
         | Stage::Arming(..)
         | Stage::Agreeing(_)
         | Stage::Closing
-        | Stage::Aborting(_) => false,
+        | Stage::Aborting(_)
+        | Stage::Fetching(_) => false,
     }
 }

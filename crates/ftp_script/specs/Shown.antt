@@ -8,7 +8,7 @@ use Rattle.ftp_base.specs.Features.{Entries, Feature}
 use Rattle.ftp_base.specs.declared.types.fault.FtpError.{FtpError}
 use Rattle.ftp_base.specs.declared.types.fault.FtpError.TheVariants.{ConnectionError as OfConnection, SecureError, UnexpectedResponse, BadResponse, DataConnectionAlreadyOpen, OutOfMemory, SessionFailed, InvalidAddress}
 use Rattle.ftp_calls.specs.declared.call.Answer.{Answer}
-use Rattle.ftp_calls.specs.declared.call.Answer.TheVariants.{Unit as Done, Reply, Text, Time, Size, Features, Opened, OpenedWith, Bytes, Count, NoTransfer, Fault}
+use Rattle.ftp_calls.specs.declared.call.Answer.TheVariants.{Unit as Done, Reply, Text, Time, Size, Features, Opened, OpenedWith, Bytes, Lines, Count, NoTransfer, Fault}
 
 -- a hexadecimal digit, in lower case
 abbrev pub hex_digit : ℕ → ℕ
@@ -60,7 +60,15 @@ abbrev pub features_text : Entries → List ℕ
 features_text [] = []
 features_text (first ∷ others) = feature_text first ++ flat_map later_text others
 
--- an answer as text; no call of a script gives a time, opens a data connection or is of a transfer
+-- lines as text, each after the first behind an LF
+abbrev pub later_line : List ℕ → List ℕ
+later_line line = shown (10 ∷ line)
+
+abbrev pub lines_text : List (List ℕ) → List ℕ
+lines_text [] = []
+lines_text (first ∷ others) = shown first ++ flat_map later_line others
+
+-- an answer as text; no call of a script gives a time, opens a data connection, is of a transfer or lists
 abbrev pub answer_text : Answer → List ℕ
 answer_text Done = codes "ok"
 answer_text (Reply reply) = codes "ok " ++ shown reply.body
@@ -71,6 +79,7 @@ answer_text (Features features) = codes "ok " ++ features_text features
 answer_text Opened = codes "opened"
 answer_text (OpenedWith reply) = codes "opened with " ++ shown reply.body
 answer_text (Bytes bytes) = codes "bytes " ++ shown bytes
+answer_text (Lines lines) = codes "ok " ++ lines_text lines
 answer_text (Count count) = codes "count " ++ decimal count
 answer_text NoTransfer = codes "NoTransfer"
 answer_text (Fault fault) = codes "E" ++ decimal (number_of fault) ++ after_number fault

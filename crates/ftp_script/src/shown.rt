@@ -1,11 +1,11 @@
 //! How a transcript is written.
 
-ghost use Rattle.std.specs.Prelude.{◌≡◌, ◌≤◌, ◌<◌, ◌++◌, ◌∷◌, OnOk, length, take, drop, string_bytes};
+ghost use Rattle.std.specs.Prelude.{◌≡◌, ◌≤◌, ◌<◌, ◌++◌, ◌∷◌, OnOk, length, map, take, drop, string_bytes};
 ghost use Rattle.std.specs.List.{flat_map};
 ghost use Rattle.std.specs.Fmt.{decimal};
 ghost use Rattle.std.specs.Option.{option_map};
 ghost use Rattle.ftp_base.specs.Features.{shown as entries};
-ghost use Rattle.ftp_script.specs.Shown.{after_number, answer_text, call_text, end_text, feature_text, features_text, later_text, hex_digit, sent_lines, sent_text, shown, shown_byte};
+ghost use Rattle.ftp_script.specs.Shown.{after_number, answer_text, call_text, end_text, feature_text, features_text, later_line, later_text, lines_text, hex_digit, sent_lines, sent_text, shown, shown_byte};
 
 use ftp_base::types::{Features, FtpError};
 use ftp_calls::call::Answer;
@@ -101,6 +101,10 @@ fn push_answer(alloc: Global, text: &mut Vec<u8>, answer: &Answer) -> Result<(),
             text.extend_from_slice(b"bytes ")?;
             push_shown(text, bytes.as_slice())
         }
+        Answer::Lines(lines) => {
+            text.extend_from_slice(b"ok ")?;
+            push_lines(text, lines.as_slice())
+        }
         Answer::Count(count) => {
             text.extend_from_slice(b"count ")?;
             push_number(alloc, text, *count)
@@ -154,6 +158,30 @@ fn push_feature(text: &mut Vec<u8>, name: &String, value: &Option<String>) -> Re
         }
         None => Ok(()),
     }
+}
+
+/// Adds lines, an LF between them.
+fn push_lines(text: &mut Vec<u8>, lines: &[String]) -> Result<(), AllocError>
+    ensures { OnOk result
+        (text.new.items ≡ text.old.items ++ lines_text (map string_bytes lines.now)) }
+{
+    let Some((first, others)) = lines.split_first() else {
+        return Ok(());
+    };
+    push_shown(text, first.as_bytes())?;
+    push_later_lines(text, others)
+}
+
+/// Adds the lines after the first.
+fn push_later_lines(text: &mut Vec<u8>, lines: &[String]) -> Result<(), AllocError>
+    ensures { OnOk result
+        (text.new.items ≡ text.old.items ++ flat_map later_line (map string_bytes lines.now)) }
+{
+    for line in lines {
+        push_byte(text, b'\n')?;
+        push_shown(text, line.as_bytes())?;
+    }
+    Ok(())
 }
 
 /// Adds the code of the status of an unexpected reply.

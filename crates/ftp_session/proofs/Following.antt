@@ -35,7 +35,7 @@ use Rattle.ftp_calls.specs.declared.call.Call.TheVariants.{Finish, Leave}
 use Rattle.ftp_calls.specs.declared.exchange.Turn.{Turn}
 use Rattle.ftp_calls.specs.declared.exchange.Turn.TheVariants.{First, Second, Passive, ExtendedPassive, Active, Restart, Closed, Aborted}
 use Rattle.ftp_dialogue.specs.declared.stage.Stage.{Stage}
-use Rattle.ftp_dialogue.specs.declared.stage.Stage.TheVariants.{At, Saying, Hearing, Arming, Agreeing, Closing, Aborting}
+use Rattle.ftp_dialogue.specs.declared.stage.Stage.TheVariants.{At, Saying, Hearing, Arming, Agreeing, Closing, Aborting, Fetching}
 use Rattle.ftp_dialogue.specs.declared.model.Standing.{Standing}
 use Rattle.ftp_dialogue.specs.declared.model.Wait.{Wait}
 use Rattle.ftp_dialogue.specs.declared.model.Wait.TheVariants as wait
@@ -198,6 +198,7 @@ module _ (builds : Builds) (coding : Coding) (outcomes : List DealOutcome) where
   settled_state call (At Aborted) state stage_of = refl
   settled_state call Closing state stage_of = refl
   settled_state call (Aborting abort) state stage_of = refl
+  settled_state call (Fetching fetching) state stage_of = refl
   settled_state call (At Second) state stage_of = refl
   settled_state call (At (Passive offset)) state stage_of = refl
   settled_state call (At (ExtendedPassive offset)) state stage_of = refl
@@ -214,6 +215,7 @@ module _ (builds : Builds) (coding : Coding) (outcomes : List DealOutcome) where
   settled_tree call (At Aborted) state stage_of = refl
   settled_tree call Closing state stage_of = refl
   settled_tree call (Aborting abort) state stage_of = refl
+  settled_tree call (Fetching fetching) state stage_of = refl
   settled_tree call (At Second) state stage_of = refl
   settled_tree call (At (Passive offset)) state stage_of = refl
   settled_tree call (At (ExtendedPassive offset)) state stage_of = refl

@@ -35,7 +35,7 @@ use Rattle.ftp_calls.specs.declared.exchange.Row.TheVariants.{Exchanges, Arms, S
 use Rattle.ftp_calls.specs.Exchanges.{is_read, reads, row_of}
 use Rattle.ftp_dialogue.specs.declared.state.State.{State}
 use Rattle.ftp_dialogue.specs.declared.stage.Stage.{Stage}
-use Rattle.ftp_dialogue.specs.declared.stage.Stage.TheVariants.{At, Saying, Hearing, Arming, Agreeing, Closing, Aborting}
+use Rattle.ftp_dialogue.specs.declared.stage.Stage.TheVariants.{At, Saying, Hearing, Arming, Agreeing, Closing, Aborting, Fetching}
 use Rattle.ftp_dialogue.specs.declared.model.Standing.{Standing}
 use Rattle.ftp_dialogue.specs.declared.model.Wait.{Wait}
 use Rattle.ftp_dialogue.specs.declared.model.Wait.TheVariants as wait
@@ -50,7 +50,7 @@ use Rattle.ftp_dialogue.specs.Deals.{answers as answers_to, constructed, dealt, 
 use Rattle.ftp_dialogue.specs.Play.{play, address_at, fits, heard_then, taken, asked_then, built_then, moved_then, needs_data}
 use Rattle.ftp_session.specs.Script.{heard_in, heard_at}
 use Rattle.ftp_dialogue.proofs.CarryingLemmas.{needs_none, plain_dialogue}
-use Rattle.ftp_dialogue.proofs.Sorts.{finishing_moves, turn_abroad, aborts_finish}
+use Rattle.ftp_dialogue.proofs.Sorts.{fetch_opens, finishing_moves, turn_abroad, aborts_finish}
 use Rattle.ftp_dialogue.specs.Steps.Stages.{StageOf, TurnOf, remaining}
 use Rattle.ftp_dialogue.proofs.Stages.{no_read}
 use Rattle.ftp_dialogue.proofs.Moving.{play-Say, play-Leaf, play-Refused}
@@ -171,6 +171,7 @@ play_shrinks room (Ask request next) s how t is =
       | came.Wrote count ∷ outcomes ↦ λ e. omega (arith, ap length (ap bytes_in e))
       | came.Closed ∷ outcomes ↦ λ e. omega (arith, ap length (ap bytes_in e))
       | came.Failed kind ∷ outcomes ↦ λ e. omega (arith, ap length (ap bytes_in e))
+      | came.NoMemory ∷ outcomes ↦ λ e. omega (arith, ap length (ap bytes_in e))
     ] is
 play_shrinks room (Build address next) s how t is =
     let k : Option FtpError → Standing → Played = λ fault u. play room (next fault) u in
@@ -182,6 +183,7 @@ play_shrinks room (Build address next) s how t is =
       | came.Wrote count ∷ outcomes ↦ λ e. omega (arith, ap length (ap bytes_in e))
       | came.Closed ∷ outcomes ↦ λ e. omega (arith, ap length (ap bytes_in e))
       | came.Failed kind ∷ outcomes ↦ λ e. omega (arith, ap length (ap bytes_in e))
+      | came.NoMemory ∷ outcomes ↦ λ e. omega (arith, ap length (ap bytes_in e))
     ] is
 play_shrinks room (Move moves next) s how t is =
     let k : DealOutcome → Standing → Played = λ outcome u. play room (next outcome) u in
@@ -295,6 +297,7 @@ module _ (coding : Coding) (room : Room) (script : Script) (s : Standing) (untak
   lacks_room call state (Agreeing way) plain stage_of is = let clash : true ≡ false = sym stage_of.0 ∙ (needs_none call plain).0 in cc
   lacks_room call state Closing plain stage_of is = let clash : true ≡ false = sym (finishing_moves call stage_of) ∙ (needs_none call plain).1 in cc
   lacks_room call state (Aborting abort) plain stage_of is = let clash : true ≡ false = sym (finishing_moves call (aborts_finish call stage_of)) ∙ (needs_none call plain).1 in cc
+  lacks_room call state (Fetching fetching) plain stage_of is = let clash : true ≡ false = sym (fetch_opens call fetching stage_of) ∙ (needs_none call plain).0 in cc
 
 -- a call that says a line first is no plain read
 pub says_no_read : (coding : Coding) (call : Call) (state : State) (line : List ℕ) (next : Tree) → TurnOf call First → dialogue coding call state ≡ Say (Ok line) next → is_read call ≡ false

@@ -1,5 +1,6 @@
 -- The calls of a session: each is its dialogue.
-use Rattle.std.specs.Prelude.{ℕ, Result, Ok, Err, string_bytes}
+use Rattle.std.specs.Prelude.{ℕ, Result, Ok, Err, map, string_bytes}
+use Rattle.std.specs.declared.vec.Vec.{Vec}
 use Rattle.std.specs.declared.string.String.{String}
 use Rattle.std.specs.declared.alloc.Global.{Global}
 use Rattle.jiff_core.specs.declared.civil.datetime.DateTime.{DateTime}
@@ -46,6 +47,16 @@ size_answer (Err fault) = Fault fault
 abbrev pub features_answer : Result Entries FtpError → Answer
 features_answer (Ok features) = answers.Features features
 features_answer (Err fault) = Fault fault
+
+-- the answer of a call that gives bytes
+abbrev pub bytes_answer : Result (Vec ℕ Global) FtpError → Answer
+bytes_answer (Ok bytes) = answers.Bytes bytes.items
+bytes_answer (Err fault) = Fault fault
+
+-- the answer of a call that gives lines
+abbrev pub lines_answer : Result (Vec (String Global) Global) FtpError → Answer
+lines_answer (Ok lines) = answers.Lines (map string_bytes lines.items)
+lines_answer (Err fault) = Fault fault
 
 -- a session begins and makes the greeting's dialogue
 pub record Connects (link : Link) (coding : Coding) (told : Told) (beside : Net) (new : SessionValue) (result : Result (Unit {0}) FtpError) : Type 0 where

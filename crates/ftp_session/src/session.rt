@@ -10,6 +10,7 @@ mod client;
 mod commands;
 mod connecting;
 mod ending;
+mod fetching;
 mod looking;
 mod opening;
 mod parameters;

@@ -1,13 +1,14 @@
 //! Answers as text.
 
-use ftp_base::types::{ConnectionError, Features, FtpError, FtpResult, Response, Text};
+use ftp_base::types::{Bytes, ConnectionError, Features, FtpError, FtpResult, Response, Text};
+use ftp_calls::lines::Lines;
 use ftp_session::session::Answer;
 use jiff::civil::DateTime;
 use row_text::shown;
 use std::alloc::{AllocError, Global};
 
 /// An answer: `ok`, `ok` and what it gives, `opened`, `opened with` and the reply, `bytes` and those that were read,
-/// `count` and how many were written, `NoTransfer`, or the number of the refusal, with the kind of a connection's fault
+/// `lines` and those of a listing, `count` and how many were written, `NoTransfer`, or the number of the refusal, with the kind of a connection's fault
 /// or the code of an unexpected reply.
 pub fn text_of(alloc: Global, answer: &Answer) -> Result<String, AllocError> {
     match answer {
@@ -29,6 +30,7 @@ pub fn text_of(alloc: Global, answer: &Answer) -> Result<String, AllocError> {
             format!(in alloc; "opened with {body}")
         }
         Answer::Bytes(bytes) => bytes_text(alloc, bytes.as_slice()),
+        Answer::Lines(lines) => lines_text(alloc, lines.as_slice()),
         Answer::Count(count) => format!(in alloc; "count {count}"),
         Answer::NoTransfer => String::from_str(alloc, "NoTransfer"),
         Answer::Fault(fault) => fault_text(alloc, fault),
@@ -42,6 +44,16 @@ fn bytes_text(alloc: Global, bytes: &[u8]) -> Result<String, AllocError> {
     }
     let text = shown(alloc, bytes)?;
     format!(in alloc; "bytes {text}")
+}
+
+/// The lines of a listing, joined by LF: `lines` alone where there are none.
+fn lines_text(alloc: Global, lines: &[String]) -> Result<String, AllocError> {
+    let mut text = String::from_str(alloc, "lines")?;
+    for (place, line) in lines.iter().enumerate() {
+        text.push_str(if place == 0 { " " } else { "\\n" })?;
+        text.push_str(shown(alloc, line.as_bytes())?.as_str())?;
+    }
+    Ok(text)
 }
 
 /// A date and a time of day.
@@ -138,6 +150,22 @@ pub fn size(outcome: FtpResult<usize>) -> Answer {
 pub fn features(outcome: FtpResult<Features>) -> Answer {
     match outcome {
         Ok(features) => Answer::Features(features),
+        Err(fault) => Answer::Fault(fault),
+    }
+}
+
+/// The answer of a call that gives bytes.
+pub fn bytes(outcome: FtpResult<Vec<u8>>) -> Answer {
+    match outcome {
+        Ok(bytes) => Answer::Bytes(Bytes::from_vec(bytes)),
+        Err(fault) => Answer::Fault(fault),
+    }
+}
+
+/// The answer of a call that gives lines.
+pub fn lines(outcome: FtpResult<Vec<String>>) -> Answer {
+    match outcome {
+        Ok(lines) => Answer::Lines(Lines::from_vec(lines)),
         Err(fault) => Answer::Fault(fault),
     }
 }

@@ -9,6 +9,48 @@ use ftp_session::session::Call;
 use row_text::RowError;
 use std::alloc::{AllocError, Global};
 
+/// How many bytes a read of a whole data connection asks for.
+const CHUNK: usize = 65_536;
+
+/// Whether a call reads a whole data connection.
+pub fn fetches(call: &Call) -> bool {
+    matches!(
+        call,
+        Call::Retr(_) | Call::List(_) | Call::Nlst(_) | Call::Mlsd(_)
+    )
+}
+
+/// The outcomes that this call waits for next: where it reads a whole data connection, which stands, all that follow on
+/// that, and else one.
+pub fn next_outcomes(
+    alloc: Global,
+    setup: &Setup,
+    call: &Call,
+    dealings: &Dealings,
+) -> Result<Vec<DealOutcome>, RowError> {
+    if fetches(call) && dealings.data_conn.is_some() {
+        return Ok(fetched(alloc, setup, dealings)?);
+    }
+    let mut outcomes = Vec::new(alloc);
+    outcomes.push(next_outcome(alloc, setup, call, dealings)?)?;
+    Ok(outcomes)
+}
+
+/// What becomes of a whole data connection: reads give its bytes, the last of them none, and then it is closed.
+pub fn fetched(
+    alloc: Global,
+    setup: &Setup,
+    dealings: &Dealings,
+) -> Result<Vec<DealOutcome>, AllocError> {
+    let mut outcomes = Vec::new(alloc);
+    for part in setup.data(dealings.asked.as_slice()).chunks(CHUNK) {
+        outcomes.push(DealOutcome::Read(Bytes::from_slice(alloc, part)?))?;
+    }
+    outcomes.push(DealOutcome::Read(Bytes::new(alloc)))?;
+    outcomes.push(DealOutcome::Closed)?;
+    Ok(outcomes)
+}
+
 /// The outcome that this call waits for. A read gives as much as is left and wanted, a write takes all bytes, and a close
 /// is done.
 pub fn next_outcome(

@@ -119,15 +119,15 @@ impl Face {
         }
     }
 
-    /// What is due of a row's transcript on it: a client doesn't tell what its transport was asked, so where the row
-    /// opens data connections the lines of requests are left out.
+    /// What is due of a row's transcript on it: a client doesn't tell what its transport was asked, nor on which data
+    /// connections nothing was written, so where the row opens some the lines of that are left out.
     pub fn due(self, alloc: Global, play: &Play, due: &str) -> Result<String, AllocError> {
         if self != Face::Client || !play.opens_data() {
             return String::from_str(alloc, due);
         }
         let mut left = String::new(alloc);
         for line in due.split_inclusive('\n') {
-            if !is_request(line) {
+            if !is_request(line) && line != "U:\n" {
                 left.push_str(line)?;
             }
         }

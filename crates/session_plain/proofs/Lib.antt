@@ -1,3 +1,4 @@
+pub mod Fetches
 pub mod Openings
 pub mod Parts
 pub mod Polled

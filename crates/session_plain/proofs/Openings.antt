@@ -7,7 +7,6 @@ use Rattle.ftp_base.specs.declared.types.fault.ConnectionError.TheVariants.{Time
 use Rattle.ftp_control.specs.declared.transport.room.Room.{Room}
 use Rattle.ftp_control.specs.declared.transport.request.Request.TheVariants.{Accept}
 use Rattle.ftp_control.specs.declared.transport.request.RequestOutcome.{RequestOutcome}
-use Rattle.ftp_calls.specs.declared.call.Answer.{Answer}
 use Rattle.ftp_calls.specs.declared.call.Answer.TheVariants.{Fault}
 use Rattle.ftp_dialogue.specs.declared.state.State.{State}
 use Rattle.ftp_dialogue.specs.declared.model.Played.TheVariants.{Pending}
@@ -20,34 +19,37 @@ use Rattle.session_plain.specs.declared.asking.Came.TheVariants.{Known, Unknown}
 use Rattle.session_plain.specs.Progress.{AsksFor}
 
 -- what is left once a stranger was dropped
-abbrev pub others : Answer → SocketAddr → ℕ → State → Tree
-others answer peer zero state = Leaf (Fault (Connection TimedOut)) state
-others answer peer (suc left) state = accepting answer peer left state
+abbrev pub others : Tree → SocketAddr → ℕ → State → Tree
+others opened peer zero state = Leaf (Fault (Connection TimedOut)) state
+others opened peer (suc left) state = accepting opened peer left state
 
 -- what an outcome leads to
-abbrev pub admitted : Answer → SocketAddr → ℕ → State → RequestOutcome → Tree
-admitted answer peer left state =
-    on_address state (λ from. admitting (lets_in state peer from) answer state (others answer peer left state))
+abbrev pub admitted : Tree → SocketAddr → ℕ → State → RequestOutcome → Tree
+admitted opened peer left state =
+    on_address state (λ from. admitting (lets_in state peer from) opened (others opened peer left state))
 
 -- a peer is accepted first
-accepts : (answer : Answer) (peer : SocketAddr) (left : ℕ) (state : State) → accepting answer peer left state ≡ Ask (Accept state.settings.active_deadline) (admitted answer peer left state)
+accepts : (opened : Tree) (peer : SocketAddr) (left : ℕ) (state : State) → accepting opened peer left state ≡ Ask (Accept state.settings.active_deadline) (admitted opened peer left state)
 unfolding accepting
-accepts answer peer zero state = refl
-accepts answer peer (suc left) state = refl
+accepts opened peer zero state = refl
+accepts opened peer (suc left) state = refl
 
 -- its outcome is known, or isn't
-pub came_to : (answer : Answer) (peer : SocketAddr) (left : ℕ) (s here : Standing) (outcome : RequestOutcome) → AsksFor (Accept s.state.settings.active_deadline) s (Known outcome here) → (room : Room) → play room (accepting answer peer left s.state) s ≡ play room (admitted answer peer left here.state outcome) here
-came_to answer peer left s here outcome came room =
-    ap (λ tree. play room tree s) (accepts answer peer left s.state)
-    ∙ known (Accept s.state.settings.active_deadline) s here outcome came room (admitted answer peer left s.state)
-    ∙ ap (λ state. play room (admitted answer peer left state outcome) here) (sym came.0)
+pub came_to : (opened : Tree) (peer : SocketAddr) (left : ℕ) (s here : Standing) (outcome : RequestOutcome) → AsksFor (Accept s.state.settings.active_deadline) s (Known outcome here) → (room : Room) → play room (accepting opened peer left s.state) s ≡ play room (admitted opened peer left here.state outcome) here
+came_to opened peer left s here outcome came room =
+    ap (λ tree. play room tree s) (accepts opened peer left s.state)
+    ∙ known (Accept s.state.settings.active_deadline) s here outcome came room (admitted opened peer left s.state)
+    ∙ ap (λ state. play room (admitted opened peer left state outcome) here) (sym came.0)
 
-pub waits : (answer : Answer) (peer : SocketAddr) (left : ℕ) (s here : Standing) → AsksFor (Accept s.state.settings.active_deadline) s (Unknown here) → (room : Room) → play room (accepting answer peer left s.state) s ≡ Pending Asking here
-waits answer peer left s here came room =
-    ap (λ tree. play room tree s) (accepts answer peer left s.state)
-    ∙ unknown (Accept s.state.settings.active_deadline) s here came room (admitted answer peer left s.state)
+pub waits : (opened : Tree) (peer : SocketAddr) (left : ℕ) (s here : Standing) → AsksFor (Accept s.state.settings.active_deadline) s (Unknown here) → (room : Room) → play room (accepting opened peer left s.state) s ≡ Pending Asking here
+waits opened peer left s here came room =
+    ap (λ tree. play room tree s) (accepts opened peer left s.state)
+    ∙ unknown (Accept s.state.settings.active_deadline) s here came room (admitted opened peer left s.state)
 
--- others may come
-pub goes_on : (answer : Answer) (peer : SocketAddr) (left : ℕ) (state : State) → (left ≡ 0 → ⊥) → others answer peer left state ≡ accepting answer peer (left - 1) state
-goes_on answer peer zero state more = elim (more refl) [ ]
-goes_on answer peer (suc left) state more = let e : suc left - 1 ≡ left = omega arith in rw e refl
+-- others may come, or no more
+pub goes_on : (opened : Tree) (peer : SocketAddr) (left : ℕ) (state : State) → (left ≡ 0 → ⊥) → others opened peer left state ≡ accepting opened peer (left - 1) state
+goes_on opened peer zero state more = elim (more refl) [ ]
+goes_on opened peer (suc left) state more = let e : suc left - 1 ≡ left = omega arith in rw e refl
+
+pub no_others : (opened : Tree) (peer : SocketAddr) (left : ℕ) (state : State) → left ≡ 0 → others opened peer left state ≡ Leaf (Fault (Connection TimedOut)) state
+no_others opened peer left state none = ap (λ count. others opened peer count state) none

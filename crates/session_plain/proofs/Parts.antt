@@ -37,6 +37,11 @@ pub comes : (s : Standing) (whole part : (State → Tree) → Tree) → ((later 
 comes s whole part same (Ok progress) played = λ room later. rw (same later) (played room later)
 comes s whole part same (Err fault) played = tt
 
+-- one that is another in each room, too
+pub leads : (one other : Room → (State → Tree) → Played) → ((room : Room) (later : State → Tree) → other room later ≡ one room later) → (result : Result Progress AllocError) → IfOk result (λ progress. (room : Room) (later : State → Tree) → ComesTo room later (one room later) progress) → IfOk result (λ progress. (room : Room) (later : State → Tree) → ComesTo room later (other room later) progress)
+leads one other same (Ok progress) played = λ room later. rw (same room later) (played room later)
+leads one other same (Err fault) played = tt
+
 -- the outcome of a request is known, or isn't
 pub known : (request : Request) (s here : Standing) (outcome : RequestOutcome) → AsksFor request s (Known outcome here) → (room : Room) (next : RequestOutcome → Tree) → play room (Ask request next) s ≡ play room (next outcome) here
 unfolding play

@@ -1,11 +1,17 @@
 -- How far a part of a dialogue gets.
-use Rattle.std.specs.Prelude.{◌≡◌, Bool, false, List, [], ◌∷◌, Option, Some, None}
+use Rattle.std.specs.Prelude.{◌≡◌, ℕ, Bool, false, List, [], ◌∷◌, Option, Some, None, Result}
+use Rattle.ftp_base.specs.declared.types.reply.Response.{Response}
+use Rattle.ftp_control.specs.Grammar.{outcome}
+use Rattle.ftp_control.specs.declared.control.outcome.Outcome.{Outcome}
 use Rattle.ftp_control.specs.declared.transport.room.Room.{Room}
 use Rattle.ftp_dialogue.specs.declared.state.State.{State}
 use Rattle.ftp_dialogue.specs.declared.model.Played.{Played}
-use Rattle.ftp_dialogue.specs.Dialogue.{Tree}
+use Rattle.ftp_dialogue.specs.Coding.{Coding}
+use Rattle.ftp_dialogue.specs.Dialogue.{Expected, Tree, on_data}
 use Rattle.ftp_dialogue.specs.Deals.{answers}
-use Rattle.ftp_dialogue.specs.Play.{play, asked_then, built_then, moved_then}
+use Rattle.ftp_dialogue.specs.Play.{play, asked_then, built_then, heard_then, moved_then}
+use Rattle.ftp_calls.specs.declared.call.Answer.{Answer}
+use Rattle.ftp_calls.specs.declared.exchange.Fetch.{Fetch}
 use Rattle.ftp_calls.specs.declared.exchange.Movement.{Movement}
 use Rattle.ftp_dialogue.specs.declared.model.DealOutcome.{DealOutcome}
 use Rattle.ftp_dialogue.specs.declared.model.DealOutcome.TheVariants.{Answered, Built}
@@ -19,9 +25,13 @@ use Rattle.ftp_control.specs.declared.transport.request.Request.{Request}
 use Rattle.ftp_control.specs.declared.transport.request.RequestOutcome.{RequestOutcome}
 use Rattle.ftp_dialogue.specs.declared.model.Played.TheVariants.{Pending}
 use Rattle.ftp_dialogue.specs.declared.model.Standing.{Standing}
-use Rattle.ftp_dialogue.specs.declared.model.Wait.TheVariants.{Outcome as Asking}
+use Rattle.ftp_dialogue.specs.declared.model.Wait.TheVariants.{Bytes, Outcome as Asking}
 use Rattle.session_plain.specs.declared.asking.Came.{Came}
 use Rattle.session_plain.specs.declared.asking.Came.TheVariants.{Unknown, Known}
+use Rattle.session_plain.specs.declared.hearing.Heard.{Heard}
+use Rattle.session_plain.specs.declared.hearing.Heard.TheVariants as heard
+use Rattle.session_plain.specs.declared.fetching.Follows.{Follows}
+use Rattle.session_plain.specs.declared.fetching.Follows.TheVariants.{More, Over}
 use Rattle.session_plain.specs.declared.exchange.Progress.{Progress}
 use Rattle.session_plain.specs.declared.exchange.Progress.TheVariants.{Stops, Continues}
 
@@ -65,3 +75,20 @@ Moves movement s (carried.Unknown here) =
     (next : DealOutcome → Standing → Played) → moved_then s.outcomes movement s next ≡ Pending Asking here
 Moves movement s (carried.Known outcome here) =
     (here.state ≡ s.state) × ((next : DealOutcome → Standing → Played) → moved_then s.outcomes movement s next ≡ next outcome here)
+
+-- one reply is heard: the bytes don't say it yet, or they say this reply, or a fault in its place
+abbrev pub HearsAs : Outcome → Expected → Standing → Heard → Type 0
+HearsAs said codes s (heard.Unknown here) =
+    (next : Result Response FtpError → Standing → Played) → heard_then said codes s next ≡ Pending (Bytes codes.form) here
+HearsAs said codes s (heard.Known reply here) =
+    (here.state ≡ s.state) × ((next : Result Response FtpError → Standing → Played) → heard_then said codes s next ≡ next reply here)
+
+abbrev pub Hears : Expected → Standing → Heard → Type 0
+Hears codes s heard = HearsAs (outcome s.rule codes.form s.bytes s.ended) codes s heard
+
+-- what follows a read of a whole data connection: others are read after these bytes, or this is the answer
+abbrev pub LeadsTo : Coding → Fetch → List ℕ → DealOutcome → Follows → Type 0
+LeadsTo coding form all outcome (More more) =
+    (on : List ℕ → Tree) (over : Answer → Tree) → on_data coding form all on over outcome ≡ on more
+LeadsTo coding form all outcome (Over answer) =
+    (on : List ℕ → Tree) (over : Answer → Tree) → on_data coding form all on over outcome ≡ over answer

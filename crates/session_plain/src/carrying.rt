@@ -75,7 +75,7 @@ fn leaving(alloc: Global, standing: Standing) -> Result<Progress, AllocError>
 }
 
 /// What a close came to is told to nobody.
-fn pass_over(_outcome: DealOutcome) {}
+pub(crate) fn pass_over(_outcome: DealOutcome) {}
 
 /// What is done is the answer.
 #[tactic(auto, unfolding(ftp_dialogue::specs::Play::play))]
@@ -101,6 +101,7 @@ fn moved_answer(outcome: DealOutcome) -> Answer
         DealOutcome::Failed(kind) => {
             Answer::Fault(FtpError::ConnectionError(ConnectionError::Io(kind)))
         }
+        DealOutcome::NoMemory => Answer::Fault(FtpError::OutOfMemory),
     }
 }
 

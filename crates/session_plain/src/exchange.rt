@@ -1,30 +1,30 @@
 //! One row of a call on all bytes at once: a line is said, a reply is heard and accepted; or a setting changes, or bytes
 //! go over the data connection.
 
-ghost use Rattle.std.specs.Prelude.{◌≡◌, ◌++◌, [], true, IfOk, IfErr, Ok, Some, Result, drop};
+ghost use Rattle.std.specs.Prelude.{◌≡◌, ◌++◌, [], IfOk, IfErr, Ok, Some};
 ghost use Rattle.ftp_base.specs.Command.{text_of};
 ghost use Rattle.ftp_base.specs.Wire.{wire};
-ghost use Rattle.ftp_control.specs.Grammar.{left_by};
 ghost use Rattle.ftp_control.specs.Refusal.{IsRefusalOf};
 ghost use Rattle.ftp_dialogue.specs.Coding.{coding_of};
 ghost use Rattle.ftp_dialogue.specs.Dialogue.{Tree, accepted, awaiting, concluded, doing, exchanging, expected_of, greeting_of, saying};
 ghost use Rattle.ftp_calls.specs.Exchanges.{row_of};
-ghost use Rattle.ftp_dialogue.specs.Play.{fits, heard_then, play, said_then, taken};
+ghost use Rattle.ftp_dialogue.specs.Play.{fits, play, said_then};
 ghost use Rattle.session_plain.specs.Progress.{ComesTo};
 
 use crate::aborting::aborted;
 use crate::addresses::{to_address, to_port};
 use crate::carrying::carrying;
+use crate::fetching::fetches;
 use crate::finishing::{after_fault, answer_to_fault, drained, finish_answer, finished};
-use crate::opening::{opened, opened_answer};
+use crate::hearing::{Heard, hear_reply};
+use crate::opening::{opened_answer, opens};
 use crate::settings::{armed, set_to};
 use ftp_base::command::Command;
 use ftp_base::encoding::{Encoding, WelcomeMessage};
 use ftp_base::status::Status;
-use ftp_base::types::{Bytes, ConnectionError, FtpError, FtpResult, Items, Response};
+use ftp_base::types::{Bytes, FtpError, FtpResult, Items, Response};
 use ftp_calls::exchange::{Codes, Ending, Exchange, Row, Turn, row_at};
-use ftp_control::control::{Outcome, REPLY_LIMIT, ReplyForm, WireLine, expected_reply, form_of};
-use ftp_control::plain::outcome;
+use ftp_control::control::{ReplyForm, WireLine, form_of};
 use ftp_control::transport::Room;
 use ftp_dialogue::answers::{features_answer, line_answer, path_answer, size_answer, time_answer};
 use ftp_session::model::{Played, Standing, Wait};
@@ -198,84 +198,10 @@ fn hear<E: Encoding>(
 {
     let form = form_of_codes(&codes);
     let statuses = statuses(alloc, codes)?;
-    let bytes = standing.bytes.as_slice();
-    let heard = outcome(alloc, standing.rule, form, bytes, standing.ended)?;
-    heard_then(
-        alloc,
-        encoding,
-        form,
-        statuses.as_slice(),
-        ending,
-        heard,
-        standing,
-    )
-}
-
-/// What the bytes say.
-fn heard_then<E: Encoding>(
-    alloc: Global,
-    encoding: &E,
-    form: ReplyForm,
-    codes: &[Status],
-    ending: Ending,
-    heard: Outcome,
-    standing: Standing,
-) -> Result<Progress, AllocError>
-    ensures { IfOk result (λ progress. (room : Room) (later : State → Tree) →
-        let coding = coding_of E.decoded E.encoded encoding.now in
-        ComesTo room later
-        (heard_then heard (record { form = form; statuses = codes.now }) standing (λ reply here.
-        play room (concluded coding ending standing.state later reply) here)) progress) }
-{
-    let left = left_by(alloc, &heard, standing.bytes.as_slice())?;
-    match heard {
-        Outcome::Whole(body, code) => {
-            let status = Status::from(code);
-            let reply = expected_reply(codes, Response { status, body });
-            concluded(alloc, encoding, ending, reply, taken(left, standing))
-        }
-        Outcome::Bad(_line) => {
-            let fault = Err(FtpError::BadResponse);
-            concluded(alloc, encoding, ending, fault, taken(left, standing))
-        }
-        Outcome::TooLarge => {
-            let fault = Err(ConnectionError::ReplyTooLarge.into());
-            concluded(
-                alloc,
-                encoding,
-                ending,
-                fault,
-                failed(taken(left, standing)),
-            )
-        }
-        Outcome::Ended => {
-            let fault = Err(ConnectionError::UnexpectedEof.into());
-            concluded(
-                alloc,
-                encoding,
-                ending,
-                fault,
-                failed(taken(left, standing)),
-            )
-        }
-        Outcome::Waits => Ok(Progress::Stops(Played::Pending(Wait::Bytes(form), standing))),
+    match hear_reply(alloc, form, statuses.as_slice(), standing)? {
+        Heard::Unknown(here) => Ok(Progress::Stops(Played::Pending(Wait::Bytes(form), here))),
+        Heard::Known(reply, here) => concluded(alloc, encoding, ending, reply, here),
     }
-}
-
-/// A reply was taken.
-fn taken(left: Bytes, mut standing: Standing) -> Standing
-    ensures { result ≡ taken left standing }
-{
-    standing.bytes = left;
-    standing
-}
-
-/// The session has failed.
-fn failed(mut standing: Standing) -> Standing
-    ensures { result ≡ record standing { failed = true } }
-{
-    standing.failed = true;
-    standing
 }
 
 /// A reply is accepted, or a fault is the answer.
@@ -331,10 +257,8 @@ fn accepted<E: Encoding>(
         Ending::Continues => Ok(Progress::Continues(standing)),
         Ending::GivesAddress => to_address(alloc, reply, standing),
         Ending::GivesPort => to_port(alloc, reply, standing),
-        Ending::Opens(gives_reply) => {
-            let played = opened(alloc, opened_answer(gives_reply, reply), standing)?;
-            Ok(Progress::Stops(played))
-        }
+        Ending::Opens(gives_reply) => opens(alloc, opened_answer(gives_reply, reply), standing),
+        Ending::Fetches(form) => fetches(alloc, encoding, form, standing),
         Ending::Finishes(close) => Ok(done(finish_answer(close), finished(standing))),
         Ending::Drains => Ok(done(Answer::Unit, drained(standing))),
         Ending::Stops => {
@@ -397,28 +321,4 @@ pub(crate) fn done(answer: Answer, standing: Standing) -> Progress
     ensures { result ≡ Progress.Stops (Played.Done answer standing) }
 {
     Progress::Stops(Played::Done(answer, standing))
-}
-
-/// The bytes that an outcome leaves for the next read.
-fn left_by(alloc: Global, heard: &Outcome, bytes: &[u8]) -> Result<Bytes, AllocError>
-    ensures { IfOk result (λ left. left ≡ left_by heard.now bytes.now) }
-{
-    match heard {
-        Outcome::Whole(reply, _code) => dropped(alloc, bytes, reply.len()),
-        Outcome::Bad(line) => dropped(alloc, bytes, line.len()),
-        Outcome::TooLarge => dropped(alloc, bytes, REPLY_LIMIT + 1),
-        Outcome::Ended => Ok(Bytes::new(alloc)),
-        Outcome::Waits => Bytes::from_slice(alloc, bytes),
-    }
-}
-
-/// The bytes after so many.
-fn dropped(alloc: Global, bytes: &[u8], count: usize) -> Result<Bytes, AllocError>
-    ensures { IfOk result (λ others. others ≡ drop count bytes.now) }
-{
-    if count < bytes.len() {
-        Bytes::from_slice(alloc, &bytes[count..])
-    } else {
-        Ok(Bytes::new(alloc))
-    }
 }

@@ -3,10 +3,13 @@
 
 ghost use Rattle.std.specs.Prelude.{◌≡◌, IfOk};
 ghost use Rattle.ftp_control.specs.declared.transport.room.Room.{Room as Rooms};
-ghost use Rattle.ftp_dialogue.specs.Dialogue.{accepting, lets_in, opened_answer, opening, with_transfer};
+ghost use Rattle.ftp_dialogue.specs.Dialogue.{Leaf, Tree, accepting, lets_in, opened_answer, opening, with_transfer};
 ghost use Rattle.ftp_dialogue.specs.Play.{play};
+ghost use Rattle.ftp_dialogue.specs.declared.state.State.{State as States};
+ghost use Rattle.session_plain.specs.Progress.{ComesTo};
 
 use crate::asking::{Came, asked};
+use crate::exchange::{Progress, done};
 use ftp_base::types::{ConnectionError, FtpError, Mode, Response};
 use ftp_control::transport::{Request, RequestOutcome};
 use ftp_session::model::{Played, Standing, Wait};
@@ -28,23 +31,35 @@ pub(crate) fn opened_answer(gives_reply: bool, reply: Response) -> Answer
     }
 }
 
-/// The command was accepted.
+/// The command was accepted, and opens a transfer, which is the answer.
 #[tactic(auto, unfolding(ftp_dialogue::specs::Play::play))]
-pub(crate) fn opened(
+pub(crate) fn opens(
     alloc: Global,
     answer: Answer,
     standing: Standing,
-) -> Result<Played, AllocError>
-    ensures { IfOk result (λ played. (room : Rooms) → played ≡
-        play room (opening standing.state.settings.mode answer standing.state) standing) }
+) -> Result<Progress, AllocError>
+    ensures { IfOk result (λ progress. (room : Rooms) (later : States → Tree) →
+        ComesTo room later (play room (opening standing.state.settings.mode
+        (Leaf answer (with_transfer standing.state)) standing.state) standing) progress) }
+{
+    match opened(alloc, standing)? {
+        Progress::Stops(played) => Ok(Progress::Stops(played)),
+        Progress::Continues(here) => Ok(done(answer, with_transfer(here))),
+    }
+}
+
+/// The command was accepted: what comes next begins once the data connection stands.
+#[tactic(auto, unfolding(ftp_dialogue::specs::Play::play))]
+pub(crate) fn opened(alloc: Global, standing: Standing) -> Result<Progress, AllocError>
+    ensures { IfOk result (λ progress. (room : Rooms) (next : States → Tree) →
+        ComesTo room next (play room (opening standing.state.settings.mode
+        (next standing.state) standing.state) standing) progress) }
 {
     match standing.state.settings.mode {
-        Mode::Passive | Mode::ExtendedPassive => {
-            Ok(Played::Done(answer, with_transfer(standing)))
-        }
+        Mode::Passive | Mode::ExtendedPassive => Ok(Progress::Continues(standing)),
         Mode::Active => {
             let peer = standing.peer;
-            accepting(alloc, answer, peer, STRANGERS, standing)
+            accepting(alloc, peer, STRANGERS, standing)
         }
     }
 }
@@ -53,26 +68,30 @@ pub(crate) fn opened(
 #[tactic(auto, unfolding(ftp_dialogue::specs::Play::play, ftp_dialogue::specs::Dialogue::accepting))]
 fn accepting(
     alloc: Global,
-    answer: Answer,
     peer: SocketAddr,
     left: u64,
     standing: Standing,
-) -> Result<Played, AllocError>
-    ensures { IfOk result (λ played. (room : Rooms) → played ≡
-        play room (accepting answer peer left standing.state) standing) }
+) -> Result<Progress, AllocError>
+    ensures { IfOk result (λ progress. (room : Rooms) (next : States → Tree) → ComesTo room next
+        (play room (accepting (next standing.state) peer left standing.state) standing)
+        progress) }
 {
     let deadline = standing.state.settings.active_deadline;
     match asked(alloc, Request::Accept(deadline), standing)? {
-        Came::Unknown(here) => Ok(Played::Pending(Wait::Outcome, here)),
-        Came::Known(RequestOutcome::Done, here) => Ok(fault(ConnectionError::NoAddress, here)),
-        Came::Known(RequestOutcome::Refused(cause), here) => Ok(fault(cause, here)),
+        Came::Unknown(here) => Ok(Progress::Stops(Played::Pending(Wait::Outcome, here))),
+        Came::Known(RequestOutcome::Done, here) => {
+            Ok(Progress::Stops(fault(ConnectionError::NoAddress, here)))
+        }
+        Came::Known(RequestOutcome::Refused(cause), here) => {
+            Ok(Progress::Stops(fault(cause, here)))
+        }
         Came::Known(RequestOutcome::Address(from), here) => {
             if lets_in(&here, peer, from) {
-                Ok(Played::Done(answer, with_transfer(here)))
+                Ok(Progress::Continues(here))
             } else if left == 0 {
-                Ok(fault(ConnectionError::TimedOut, here))
+                Ok(Progress::Stops(fault(ConnectionError::TimedOut, here)))
             } else {
-                accepting(alloc, answer, peer, left - 1, here)
+                accepting(alloc, peer, left - 1, here)
             }
         }
     }
@@ -87,7 +106,7 @@ fn lets_in(standing: &Standing, peer: SocketAddr, from: SocketAddr) -> bool
 }
 
 /// A transfer is live from now on.
-fn with_transfer(mut standing: Standing) -> Standing
+pub(crate) fn with_transfer(mut standing: Standing) -> Standing
     ensures { result ≡ record standing { state = with_transfer standing.state } }
 {
     standing.state.counts.open();

@@ -51,7 +51,10 @@ fn answers(movement: &Movement, outcome: &DealOutcome) -> bool
     ensures { result ≡ answers movement.now outcome.now }
 {
     match movement {
-        Movement::Read(_) => matches!(outcome, DealOutcome::Read(_) | DealOutcome::Failed(_)),
+        Movement::Read(_) => matches!(
+            outcome,
+            DealOutcome::Read(_) | DealOutcome::Failed(_) | DealOutcome::NoMemory
+        ),
         Movement::Write(_) => matches!(outcome, DealOutcome::Wrote(_) | DealOutcome::Failed(_)),
         Movement::Close => matches!(outcome, DealOutcome::Closed | DealOutcome::Failed(_)),
     }

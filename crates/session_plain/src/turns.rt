@@ -119,5 +119,6 @@ fn restarts(call: &Call) -> bool
             | Call::PutWithStream(_)
             | Call::AppendWithStream(_)
             | Call::CustomDataCommand(..)
+            | Call::Retr(_)
     )
 }

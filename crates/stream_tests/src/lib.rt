@@ -4,6 +4,8 @@
 #[cfg(test)]
 mod aborted;
 #[cfg(test)]
+mod broken_data;
+#[cfg(test)]
 mod counts;
 #[cfg(test)]
 mod handed;
@@ -11,3 +13,5 @@ mod handed;
 mod scene;
 #[cfg(test)]
 mod streams;
+#[cfg(test)]
+mod whole;

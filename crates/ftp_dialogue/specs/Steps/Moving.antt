@@ -1,6 +1,6 @@
 -- What a step of a dialogue does: whatever the server still sends, and whatever room there is, the tree before it and
 -- the tree after it come to the same. Beside what is promised it keeps how much is kept of a reply under way.
-use Rattle.std.specs.Prelude.{◌++◌, ◌==◌, ◌≡◌, ◌<◌, ◌≤◌, ◌+◌, ◌⊎◌, ℕ, zero, suc, Bool, true, false, ◌&&◌, if◌then◌else◌, Option, None, List, [], length, Result, Ok, Err}
+use Rattle.std.specs.Prelude.{◌++◌, ◌==◌, ◌≡◌, ◌<◌, ◌≤◌, ◌+◌, ◌⊎◌, nat_le, ◌∷◌, ℕ, zero, suc, Bool, true, false, ◌&&◌, if◌then◌else◌, Option, None, List, [], length, Result, Ok, Err}
 use Rattle.futures.specs.declared.task.Poll.{Poll}
 use Rattle.futures.specs.declared.task.Poll.TheVariants as poll
 use Rattle.ftp_base.specs.declared.types.reply.Response.{Response}
@@ -26,14 +26,22 @@ use Rattle.ftp_calls.specs.declared.call.Setting.{Setting}
 use Rattle.ftp_calls.specs.declared.exchange.Movement.TheVariants as movement
 use Rattle.ftp_calls.specs.declared.call.Call.{Call}
 use Rattle.ftp_calls.specs.declared.exchange.Ending.{Ending}
-use Rattle.ftp_calls.specs.declared.exchange.Ending.TheVariants.{GivesAddress, GivesPort, Opens}
+use Rattle.ftp_calls.specs.declared.exchange.Ending.TheVariants.{GivesAddress, GivesPort, Opens, Fetches}
+use Rattle.ftp_calls.specs.declared.exchange.Fetch.{Fetch}
+use Rattle.ftp_dialogue.specs.declared.gathered.More.{More}
+use Rattle.ftp_dialogue.specs.declared.gathered.More.TheVariants as more
+use Rattle.ftp_dialogue.specs.declared.stage.Fetching.{Fetching as Fetched}
+use Rattle.ftp_dialogue.specs.declared.stage.Fetching.TheVariants as fetch
+use Rattle.ftp_dialogue.specs.declared.stage.Opened.{Opened as Opening}
+use Rattle.ftp_dialogue.specs.declared.stage.Opened.TheVariants.{Gives as GivesAnswer, Fetches as FetchesAll}
+use Rattle.ftp_dialogue.specs.declared.model.DealOutcome.TheVariants as came
 use Rattle.ftp_dialogue.specs.declared.nodes.Accepted.{Accepted}
 use Rattle.ftp_dialogue.specs.declared.nodes.Accepted.TheVariants as accepts
 use Rattle.ftp_dialogue.specs.declared.stage.Asking.{Asking}
 use Rattle.ftp_dialogue.specs.declared.stage.Asking.TheVariants.{PeerPort, Connection, Peer, Accepting}
 use Rattle.ftp_dialogue.specs.declared.stage.Awaits.{Awaits}
 use Rattle.ftp_dialogue.specs.declared.stage.Stage.{Stage}
-use Rattle.ftp_dialogue.specs.declared.stage.Stage.TheVariants.{Agreeing}
+use Rattle.ftp_dialogue.specs.declared.stage.Stage.TheVariants.{Agreeing, Fetching}
 use Rattle.ftp_dialogue.specs.declared.stage.Agreeing.TheVariants.{Asking as Asks}
 use Rattle.ftp_dialogue.specs.declared.stage.Step.{Step}
 use Rattle.ftp_dialogue.specs.declared.stage.Step.TheVariants.{Next, Pending, Done}
@@ -48,8 +56,8 @@ use Rattle.ftp_calls.specs.declared.exchange.Row.{Row}
 use Rattle.ftp_calls.specs.declared.exchange.Row.TheVariants.{Exchanges, Arms}
 use Rattle.ftp_calls.specs.declared.exchange.Row.TheVariants as row
 use Rattle.ftp_control.specs.Refusal.{IsRefusalOf}
-use Rattle.ftp_calls.specs.Exchanges.{is_draining, is_local, is_read, row_of, says_of, Kind, Nothing, kind_of}
-use Rattle.ftp_dialogue.specs.Dialogue.{Expected, End, Tree, Say, Hear, Look, Ask, Build, Move, Leaf, accepted, later, lets_in, moved_answer, set_to, answer_to_fault, after_fault_of, with_aborted, with_left, with_transfer, dialogue}
+use Rattle.ftp_calls.specs.Exchanges.{is_draining, is_local, is_read, row_of, says_of, Kind, Nothing, kind_of, kind_of_fetch}
+use Rattle.ftp_dialogue.specs.Dialogue.{Expected, End, Tree, Say, Hear, Look, Ask, Build, Move, Leaf, accepted, chunk, fetched, fetching, first_fault, later, lets_in, most_bytes, moved_answer, too_long, unfetched, with_fetched, set_to, answer_to_fault, after_fault_of, with_aborted, with_left, with_transfer, dialogue}
 use Rattle.ftp_dialogue.specs.Run.{Resumes, Silent}
 use Rattle.ftp_dialogue.specs.Promises.{DrainsIf, due_of, AbortsRead, IsFault, Leads, Completes, Aborts, However, SaidOrTaken, Untouched, Rests, IsRefused, begun_by, failed_from, refusal_of, IsApart}
 use Rattle.ftp_dialogue.specs.Steps.Stages.{AnswersKind, Begun, GoesOnTo, StageAfter, StepAnswers, asking_of, nodes_left, remaining, begun_at, is_later, is_out, line_of}
@@ -154,11 +162,18 @@ pub record WaitsToHear (link : Link) (tree : Tree) (v : SessionValue) : Type 0 w
   pub none_ahead : v.channel.ahead ≡ []
   pub dry : link.tells → IsDry v.channel.told
 
--- or for an outcome, where requests may wait
+-- or for an outcome, where requests may wait, and reads of the data connection
+abbrev pub AsksFirst : Tree → Type 0
+AsksFirst (Say line next) = ⊥
+AsksFirst (Hear codes next) = ⊥
+AsksFirst (Look end next) = ⊥
+AsksFirst (Ask request next) = Unit {0}
+AsksFirst (Build address next) = ⊥
+AsksFirst (Move movement next) = Unit {0}
+AsksFirst (Leaf answer state) = ⊥
+
 pub record WaitsToAsk (link : Link) (tree : Tree) : Type 0 where
-  pub request : Request
-  pub next : RequestOutcome → Tree
-  pub is : tree ≡ Ask request next
+  pub asks : AsksFirst tree
   pub may : link.asks_wait
 
 abbrev pub WaitsFor : Link → Tree → SessionValue → Type 0
@@ -233,7 +248,8 @@ Hears link codes next old new poll.Pending = Advances link (Hear codes next) (He
 -- an accepted reply: the next exchange, or the answer with the change of state
 abbrev pub Accepts : Coding → Ending → Response → State → State → Accepted → Type 0
 Accepts coding ending reply state state' accepts.GoesOn = (state' ≡ state) × ((later : State → Tree) → accepted coding ending state reply later ≡ later state)
-Accepts coding ending reply state state' (accepts.Asks asking) = (state' ≡ state) × ((later : State → Tree) → accepted coding ending state reply later ≡ asking_of asking state (later state))
+Accepts coding ending reply state state' (accepts.Asks asking) = (state' ≡ state) × ((later : State → Tree) → accepted coding ending state reply later ≡ asking_of coding asking state (later state))
+Accepts coding ending reply state state' (accepts.Fetches form) = (state' ≡ state) × ((later : State → Tree) → accepted coding ending state reply later ≡ fetching coding form state)
 Accepts coding ending reply state state' (accepts.Done answer) = (later : State → Tree) → accepted coding ending state reply later ≡ Leaf answer state'
 
 abbrev pub wants_memory : FtpError → Bool
@@ -315,7 +331,7 @@ Quiet link coding call stage stage' old new Next = begun_at stage' ≡ false →
 Quiet link coding call stage stage' old new Pending = Unit {0}
 Quiet link coding call stage stage' old new (Done answer) = Unit {0}
 
--- a step of an abort
+-- a step of an abort, or of a call that reads a whole data connection
 pub record BreaksOff (link : Link) (coding : Coding) (call : Call) (stage stage' : Stage) (old new : SessionValue) (result : Step) : Type 0 where
   pub steps : Steps link (begun_at stage) (remaining coding call old.state stage) (remaining coding call old.state stage') old new result
   pub quiet : Quiet link coding call stage stage' old new result
@@ -351,18 +367,24 @@ abbrev pub agrees : Ending → Bool
 agrees GivesAddress = true
 agrees GivesPort = true
 agrees (Opens replies) = true
+agrees (Fetches form) = true
 agrees other = false
+
+abbrev pub OpeningAnswers : Kind → Opening → Type 0
+OpeningAnswers kind (GivesAnswer answer) = AnswersKind kind answer
+OpeningAnswers kind (FetchesAll form) = kind ≡ kind_of_fetch form
 
 abbrev pub AskingAnswers : Kind → Asking → Type 0
 AskingAnswers kind (PeerPort port) = Unit {0}
 AskingAnswers kind (Connection address) = Unit {0}
-AskingAnswers kind (Peer answer) = AnswersKind kind answer
-AskingAnswers kind (Accepting peer left answer) = ⊥
+AskingAnswers kind (Peer opened) = OpeningAnswers kind opened
+AskingAnswers kind (Accepting peer left opened) = ⊥
 
 -- the kind of an answer is its ending's
 abbrev pub AnswersAs : Ending → Accepted → Type 0
 AnswersAs ending accepts.GoesOn = (kind_of ending ≡ Nothing) × (is_draining ending ≡ false)
 AnswersAs ending (accepts.Asks asking) = (agrees ending ≡ true) × AskingAnswers (kind_of ending) asking
+AnswersAs ending (accepts.Fetches form) = (agrees ending ≡ true) × (kind_of ending ≡ kind_of_fetch form)
 AnswersAs ending (accepts.Done answer) = AnswersKind (kind_of ending) answer
 
 -- a reply that was heard is accepted: the next exchange is reached, or the answer with the change of state; where
@@ -400,10 +422,10 @@ withheld v = if v.channel.failed then SessionFailed else OutOfMemory
 abbrev pub dropped : SessionValue → SessionValue
 dropped v = record v { net = record v.net { data_conn = None } }
 
-abbrev pub TurnsAway : Turn → SocketAddr → ℕ → Answer → Stage → SessionValue → SessionValue → Step → Type 0
-TurnsAway turn peer left answer stage old new Next = (rest : ℕ) × (left ≡ suc rest) × (stage ≡ Agreeing (Asks turn (Accepting peer rest answer))) × (new ≡ dropped old)
-TurnsAway turn peer left answer stage old new Pending = ⊥
-TurnsAway turn peer left answer stage old new (Done last) = (left ≡ zero) × (last ≡ Fault (ConnectionError TimedOut)) × (new ≡ old)
+abbrev pub TurnsAway : Turn → SocketAddr → ℕ → Opening → Stage → SessionValue → SessionValue → Step → Type 0
+TurnsAway turn peer left opened stage old new Next = (rest : ℕ) × (left ≡ suc rest) × (stage ≡ Agreeing (Asks turn (Accepting peer rest opened))) × (new ≡ dropped old)
+TurnsAway turn peer left opened stage old new Pending = ⊥
+TurnsAway turn peer left opened stage old new (Done last) = (left ≡ zero) × (last ≡ Fault (ConnectionError TimedOut)) × (new ≡ old)
 
 -- a connection was made, and the next turn begins; or it was refused
 abbrev pub ConnectsTo : Call → Turn → RequestOutcome → Stage → Step → Type 0
@@ -411,15 +433,20 @@ ConnectsTo call turn outcomes.Done stage result = GoesOnTo call turn stage resul
 ConnectsTo call turn (outcomes.Address address) stage result = GoesOnTo call turn stage result
 ConnectsTo call turn (outcomes.Refused fault) stage result = result ≡ Done (Fault (ConnectionError fault))
 
--- a peer came: one that is let in opens the transfer, another is dropped; or none came
-abbrev pub MeetsIf : Bool → Turn → SocketAddr → ℕ → Answer → Stage → SessionValue → SessionValue → Step → Type 0
-MeetsIf true turn peer left answer stage old new result = (result ≡ Done answer) × (new ≡ record old { state = with_transfer old.state })
-MeetsIf false turn peer left answer stage old new result = TurnsAway turn peer left answer stage old new result
+-- a peer was let in: a transfer is live, and that is the answer; or all that the connection carries is read
+abbrev pub LetsIn : Opening → Stage → SessionValue → SessionValue → Step → Type 0
+LetsIn (GivesAnswer answer) stage old new result = (result ≡ Done answer) × (new ≡ record old { state = with_transfer old.state })
+LetsIn (FetchesAll form) stage old new result = (result ≡ Next) × (stage ≡ Fetching (fetch.Starting form)) × (new ≡ old)
 
-abbrev pub Meets : RequestOutcome → Turn → SocketAddr → ℕ → Answer → Stage → SessionValue → SessionValue → Step → Type 0
-Meets (outcomes.Address from) turn peer left answer stage old new result = MeetsIf (lets_in old.state peer from) turn peer left answer stage old new result
-Meets (outcomes.Refused fault) turn peer left answer stage old new result = (new ≡ old) × (result ≡ Done (Fault (ConnectionError fault)))
-Meets outcomes.Done turn peer left answer stage old new result = (new ≡ old) × (result ≡ Done (Fault (ConnectionError NoAddress)))
+-- a peer came: one that is let in opens the transfer, another is dropped; or none came
+abbrev pub MeetsIf : Bool → Turn → SocketAddr → ℕ → Opening → Stage → SessionValue → SessionValue → Step → Type 0
+MeetsIf true turn peer left opened stage old new result = LetsIn opened stage old new result
+MeetsIf false turn peer left opened stage old new result = TurnsAway turn peer left opened stage old new result
+
+abbrev pub Meets : RequestOutcome → Turn → SocketAddr → ℕ → Opening → Stage → SessionValue → SessionValue → Step → Type 0
+Meets (outcomes.Address from) turn peer left opened stage old new result = MeetsIf (lets_in old.state peer from) turn peer left opened stage old new result
+Meets (outcomes.Refused fault) turn peer left opened stage old new result = (new ≡ old) × (result ≡ Done (Fault (ConnectionError fault)))
+Meets outcomes.Done turn peer left opened stage old new result = (new ≡ old) × (result ≡ Done (Fault (ConnectionError NoAddress)))
 
 -- a setting changes; or there is no memory for a copy of it, and nothing does
 abbrev pub Sets : Setting → SessionValue → SessionValue → Answer → Type 0
@@ -494,3 +521,32 @@ pub record CarriedOut (tells : Type 0) (call : Call) (old new : SessionValue) (a
 -- it is refused, or carried out
 abbrev pub CarriesOut : Type 0 → Call → SessionValue → SessionValue → Answer → Type 0
 CarriesOut tells call old new answer = IsRefused tells call old new answer ⊎ CarriedOut tells call old new answer
+
+-- A whole data connection
+
+-- a read of the data connection came to this, and all that was read is this now
+abbrev pub ReadsBy : Link → SessionValue → SessionValue → DealOutcome → Type 0
+ReadsBy link old new outcome = MovesBy link (movement.Read chunk) old new outcome
+
+abbrev pub Grows : Link → List ℕ → List ℕ → SessionValue → SessionValue → Poll More → Type 0
+Grows link all all' old new (poll.Ready more.Grew) = (byte : ℕ) × (bytes : List ℕ) × (all' ≡ all ++ byte ∷ bytes) × ReadsBy link old new (came.Read (byte ∷ bytes))
+Grows link all all' old new (poll.Ready more.Ended) = (all' ≡ all) × ReadsBy link old new (came.Read []) × ReadsBy link old new came.NoMemory
+Grows link all all' old new (poll.Ready (more.Failed kind)) = ReadsBy link old new (came.Failed kind)
+Grows link all all' old new (poll.Ready more.NoMemory) = ReadsBy link old new came.NoMemory
+Grows link all all' old new poll.Pending = (all' ≡ all) × ((tree : Tree) → Still link tree tree old new) × link.asks_wait
+
+-- what follows a read
+abbrev pub Follows : Coding → Fetch → ℕ → List ℕ → More → Fetched → Type 0
+Follows coding form left all more.Grew next = next ≡ (if nat_le (length all) most_bytes then fetch.Gathering form left all else fetch.Parting form (too_long form))
+Follows coding form left all more.Ended next = (next ≡ fetch.Parting form (fetched coding form all)) ⊎ (next ≡ fetch.Parting form (Fault OutOfMemory))
+Follows coding form left all (more.Failed kind) next = next ≡ fetch.Parting form (unfetched form kind)
+Follows coding form left all more.NoMemory next = next ≡ fetch.Parting form (Fault OutOfMemory)
+
+-- a fault was heard in place of the last reply: what is answered, and what it leaves
+abbrev pub FetchFailsIf : Bool → Fetch → Answer → FtpError → State → State → Answer → Type 0
+FetchFailsIf true form answer fault state state' told = (told ≡ Fault fault) × (state' ≡ state)
+FetchFailsIf false form answer fault state state' told = (told ≡ Fault (first_fault form answer fault)) × (state' ≡ with_fetched state)
+
+abbrev pub EndsFetch : Fetch → Answer → FtpError → SessionValue → SessionValue → Answer → Type 0
+EndsFetch form answer fault old new told =
+    (new ≡ record (after_fault true fault old) { state = new.state }) × FetchFailsIf (wants_memory fault) form answer fault old.state new.state told

@@ -11,7 +11,7 @@ use Rattle.ftp_calls.specs.declared.exchange.Turn.{Turn}
 use Rattle.ftp_calls.specs.declared.exchange.Turn.TheVariants.{First, Second, Passive, ExtendedPassive, Active, Restart, Closed, Aborted}
 use Rattle.ftp_dialogue.specs.declared.state.State.{State}
 use Rattle.ftp_dialogue.specs.declared.stage.Stage.{Stage}
-use Rattle.ftp_dialogue.specs.declared.stage.Stage.TheVariants.{At, Saying, Hearing, Arming, Agreeing, Closing, Aborting}
+use Rattle.ftp_dialogue.specs.declared.stage.Stage.TheVariants.{At, Saying, Hearing, Arming, Agreeing, Closing, Aborting, Fetching}
 use Rattle.ftp_dialogue.specs.declared.stage.Aborting.TheVariants.{Wording}
 use Rattle.ftp_dialogue.specs.declared.stage.Agreeing.TheVariants.{Negotiating}
 use Rattle.ftp_dialogue.specs.State.{SessionValue}
@@ -43,6 +43,7 @@ is_first (Arming turn offset) = false
 is_first (Agreeing agreeing) = false
 is_first Closing = false
 is_first (Aborting abort) = false
+is_first (Fetching fetching) = false
 
 -- where the end of a transfer begins: its data connection is closed, or ABOR goes out first
 abbrev pub last_stage : Call → Stage

@@ -18,9 +18,15 @@ use Rattle.ftp_calls.specs.declared.call.Answer.TheVariants as answer
 use Rattle.ftp_calls.specs.declared.exchange.Turn.{Turn}
 use Rattle.ftp_calls.specs.declared.exchange.Turn.TheVariants.{First, Second, Passive, ExtendedPassive, Active, Restart, Closed, Aborted}
 use Rattle.ftp_calls.specs.declared.exchange.Exchange.{Exchange}
+use Rattle.ftp_calls.specs.declared.exchange.Fetch.{Fetch}
 use Rattle.ftp_dialogue.specs.declared.stage.Awaits.{Awaits}
 use Rattle.ftp_dialogue.specs.declared.stage.Stage.{Stage}
-use Rattle.ftp_dialogue.specs.declared.stage.Stage.TheVariants.{At, Saying, Hearing, Arming, Agreeing, Closing, Aborting}
+use Rattle.ftp_dialogue.specs.declared.stage.Stage.TheVariants.{At, Saying, Hearing, Arming, Agreeing, Closing, Aborting, Fetching}
+use Rattle.ftp_dialogue.specs.declared.stage.Fetching.{Fetching as Fetched}
+use Rattle.ftp_dialogue.specs.declared.stage.Fetching.TheVariants.{Starting, Gathering, Ending}
+use Rattle.ftp_dialogue.specs.declared.stage.Fetching.TheVariants as fetch
+use Rattle.ftp_dialogue.specs.declared.stage.Opened.{Opened as Opening}
+use Rattle.ftp_dialogue.specs.declared.stage.Opened.TheVariants.{Gives as GivesAnswer, Fetches}
 use Rattle.ftp_dialogue.specs.declared.stage.Agreeing.{Agreeing as Way}
 use Rattle.ftp_dialogue.specs.declared.stage.Agreeing.TheVariants.{Negotiating, Locating, Binding, Asking}
 use Rattle.ftp_dialogue.specs.declared.stage.Aborting.{Aborting as Abort}
@@ -32,8 +38,8 @@ use Rattle.ftp_dialogue.specs.declared.stage.Step.TheVariants as step
 use Rattle.ftp_dialogue.specs.Coding.{Coding}
 use Rattle.ftp_dialogue.specs.Promises.{IsFault}
 use Rattle.ftp_calls.specs.declared.exchange.Row.TheVariants.{Arms}
-use Rattle.ftp_calls.specs.Exchanges.{row_of, aborts, finishes, is_local, is_read, negotiates, next_turn, of_transfer, Movements, Kind, Nothing, Replies, Texts, Times, Sizes, Lists, Connections, ending_of, given_by, says_of}
-use Rattle.ftp_dialogue.specs.Dialogue.{expected_of, Tree, Say, Look, There, Leaf, armed, awaiting, aborting, breaking_off, closing, later, from_turn, negotiating, listening, listening_at, connecting_to, connecting_to_peer, accepting, strangers}
+use Rattle.ftp_calls.specs.Exchanges.{row_of, aborts, finishes, is_local, is_read, negotiates, next_turn, of_transfer, Movements, Listings, Kind, kind_of_fetch, Nothing, Replies, Texts, Times, Sizes, Lists, Connections, ending_of, given_by, says_of}
+use Rattle.ftp_dialogue.specs.Dialogue.{expected_of, Tree, Say, Look, There, Leaf, armed, awaiting, aborting, breaking_off, closing, later, from_turn, negotiating, listening, listening_at, connecting_to, connecting_to_peer, accepting, fetch_ending, fetch_parting, fetching, gathering, most_reads, strangers, with_transfer}
 
 -- an exchange was made before
 abbrev pub is_later : Turn → Bool
@@ -46,12 +52,17 @@ is_later (Restart offset) = true
 is_later (Closed close) = false
 is_later Aborted = true
 
+-- what follows once the data connection stands
+abbrev pub opened_by : Coding → Opening → State → Tree
+opened_by coding (GivesAnswer answer) state = Leaf answer (with_transfer state)
+opened_by coding (Fetches form) state = fetching coding form state
+
 -- what an outcome is awaited for, on the way to a data connection
-abbrev pub asking_of : Asked → State → Tree → Tree
-asking_of (PeerPort port) state next = connecting_to_peer port state next
-asking_of (Connection address) state next = connecting_to address state next
-asking_of (Peer answer) state next = Look There (λ peer. accepting answer peer strangers state)
-asking_of (Accepting peer left answer) state next = accepting answer peer left state
+abbrev pub asking_of : Coding → Asked → State → Tree → Tree
+asking_of coding (PeerPort port) state next = connecting_to_peer port state next
+asking_of coding (Connection address) state next = connecting_to address state next
+asking_of coding (Peer opened) state next = Look There (λ peer. accepting (opened_by coding opened state) peer strangers state)
+asking_of coding (Accepting peer left opened) state next = accepting (opened_by coding opened state) peer left state
 
 -- a reply is awaited
 abbrev pub awaited : Coding → Call → State → Awaits → Tree
@@ -68,13 +79,20 @@ abbrev pub way_of : Coding → Call → State → Way → Tree
 way_of coding call state (Negotiating offset) = negotiating coding call offset state
 way_of coding call state (Locating offset) = listening coding call offset state
 way_of coding call state (Binding local offset) = listening_at coding call offset state local
-way_of coding call state (Asking turn asking) = asking_of asking state (later coding call turn state)
+way_of coding call state (Asking turn asking) = asking_of coding asking state (later coding call turn state)
 
 -- what is left of an abort
 abbrev pub abort_left : Coding → Call → State → Abort → Tree
 abort_left coding call state Wording = aborting coding call state
 abort_left coding call state (Sending line) = Say (Ok (due line)) (breaking_off coding call state)
 abort_left coding call state Parting = breaking_off coding call state
+
+-- what is left where a whole data connection is read
+abbrev pub fetch_left : Coding → State → Fetched → Tree
+fetch_left coding state (Starting form) = fetching coding form state
+fetch_left coding state (Gathering form left all) = gathering coding form left all state
+fetch_left coding state (fetch.Parting form answer) = fetch_parting form answer state
+fetch_left coding state (Ending form answer) = fetch_ending form answer state
 
 -- what is left of a call's dialogue
 abbrev pub remaining : Coding → Call → State → Stage → Tree
@@ -85,6 +103,7 @@ remaining coding call state (Arming turn offset) = Leaf answer.Unit (armed offse
 remaining coding call state (Agreeing agreeing) = way_of coding call state agreeing
 remaining coding call state Closing = closing coding call state
 remaining coding call state (Aborting abort) = abort_left coding call state abort
+remaining coding call state (Fetching fetching) = fetch_left coding state fetching
 
 -- a reply was taken on that way
 abbrev pub has_asked : Way → Bool
@@ -117,34 +136,44 @@ begun_at (Arming turn offset) = is_later turn
 begun_at (Agreeing agreeing) = has_asked agreeing
 begun_at Closing = false
 begun_at (Aborting abort) = has_sent abort
+begun_at (Fetching fetching) = true
 
 -- the nodes that are left
+abbrev pub many : ℕ
+many = most_reads + strangers
+
 abbrev pub nodes_from : Turn → ℕ
-nodes_from First = strangers + 80
-nodes_from (Passive offset) = strangers + 40
-nodes_from (ExtendedPassive offset) = strangers + 40
-nodes_from (Active address offset) = strangers + 40
-nodes_from (Restart offset) = strangers + 30
-nodes_from Second = strangers + 20
-nodes_from (Closed close) = strangers + 20
-nodes_from Aborted = strangers + 25
+nodes_from First = many + 80
+nodes_from (Passive offset) = many + 40
+nodes_from (ExtendedPassive offset) = many + 40
+nodes_from (Active address offset) = many + 40
+nodes_from (Restart offset) = many + 30
+nodes_from Second = many + 20
+nodes_from (Closed close) = many + 20
+nodes_from Aborted = many + 25
 
 abbrev pub nodes_asked : Asked → Turn → ℕ
 nodes_asked (PeerPort port) turn = nodes_from turn - 3
 nodes_asked (Connection address) turn = nodes_from turn - 4
-nodes_asked (Peer answer) turn = nodes_from turn - 3
-nodes_asked (Accepting peer left answer) turn = left + 1
+nodes_asked (Peer opened) turn = nodes_from turn - 3
+nodes_asked (Accepting peer left opened) turn = most_reads + left + 15
 
 abbrev pub nodes_of : Way → ℕ
-nodes_of (Negotiating offset) = strangers + 70
-nodes_of (Locating offset) = strangers + 60
-nodes_of (Binding local offset) = strangers + 50
+nodes_of (Negotiating offset) = many + 70
+nodes_of (Locating offset) = many + 60
+nodes_of (Binding local offset) = many + 50
 nodes_of (Asking turn asking) = nodes_asked asking turn
 
 abbrev pub nodes_of_abort : Abort → ℕ
-nodes_of_abort Wording = strangers + 33
-nodes_of_abort (Sending line) = strangers + 32
-nodes_of_abort Parting = strangers + 31
+nodes_of_abort Wording = many + 33
+nodes_of_abort (Sending line) = many + 32
+nodes_of_abort Parting = many + 31
+
+abbrev pub nodes_of_fetch : Fetched → ℕ
+nodes_of_fetch (Starting form) = most_reads + 11
+nodes_of_fetch (Gathering form left all) = left + 10
+nodes_of_fetch (fetch.Parting form answer) = 5
+nodes_of_fetch (Ending form answer) = 4
 
 abbrev pub nodes_left : Stage → ℕ
 nodes_left (At turn) = nodes_from turn
@@ -152,8 +181,9 @@ nodes_left (Saying line a) = nodes_from a.turn - 1
 nodes_left (Hearing a) = nodes_from a.turn - 2
 nodes_left (Arming turn offset) = nodes_from turn - 1
 nodes_left (Agreeing agreeing) = nodes_of agreeing
-nodes_left Closing = strangers + 30
+nodes_left Closing = many + 30
 nodes_left (Aborting abort) = nodes_of_abort abort
+nodes_left (Fetching fetching) = nodes_of_fetch fetching
 
 -- the line of a command, where there is one
 abbrev pub line_of : Coding → Option Command → Result (List ℕ) Cause
@@ -172,6 +202,7 @@ NodeOf coding turn exchange (Arming other offset) = ⊥
 NodeOf coding turn exchange (Agreeing agreeing) = ⊥
 NodeOf coding turn exchange Closing = ⊥
 NodeOf coding turn exchange (Aborting abort) = ⊥
+NodeOf coding turn exchange (Fetching fetching) = ⊥
 
 abbrev pub FirstNode : Coding → Turn → Exchange → Result Stage FtpError → Type 0
 FirstNode coding turn exchange (Ok stage) = NodeOf coding turn exchange stage
@@ -189,6 +220,7 @@ AnswersKind kind answer.Opened = kind ≡ Connections
 AnswersKind kind (answer.OpenedWith reply) = kind ≡ Connections
 AnswersKind kind (answer.Bytes bytes) = kind ≡ Movements
 AnswersKind kind (answer.Count count) = kind ≡ Movements
+AnswersKind kind (answer.Lines lines) = kind ≡ Listings
 AnswersKind kind answer.NoTransfer = kind ≡ Movements
 AnswersKind kind (answer.Fault fault) = Unit {0}
 
@@ -208,12 +240,27 @@ TurnOf call Aborted = aborts call ≡ true
 abbrev pub MayAnswer : Call → Answer → Type 0
 MayAnswer call answer = (turn : Turn) × (TurnOf call turn ⊎ IsFault answer) × AnswersKind (given_by (row_of call turn)) answer
 
--- the answer that is kept while an outcome is awaited
+-- a call may give all that a data connection carries
+abbrev pub MayFetch : Call → Fetch → Type 0
+MayFetch call form = (negotiates call ≡ true) × ((turn : Turn) × TurnOf call turn × (given_by (row_of call turn) ≡ kind_of_fetch form))
+
+-- what is kept while an outcome is awaited: the answer, or what is fetched
+abbrev pub OpeningOf : Call → Opening → Type 0
+OpeningOf call (GivesAnswer answer) = MayAnswer call answer
+OpeningOf call (Fetches form) = MayFetch call form
+
 abbrev pub AskingOf : Call → Asked → Type 0
 AskingOf call (PeerPort port) = Unit {0}
 AskingOf call (Connection address) = Unit {0}
-AskingOf call (Peer answer) = MayAnswer call answer
-AskingOf call (Accepting peer left answer) = MayAnswer call answer
+AskingOf call (Peer opened) = OpeningOf call opened
+AskingOf call (Accepting peer left opened) = OpeningOf call opened
+
+-- and while a data connection is read
+abbrev pub FetchOf : Call → Fetched → Type 0
+FetchOf call (Starting form) = MayFetch call form
+FetchOf call (Gathering form left all) = MayFetch call form
+FetchOf call (fetch.Parting form answer) = MayFetch call form × AnswersKind (kind_of_fetch form) answer
+FetchOf call (Ending form answer) = MayFetch call form × AnswersKind (kind_of_fetch form) answer
 
 abbrev pub WayOf : Call → Way → Type 0
 WayOf call (Negotiating offset) = Unit {0}
@@ -230,6 +277,7 @@ StageOf call (Arming turn offset) = (row_of call turn ≡ Arms offset) × TurnOf
 StageOf call (Agreeing agreeing) = (negotiates call ≡ true) × WayOf call agreeing
 StageOf call Closing = finishes call ≡ true
 StageOf call (Aborting abort) = aborts call ≡ true
+StageOf call (Fetching fetching) = FetchOf call fetching
 
 -- where a call stands after a step that doesn't end it
 abbrev pub StageAfter : Call → Stage → Step → Type 0

@@ -459,6 +459,7 @@ fn unit(answer: Answer) -> FtpResult<()>
         Answer::OpenedWith(_) => unreachable!(),
         Answer::Bytes(_) => unreachable!(),
         Answer::Count(_) => unreachable!(),
+        Answer::Lines(_) => unreachable!(),
         Answer::NoTransfer => unreachable!(),
     }
 }
@@ -480,6 +481,7 @@ fn reply(answer: Answer) -> FtpResult<Response>
         Answer::OpenedWith(_) => unreachable!(),
         Answer::Bytes(_) => unreachable!(),
         Answer::Count(_) => unreachable!(),
+        Answer::Lines(_) => unreachable!(),
         Answer::NoTransfer => unreachable!(),
     }
 }

@@ -187,6 +187,7 @@ fn ended(answer: Answer) -> FtpResult<()>
         Answer::OpenedWith(_) => unreachable!(),
         Answer::Bytes(_) => unreachable!(),
         Answer::Count(_) => unreachable!(),
+        Answer::Lines(_) => unreachable!(),
         Answer::NoTransfer => unreachable!(),
     }
 }

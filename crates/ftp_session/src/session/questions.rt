@@ -146,6 +146,7 @@ fn text(answer: Answer) -> FtpResult<String>
         Answer::OpenedWith(_) => unreachable!(),
         Answer::Bytes(_) => unreachable!(),
         Answer::Count(_) => unreachable!(),
+        Answer::Lines(_) => unreachable!(),
         Answer::NoTransfer => unreachable!(),
         Answer::Fault(fault) => Err(fault),
     }
@@ -167,6 +168,7 @@ fn time(answer: Answer) -> FtpResult<DateTime>
         Answer::OpenedWith(_) => unreachable!(),
         Answer::Bytes(_) => unreachable!(),
         Answer::Count(_) => unreachable!(),
+        Answer::Lines(_) => unreachable!(),
         Answer::NoTransfer => unreachable!(),
         Answer::Fault(fault) => Err(fault),
     }
@@ -188,6 +190,7 @@ fn size(answer: Answer) -> FtpResult<usize>
         Answer::OpenedWith(_) => unreachable!(),
         Answer::Bytes(_) => unreachable!(),
         Answer::Count(_) => unreachable!(),
+        Answer::Lines(_) => unreachable!(),
         Answer::NoTransfer => unreachable!(),
         Answer::Fault(fault) => Err(fault),
     }
@@ -209,6 +212,7 @@ fn features(answer: Answer) -> FtpResult<Features>
         Answer::OpenedWith(_) => unreachable!(),
         Answer::Bytes(_) => unreachable!(),
         Answer::Count(_) => unreachable!(),
+        Answer::Lines(_) => unreachable!(),
         Answer::NoTransfer => unreachable!(),
         Answer::Fault(fault) => Err(fault),
     }

@@ -1,8 +1,8 @@
 //! The calls of the blocking client, one after another.
 
-use super::methods::{Opening, greeted};
+use super::methods::{Opening, greeted, optional};
 use super::transfers::{Held, Transfers};
-use crate::answers::{features, reply, size, text, texts_of, time, unit};
+use crate::answers::{bytes, features, lines, reply, size, text, texts_of, time, unit};
 use crate::builder::RowBuilder;
 use crate::encodings::Named;
 use crate::play::Play;
@@ -86,7 +86,11 @@ fn made<R: Wait + AllocGlobal>(
         make_next(rt, client, &mut transfers, call, answers)?;
     }
     let mut end = stands(rt, client, &answers[..])?;
-    end.uploaded = transfers.uploaded;
+    for sent in transfers.uploaded {
+        if !sent.is_empty() {
+            end.uploaded.push(sent)?;
+        }
+    }
     Ok(end)
 }
 
@@ -153,6 +157,10 @@ fn make<R: Wait + AllocGlobal>(
         | Call::PutWithStream(_)
         | Call::AppendWithStream(_)
         | Call::CustomDataCommand(..) => open(rt, client, transfers, call)?,
+        Call::Retr(path) => bytes(client.retr_as_buffer(rt, path.as_str())),
+        Call::List(path) => lines(client.list(rt, optional(path))),
+        Call::Nlst(path) => lines(client.nlst(rt, optional(path))),
+        Call::Mlsd(path) => lines(client.mlsd(rt, optional(path))),
         Call::Set(setting) => set(rt, client, setting)?,
         Call::Read(most) => transfers.receive(rt.alloc(), *most)?,
         Call::Write(bytes) => transfers.send(bytes.as_slice()),

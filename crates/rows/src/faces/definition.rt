@@ -1,7 +1,9 @@
 //! What the definitions of runs say.
 
 use crate::answers::texts_of;
-use crate::beside::{answers_of, next_outcome, of_requests, uploaded, waiting};
+use crate::beside::{
+    answers_of, fetched, fetches, next_outcome, next_outcomes, of_requests, uploaded, waiting,
+};
 use crate::dial::Dial;
 use crate::encodings::Named;
 use crate::play::Play;
@@ -112,7 +114,7 @@ fn stands_after(
     }
 }
 
-/// What happens beside these calls. They are played again with one outcome more, as long as one is waited for.
+/// What happens beside these calls. They are played again with more outcomes, as long as one is waited for.
 fn outcomes_of(alloc: Global, calls: &[Call], play: &Play) -> Result<Vec<DealOutcome>, RowError> {
     let mut outcomes = Vec::new(alloc);
     for _ in 0..u64::MAX {
@@ -121,7 +123,9 @@ fn outcomes_of(alloc: Global, calls: &[Call], play: &Play) -> Result<Vec<DealOut
                 let Some(call) = calls.get(answers.as_slice().len()) else {
                     return Err(RowError::NotUnderstood);
                 };
-                outcomes.push(next_outcome(alloc, &play.setup, call, &here.dealings)?)?;
+                for outcome in next_outcomes(alloc, &play.setup, call, &here.dealings)? {
+                    outcomes.push(outcome)?;
+                }
             }
             Ran::Finished(..) | Ran::Waiting(..) => return Ok(outcomes),
         }
@@ -259,10 +263,49 @@ fn add_outcomes(
     for _ in 0..u64::MAX {
         match awaited(alloc, events, play, outcomes.as_slice())? {
             Some(outcome) => outcomes.push(outcome)?,
-            None => return Ok(()),
+            None => {
+                let more = fetched_after(alloc, events, play, outcomes.as_slice())?;
+                if more.is_empty() {
+                    return Ok(());
+                }
+                for outcome in more {
+                    outcomes.push(outcome)?;
+                }
+            }
         }
     }
     Err(RowError::NotUnderstood)
+}
+
+/// What becomes of a data connection that a call under way reads whole, once it comes to that: with it the connection is
+/// closed.
+fn fetched_after(
+    alloc: Global,
+    events: &[Event],
+    play: &Play,
+    known: &[DealOutcome],
+) -> Result<Vec<DealOutcome>, RowError> {
+    let without = script_of(alloc, events, play, known)?;
+    let reads = match &without.call {
+        Some(call) => fetches(call) && without.dealings.data_conn.is_some(),
+        None => false,
+    };
+    if !reads {
+        return Ok(Vec::new(alloc));
+    }
+    let more = fetched(alloc, &play.setup, &without.dealings)?;
+    let mut all = Vec::new(alloc);
+    for outcome in known {
+        all.push(outcome.clone()?)?;
+    }
+    for outcome in &more {
+        all.push(outcome.clone()?)?;
+    }
+    let with = script_of(alloc, events, play, &all)?;
+    if with.dealings.closed.as_slice().len() > without.dealings.closed.as_slice().len() {
+        return Ok(more);
+    }
+    Ok(Vec::new(alloc))
 }
 
 /// The outcome that is waited for after these events, where these are known.

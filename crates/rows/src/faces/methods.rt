@@ -2,11 +2,11 @@
 
 use super::session::{NamedSession, conn_of, encoded, stands, unread};
 use super::transfers::{Held, Transfers};
-use crate::answers::{features, reply, size, text, time, unit};
+use crate::answers::{bytes, features, lines, reply, size, text, time, unit};
 use crate::play::Play;
 use crate::transcript::Standing;
 use ftp_base::status::Status;
-use ftp_base::types::FtpResult;
+use ftp_base::types::{FtpResult, Text};
 use ftp_control::mark::Left;
 use ftp_control::transport::MemoryConn;
 use ftp_session::session::{Answer, Call, Session, Setting};
@@ -175,6 +175,9 @@ fn make(
         | Call::PutWithStream(_)
         | Call::AppendWithStream(_)
         | Call::CustomDataCommand(..) => open(alloc, session, transfers, call)?,
+        Call::Retr(_) | Call::List(_) | Call::Nlst(_) | Call::Mlsd(_) => {
+            fetch(alloc, session, transfers, call)?
+        }
         Call::Set(setting) => set(session, setting)?,
         Call::Read(most) => transfers.receive(alloc, *most)?,
         Call::Write(bytes) => transfers.send(bytes.as_slice()),
@@ -208,6 +211,34 @@ fn open(
         )),
         _ => return Err(RowError::NotUnderstood),
     })
+}
+
+/// Reads a whole data connection, and notes what was written to it once it is over.
+fn fetch(
+    alloc: Global,
+    session: &mut NamedSession,
+    transfers: &mut Transfers<Transfer<MemoryConn>>,
+    call: &Call,
+) -> Result<Answer, RowError> {
+    let before = session.transport().uploaded().len();
+    let answer = match call {
+        Call::Retr(path) => bytes(session.retr_as_buffer(alloc, &(), path.as_str())),
+        Call::List(path) => lines(session.list(alloc, &(), optional(path))),
+        Call::Nlst(path) => lines(session.nlst(alloc, &(), optional(path))),
+        Call::Mlsd(path) => lines(session.mlsd(alloc, &(), optional(path))),
+        _ => return Err(RowError::NotUnderstood),
+    };
+    for conn in session.transport().uploaded().iter().skip(before) {
+        transfers
+            .uploaded
+            .push(Vec::from_slice(alloc, conn.sent())?)?;
+    }
+    Ok(answer)
+}
+
+/// A path that may be left out.
+pub fn optional(path: &Option<Text>) -> Option<&str> {
+    path.as_ref().map(|path| path.as_str())
 }
 
 /// Brings a transfer to its end.

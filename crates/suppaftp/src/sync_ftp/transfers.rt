@@ -100,6 +100,53 @@ where
             .custom_data_command(rt.alloc(), rt, line, expected)?;
         Ok((reply, TransferStream::new(transfer, session)))
     }
+
+    /// Downloads this file, whole and as it is: `RETR` (150, 125; RFC 959, section 4.1.3), its bytes, and the last reply
+    /// (226, 250). The offset is taken as by `retr_as_stream`.
+    ///
+    /// # Errors
+    /// Those of a data command. A fault of the data comes before the last reply's.
+    pub fn retr_as_buffer<R: Wait + AllocGlobal>(&self, rt: &R, path: &str) -> FtpResult<Vec<u8>>
+    where
+        Tr: Transport<R>,
+    {
+        self.session.lock(rt).retr_as_buffer(rt.alloc(), rt, path)
+    }
+
+    /// The lines of a listing of this path, or of the current directory: `LIST` (150, 125; RFC 959, section 4.1.3).
+    /// `File::from_line` reads a line.
+    ///
+    /// # Errors
+    /// Those of a data command; `BadResponse` where the data can't be read to its end, after a fault of the last reply.
+    pub fn list<R: Wait + AllocGlobal>(&self, rt: &R, path: Option<&str>) -> FtpResult<Vec<String>>
+    where
+        Tr: Transport<R>,
+    {
+        self.session.lock(rt).list(rt.alloc(), rt, path)
+    }
+
+    /// The names in a directory: `NLST` (150, 125; RFC 959, section 4.1.3).
+    ///
+    /// # Errors
+    /// Those of `list`.
+    pub fn nlst<R: Wait + AllocGlobal>(&self, rt: &R, path: Option<&str>) -> FtpResult<Vec<String>>
+    where
+        Tr: Transport<R>,
+    {
+        self.session.lock(rt).nlst(rt.alloc(), rt, path)
+    }
+
+    /// The facts of a directory's files, a line each: `MLSD` (150, 125; RFC 3659, section 7). `ListParser::parse_mlsd`
+    /// reads a line.
+    ///
+    /// # Errors
+    /// Those of `list`.
+    pub fn mlsd<R: Wait + AllocGlobal>(&self, rt: &R, path: Option<&str>) -> FtpResult<Vec<String>>
+    where
+        Tr: Transport<R>,
+    {
+        self.session.lock(rt).mlsd(rt.alloc(), rt, path)
+    }
 }
 
 impl<Tr: Network, K: Drop, E: Encoding, B: Drop> ImplFtpStream<Tr, K, E, B>

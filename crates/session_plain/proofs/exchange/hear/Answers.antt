@@ -1,18 +1,37 @@
-use Rattle.std.proofs.Common.{◌≡◌, sym, refl}
-use Rattle.ftp_control.specs.Grammar.{outcome}
-use Rattle.ftp_dialogue.specs.Dialogue.{Expected, expected_of}
+use Rattle.std.proofs.Common.{◌≡◌, ap, sym, refl, ◌∙◌}
+use Rattle.ftp_control.specs.declared.transport.room.Room.{Room}
+use Rattle.ftp_dialogue.specs.declared.state.State.{State}
+use Rattle.ftp_dialogue.specs.Coding.{coding_of}
+use Rattle.ftp_dialogue.specs.Dialogue.{Expected, Tree, awaiting, concluded, expected_of}
 use Rattle.ftp_dialogue.specs.Play.{play}
+use Rattle.session_plain.proofs.Parts.{leads}
 use Rattle.session_plain.proofs.exchange.hear.Goals as goal
 
--- what is heard is what the bytes say of the reply that is awaited
-pub returns : goal.returns
+-- the bytes don't say the reply yet
+pub returns-in-Unknown : goal.returns-in-Unknown
 unfolding play
-returns g c =
+returns-in-Unknown g c = λ room later.
+    let coding = coding_of g.E.Encoding.decoded g.E.Encoding.encoded c.args.encoding.now in
     let s = c.args.standing in
     let codes : Expected = expected_of c.args.codes in
     let under : c.as_slice.result.now ≡ codes.statuses = simp (c.as_slice.ensures, c.in_ok-statuses.ensures) refl in
     let formed : c.form_of_codes-form.result ≡ codes.form = c.form_of_codes-form.ensures in
-    let due : c.in_ok-heard.heard ≡ outcome s.rule codes.form s.bytes s.ended =
-    simp (c.in_ok-heard.ensures, c.form_of_codes-form.ensures, c.as_slice-bytes.ensures) refl in
-    let heard = rw (formed, under) at c.heard_then.ensures in
-    rw (sym due) heard
+    let came = rw c.in-Unknown.is at c.in_ok-here.ensures in
+    let due = rw (formed, under) at came in
+    rw formed (due (λ heard t. play room (concluded coding c.args.ending s.state later heard) t))
+
+-- they say it, or a fault takes its place
+pub returns-in-Known : goal.returns-in-Known
+unfolding play
+returns-in-Known g c =
+    let coding = coding_of g.E.Encoding.decoded g.E.Encoding.encoded c.args.encoding.now in
+    let s = c.args.standing in
+    let codes : Expected = expected_of c.args.codes in
+    let under : c.as_slice.result.now ≡ codes.statuses = simp (c.as_slice.ensures, c.in_ok-statuses.ensures) refl in
+    let formed : c.form_of_codes-form.result ≡ codes.form = c.form_of_codes-form.ensures in
+    let here = c.in-Known.here in
+    let came = rw (formed, under) at (rw c.in-Known.is at c.in_ok-here.ensures) in
+    let one = λ (room : Room) (later : State → Tree). play room (concluded coding c.args.ending here.state later c.in-Known.reply) here in
+    let other = λ (room : Room) (later : State → Tree). play room (awaiting coding codes c.args.ending s.state later) s in
+    let same = λ (room : Room) (later : State → Tree). came.1 (λ heard t. play room (concluded coding c.args.ending s.state later heard) t) ∙ ap (λ state. play room (concluded coding c.args.ending state later c.in-Known.reply) here) (sym came.0) in
+    leads one other same c.concluded.result c.concluded.ensures

@@ -4,8 +4,9 @@ use Rattle.ftp_dialogue.specs.Dialogue.{from_turn}
 use Rattle.ftp_dialogue.specs.Steps.Stages.{remaining}
 use Rattle.ftp_dialogue.specs.declared.stage.Stage.TheVariants.{Saying}
 use Rattle.std.proofs.Common.{◌≡◌, true, false, ap, inl, inr, sym, ◌∙◌}
-use Rattle.ftp_dialogue.proofs.Sorts.{aborts_finish}
+use Rattle.ftp_dialogue.proofs.Sorts.{aborts_finish, fetch_opens}
 use Rattle.ftp_calls.specs.Exchanges.{given_by}
+use Rattle.ftp_calls.proofs.Openings.{read_opens_none}
 use Rattle.ftp_dialogue.proofs.TransitionsLemmas.{arms, exchange_begins, exchange_is_quiet, exchange_tracks}
 use Rattle.ftp_dialogue.proofs.machine.Machine.step.Goals as goal
 
@@ -150,3 +151,46 @@ pub returns-in-Aborting-clause-begun : goal.returns-in-Aborting-clause-begun
 returns-in-Aborting-clause-begun g c =
     let is = c.in-Aborting.ensures.value in
     rw (← is) c.abort.ensures.breaks.begun
+
+pub returns-in-Fetching-clause-stage : goal.returns-in-Fetching-clause-stage
+returns-in-Fetching-clause-stage g c = c.fetch.ensures.breaks.stage_of
+
+pub returns-in-Fetching-clause-waits : goal.returns-in-Fetching-clause-waits
+returns-in-Fetching-clause-waits g c = c.fetch.ensures.waits
+
+pub returns-in-Fetching-clause-net : goal.returns-in-Fetching-clause-net
+returns-in-Fetching-clause-net g c = λ none ends.
+    let is = c.in-Fetching.ensures.value in
+    let stage_of = rw (← is) at c.requires.stage in
+    let clash : true ≡ false = sym (fetch_opens c.args.call.now c.in-Fetching.fetching stage_of) ∙ none in
+    cc
+
+pub returns-in-Fetching-clause-answers : goal.returns-in-Fetching-clause-answers
+returns-in-Fetching-clause-answers g c = c.fetch.ensures.breaks.answers
+
+pub returns-in-Fetching-clause-fewer : goal.returns-in-Fetching-clause-fewer
+returns-in-Fetching-clause-fewer g c =
+    let is = c.in-Fetching.ensures.value in
+    rw (← is) c.fetch.ensures.breaks.fewer
+
+pub returns-in-Fetching-clause-steps : goal.returns-in-Fetching-clause-steps
+returns-in-Fetching-clause-steps g c =
+    let is = c.in-Fetching.ensures.value in
+    rw (← is) c.fetch.ensures.breaks.steps
+
+pub returns-in-Fetching-clause-quiet : goal.returns-in-Fetching-clause-quiet
+returns-in-Fetching-clause-quiet g c =
+    let is = c.in-Fetching.ensures.value in
+    rw (← is) c.fetch.ensures.breaks.quiet
+
+pub returns-in-Fetching-clause-begun : goal.returns-in-Fetching-clause-begun
+returns-in-Fetching-clause-begun g c =
+    let is = c.in-Fetching.ensures.value in
+    rw (← is) c.fetch.ensures.breaks.begun
+
+pub returns-in-Fetching-clause-rests : goal.returns-in-Fetching-clause-rests
+returns-in-Fetching-clause-rests g c = λ waits read.
+    let is = c.in-Fetching.ensures.value in
+    let stage_of = rw (← is) at c.requires.stage in
+    let clash : true ≡ false = sym read ∙ read_opens_none c.args.call.now (fetch_opens c.args.call.now c.in-Fetching.fetching stage_of) in
+    cc

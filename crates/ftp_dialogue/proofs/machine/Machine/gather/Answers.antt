@@ -1,0 +1,24 @@
+use Rattle.std.proofs.Common.{◌≡◌}
+use Rattle.ftp_dialogue.specs.Coding.{coding_of}
+use Rattle.ftp_dialogue.specs.declared.stage.Fetching.TheVariants.{Gathering}
+use Rattle.ftp_dialogue.specs.declared.stage.Step.TheVariants.{Next, Pending}
+use Rattle.ftp_dialogue.proofs.FetchingLemmas.{fetch_full, fetch_lacks, fetch_read_at, fetch_waits_at}
+use Rattle.ftp_dialogue.proofs.machine.Machine.gather.Goals as goal
+
+pub returns-then-left-eq0-clause-breaks : goal.returns-then-left-eq0-clause-breaks
+returns-then-left-eq0-clause-breaks g c =
+    rw (c.go_to.ensures, c.too_long.ensures) (fetch_full _ (coding_of g.E.Encoding.decoded g.E.Encoding.encoded c.args.encoding.now) c.args._call.now c.args.form c.args.left c.args.gathered c.args.self.now c.if-left-eq0.true c.requires.of)
+
+pub returns-then-is_unheld-clause-breaks : goal.returns-then-is_unheld-clause-breaks
+returns-then-is_unheld-clause-breaks g c =
+    rw (c.lack_memory.ensures.done, c.lack_memory.ensures.failed) (fetch_lacks _ (coding_of g.E.Encoding.decoded g.E.Encoding.encoded c.args.encoding.now) c.args._call.now (Gathering c.args.form c.args.left c.args.gathered) _ c.args.self.now c.requires.going)
+
+pub returns-in-Ready-clause-breaks : goal.returns-in-Ready-clause-breaks
+returns-in-Ready-clause-breaks g c =
+    let grows = rw c.in-Ready.is at c.read_more.ensures.grows in
+    rw c.go_to-in-Ready.ensures (fetch_read_at _ (coding_of g.E.Encoding.decoded g.E.Encoding.encoded c.args.encoding.now) c.args._call.now c.args.form c.args.left c.args.gathered c.args.self.now c.read_more.new.self c.read_more.new.gathered c.in-Ready.more c.follow-next.result c.requires.of c.if-left-eq0.false grows c.follow-next.ensures)
+
+pub returns-in-Pending-clause-breaks : goal.returns-in-Pending-clause-breaks
+returns-in-Pending-clause-breaks g c =
+    let grows = rw c.in-Pending.is at c.read_more.ensures.grows in
+    rw c.go_to-in-Pending.ensures (fetch_waits_at _ (coding_of g.E.Encoding.decoded g.E.Encoding.encoded c.args.encoding.now) c.args._call.now c.args.form c.args.left c.args.gathered c.args.self.now c.read_more.new.self c.read_more.new.gathered c.requires.of c.if-left-eq0.false grows)

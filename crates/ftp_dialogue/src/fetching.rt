@@ -1,0 +1,330 @@
+//! All that a data connection carries is read, and its transfer brought to its end (RFC 959, sections 4.1.3 and 5.4).
+//!
+//! The bytes come into one growing buffer, which is the answer, or of which the lines of a listing are made. Whatever
+//! comes of them, the data connection is closed and the transfer's last reply is read; only then is the transfer
+//! counted, as opened and as finished.
+
+ghost use Rattle.std.specs.Prelude.{◌≡◌, ◌⊎◌, is_none, true, false};
+ghost use Rattle.ftp_calls.specs.Exchanges.{negotiates};
+ghost use Rattle.ftp_control.specs.Told.{EndsAsTold};
+ghost use Rattle.ftp_dialogue.specs.Coding.{Coding, coding_of};
+ghost use Rattle.ftp_dialogue.specs.Dialogue.{fault_or, fetched, first_fault, too_long, unfetched};
+ghost use Rattle.ftp_dialogue.specs.Link.{building};
+ghost use Rattle.ftp_dialogue.specs.Steps.Moving.{BreaksOff, EndsFetch, Follows, Grows};
+ghost use Rattle.ftp_dialogue.specs.Steps.Stages.{FetchOf, MayFetch};
+
+use super::asks::Asks;
+use super::carrying::pass_over;
+use super::gathered::{Gathered, More};
+use super::machine::Machine;
+use super::nodes::wants_memory;
+use super::stage::{Fetching, Stage, Step, go_to};
+use super::{Answer, Call};
+use ftp_answers::read_listing;
+use ftp_base::encoding::Encoding;
+use ftp_base::status::Status;
+use ftp_base::types::{ConnectionError, FtpError};
+use ftp_calls::exchange::Fetch;
+use ftp_calls::lines::Lines;
+use ftp_control::transport::{Network, PollConn};
+use futures::task::Poll;
+use std::alloc::{AllocError, Global};
+use std::io::ErrorKind;
+
+/// How many bytes can be held.
+const MOST_BYTES: usize = (1 << 63) - 1;
+
+/// How many reads are made: each but the last gives a byte.
+const MOST_READS: u64 = 1 << 63;
+
+impl<Tr: Network> Machine<Tr> {
+    /// One node of a call that reads a whole data connection.
+    pub(super) fn fetch<W, E: Encoding, A: Asks<Tr, W>>(
+        &mut self,
+        asker: &A,
+        alloc: Global,
+        encoding: &E,
+        call: &Call,
+        fetching: Fetching,
+        stage: &mut Stage,
+        w: &mut W,
+    ) -> Step
+    where
+        Tr::Conn: PollConn<W>,
+        requires going { self.old.channel.failed ≡ false }
+        requires of { FetchOf call.now fetching }
+        requires may { negotiates call.now ≡ true → A.may_ask }
+        ensures waits { result ≡ Step.Pending → Tr.Conn.may_wait ⊎ A.may_wait }
+        ensures end { Tr.Conn.tells → Tr.Conn.may_wait →
+            EndsAsTold self.old.channel.ended self.new.channel.ended self.old.channel.told }
+        ensures breaks { BreaksOff (building (A.builds asker.now) Tr.Conn.tells Tr.Conn.read_faults Tr.Conn.write_faults Tr.Conn.end_faults A.may_wait) (coding_of E.decoded E.encoded encoding.now) call.now
+            (Stage.Fetching fetching) stage.new self.old self.new result }
+    {
+        match fetching {
+            Fetching::Starting(form) => self.start_fetch(asker, alloc, call, form, stage, w),
+            Fetching::Gathering(form, left, gathered) => self.gather(
+                asker, alloc, encoding, call, form, left, gathered, stage, w,
+            ),
+            Fetching::Parting(form, answer) => self.part_fetched(
+                asker, call, form, answer, stage, w,
+            ),
+            Fetching::Ending(form, answer) => self.end_fetched(
+                asker, alloc, call, form, answer, stage, w,
+            ),
+        }
+    }
+
+    /// No byte was read yet.
+    fn start_fetch<W, A: Asks<Tr, W>>(
+        &mut self,
+        _asker: &A,
+        alloc: Global,
+        _call: &Call,
+        form: Fetch,
+        stage: &mut Stage,
+        _w: &mut W,
+    ) -> Step
+    where
+        Tr::Conn: PollConn<W>,
+        requires of { FetchOf _call.now (Fetching.Starting form) }
+        ensures moves { result ≡ Step.Pending → ⊥ }
+        ensures end { self.new.channel.ended ≡ self.old.channel.ended }
+        ensures breaks { (coding : Coding) → BreaksOff (building (A.builds _asker.now) Tr.Conn.tells Tr.Conn.read_faults Tr.Conn.write_faults Tr.Conn.end_faults A.may_wait) coding _call.now
+            (Stage.Fetching (Fetching.Starting form)) stage.new self.old self.new result }
+    {
+        let none = Gathered::new(alloc);
+        go_to(
+            stage,
+            Stage::Fetching(Fetching::Gathering(form, MOST_READS, none)),
+        );
+        Step::Next
+    }
+
+    /// The data connection is read once.
+    fn gather<W, E: Encoding, A: Asks<Tr, W>>(
+        &mut self,
+        asker: &A,
+        alloc: Global,
+        encoding: &E,
+        _call: &Call,
+        form: Fetch,
+        left: u64,
+        mut gathered: Gathered,
+        stage: &mut Stage,
+        w: &mut W,
+    ) -> Step
+    where
+        Tr::Conn: PollConn<W>,
+        requires going { self.old.channel.failed ≡ false }
+        requires of { MayFetch _call.now form }
+        requires may { A.may_ask }
+        ensures waits { result ≡ Step.Pending → A.may_wait }
+        ensures end { self.new.channel.ended ≡ self.old.channel.ended }
+        ensures breaks { BreaksOff (building (A.builds asker.now) Tr.Conn.tells Tr.Conn.read_faults Tr.Conn.write_faults Tr.Conn.end_faults A.may_wait) (coding_of E.decoded E.encoded encoding.now) _call.now
+            (Stage.Fetching (Fetching.Gathering form left gathered)) stage.new self.old self.new result }
+    {
+        if left == 0 {
+            go_to(
+                stage,
+                Stage::Fetching(Fetching::Parting(form, too_long(form))),
+            );
+            return Step::Next;
+        }
+        if self.is_unheld() {
+            return self.lack_memory();
+        }
+        match self.read_more(asker, &mut gathered, w) {
+            Poll::Ready(more) => {
+                let next = follow(alloc, encoding, form, left - 1, gathered, more);
+                go_to(stage, Stage::Fetching(next));
+                Step::Next
+            }
+            Poll::Pending => {
+                go_to(
+                    stage,
+                    Stage::Fetching(Fetching::Gathering(form, left, gathered)),
+                );
+                Step::Pending
+            }
+        }
+    }
+
+    /// Whether there is no data connection.
+    fn is_unheld(&self) -> bool
+        ensures { result ≡ is_none self.now.net.data_conn }
+    {
+        self.data_conn.is_none()
+    }
+
+    /// Reads more bytes after those that were read, and makes room for them first.
+    fn read_more<W, A: Asks<Tr, W>>(
+        &mut self,
+        asker: &A,
+        gathered: &mut Gathered,
+        w: &mut W,
+    ) -> Poll<More>
+    where
+        Tr::Conn: PollConn<W>,
+        requires held { is_none self.old.net.data_conn ≡ false }
+        requires may { A.may_ask }
+        ensures end { self.new.channel.ended ≡ self.old.channel.ended }
+        ensures grows { Grows (building (A.builds asker.now) Tr.Conn.tells Tr.Conn.read_faults Tr.Conn.write_faults Tr.Conn.end_faults A.may_wait) gathered.old gathered.new self.old self.new result }
+    {
+        let Some(conn) = &mut self.data_conn else {
+            unreachable!();
+        };
+        gathered.read_more(asker, conn, w)
+    }
+
+    /// The data connection is closed, whatever that comes to, and the transfer's last reply is due.
+    fn part_fetched<W, A: Asks<Tr, W>>(
+        &mut self,
+        _asker: &A,
+        _call: &Call,
+        form: Fetch,
+        answer: Answer,
+        stage: &mut Stage,
+        _w: &mut W,
+    ) -> Step
+    where
+        Tr::Conn: PollConn<W>,
+        requires of { FetchOf _call.now (Fetching.Parting form answer) }
+        ensures moves { result ≡ Step.Pending → ⊥ }
+        ensures end { self.new.channel.ended ≡ self.old.channel.ended }
+        ensures breaks { (coding : Coding) → BreaksOff (building (A.builds _asker.now) Tr.Conn.tells Tr.Conn.read_faults Tr.Conn.write_faults Tr.Conn.end_faults A.may_wait) coding _call.now
+            (Stage.Fetching (Fetching.Parting form answer)) stage.new self.old self.new result }
+    {
+        pass_over(self.close_data());
+        go_to(stage, Stage::Fetching(Fetching::Ending(form, answer)));
+        Step::Next
+    }
+
+    /// The transfer's last reply is read: the transfer was opened and has come to its end.
+    fn end_fetched<W, A: Asks<Tr, W>>(
+        &mut self,
+        asker: &A,
+        alloc: Global,
+        _call: &Call,
+        form: Fetch,
+        answer: Answer,
+        stage: &mut Stage,
+        w: &mut W,
+    ) -> Step
+    where
+        Tr::Conn: PollConn<W>,
+        requires going { self.old.channel.failed ≡ false }
+        requires of { FetchOf _call.now (Fetching.Ending form answer) }
+        ensures waits { result ≡ Step.Pending → Tr.Conn.may_wait }
+        ensures end { Tr.Conn.tells → Tr.Conn.may_wait →
+            EndsAsTold self.old.channel.ended self.new.channel.ended self.old.channel.told }
+        ensures breaks { (coding : Coding) → BreaksOff (building (A.builds asker.now) Tr.Conn.tells Tr.Conn.read_faults Tr.Conn.write_faults Tr.Conn.end_faults A.may_wait) coding _call.now
+            (Stage.Fetching (Fetching.Ending form answer)) stage.new self.old self.new result }
+    {
+        let codes = [Status::ClosingDataConnection, Status::RequestedFileActionOk];
+        match self.hear(asker, alloc, &codes, w) {
+            Poll::Ready(Ok(_reply)) => {
+                self.state.counts.open();
+                self.state.counts.finish();
+                Step::Done(answer)
+            }
+            Poll::Ready(Err(fault)) => Step::Done(self.fail_fetch(form, answer, fault)),
+            Poll::Pending => {
+                go_to(stage, Stage::Fetching(Fetching::Ending(form, answer)));
+                Step::Pending
+            }
+        }
+    }
+
+    /// A fault was heard in place of the last reply. Out of memory fails the session.
+    fn fail_fetch(&mut self, form: Fetch, answer: Answer, fault: FtpError) -> Answer
+        ensures { EndsFetch form answer fault self.old self.new result }
+    {
+        self.abort_dialogue(true, &fault);
+        if wants_memory(&fault) {
+            return Answer::Fault(fault);
+        }
+        self.state.counts.open();
+        self.state.counts.finish();
+        Answer::Fault(first_fault(form, answer, fault))
+    }
+}
+
+/// What follows a read, where so many more may be made.
+fn follow<E: Encoding>(
+    alloc: Global,
+    encoding: &E,
+    form: Fetch,
+    left: u64,
+    gathered: Gathered,
+    more: More,
+) -> Fetching
+    ensures { Follows (coding_of E.decoded E.encoded encoding.now) form left gathered more result }
+{
+    match more {
+        More::Grew => {
+            if gathered.len() <= MOST_BYTES {
+                Fetching::Gathering(form, left, gathered)
+            } else {
+                Fetching::Parting(form, too_long(form))
+            }
+        }
+        More::Ended => Fetching::Parting(form, answer_of(alloc, encoding, form, gathered)),
+        More::Failed(kind) => Fetching::Parting(form, unfetched(form, kind)),
+        More::NoMemory => Fetching::Parting(form, Answer::Fault(FtpError::OutOfMemory)),
+    }
+}
+
+/// The answer for all that came; `OutOfMemory` where there is no memory for its lines.
+fn answer_of<E: Encoding>(alloc: Global, encoding: &E, form: Fetch, gathered: Gathered) -> Answer
+    ensures { (result ≡ fetched (coding_of E.decoded E.encoded encoding.now) form gathered) ⊎
+        (result ≡ Answer.Fault FtpError.OutOfMemory) }
+{
+    let bytes = gathered.into_bytes();
+    match form {
+        Fetch::Whole => Answer::Bytes(bytes),
+        Fetch::Listed => match read_listing(alloc, bytes.as_slice(), encoding) {
+            Ok(lines) => Answer::Lines(Lines::from_vec(lines)),
+            Err(AllocError) => Answer::Fault(FtpError::OutOfMemory),
+        },
+    }
+}
+
+/// The answer where a read failed.
+fn unfetched(form: Fetch, kind: ErrorKind) -> Answer
+    ensures { result ≡ unfetched form kind }
+{
+    match form {
+        Fetch::Whole => Answer::Fault(FtpError::ConnectionError(ConnectionError::Io(kind))),
+        Fetch::Listed => Answer::Fault(FtpError::BadResponse),
+    }
+}
+
+/// The answer where more came than can be held.
+fn too_long(form: Fetch) -> Answer
+    ensures { result ≡ too_long form }
+{
+    match form {
+        Fetch::Whole => Answer::Fault(FtpError::OutOfMemory),
+        Fetch::Listed => Answer::Fault(FtpError::BadResponse),
+    }
+}
+
+/// The fault that is told where the last reply isn't as expected: that of the data first, and last for a listing.
+fn first_fault(form: Fetch, answer: Answer, fault: FtpError) -> FtpError
+    ensures { result ≡ first_fault form answer fault }
+{
+    match form {
+        Fetch::Whole => fault_or(answer, fault),
+        Fetch::Listed => fault,
+    }
+}
+
+/// The fault of an answer, or this one where it is none.
+fn fault_or(answer: Answer, fault: FtpError) -> FtpError
+    ensures { result ≡ fault_or answer fault }
+{
+    match answer {
+        Answer::Fault(first) => first,
+        _ => fault,
+    }
+}

@@ -1,0 +1,128 @@
+//! The bytes of a data connection, read into one growing buffer.
+
+ghost use Rattle.std.specs.Prelude.{◌≡◌, ◌≤◌, ◌-◌, drop, take, vec_len, IfOk, Ok, OnErr};
+ghost use Rattle.futures.specs.declared.task.Poll.TheVariants as poll;
+ghost use Rattle.ftp_control.specs.Told.{ReadTells, ReadsAtMost};
+ghost use Rattle.ftp_dialogue.specs.Dialogue.{chunk};
+
+use super::asks::Asks;
+use ftp_base::types::Bytes;
+use ftp_control::transport::{Network, Tells};
+use futures::task::Poll;
+use std::alloc::{AllocError, Global};
+use std::io::ErrorKind;
+use std::marker::Model;
+
+/// How many bytes a read asks for.
+const CHUNK: usize = 65_536;
+
+/// The bytes that were read so far, at the front of a buffer that has room for more.
+#[derive(Drop)]
+pub struct Gathered {
+    buffer: Vec<u8>,
+    filled: usize,
+}
+
+impl Model for Gathered {
+    ghost use Rattle.std.specs.Prelude.{◌≤◌, ℕ, List, take, vec_len};
+
+    ghost Value = { List ℕ };
+
+    ghost view = { λ g. take g.filled g.buffer.items };
+
+    ghost invariant = { λ g. g.filled ≤ vec_len g.buffer };
+}
+
+/// What a read came to.
+#[derive(Drop)]
+pub(crate) enum More {
+    /// There are more bytes.
+    Grew,
+    /// There are no others.
+    Ended,
+    /// It failed.
+    Failed(ErrorKind),
+    /// There was no memory for it.
+    NoMemory,
+}
+
+impl Gathered {
+    ghost use Rattle.std.specs.Prelude.{◌≡◌, [], length};
+    ghost use Rattle.futures.specs.declared.task.Poll.TheVariants as poll;
+    ghost use Rattle.ftp_dialogue.specs.Gathering.{GrowsBy};
+
+    /// No bytes.
+    pub(super) fn new(alloc: Global) -> Gathered
+        ensures { result ≡ [] }
+    {
+        Gathered {
+            buffer: Vec::new(alloc),
+            filled: 0,
+        }
+    }
+
+    /// More bytes are read, after those that were.
+    pub(super) fn read_more<W, Tr: Network, A: Asks<Tr, W>>(
+        &mut self,
+        asker: &A,
+        conn: &mut Tr::Conn,
+        w: &mut W,
+    ) -> Poll<More>
+        requires may { A.may_ask }
+        ensures waits { result ≡ poll.Pending → A.may_wait }
+        ensures grows { GrowsBy Tr.Conn.tells self.old self.new (Tr.Conn.told conn.old) (Tr.Conn.told conn.new) result }
+    {
+        match read_after(asker, conn, w, &mut self.buffer, self.filled) {
+            Err(AllocError) => Poll::Ready(More::NoMemory),
+            Ok(Err(kind)) => Poll::Ready(More::Failed(kind)),
+            Ok(Ok(Poll::Pending)) => Poll::Pending,
+            Ok(Ok(Poll::Ready(0))) => Poll::Ready(More::Ended),
+            Ok(Ok(Poll::Ready(count))) => {
+                self.filled += count;
+                Poll::Ready(More::Grew)
+            }
+        }
+    }
+
+    /// How many bytes there are.
+    pub(super) fn len(&self) -> usize
+        ensures { result ≡ length self.now }
+    {
+        self.filled
+    }
+
+    /// The bytes, in their memory.
+    pub(super) fn into_bytes(self) -> Bytes
+        ensures { result ≡ self }
+    {
+        let Gathered { mut buffer, filled } = self;
+        buffer.truncate(filled);
+        Bytes::from_vec(buffer)
+    }
+}
+
+/// Reads once into a buffer, after its filled bytes, and makes room before. Nothing is read where there is no memory.
+fn read_after<W, Tr: Network, A: Asks<Tr, W>>(
+    asker: &A,
+    conn: &mut Tr::Conn,
+    w: &mut W,
+    buffer: &mut Vec<u8>,
+    filled: usize,
+) -> Result<Result<Poll<usize>, ErrorKind>, AllocError>
+    requires fits { filled ≤ vec_len buffer.old }
+    requires may { A.may_ask }
+    ensures within { filled ≤ vec_len buffer.new }
+    ensures front { take filled buffer.new.items ≡ take filled buffer.old.items }
+    ensures bound { IfOk result (λ read. ReadsAtMost read chunk) }
+    ensures holds { IfOk result (λ read. ReadsAtMost read (vec_len buffer.new - filled)) }
+    ensures waits { result ≡ Ok (Ok poll.Pending) → A.may_wait }
+    ensures told { IfOk result (λ read. Tr.Conn.tells →
+        ReadTells read (drop filled buffer.new.items) (Tr.Conn.told conn.old) (Tr.Conn.told conn.new)) }
+    ensures none { OnErr result (Tr.Conn.told conn.new ≡ Tr.Conn.told conn.old) }
+{
+    let Some(end) = filled.checked_add(CHUNK) else {
+        return Err(AllocError);
+    };
+    buffer.resize(end, 0)?;
+    Ok(asker.read(conn, w, &mut buffer[filled..]))
+}

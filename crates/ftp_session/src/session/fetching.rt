@@ -1,0 +1,175 @@
+//! The calls that give all that a data connection carries: a file as bytes, and the lines of a listing (RFC 959,
+//! sections 4.1.3 and 5.4; RFC 3659, section 7).
+//!
+//! Each opens a data connection, reads it to its end, closes it, and reads the transfer's last reply, also where the data
+//! failed. The transfer is never handed out.
+
+ghost use Rattle.std.specs.Prelude.{◌≡◌, IfOk, option_map};
+ghost use Rattle.ftp_calls.specs.declared.call.Call.{Call as Called};
+ghost use Rattle.ftp_calls.specs.declared.exchange.Fetch.TheVariants.{Listed, Whole};
+ghost use Rattle.ftp_dialogue.specs.Coding.{chosen};
+ghost use Rattle.ftp_dialogue.specs.Link.{building, built_by};
+ghost use Rattle.ftp_session.specs.Calls.{bytes_answer, lines_answer};
+ghost use Rattle.ftp_session.specs.Fetched.{Fetches, told_as};
+ghost use Rattle.ftp_session.specs.Handed.{IsOpening, PlaysSeen};
+
+use super::client::Session;
+use super::commands::optional_text;
+use super::looking::look;
+use super::run::make;
+use super::{Answer, Call};
+use ftp_base::encoding::Encoding;
+use ftp_base::types::{ConnectionError, FtpError, FtpResult, Text};
+use ftp_control::transport::{Conn, Network, PassiveStreamBuilder, Transport};
+use std::alloc::{AllocError, Global};
+
+impl<Tr: Network, K: Drop, E: Encoding, B: PassiveStreamBuilder<Tr::Conn>> Session<Tr, K, E, B>
+where
+    Tr::Conn: Conn,
+{
+    /// Downloads this file, whole and as it is: `RETR` (150, 125), its bytes, and the last reply (226, 250). It begins at
+    /// the offset that `resume_transfer` set, if it did; the offset is taken away.
+    ///
+    /// # Errors
+    /// Those of a data command: `DataConnectionAlreadyOpen` where a transfer is live, and nothing is said. A fault of the
+    /// data comes before the last reply's; `OutOfMemory` where there is no memory for the bytes, and the session goes on.
+    pub fn retr_as_buffer<R>(&mut self, alloc: Global, rt: &R, path: &str) -> FtpResult<Vec<u8>>
+    where
+        Tr: Transport<R>,
+        ensures fetches { Fetches (building (built_by B.answers self.old.builder) Tr.Conn.tells Tr.Conn.blocking_read_faults Tr.Conn.blocking_write_faults Tr.Conn.end_faults ⊥) (chosen E.decoded E.encoded self.old.encoding.0) (Call.Retr path.now)
+            Whole self.old.mark self.new.mark self.old.machine self.new.machine (bytes_answer result) }
+        ensures encoding { self.new.encoding ≡ self.old.encoding }
+        ensures builder { self.new.builder ≡ self.old.builder }
+    {
+        bytes(self.fetch(alloc, rt, retr_call(alloc, path)))
+    }
+
+    /// The lines of a listing of this path, or of the current directory: `LIST` (150, 125), its lines, and the last reply
+    /// (226, 250). A line ends at an LF, before which one CR is cut; empty lines are left out. The offset of
+    /// `resume_transfer` is taken away, and `REST` isn't sent.
+    ///
+    /// # Errors
+    /// Those of a data command: `DataConnectionAlreadyOpen` where a transfer is live, and nothing is said. A fault of the
+    /// last reply comes before `BadResponse`, where the data failed; `OutOfMemory` where there is no memory for the
+    /// lines, and the session goes on.
+    pub fn list<R>(&mut self, alloc: Global, rt: &R, path: Option<&str>) -> FtpResult<Vec<String>>
+    where
+        Tr: Transport<R>,
+        ensures fetches { Fetches (building (built_by B.answers self.old.builder) Tr.Conn.tells Tr.Conn.blocking_read_faults Tr.Conn.blocking_write_faults Tr.Conn.end_faults ⊥) (chosen E.decoded E.encoded self.old.encoding.0) (Call.List (option_map (λ text. text.now) path.entry))
+            Listed self.old.mark self.new.mark self.old.machine self.new.machine (lines_answer result) }
+        ensures encoding { self.new.encoding ≡ self.old.encoding }
+        ensures builder { self.new.builder ≡ self.old.builder }
+    {
+        lines(self.fetch(alloc, rt, list_call(alloc, path)))
+    }
+
+    /// The names in a directory: `NLST` (150, 125), as `list` does.
+    ///
+    /// # Errors
+    /// Those of `list`.
+    pub fn nlst<R>(&mut self, alloc: Global, rt: &R, path: Option<&str>) -> FtpResult<Vec<String>>
+    where
+        Tr: Transport<R>,
+        ensures fetches { Fetches (building (built_by B.answers self.old.builder) Tr.Conn.tells Tr.Conn.blocking_read_faults Tr.Conn.blocking_write_faults Tr.Conn.end_faults ⊥) (chosen E.decoded E.encoded self.old.encoding.0) (Call.Nlst (option_map (λ text. text.now) path.entry))
+            Listed self.old.mark self.new.mark self.old.machine self.new.machine (lines_answer result) }
+        ensures encoding { self.new.encoding ≡ self.old.encoding }
+        ensures builder { self.new.builder ≡ self.old.builder }
+    {
+        lines(self.fetch(alloc, rt, nlst_call(alloc, path)))
+    }
+
+    /// The facts of a directory's files, a line each: `MLSD` (150, 125; RFC 3659, section 7), as `list` does.
+    ///
+    /// # Errors
+    /// Those of `list`.
+    pub fn mlsd<R>(&mut self, alloc: Global, rt: &R, path: Option<&str>) -> FtpResult<Vec<String>>
+    where
+        Tr: Transport<R>,
+        ensures fetches { Fetches (building (built_by B.answers self.old.builder) Tr.Conn.tells Tr.Conn.blocking_read_faults Tr.Conn.blocking_write_faults Tr.Conn.end_faults ⊥) (chosen E.decoded E.encoded self.old.encoding.0) (Call.Mlsd (option_map (λ text. text.now) path.entry))
+            Listed self.old.mark self.new.mark self.old.machine self.new.machine (lines_answer result) }
+        ensures encoding { self.new.encoding ≡ self.old.encoding }
+        ensures builder { self.new.builder ≡ self.old.builder }
+    {
+        lines(self.fetch(alloc, rt, mlsd_call(alloc, path)))
+    }
+
+    /// Makes a call that reads a whole data connection, after the look. Where memory runs out for the call's texts,
+    /// nothing is said.
+    fn fetch<R>(&mut self, alloc: Global, rt: &R, call: Result<Call, AllocError>) -> Answer
+    where
+        Tr: Transport<R>,
+        requires { IfOk call IsOpening }
+        ensures plays { (made : Called) → IsOpening made → IfOk call (λ c. c ≡ made) →
+            PlaysSeen (building (built_by B.answers self.old.builder) Tr.Conn.tells Tr.Conn.blocking_read_faults Tr.Conn.blocking_write_faults Tr.Conn.end_faults ⊥) (chosen E.decoded E.encoded self.old.encoding.0) made
+            self.old.mark self.new.mark self.old.machine self.new.machine result }
+        ensures encoding { self.new.encoding ≡ self.old.encoding }
+        ensures builder { self.new.builder ≡ self.old.builder }
+    {
+        look(&mut self.machine, &mut self.mark);
+        match call {
+            Ok(call) => make(
+                &mut self.machine,
+                alloc,
+                rt,
+                &self.builder,
+                &self.encoding,
+                &call,
+            ),
+            Err(AllocError) => Answer::Fault(self.withheld()),
+        }
+    }
+}
+
+/// The result of a call that gives bytes. No dialogue of such a call comes to any other answer.
+fn bytes(answer: Answer) -> FtpResult<Vec<u8>>
+    ensures { bytes_answer result ≡ told_as Whole answer }
+{
+    match answer {
+        Answer::Bytes(bytes) => Ok(bytes.into_vec()),
+        Answer::Fault(fault) => Err(fault),
+        _ => Err(FtpError::ConnectionError(ConnectionError::NotOwed)),
+    }
+}
+
+/// The result of a call that gives lines. No dialogue of such a call comes to any other answer.
+fn lines(answer: Answer) -> FtpResult<Vec<String>>
+    ensures { lines_answer result ≡ told_as Listed answer }
+{
+    match answer {
+        Answer::Lines(lines) => Ok(lines.into_vec()),
+        Answer::Fault(fault) => Err(fault),
+        _ => Err(FtpError::ConnectionError(ConnectionError::NotOwed)),
+    }
+}
+
+/// `RETR` of a whole file, as a call.
+fn retr_call(alloc: Global, path: &str) -> Result<Call, AllocError>
+    ensures call { IfOk result (λ call. call ≡ Call.Retr path.now) }
+    ensures kind { IfOk result IsOpening }
+{
+    Ok(Call::Retr(Text::from_str(alloc, path)?))
+}
+
+/// `LIST` as a call.
+fn list_call(alloc: Global, path: Option<&str>) -> Result<Call, AllocError>
+    ensures call { IfOk result (λ call. call ≡ Call.List (option_map (λ text. text.now) path.entry)) }
+    ensures kind { IfOk result IsOpening }
+{
+    Ok(Call::List(optional_text(alloc, path)?))
+}
+
+/// `NLST` as a call.
+fn nlst_call(alloc: Global, path: Option<&str>) -> Result<Call, AllocError>
+    ensures call { IfOk result (λ call. call ≡ Call.Nlst (option_map (λ text. text.now) path.entry)) }
+    ensures kind { IfOk result IsOpening }
+{
+    Ok(Call::Nlst(optional_text(alloc, path)?))
+}
+
+/// `MLSD` as a call.
+fn mlsd_call(alloc: Global, path: Option<&str>) -> Result<Call, AllocError>
+    ensures call { IfOk result (λ call. call ≡ Call.Mlsd (option_map (λ text. text.now) path.entry)) }
+    ensures kind { IfOk result IsOpening }
+{
+    Ok(Call::Mlsd(optional_text(alloc, path)?))
+}

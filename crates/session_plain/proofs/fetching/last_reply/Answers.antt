@@ -1,0 +1,27 @@
+use Rattle.std.proofs.Common.{◌≡◌, ap, sym, ◌∙◌}
+use Rattle.ftp_control.specs.declared.transport.room.Room.{Room}
+use Rattle.ftp_dialogue.specs.declared.state.State.{State}
+use Rattle.ftp_dialogue.specs.Dialogue.{Tree, fetch_concluded}
+use Rattle.ftp_dialogue.specs.Play.{play}
+use Rattle.session_plain.proofs.fetching.last_reply.Goals as goal
+
+-- the bytes don't say the last reply yet
+pub returns-in-Unknown : goal.returns-in-Unknown
+unfolding play
+returns-in-Unknown c = λ room later.
+    let s = c.args.standing in
+    let came = rw c.in-Unknown.is at c.in_ok-here.ensures in
+    let due = rw c.form_of-reply_form.ensures at came in
+    rw c.form_of-reply_form.ensures (due (λ heard t. play room (fetch_concluded c.args.form c.args.answer s.state heard) t))
+
+-- they say it, or a fault takes its place
+pub returns-in-Known : goal.returns-in-Known
+unfolding play
+returns-in-Known c = λ room later.
+    let s = c.args.standing in
+    let here = c.in-Known.here in
+    let came = rw c.form_of-reply_form.ensures at (rw c.in-Known.is at c.in_ok-here.ensures) in
+    let heard = came.1 (λ heard t. play room (fetch_concluded c.args.form c.args.answer s.state heard) t) in
+    let same = ap (λ state. play room (fetch_concluded c.args.form c.args.answer state c.in-Known.reply) here) (sym came.0) in
+    let ends = ap (λ tree. play room tree here) (c.concluded-told.ensures here.state) in
+    rw c.fetched_from.ensures (heard ∙ same ∙ ends)

@@ -1,0 +1,21 @@
+use Rattle.std.proofs.Common.{◌≡◌, ap, sym, ◌∙◌}
+use Rattle.ftp_control.specs.declared.transport.room.Room.{Room}
+use Rattle.ftp_dialogue.specs.declared.state.State.{State}
+use Rattle.ftp_dialogue.specs.declared.model.DealOutcome.{DealOutcome}
+use Rattle.ftp_dialogue.specs.declared.model.Standing.{Standing}
+use Rattle.ftp_dialogue.specs.Dialogue.{Tree, fetch_ending, fetch_parting}
+use Rattle.ftp_dialogue.specs.Play.{play}
+use Rattle.session_plain.proofs.Parts.{leads}
+use Rattle.session_plain.proofs.fetching.parting.Goals as goal
+
+-- the data connection was closed, and the last reply is heard
+pub returns-in-Known : goal.returns-in-Known
+unfolding play
+returns-in-Known c =
+    let s = c.args.standing in
+    let here = c.in-Known.here in
+    let came = rw c.in-Known.is at c.in_ok-here.ensures in
+    let one = λ (room : Room) (later : State → Tree). play room (fetch_ending c.args.form c.args.answer here.state) here in
+    let other = λ (room : Room) (later : State → Tree). play room (fetch_parting c.args.form c.args.answer s.state) s in
+    let same = λ (room : Room). ap (λ state. play room (fetch_ending c.args.form c.args.answer state) here) (sym came.0) in
+    leads one other (λ room later. came.1 (λ (outcome : DealOutcome) (t : Standing). play room (fetch_ending c.args.form c.args.answer s.state) t) ∙ same room) c.last_reply.result c.last_reply.ensures

@@ -1,0 +1,271 @@
+//! All that a data connection carries is read, on all outcomes at once, and its transfer is brought to its end.
+
+ghost use Rattle.std.specs.Prelude.{◌≡◌, ◌++◌, IfOk, length};
+ghost use Rattle.ftp_control.specs.declared.transport.room.Room.{Room as Rooms};
+ghost use Rattle.ftp_calls.specs.declared.exchange.Ending.TheVariants as ending;
+ghost use Rattle.ftp_dialogue.specs.Coding.{Coding, coding_of};
+ghost use Rattle.ftp_dialogue.specs.Dialogue.{Leaf, Tree, fault_or, fetch_concluded, fetch_ending, fetch_parting, fetched, fetching, first_fault, gathering, opening, too_long, unfetched, with_fetched};
+ghost use Rattle.ftp_dialogue.specs.Play.{play};
+ghost use Rattle.ftp_dialogue.specs.declared.state.State.{State as States};
+ghost use Rattle.ftp_dialogue.specs.declared.model.DealOutcome.TheVariants as came;
+ghost use Rattle.session_plain.specs.Progress.{ComesTo, LeadsTo};
+
+use crate::carrying::{Carried, moved_by, pass_over};
+use crate::exchange::Progress;
+use crate::finishing::finished;
+use crate::hearing::{Heard, hear_reply};
+use crate::opening::{opened, with_transfer};
+use ftp_answers::read_listing;
+use ftp_base::encoding::Encoding;
+use ftp_base::status::Status;
+use ftp_base::types::{Bytes, ConnectionError, FtpError, FtpResult, Response};
+use ftp_calls::exchange::{Fetch, Movement};
+use ftp_calls::lines::Lines;
+use ftp_control::control::form_of;
+use ftp_session::model::{DealOutcome, Played, Standing, Wait};
+use ftp_session::session::Answer;
+use std::alloc::{AllocError, Global};
+use std::io::ErrorKind;
+
+/// How many bytes one read asks for.
+const CHUNK: usize = 65_536;
+
+/// How many bytes can be held.
+const MOST_BYTES: usize = (1 << 63) - 1;
+
+/// How many reads are made: each but the last gives a byte.
+const MOST_READS: u64 = 1 << 63;
+
+/// What follows a read.
+#[derive(Drop)]
+pub(crate) enum Follows {
+    /// Others, after these bytes.
+    More(Bytes),
+    /// This answer, by what came of the data.
+    Over(Answer),
+}
+
+/// The command was accepted, and all is read that comes.
+#[tactic(auto, unfolding(ftp_dialogue::specs::Play::play))]
+pub(crate) fn fetches<E: Encoding>(
+    alloc: Global,
+    encoding: &E,
+    form: Fetch,
+    standing: Standing,
+) -> Result<Progress, AllocError>
+    ensures { IfOk result (λ progress. (room : Rooms) (later : States → Tree) →
+        let coding = coding_of E.decoded E.encoded encoding.now in
+        ComesTo room later (play room (opening standing.state.settings.mode
+        (fetching coding form standing.state) standing.state) standing) progress) }
+{
+    match opened(alloc, standing)? {
+        Progress::Stops(played) => Ok(Progress::Stops(played)),
+        Progress::Continues(here) => fetching(alloc, encoding, form, here),
+    }
+}
+
+/// All that the data connection carries is read.
+fn fetching<E: Encoding>(
+    alloc: Global,
+    encoding: &E,
+    form: Fetch,
+    standing: Standing,
+) -> Result<Progress, AllocError>
+    ensures { IfOk result (λ progress. (room : Rooms) (later : States → Tree) →
+        let coding = coding_of E.decoded E.encoded encoding.now in
+        ComesTo room later (play room (fetching coding form standing.state) standing) progress) }
+{
+    let none = Bytes::new(alloc);
+    gathering(alloc, encoding, form, MOST_READS, none, standing)
+}
+
+/// The data connection is read to its end, by so many reads at most, after these bytes.
+#[tactic(auto, unfolding(ftp_dialogue::specs::Play::play, ftp_dialogue::specs::Dialogue::gathering))]
+fn gathering<E: Encoding>(
+    alloc: Global,
+    encoding: &E,
+    form: Fetch,
+    left: u64,
+    all: Bytes,
+    standing: Standing,
+) -> Result<Progress, AllocError>
+    ensures { IfOk result (λ progress. (room : Rooms) (later : States → Tree) →
+        let coding = coding_of E.decoded E.encoded encoding.now in
+        ComesTo room later
+        (play room (gathering coding form left all standing.state) standing) progress) }
+{
+    if left == 0 {
+        return parting(alloc, form, too_long(form), standing);
+    }
+    match moved_by(alloc, Movement::Read(CHUNK), standing)? {
+        Carried::Unknown(here) => Ok(Progress::Stops(Played::Pending(Wait::Outcome, here))),
+        Carried::Known(outcome, here) => match follow(alloc, encoding, form, all, outcome)? {
+            Follows::More(more) => gathering(alloc, encoding, form, left - 1, more, here),
+            Follows::Over(answer) => parting(alloc, form, answer, here),
+        },
+    }
+}
+
+/// The data connection is closed, and what that comes to is told to nobody.
+#[tactic(auto, unfolding(ftp_dialogue::specs::Play::play))]
+fn parting(
+    alloc: Global,
+    form: Fetch,
+    answer: Answer,
+    standing: Standing,
+) -> Result<Progress, AllocError>
+    ensures { IfOk result (λ progress. (room : Rooms) (later : States → Tree) → ComesTo room later
+        (play room (fetch_parting form answer standing.state) standing) progress) }
+{
+    match moved_by(alloc, Movement::Close, standing)? {
+        Carried::Unknown(here) => Ok(Progress::Stops(Played::Pending(Wait::Outcome, here))),
+        Carried::Known(outcome, here) => {
+            pass_over(outcome);
+            last_reply(alloc, form, answer, here)
+        }
+    }
+}
+
+/// The transfer's last reply is heard, whatever came of the data.
+#[tactic(auto, unfolding(ftp_dialogue::specs::Play::play))]
+fn last_reply(
+    alloc: Global,
+    form: Fetch,
+    answer: Answer,
+    standing: Standing,
+) -> Result<Progress, AllocError>
+    ensures { IfOk result (λ progress. (room : Rooms) (later : States → Tree) → ComesTo room later
+        (play room (fetch_ending form answer standing.state) standing) progress) }
+{
+    let codes = [Status::ClosingDataConnection, Status::RequestedFileActionOk];
+    let reply_form = form_of(&codes);
+    match hear_reply(alloc, reply_form, &codes, standing)? {
+        Heard::Unknown(here) => Ok(Progress::Stops(Played::Pending(Wait::Bytes(reply_form), here))),
+        Heard::Known(reply, here) => {
+            let told = concluded(form, answer, reply);
+            Ok(Progress::Stops(Played::Done(told, fetched_from(here))))
+        }
+    }
+}
+
+/// A transfer was opened and has come to its end.
+fn fetched_from(standing: Standing) -> Standing
+    ensures { result ≡ record standing { state = with_fetched standing.state } }
+{
+    finished(with_transfer(standing))
+}
+
+/// What is told once the last reply was heard.
+fn concluded(form: Fetch, answer: Answer, heard: FtpResult<Response>) -> Answer
+    ensures { (state : States) →
+        fetch_concluded form answer state heard ≡ Leaf result (with_fetched state) }
+{
+    match heard {
+        Ok(_reply) => answer,
+        Err(fault) => Answer::Fault(first_fault(form, answer, fault)),
+    }
+}
+
+/// What follows a read that came to this.
+fn follow<E: Encoding>(
+    alloc: Global,
+    encoding: &E,
+    form: Fetch,
+    all: Bytes,
+    outcome: DealOutcome,
+) -> Result<Follows, AllocError>
+    ensures { IfOk result (λ follows.
+        LeadsTo (coding_of E.decoded E.encoded encoding.now) form all outcome follows) }
+{
+    match outcome {
+        DealOutcome::Read(bytes) => after_bytes(alloc, encoding, form, all, bytes),
+        DealOutcome::Failed(kind) => Ok(Follows::Over(unfetched(form, kind))),
+        DealOutcome::NoMemory => Ok(Follows::Over(Answer::Fault(FtpError::OutOfMemory))),
+        DealOutcome::Answered(_) => Ok(Follows::Over(too_long(form))),
+        DealOutcome::Built(_) => Ok(Follows::Over(too_long(form))),
+        DealOutcome::Wrote(_) => Ok(Follows::Over(too_long(form))),
+        DealOutcome::Closed => Ok(Follows::Over(too_long(form))),
+    }
+}
+
+/// What follows these bytes, of which none are the end.
+fn after_bytes<E: Encoding>(
+    alloc: Global,
+    encoding: &E,
+    form: Fetch,
+    all: Bytes,
+    bytes: Bytes,
+) -> Result<Follows, AllocError>
+    ensures { IfOk result (λ follows. LeadsTo (coding_of E.decoded E.encoded encoding.now)
+        form all (came.Read bytes) follows) }
+{
+    if bytes.is_empty() {
+        return Ok(Follows::Over(fetched(alloc, encoding, form, all)?));
+    }
+    let mut more = all;
+    more.extend_from_slice(bytes.as_slice())?;
+    if more.len() <= MOST_BYTES {
+        Ok(Follows::More(more))
+    } else {
+        Ok(Follows::Over(too_long(form)))
+    }
+}
+
+/// The answer for all that came.
+fn fetched<E: Encoding>(
+    alloc: Global,
+    encoding: &E,
+    form: Fetch,
+    all: Bytes,
+) -> Result<Answer, AllocError>
+    ensures { IfOk result (λ answer.
+        answer ≡ fetched (coding_of E.decoded E.encoded encoding.now) form all) }
+{
+    match form {
+        Fetch::Whole => Ok(Answer::Bytes(all)),
+        Fetch::Listed => {
+            let lines = read_listing(alloc, all.as_slice(), encoding)?;
+            Ok(Answer::Lines(Lines::from_vec(lines)))
+        }
+    }
+}
+
+/// The answer where a read failed.
+fn unfetched(form: Fetch, kind: ErrorKind) -> Answer
+    ensures { result ≡ unfetched form kind }
+{
+    match form {
+        Fetch::Whole => Answer::Fault(FtpError::ConnectionError(ConnectionError::Io(kind))),
+        Fetch::Listed => Answer::Fault(FtpError::BadResponse),
+    }
+}
+
+/// The answer where more came than can be held.
+fn too_long(form: Fetch) -> Answer
+    ensures { result ≡ too_long form }
+{
+    match form {
+        Fetch::Whole => Answer::Fault(FtpError::OutOfMemory),
+        Fetch::Listed => Answer::Fault(FtpError::BadResponse),
+    }
+}
+
+/// The fault that is told first: the data's, and a listing's last.
+fn first_fault(form: Fetch, answer: Answer, fault: FtpError) -> FtpError
+    ensures { result ≡ first_fault form answer fault }
+{
+    match form {
+        Fetch::Whole => fault_or(answer, fault),
+        Fetch::Listed => fault,
+    }
+}
+
+/// The fault of an answer, or this one.
+fn fault_or(answer: Answer, fault: FtpError) -> FtpError
+    ensures { result ≡ fault_or answer fault }
+{
+    match answer {
+        Answer::Fault(first) => first,
+        _ => fault,
+    }
+}

@@ -1,0 +1,43 @@
+//! Files and listings that take more than one read.
+
+use crate::scene::conn_with;
+use ftp_control::transport::{MemoryTransport, Supply};
+use ftp_session::session::Session;
+use std::alloc::Global;
+use std::test::Fail;
+
+/// A session whose server agrees to one data command, on whose connection these bytes come.
+fn session_on(alloc: Global, data: &[u8]) -> Result<Session<MemoryTransport>, Fail> {
+    let replies = b"220 r\r\n227 x (10,0,0,1,4,0).\r\n150 b\r\n226 d\r\n";
+    let mut transport = MemoryTransport::new(alloc);
+    transport.supply(Supply::Connects(conn_with(alloc, data)?))?;
+    Ok(Session::connect_with_stream(alloc, transport, conn_with(alloc, replies)?)?)
+}
+
+/// So many times these bytes.
+fn repeated(alloc: Global, count: usize, bytes: &[u8]) -> Result<Vec<u8>, Fail> {
+    let mut all = Vec::new(alloc);
+    for _ in 0..count {
+        all.extend_from_slice(bytes)?;
+    }
+    Ok(all)
+}
+
+#[test]
+fn a_file_that_takes_four_reads_comes_whole(rt: HostRuntime) -> Result<(), Fail> {
+    let data = repeated(rt.alloc(), 40_000, b"abcde")?;
+    let mut session = session_on(rt.alloc(), &data)?;
+    let bytes = session.retr_as_buffer(rt.alloc(), &(), "a")?;
+    assert!(rt; bytes == data);
+    Ok(())
+}
+
+#[test]
+fn a_listing_that_takes_two_reads_comes_whole(rt: HostRuntime) -> Result<(), Fail> {
+    let data = repeated(rt.alloc(), 20_000, b"line\r\n")?;
+    let mut session = session_on(rt.alloc(), &data)?;
+    let lines = session.list(rt.alloc(), &(), None)?;
+    assert_eq!(rt; lines.len(), 20_000usize);
+    assert!(rt; lines.iter().all(|line| line.as_str() == "line"));
+    Ok(())
+}
