@@ -66,16 +66,29 @@ impl<'a> Tally<'a> {
         let play = Play::of(alloc, &row.steps, row.has_events(), piece)?;
         let mut agreement = Agreement::new();
         for face in faces_of(row) {
-            if !face.plays(&play) {
-                continue;
-            }
-            let came = face.play(rt, &play, row.wants_welcome())?;
-            let due = face.due(alloc, &play, row.due()?)?;
-            let agrees = agreement.agrees(&came) && came.transcript == due;
-            self.count(agrees);
-            if !agrees {
-                show(rt, row, *face, piece, &due, &came)?;
-            }
+            self.play_on(rt, row, *face, &play, &mut agreement)?;
+        }
+        Ok(())
+    }
+
+    /// Plays a row on a face, if it can be played there.
+    fn play_on<R: Wait + Print + AllocGlobal>(
+        &mut self,
+        rt: &R,
+        row: &Row<'_>,
+        face: Face,
+        play: &Play,
+        agreement: &mut Agreement,
+    ) -> Result<()> {
+        if !face.plays(play) {
+            return Ok(());
+        }
+        let came = face.play(rt, play, row.wants_welcome())?;
+        let due = face.due(rt.alloc(), play, row.due()?)?;
+        let agrees = agreement.agrees(&came) && came.transcript == due;
+        self.count(agrees);
+        if !agrees {
+            show(rt, row, face, play.piece, &due, &came)?;
         }
         Ok(())
     }
