@@ -1,14 +1,12 @@
 -- Lemmas on a data connection that is read to its end.
 use native.Mathlib.Omega.{arith}
-use Rattle.std.proofs.Common.{◌≡◌, ℕ, zero, suc, ◌-◌, ◌++◌, List, [], ◌∷◌, length, nat_le, nat_eq, Bool, true, false, ap, sym, refl, ◌∙◌}
-use Rattle.ftp_calls.specs.declared.call.Answer.{Answer}
+use Rattle.std.proofs.Common.{◌≡◌, ℕ, zero, suc, ◌-◌, List, refl}
 use Rattle.ftp_calls.specs.declared.exchange.Fetch.{Fetch}
 use Rattle.ftp_calls.specs.declared.exchange.Movement.TheVariants as movement
 use Rattle.ftp_dialogue.specs.declared.model.DealOutcome.{DealOutcome}
-use Rattle.ftp_dialogue.specs.declared.model.DealOutcome.TheVariants as came
 use Rattle.ftp_dialogue.specs.declared.state.State.{State}
 use Rattle.ftp_dialogue.specs.Coding.{Coding}
-use Rattle.ftp_dialogue.specs.Dialogue.{Tree, Move, chunk, fetch_parting, fetched, gathering, grown, most_bytes, on_data, too_long}
+use Rattle.ftp_dialogue.specs.Dialogue.{Tree, Move, chunk, fetch_parting, gathering, on_data, too_long}
 
 -- what follows a read
 abbrev pub after_read : Coding → Fetch → ℕ → List ℕ → State → DealOutcome → Tree
@@ -26,14 +24,3 @@ module _ (coding : Coding) (form : Fetch) (all : List ℕ) (state : State) where
   unfolding gathering
   reads_first zero some = elim (some refl) [ ]
   reads_first (suc left) some = let e : suc left - 1 ≡ left = omega arith in rw e refl
-
-module _ (coding : Coding) (form : Fetch) (all : List ℕ) (on : List ℕ → Tree) (over : Answer → Tree) where
-  -- no bytes are the end
-  pub at_end : (bytes : List ℕ) → nat_eq (length bytes) 0 ≡ true → on_data coding form all on over (came.Read bytes) ≡ over (fetched coding form all)
-  at_end [] none = refl
-  at_end (byte ∷ bytes) none = let clash : false ≡ true = none in cc
-
-  -- some are added
-  pub with_bytes : (bytes : List ℕ) → nat_eq (length bytes) 0 ≡ false → on_data coding form all on over (came.Read bytes) ≡ grown form (all ++ bytes) on over
-  with_bytes [] some = let clash : true ≡ false = some in cc
-  with_bytes (byte ∷ bytes) some = refl

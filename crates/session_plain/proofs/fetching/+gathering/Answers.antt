@@ -1,4 +1,4 @@
-use Rattle.std.proofs.Common.{◌≡◌, ◌-◌, ap, sym, ◌∙◌}
+use Rattle.std.proofs.Common.{◌-◌, ap, sym, ◌∙◌}
 use Rattle.ftp_control.specs.declared.transport.room.Room.{Room}
 use Rattle.ftp_dialogue.specs.declared.state.State.{State}
 use Rattle.ftp_dialogue.specs.Coding.{coding_of}
@@ -10,7 +10,7 @@ use Rattle.session_plain.proofs.fetching.+gathering.Goals as goal
 
 -- no read is left
 pub returns-then-left-eq0 : goal.returns-then-left-eq0
-returns-then-left-eq0 g c =
+returns-then-left-eq0 g t c =
     let coding = coding_of g.E.Encoding.decoded g.E.Encoding.encoded c.args.encoding.now in
     let s = c.args.standing in
     let one = λ (room : Room) (later : State → Tree). play room (fetch_parting c.args.form c.too_long.result s.state) s in
@@ -22,7 +22,7 @@ returns-then-left-eq0 g c =
 -- the outcome of the read isn't known
 pub returns-in-Unknown : goal.returns-in-Unknown
 unfolding play
-returns-in-Unknown g c = λ room later.
+returns-in-Unknown g t c = λ room later.
     let coding = coding_of g.E.Encoding.decoded g.E.Encoding.encoded c.args.encoding.now in
     let s = c.args.standing in
     let came = rw c.in-Unknown.is at c.in_ok-here.ensures in
@@ -31,12 +31,12 @@ returns-in-Unknown g c = λ room later.
 -- others are read
 pub returns-in-More : goal.returns-in-More
 unfolding play
-returns-in-More g c =
+returns-in-More g t c =
     let coding = coding_of g.E.Encoding.decoded g.E.Encoding.encoded c.args.encoding.now in
     let s = c.args.standing in
     let here = c.in-Known.here in
     let came = rw c.in-Known.is at c.in_ok-here.ensures in
-    let goes = rw c.in-More.is at c.in_ok-more.ensures in
+    let goes = rw c.in-More.is at c.in_ok-more-in-Known.ensures in
     let one = λ (room : Room) (later : State → Tree). play room (gathering coding c.args.form (c.args.left - 1) c.in-More.more here.state) here in
     let other = λ (room : Room) (later : State → Tree). play room (gathering coding c.args.form c.args.left c.args.all s.state) s in
     let first = λ (room : Room). ap (λ tree. play room tree s) (reads_first coding c.args.form c.args.all s.state c.args.left c.if-left-eq0.false) in
@@ -48,12 +48,12 @@ returns-in-More g c =
 -- the data are over
 pub returns-in-Over : goal.returns-in-Over
 unfolding play
-returns-in-Over g c =
+returns-in-Over g t c =
     let coding = coding_of g.E.Encoding.decoded g.E.Encoding.encoded c.args.encoding.now in
     let s = c.args.standing in
     let here = c.in-Known.here in
     let came = rw c.in-Known.is at c.in_ok-here.ensures in
-    let goes = rw c.in-Over.is at c.in_ok-more.ensures in
+    let goes = rw c.in-Over.is at c.in_ok-more-in-Known.ensures in
     let one = λ (room : Room) (later : State → Tree). play room (fetch_parting c.args.form c.in-Over.answer here.state) here in
     let other = λ (room : Room) (later : State → Tree). play room (gathering coding c.args.form c.args.left c.args.all s.state) s in
     let first = λ (room : Room). ap (λ tree. play room tree s) (reads_first coding c.args.form c.args.all s.state c.args.left c.if-left-eq0.false) in

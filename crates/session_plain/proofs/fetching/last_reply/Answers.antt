@@ -1,7 +1,5 @@
-use Rattle.std.proofs.Common.{◌≡◌, ap, sym, ◌∙◌}
-use Rattle.ftp_control.specs.declared.transport.room.Room.{Room}
-use Rattle.ftp_dialogue.specs.declared.state.State.{State}
-use Rattle.ftp_dialogue.specs.Dialogue.{Tree, fetch_concluded}
+use Rattle.std.proofs.Common.{ap, sym, ◌∙◌}
+use Rattle.ftp_dialogue.specs.Dialogue.{fetch_concluded}
 use Rattle.ftp_dialogue.specs.Play.{play}
 use Rattle.session_plain.proofs.fetching.last_reply.Goals as goal
 
