@@ -31,3 +31,5 @@ mod state;
 mod strangers;
 #[cfg(test)]
 mod transfers;
+#[cfg(test)]
+mod whole_files;

@@ -43,11 +43,16 @@ fn first(
 
 /// These outcomes again.
 fn copy_of(alloc: Global, outcomes: &[DealOutcome]) -> Result<Items<DealOutcome>, AllocError> {
+    Ok(Items::from_vec(copies_of(alloc, outcomes)?))
+}
+
+/// The same, in a vector.
+fn copies_of(alloc: Global, outcomes: &[DealOutcome]) -> Result<Vec<DealOutcome>, AllocError> {
     let mut all = Vec::new(alloc);
     for outcome in outcomes {
         all.push(outcome.clone()?)?;
     }
-    Ok(Items::from_vec(all))
+    Ok(all)
 }
 
 /// Nothing was asked, and there is no data connection.
@@ -123,9 +128,8 @@ fn outcomes_of(alloc: Global, calls: &[Call], play: &Play) -> Result<Vec<DealOut
                 let Some(call) = calls.get(answers.as_slice().len()) else {
                     return Err(RowError::NotUnderstood);
                 };
-                for outcome in next_outcomes(alloc, &play.setup, call, &here.dealings)? {
-                    outcomes.push(outcome)?;
-                }
+                let more = next_outcomes(alloc, &play.setup, call, &here.dealings)?;
+                add_all(&mut outcomes, more)?;
             }
             Ran::Finished(..) | Ran::Waiting(..) => return Ok(outcomes),
         }
@@ -268,16 +272,22 @@ fn add_outcomes(
                 if more.is_empty() {
                     return Ok(());
                 }
-                for outcome in more {
-                    outcomes.push(outcome)?;
-                }
+                add_all(outcomes, more)?;
             }
         }
     }
     Err(RowError::NotUnderstood)
 }
 
-/// What becomes of a data connection that a call under way reads whole, once it comes to that: with it the connection is
+/// Adds these outcomes.
+fn add_all(outcomes: &mut Vec<DealOutcome>, more: Vec<DealOutcome>) -> Result<(), AllocError> {
+    for outcome in more {
+        outcomes.push(outcome)?;
+    }
+    Ok(())
+}
+
+/// What becomes of a data connection that a call under way reads whole, once it comes to that: with it one more was
 /// closed.
 fn fetched_after(
     alloc: Global,
@@ -285,27 +295,59 @@ fn fetched_after(
     play: &Play,
     known: &[DealOutcome],
 ) -> Result<Vec<DealOutcome>, RowError> {
-    let without = script_of(alloc, events, play, known)?;
-    let reads = match &without.call {
-        Some(call) => fetches(call) && without.dealings.data_conn.is_some(),
-        None => false,
-    };
-    if !reads {
+    if !fetch(events) {
         return Ok(Vec::new(alloc));
     }
-    let more = fetched(alloc, &play.setup, &without.dealings)?;
-    let mut all = Vec::new(alloc);
-    for outcome in known {
-        all.push(outcome.clone()?)?;
-    }
-    for outcome in &more {
-        all.push(outcome.clone()?)?;
-    }
-    let with = script_of(alloc, events, play, &all)?;
-    if with.dealings.closed.as_slice().len() > without.dealings.closed.as_slice().len() {
+    let script = script_of(alloc, events, play, known)?;
+    let (closed, more) = fetched_in(alloc, play, script)?;
+    if more.is_empty() || is_closed(alloc, events, play, known, &more, closed)? {
         return Ok(more);
     }
     Ok(Vec::new(alloc))
+}
+
+/// Whether a call of these events reads a whole data connection.
+fn fetch(events: &[Event]) -> bool {
+    events.iter().any(|event| match event {
+        Event::Start(call) => fetches(call),
+        _ => false,
+    })
+}
+
+/// How many data connections a script has closed, and what would become of the one that its call under way reads whole,
+/// where it does.
+fn fetched_in(
+    alloc: Global,
+    play: &Play,
+    script: Script,
+) -> Result<(usize, Vec<DealOutcome>), AllocError> {
+    let closed = closed_in(&script);
+    match &script.call {
+        Some(call) if fetches(call) && script.dealings.data_conn.is_some() => {
+            Ok((closed, fetched(alloc, &play.setup, &script.dealings)?))
+        }
+        _ => Ok((closed, Vec::new(alloc))),
+    }
+}
+
+/// Whether more data connections than so many are closed once these outcomes come, too.
+fn is_closed(
+    alloc: Global,
+    events: &[Event],
+    play: &Play,
+    known: &[DealOutcome],
+    more: &[DealOutcome],
+    closed: usize,
+) -> Result<bool, RowError> {
+    let mut all = copies_of(alloc, known)?;
+    add_all(&mut all, copies_of(alloc, more)?)?;
+    let script = script_of(alloc, events, play, &all)?;
+    Ok(closed_in(&script) > closed)
+}
+
+/// How many data connections were closed.
+fn closed_in(script: &Script) -> usize {
+    script.dealings.closed.as_slice().len()
 }
 
 /// The outcome that is waited for after these events, where these are known.
@@ -355,10 +397,7 @@ fn closes(
     play: &Play,
     known: &[DealOutcome],
 ) -> Result<Option<DealOutcome>, RowError> {
-    let mut more = Vec::new(alloc);
-    for outcome in known {
-        more.push(outcome.clone()?)?;
-    }
+    let mut more = copies_of(alloc, known)?;
     more.push(DealOutcome::Closed)?;
     let with = script_of(alloc, events, play, &more)?;
     let without = script_of(alloc, events, play, known)?;
