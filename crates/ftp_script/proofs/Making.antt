@@ -1,5 +1,6 @@
 -- Lemmas on calls that are made one after another.
 use Rattle.std.proofs.Common.{Result, Ok, Err, OnOk, drop, ◌≡◌, ℕ, List, [], ◌∷◌, ◌++◌, refl, sym, ap, subst, ◌∙◌, append_assoc, append-nil, length, get_or, arith}
+use Rattle.ftp_control.specs.declared.transport.request.Asked.{Asked}
 use Rattle.ftp_calls.specs.declared.call.Answer.{Answer}
 use Rattle.ftp_calls.specs.declared.call.Call.{Call}
 use Rattle.ftp_dialogue.specs.Promises.{Runs}
@@ -29,8 +30,10 @@ only_item (a ∷ []) d one = refl
 only_item (a ∷ b ∷ others) d one = absurd (omega (arith, one))
 
 -- what a call that was made added
-pub made_one : {E : Type 0} (r : Result (Unit {0}) E) (call : Call) (old new : SessionValue) (answer : Answer) (sent before after : List ℕ) → sent ≡ drop (length old.channel.told.sent) new.channel.told.sent
-    → Runs memory utf8 (call ∷ []) old new (answer ∷ []) → OnOk r (after ≡ before ++ call_text sent answer) → OnOk r ((made : List ℕ) × (after ≡ before ++ made) × MakesOne call old new made)
-made_one (Ok done) call old new answer sent before after is runs grown =
-    (call_text sent answer, grown, record { answer = answer; runs = runs; is = ap (λ s. call_text s answer) is })
-made_one (Err cause) call old new answer sent before after is runs grown = tt
+pub made_one : {E : Type 0} (r : Result (Unit {0}) E) (call : Call) (old new : SessionValue) (answer : Answer) (sent : List ℕ) (asked : List Asked) (before after : List ℕ) →
+    sent ≡ drop (length old.channel.told.sent) new.channel.told.sent → asked ≡ drop (length old.net.asked) new.net.asked → Runs memory utf8 (call ∷ []) old new (answer ∷ [])
+    → OnOk r (after ≡ before ++ call_text sent asked answer) → OnOk r ((made : List ℕ) × (after ≡ before ++ made) × MakesOne call old new made)
+made_one (Ok done) call old new answer sent asked before after sent_is asked_is runs grown =
+    let is = ap (λ s. call_text s asked answer) sent_is ∙ ap (λ a. call_text (drop (length old.channel.told.sent) new.channel.told.sent) a answer) asked_is in
+    (call_text sent asked answer, grown, record { answer = answer; runs = runs; is = is })
+made_one (Err cause) call old new answer sent asked before after sent_is asked_is runs grown = tt

@@ -1,7 +1,7 @@
 -- Lemmas on parts between separators.
 use Rattle.std.proofs.Common.{◌≡◌, ℕ, Bool, true, false, zero, suc, slice_index, ◌<◌, ◌≤◌, ◌==◌, cond, List, [], ◌∷◌, length, take, drop, refl, ap, ◌∙◌, arith, None}
 use Rattle.std.specs.List.{onto_first, slice_split}
-use Rattle.ftp_script.specs.Lines.{pair_of, words_of}
+use Rattle.ftp_script.specs.Calls.{pair_of, words_of}
 
 not_true : (t : Bool) → (t ≡ true → ⊥) → t ≡ false
 not_true true never = absurd (never refl)

@@ -1,12 +1,13 @@
--- Scripts: what the server sends, and the calls.
+-- Scripts: what the server sends, the data connections, and the calls.
 use Rattle.std.specs.Prelude.{◌≡◌, ℕ, ◌+◌, ◌==◌, Bool, List, [], ◌∷◌, ◌++◌, Option, Some, None, Result, Ok, Err}
 use Rattle.std.specs.List.{slice_split}
 use Rattle.ftp_calls.specs.declared.call.Call.{Call}
 use Rattle.ftp_script.specs.declared.line.Line.{Line}
-use Rattle.ftp_script.specs.declared.line.Line.TheVariants.{Empty, Server, Makes}
+use Rattle.ftp_script.specs.declared.line.Line.TheVariants.{Empty, Server, Data, Makes}
 use Rattle.ftp_script.specs.declared.script.Script.{Script}
 use Rattle.ftp_script.specs.declared.script.ScriptError.{ScriptError}
 use Rattle.ftp_script.specs.declared.script.ScriptError.TheVariants.{NotUnderstood, OutOfMemory}
+use Rattle.ftp_script.specs.declared.supplies.DataConn.{DataConn}
 use Rattle.ftp_script.specs.Lines.{line_of}
 
 abbrev pub is_newline : ℕ → Bool
@@ -16,26 +17,34 @@ is_newline byte = byte == 10
 abbrev pub lines_of : List ℕ → List (List ℕ)
 lines_of text = slice_split is_newline text
 
--- what a line adds to what the server sends, and to the calls
+-- what a line adds to what the server sends, to the data connections, and to the calls
 abbrev pub served : Line → List ℕ
 served Empty = []
 served (Server bytes) = bytes
+served (Data conn) = []
 served (Makes call) = []
+
+abbrev pub supplied : Line → List DataConn
+supplied Empty = []
+supplied (Server bytes) = []
+supplied (Data conn) = conn ∷ []
+supplied (Makes call) = []
 
 abbrev pub called : Line → List Call
 called Empty = []
 called (Server bytes) = []
+called (Data conn) = []
 called (Makes call) = call ∷ []
 
 -- a script with a line before its others
 abbrev pub with_line : ℕ → Option Line → Result Script ℕ → Result Script ℕ
 with_line number None later = Err number
 with_line number (Some line) (Err later) = Err later
-with_line number (Some line) (Ok later) = Ok (record { server = served line ++ later.server; calls = called line ++ later.calls })
+with_line number (Some line) (Ok later) = Ok (record { server = served line ++ later.server; data_conns = supplied line ++ later.data_conns; calls = called line ++ later.calls })
 
 -- the script of lines of which the first has this number, or the number of the first that isn't understood
 unfoldable pub script_from : ℕ → List (List ℕ) → Result Script ℕ
-script_from number [] = Ok (record { server = []; calls = [] })
+script_from number [] = Ok (record { server = []; data_conns = []; calls = [] })
 script_from number (line ∷ lines) = with_line number (line_of line) (script_from (number + 1) lines)
 
 -- the script that a text writes, or the number of the first line that isn't understood, from 1

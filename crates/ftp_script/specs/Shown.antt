@@ -1,12 +1,16 @@
 -- How a transcript is written.
-use Rattle.std.specs.Prelude.{ℕ, ◌+◌, ◌/◌, ◌%◌, ◌==◌, ◌&&◌, nat_le, nat_lt, List, [], ◌∷◌, ◌++◌, Option, Some, None, codes, if◌then◌else◌}
+use Rattle.std.specs.Prelude.{ℕ, ◌+◌, ◌/◌, ◌%◌, ◌==◌, ◌&&◌, nat_le, nat_lt, bytes_eq, List, [], ◌∷◌, ◌++◌, take, drop, Option, Some, None, codes, if◌then◌else◌}
 use Rattle.std.specs.List.{flat_map, onto_first}
 use Rattle.std.specs.Fmt.{decimal}
+use Rattle.std.specs.Net.Text.{socket_text}
 use Rattle.ftp_base.specs.Fault.{number_of}
 use Rattle.ftp_base.specs.Status.{code_of}
 use Rattle.ftp_base.specs.Features.{Entries, Feature}
 use Rattle.ftp_base.specs.declared.types.fault.FtpError.{FtpError}
 use Rattle.ftp_base.specs.declared.types.fault.FtpError.TheVariants.{ConnectionError as OfConnection, SecureError, UnexpectedResponse, BadResponse, DataConnectionAlreadyOpen, OutOfMemory, SessionFailed, InvalidAddress}
+use Rattle.ftp_control.specs.declared.transport.request.Asked.{Asked}
+use Rattle.ftp_control.specs.declared.transport.request.Request.{Request}
+use Rattle.ftp_control.specs.declared.transport.request.Request.TheVariants.{Connect, Listen, Accept, Build}
 use Rattle.ftp_calls.specs.declared.call.Answer.{Answer}
 use Rattle.ftp_calls.specs.declared.call.Answer.TheVariants.{Unit as Done, Reply, Text, Time, Size, Features, Opened, OpenedWith, Bytes, Lines, Count, NoTransfer, Fault}
 
@@ -68,7 +72,7 @@ abbrev pub lines_text : List (List ℕ) → List ℕ
 lines_text [] = []
 lines_text (first ∷ others) = shown first ++ flat_map later_line others
 
--- an answer as text; no call of a script gives a time, opens a data connection, is of a transfer or lists
+-- an answer as text
 abbrev pub answer_text : Answer → List ℕ
 answer_text Done = codes "ok"
 answer_text (Reply reply) = codes "ok " ++ shown reply.body
@@ -76,11 +80,11 @@ answer_text (Text text) = codes "ok " ++ shown text
 answer_text (Time time) = codes "ok"
 answer_text (Size size) = codes "ok " ++ decimal size
 answer_text (Features features) = codes "ok " ++ features_text features
-answer_text Opened = codes "opened"
-answer_text (OpenedWith reply) = codes "opened with " ++ shown reply.body
-answer_text (Bytes bytes) = codes "bytes " ++ shown bytes
+answer_text Opened = codes "ok"
+answer_text (OpenedWith reply) = codes "ok " ++ shown reply.body
+answer_text (Bytes bytes) = codes "ok " ++ shown bytes
 answer_text (Lines lines) = codes "ok " ++ lines_text lines
-answer_text (Count count) = codes "count " ++ decimal count
+answer_text (Count count) = codes "ok " ++ decimal count
 answer_text NoTransfer = codes "NoTransfer"
 answer_text (Fault fault) = codes "E" ++ decimal (number_of fault) ++ after_number fault
 
@@ -88,9 +92,32 @@ answer_text (Fault fault) = codes "E" ++ decimal (number_of fault) ++ after_numb
 abbrev pub sent_text : List ℕ → List ℕ
 sent_text line = codes "C: " ++ shown line ++ 10 ∷ []
 
--- a call: the lines that were sent, and its answer
-abbrev pub call_text : List ℕ → Answer → List ℕ
-call_text sent answer = flat_map sent_text (sent_lines sent) ++ codes "A: " ++ answer_text answer ++ 10 ∷ []
+-- the address of a connection that was asked for; a script asks for no other thing
+abbrev pub request_text : Request → List ℕ
+request_text (Connect address limit) = codes "D: " ++ socket_text address ++ 10 ∷ []
+request_text (Listen address) = []
+request_text (Accept deadline) = []
+request_text (Build address) = []
+
+abbrev pub asked_text : Asked → List ℕ
+asked_text asked = request_text asked.request
+
+-- how many addresses come after a line: one, where it asked the server where to connect
+abbrev pub addresses_after : List ℕ → ℕ
+addresses_after line =
+    if bytes_eq line (codes "PASV\r\n") then 1
+    else (if bytes_eq line (codes "EPSV\r\n") then 1 else 0)
+
+-- the lines that were sent, and each address that was asked for, after the line that brought it
+abbrev pub exchanged_text : List (List ℕ) → List Asked → List ℕ
+exchanged_text [] asked = flat_map asked_text asked
+exchanged_text (line ∷ lines) asked =
+    sent_text line ++ flat_map asked_text (take (addresses_after line) asked)
+    ++ exchanged_text lines (drop (addresses_after line) asked)
+
+-- a call: the lines that were sent and the addresses that were asked for, and its answer
+abbrev pub call_text : List ℕ → List Asked → Answer → List ℕ
+call_text sent asked answer = exchanged_text (sent_lines sent) asked ++ codes "A: " ++ answer_text answer ++ 10 ∷ []
 
 -- the last line: how many bytes of the server were taken
 abbrev pub end_text : ℕ → List ℕ

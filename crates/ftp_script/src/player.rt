@@ -1,20 +1,23 @@
 //! Scripts, played.
 //!
 //! The calls of a script are made by a session over a connection over memory that gives what the server sends and then
-//! ends, one after another, so that it is known what went out in each.
+//! ends, one after another, so that it is known what went out in each. Its data connections come from a transport over
+//! memory.
 
-ghost use Rattle.std.specs.Prelude.{◌≡◌, ◌++◌, OnOk, None, IfOk, ℕ, List, [], drop};
-ghost use Rattle.ftp_control.specs.Memory.{closed_memory, fed, fresh_memory};
+ghost use Rattle.std.specs.Prelude.{◌≡◌, ◌++◌, OnOk, None, IfOk, ℕ, List, [], drop, map};
+ghost use Rattle.ftp_control.specs.Memory.{fresh_between, unspecified};
 ghost use Rattle.ftp_dialogue.specs.State.{Begins};
 ghost use Rattle.ftp_dialogue.specs.Deals.{first_net};
-ghost use Rattle.ftp_script.specs.Playing.{IsTranscript, MakesOne};
+ghost use Rattle.ftp_script.specs.Playing.{IsTranscript, MakesOne, giving, server_address, supply_of};
 
 use crate::script::Script;
 use crate::shown::{push_call, push_end};
+use crate::supplies::transport_of;
 use ftp_calls::call::Call;
-use ftp_control::transport::{MemoryConn, MemoryTransport};
+use ftp_control::transport::{Asked, MemoryConn, MemoryTransport};
 use ftp_session::session::Session;
 use std::alloc::{AllocError, Global};
+use std::net::{Ipv4Addr, SocketAddr, SocketAddrV4};
 use std::slice;
 
 /// The transcript of a script.
@@ -24,7 +27,7 @@ use std::slice;
 pub(crate) fn transcript_of(alloc: Global, script: &Script) -> Result<Vec<u8>, AllocError>
     ensures { IfOk result (λ text. IsTranscript script.now text.items) }
 {
-    let mut session = session_of(alloc, script.server.as_slice())?;
+    let mut session = session_of(alloc, script)?;
     let mut text = Vec::new(alloc);
     push_made(alloc, &mut text, &mut session, &Call::Greet)?;
     for call in script.calls.as_slice() {
@@ -35,25 +38,28 @@ pub(crate) fn transcript_of(alloc: Global, script: &Script) -> Result<Vec<u8>, A
     Ok(text)
 }
 
-/// A session that is to read what the server sends.
-fn session_of(alloc: Global, server: &[u8]) -> Result<Session<MemoryTransport>, AllocError>
+/// A session that is to read what the server sends, over a transport with the data connections.
+fn session_of(alloc: Global, script: &Script) -> Result<Session<MemoryTransport>, AllocError>
     ensures encoding { IfOk result (λ session. session.encoding.0 ≡ None) }
     ensures builder { IfOk result (λ session. session.builder ≡ None) }
     ensures mark { IfOk result (λ session. session.mark ≡ None) }
     ensures begins { IfOk result (λ session.
-        Begins (Unit {0}) (closed_memory (fed server.now fresh_memory))
-        (first_net [] [] []) session.machine) }
+        Begins (Unit {0}) (giving script.now.server (fresh_between unspecified server_address))
+        (first_net [] (map supply_of script.now.data_conns) []) session.machine) }
 {
-    let mut conn = MemoryConn::new(alloc);
-    conn.feed(server)?;
+    let transport = transport_of(alloc, script.data_conns.as_slice())?;
+    let here = SocketAddr::V4(SocketAddrV4::new(Ipv4Addr::new(0, 0, 0, 0), 0));
+    let server = SocketAddr::V4(SocketAddrV4::new(Ipv4Addr::new(192, 0, 2, 7), 21));
+    let mut conn = MemoryConn::between(alloc, here, server);
+    conn.feed(script.server.as_slice())?;
     conn.end();
-    match Session::new(alloc, MemoryTransport::new(alloc), conn) {
+    match Session::new(alloc, transport, conn) {
         Ok(session) => Ok(session),
         Err(_) => Err(AllocError),
     }
 }
 
-/// Makes a call, and adds the lines that went out in it, and its answer.
+/// Makes a call, and adds the lines that went out in it, the addresses that were asked for, and its answer.
 fn push_made(
     alloc: Global,
     text: &mut Vec<u8>,
@@ -70,11 +76,13 @@ fn push_made(
         MakesOne call.now session.old.machine session.new.machine made) }
 {
     let before = session.get_ref().sent().len();
+    let asked = session.transport().asked().len();
     let answers = match session.run(alloc, &(), slice::from_ref(call)) {
         Ok(answers) => answers,
         Err(_) => return Err(AllocError),
     };
-    push_call(alloc, text, sent_after(session, before), &answers[0])
+    let sent = sent_after(session, before);
+    push_call(alloc, text, sent, asked_after(session, asked), &answers[0])
 }
 
 /// What went out after the first so many bytes.
@@ -82,4 +90,11 @@ fn sent_after(session: &Session<MemoryTransport>, before: usize) -> &[u8]
     ensures { result.now ≡ drop before session.now.machine.channel.told.sent }
 {
     session.get_ref().sent().get(before..).unwrap_or(&[])
+}
+
+/// What was asked for after the first so many requests.
+fn asked_after(session: &Session<MemoryTransport>, before: usize) -> &[Asked]
+    ensures { result.now ≡ drop before session.now.machine.net.asked }
+{
+    session.transport().asked().get(before..).unwrap_or(&[])
 }

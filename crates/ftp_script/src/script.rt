@@ -2,10 +2,11 @@
 
 ghost use Rattle.std.specs.Prelude.{◌≡◌, ◌++◌, OnOk, Ok, Err, MatchResult};
 ghost use Rattle.ftp_script.specs.declared.script.ScriptError.TheVariants as wrong;
-ghost use Rattle.ftp_script.specs.Script.{called, script_of, served, IsWrong};
+ghost use Rattle.ftp_script.specs.Script.{called, script_of, served, supplied, IsWrong};
 
 use crate::cut::cut;
 use crate::line::{Line, line_of};
+use crate::supplies::DataConn;
 use ftp_base::types::{Bytes, Items};
 use ftp_calls::call::Call;
 use std::alloc::{AllocError, AllocFailed, Global};
@@ -15,6 +16,8 @@ use std::alloc::{AllocError, AllocFailed, Global};
 pub(crate) struct Script {
     /// What the server sends.
     pub server: Bytes,
+    /// The data connections, in order.
+    pub data_conns: Items<DataConn>,
     /// The calls.
     pub calls: Items<Call>,
 }
@@ -45,6 +48,7 @@ pub(crate) fn script_of(alloc: Global, text: &[u8]) -> Result<Script, ScriptErro
         (λ error. IsWrong (script_of text.now) error) }
 {
     let mut server = Vec::new(alloc);
+    let mut data_conns = Vec::new(alloc);
     let mut calls = Vec::new(alloc);
     let mut rest = text;
     let mut number = 1;
@@ -52,28 +56,39 @@ pub(crate) fn script_of(alloc: Global, text: &[u8]) -> Result<Script, ScriptErro
         let Some(line) = line_of(alloc, line)? else {
             return Err(ScriptError::NotUnderstood(number));
         };
-        add_line(line, &mut server, &mut calls)?;
+        add_line(line, &mut server, &mut data_conns, &mut calls)?;
         number += 1;
         rest = behind;
     }
     let Some(line) = line_of(alloc, rest)? else {
         return Err(ScriptError::NotUnderstood(number));
     };
-    add_line(line, &mut server, &mut calls)?;
+    add_line(line, &mut server, &mut data_conns, &mut calls)?;
     Ok(Script {
         server: Bytes::from_vec(server),
+        data_conns: Items::from_vec(data_conns),
         calls: Items::from_vec(calls),
     })
 }
 
 /// Adds what a line says.
-fn add_line(line: Line, server: &mut Vec<u8>, calls: &mut Vec<Call>) -> Result<(), AllocError>
+fn add_line(
+    line: Line,
+    server: &mut Vec<u8>,
+    data_conns: &mut Vec<DataConn>,
+    calls: &mut Vec<Call>,
+) -> Result<(), AllocError>
     ensures server { OnOk result (server.new.items ≡ server.old.items ++ served line) }
+    ensures data_conns { OnOk result (data_conns.new.items ≡ data_conns.old.items ++ supplied line) }
     ensures calls { OnOk result (calls.new.items ≡ calls.old.items ++ called line) }
 {
     match line {
         Line::Empty => Ok(()),
         Line::Server(bytes) => server.extend_from_slice(bytes.as_slice()),
+        Line::Data(data_conn) => {
+            data_conns.push(data_conn)?;
+            Ok(())
+        }
         Line::Makes(call) => {
             calls.push(call)?;
             Ok(())

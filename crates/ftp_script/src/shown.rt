@@ -5,24 +5,28 @@ ghost use Rattle.std.specs.List.{flat_map};
 ghost use Rattle.std.specs.Fmt.{decimal};
 ghost use Rattle.std.specs.Option.{option_map};
 ghost use Rattle.ftp_base.specs.Features.{shown as entries};
-ghost use Rattle.ftp_script.specs.Shown.{after_number, answer_text, call_text, end_text, feature_text, features_text, later_line, later_text, lines_text, hex_digit, sent_lines, sent_text, shown, shown_byte};
+ghost use Rattle.ftp_script.specs.Shown.{addresses_after, after_number, answer_text, asked_text, call_text, end_text, exchanged_text, feature_text, features_text, later_line, later_text, lines_text, hex_digit, request_text, sent_lines, sent_text, shown, shown_byte};
 
+use crate::compare::is;
 use ftp_base::types::{Features, FtpError};
 use ftp_calls::call::Answer;
+use ftp_control::transport::{Asked, Request};
 use memchr::memchr;
 use std::alloc::{AllocError, Global};
 use std::collections::btree_map::Iter;
 
-/// Adds a call: the lines that were sent, and its answer.
+/// Adds a call: the lines that were sent, the addresses that were asked for, and its answer.
 pub(crate) fn push_call(
     alloc: Global,
     text: &mut Vec<u8>,
     sent: &[u8],
+    asked: &[Asked],
     answer: &Answer,
 ) -> Result<(), AllocError>
-    ensures { OnOk result (text.new.items ≡ text.old.items ++ call_text sent.now answer.now) }
+    ensures { OnOk result
+        (text.new.items ≡ text.old.items ++ call_text sent.now asked.now answer.now) }
 {
-    push_sent(text, sent)?;
+    push_exchanged(alloc, text, sent, asked)?;
     text.extend_from_slice(b"A: ")?;
     push_answer(alloc, text, answer)?;
     text.push(b'\n')?;
@@ -39,20 +43,76 @@ pub(crate) fn push_end(alloc: Global, text: &mut Vec<u8>, taken: usize) -> Resul
     Ok(())
 }
 
-/// Adds the lines that were sent.
-fn push_sent(text: &mut Vec<u8>, sent: &[u8]) -> Result<(), AllocError>
+/// Adds the lines that were sent, and each address that was asked for after the line that brought it.
+fn push_exchanged(
+    alloc: Global,
+    text: &mut Vec<u8>,
+    sent: &[u8],
+    asked: &[Asked],
+) -> Result<(), AllocError>
     ensures { OnOk result
-        (text.new.items ≡ text.old.items ++ flat_map sent_text (sent_lines sent.now)) }
+        (text.new.items ≡ text.old.items ++ exchanged_text (sent_lines sent.now) asked.now) }
 {
     let mut rest = sent;
+    let mut asked = asked;
     while !rest.is_empty() {
         let (line, behind) = rest.split_at(line_end(rest));
-        text.extend_from_slice(b"C: ")?;
-        push_shown(text, line)?;
-        text.push(b'\n')?;
+        let (next, later) = asked.split_at(addresses_after(line).min(asked.len()));
+        push_sent(text, line)?;
+        push_asked(alloc, text, next)?;
         rest = behind;
+        asked = later;
+    }
+    push_asked(alloc, text, asked)
+}
+
+/// How many addresses come after a line: one, where it asked the server where to connect.
+fn addresses_after(line: &[u8]) -> usize
+    ensures { result ≡ addresses_after line.now }
+{
+    if is(line, b"PASV\r\n") {
+        1
+    } else if is(line, b"EPSV\r\n") {
+        1
+    } else {
+        0
+    }
+}
+
+/// Adds a line that was sent.
+fn push_sent(text: &mut Vec<u8>, line: &[u8]) -> Result<(), AllocError>
+    ensures { OnOk result (text.new.items ≡ text.old.items ++ sent_text line.now) }
+{
+    text.extend_from_slice(b"C: ")?;
+    push_shown(text, line)?;
+    text.push(b'\n')?;
+    Ok(())
+}
+
+/// Adds the addresses that were asked for.
+fn push_asked(alloc: Global, text: &mut Vec<u8>, asked: &[Asked]) -> Result<(), AllocError>
+    ensures { OnOk result
+        (text.new.items ≡ text.old.items ++ flat_map asked_text asked.now) }
+{
+    for one in asked {
+        push_request(alloc, text, &one.request)?;
     }
     Ok(())
+}
+
+/// Adds the address of a connection that was asked for.
+fn push_request(alloc: Global, text: &mut Vec<u8>, request: &Request) -> Result<(), AllocError>
+    ensures { OnOk result (text.new.items ≡ text.old.items ++ request_text request.now) }
+{
+    match request {
+        Request::Connect(address, _) => {
+            let line = format!(in alloc; "D: {address}\n")?;
+            text.extend_from_slice(line.as_bytes())
+        }
+        Request::Listen(_) => Ok(()),
+        Request::Accept(_) => Ok(()),
+        Request::Build(_) => Ok(()),
+    }
 }
 
 /// Where the first line ends, after its LF.
@@ -92,13 +152,13 @@ fn push_answer(alloc: Global, text: &mut Vec<u8>, answer: &Answer) -> Result<(),
             text.extend_from_slice(b"ok ")?;
             push_features(text, features)
         }
-        Answer::Opened => text.extend_from_slice(b"opened"),
+        Answer::Opened => text.extend_from_slice(b"ok"),
         Answer::OpenedWith(reply) => {
-            text.extend_from_slice(b"opened with ")?;
+            text.extend_from_slice(b"ok ")?;
             push_shown(text, reply.body.as_slice())
         }
         Answer::Bytes(bytes) => {
-            text.extend_from_slice(b"bytes ")?;
+            text.extend_from_slice(b"ok ")?;
             push_shown(text, bytes.as_slice())
         }
         Answer::Lines(lines) => {
@@ -106,7 +166,7 @@ fn push_answer(alloc: Global, text: &mut Vec<u8>, answer: &Answer) -> Result<(),
             push_lines(text, lines.as_slice())
         }
         Answer::Count(count) => {
-            text.extend_from_slice(b"count ")?;
+            text.extend_from_slice(b"ok ")?;
             push_number(alloc, text, *count)
         }
         Answer::NoTransfer => text.extend_from_slice(b"NoTransfer"),
@@ -178,10 +238,17 @@ fn push_later_lines(text: &mut Vec<u8>, lines: &[String]) -> Result<(), AllocErr
         (text.new.items ≡ text.old.items ++ flat_map later_line (map string_bytes lines.now)) }
 {
     for line in lines {
-        push_byte(text, b'\n')?;
-        push_shown(text, line.as_bytes())?;
+        push_later_line(text, line)?;
     }
     Ok(())
+}
+
+/// Adds a line after the first.
+fn push_later_line(text: &mut Vec<u8>, line: &String) -> Result<(), AllocError>
+    ensures { OnOk result (text.new.items ≡ text.old.items ++ later_line (string_bytes line.now)) }
+{
+    push_byte(text, b'\n')?;
+    push_shown(text, line.as_bytes())
 }
 
 /// Adds the code of the status of an unexpected reply.

@@ -11,7 +11,7 @@ on_ok (Err fault) P Q from is = tt
 pub returns-in_ok-extend_from_slice-in-OpenedWith : goal.returns-in_ok-extend_from_slice-in-OpenedWith
 returns-in_ok-extend_from_slice-in-OpenedWith c =
     let text = c.args.text.now.items in
-    let words = codes "opened with " in
+    let words = codes "ok " in
     let body = c.in-OpenedWith.reply.body in
     let same : (text ++ words) ++ shown body ≡ text ++ answer_text c.args.answer.now = append_assoc text words (shown body) ∙ ap (λ a. text ++ answer_text a) (sym c.in-OpenedWith.is) in
     on_ok c.push_shown-in-OpenedWith.result _ _ (λ is. is ∙ ap (λ t. t ++ shown c.as_slice-in-OpenedWith.result.now) c.in_ok-extend_from_slice-in-OpenedWith.ensures.items ∙ ap (λ b. (text ++ words) ++ shown b) c.as_slice-in-OpenedWith.ensures ∙ same) c.push_shown-in-OpenedWith.ensures

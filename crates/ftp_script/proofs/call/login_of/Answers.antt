@@ -1,6 +1,6 @@
 use Rattle.std.proofs.Common.{◌≡◌, sym, subst, IfOk}
 use Rattle.ftp_script.proofs.Splitting.{words-one, words-two, words-three}
-use Rattle.ftp_script.proofs.line.login_of.Goals as goal
+use Rattle.ftp_script.proofs.call.login_of.Goals as goal
 
 pub returns-in_default : goal.returns-in_default
 returns-in_default c = sym (words-one _ _ c.in_default.ensures.parts)

@@ -1,6 +1,6 @@
 use Rattle.std.proofs.Common.{Some, ◌∙◌, sym, ap}
 use Rattle.ftp_script.proofs.Escaping.{ascii_text, ascii_utf8}
-use Rattle.ftp_script.proofs.line.text_of.Goals as goal
+use Rattle.ftp_script.proofs.call.text_of.Goals as goal
 
 pub unreachable-requires : goal.unreachable-requires
 unreachable-requires c =
