@@ -13,7 +13,7 @@ use ftp_control::mark::Left;
 use ftp_control::transport::MemoryTransport;
 use ftp_session::session::{Answer, Call, NoTlsConnector, Setting};
 use row_text::RowError;
-use std::alloc::AllocError;
+use std::alloc::{AllocError, Global};
 use std::sync::Wait;
 use suppaftp::{ImplFtpStream, TransferStream};
 
@@ -82,16 +82,35 @@ fn made<R: Wait + AllocGlobal>(
     answers: &mut Vec<Answer>,
 ) -> Result<Standing, RowError> {
     let mut transfers = Transfers::new(rt.alloc());
+    stands_after(rt, client, &mut transfers, calls, answers)
+}
+
+/// The same, of a client with these transfers.
+fn stands_after<R: Wait + AllocGlobal>(
+    rt: &R,
+    client: &Client,
+    transfers: &mut Transfers<Stream>,
+    calls: &[Call],
+    answers: &mut Vec<Answer>,
+) -> Result<Standing, RowError> {
     for call in calls {
-        make_next(rt, client, &mut transfers, call, answers)?;
+        make_next(rt, client, transfers, call, answers)?;
     }
+    let uploaded = written(rt.alloc(), transfers.take_uploaded(rt.alloc()))?;
     let mut end = stands(rt, client, &answers[..])?;
-    for sent in transfers.uploaded {
+    end.uploaded = uploaded;
+    Ok(end)
+}
+
+/// What was written to data connections, but for those to which nothing was.
+fn written(alloc: Global, uploaded: Vec<Vec<u8>>) -> Result<Vec<Vec<u8>>, AllocError> {
+    let mut written = Vec::new(alloc);
+    for sent in uploaded {
         if !sent.is_empty() {
-            end.uploaded.push(sent)?;
+            written.push(sent)?;
         }
     }
-    Ok(end)
+    Ok(written)
 }
 
 /// Makes the next call, and notes its answer.

@@ -357,12 +357,22 @@ fn awaited(
     play: &Play,
     known: &[DealOutcome],
 ) -> Result<Option<DealOutcome>, RowError> {
-    let script = script_of(alloc, events, play, known)?;
-    match awaited_in(alloc, play, &script, known)? {
+    match awaited_now(alloc, events, play, known)? {
         Some(outcome) => Ok(Some(outcome)),
         None if leaves(events) => closes(alloc, events, play, known),
         None => Ok(None),
     }
+}
+
+/// The outcome that the call under way waits for.
+fn awaited_now(
+    alloc: Global,
+    events: &[Event],
+    play: &Play,
+    known: &[DealOutcome],
+) -> Result<Option<DealOutcome>, RowError> {
+    let script = script_of(alloc, events, play, known)?;
+    awaited_in(alloc, play, &script, known)
 }
 
 /// Whether a transfer may be left by one of these events.
@@ -399,12 +409,23 @@ fn closes(
 ) -> Result<Option<DealOutcome>, RowError> {
     let mut more = copies_of(alloc, known)?;
     more.push(DealOutcome::Closed)?;
-    let with = script_of(alloc, events, play, &more)?;
-    let without = script_of(alloc, events, play, known)?;
-    if with.items.as_slice().len() > without.items.as_slice().len() {
+    let with = done_with(alloc, events, play, &more)?;
+    let without = done_with(alloc, events, play, known)?;
+    if with > without {
         return Ok(Some(DealOutcome::Closed));
     }
     Ok(None)
+}
+
+/// How many calls are done after these events, where these outcomes are known.
+fn done_with(
+    alloc: Global,
+    events: &[Event],
+    play: &Play,
+    known: &[DealOutcome],
+) -> Result<usize, RowError> {
+    let script = script_of(alloc, events, play, known)?;
+    Ok(script.items.as_slice().len())
 }
 
 /// The script of these events, whose runs begin with these outcomes.

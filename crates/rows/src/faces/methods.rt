@@ -103,11 +103,22 @@ fn made(
     answers: &mut Vec<Answer>,
 ) -> Result<Standing, RowError> {
     let mut transfers = Transfers::new(alloc);
+    stands_after(alloc, session, &mut transfers, calls, answers)
+}
+
+/// The same, of a session with these transfers.
+fn stands_after(
+    alloc: Global,
+    session: &mut NamedSession,
+    transfers: &mut Transfers<Transfer<MemoryConn>>,
+    calls: &[Call],
+    answers: &mut Vec<Answer>,
+) -> Result<Standing, RowError> {
     for call in calls {
-        make_next(alloc, session, &mut transfers, call, answers)?;
+        make_next(alloc, session, transfers, call, answers)?;
     }
     let mut end = stands(alloc, session, &answers[..])?;
-    end.uploaded = transfers.uploaded;
+    end.uploaded = transfers.take_uploaded(alloc);
     Ok(end)
 }
 

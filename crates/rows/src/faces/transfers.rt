@@ -7,6 +7,7 @@ use ftp_control::mark::Left;
 use ftp_session::session::{Answer, Call};
 use std::alloc::{AllocError, Global};
 use std::io::{Read, Write};
+use std::mem;
 
 /// A transfer over memory.
 pub trait Held: Read + Write + Drop {
@@ -34,6 +35,11 @@ impl<T: Held> Transfers<T> {
             receipt: None,
             uploaded: Vec::new(alloc),
         }
+    }
+
+    /// Takes what was written to the data connections that are over.
+    pub fn take_uploaded(&mut self, alloc: Global) -> Vec<Vec<u8>> {
+        mem::replace(&mut self.uploaded, Vec::new(alloc))
     }
 
     /// The answer of a call that opens a transfer.
