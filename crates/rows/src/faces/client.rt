@@ -14,6 +14,8 @@ use ftp_control::transport::MemoryTransport;
 use ftp_session::session::{Answer, Call, NoTlsConnector, Setting};
 use row_text::RowError;
 use std::alloc::{AllocError, Global};
+use std::io;
+use std::io::{Read, Write};
 use std::sync::Wait;
 use suppaftp::{ImplFtpStream, TransferStream};
 
@@ -26,6 +28,14 @@ type Stream = TransferStream<MemoryTransport, NoTlsConnector, Named, RowBuilder>
 impl Held for Stream {
     fn sent(&self) -> &[u8] {
         self.get_ref().sent()
+    }
+
+    fn take_in(&mut self, buffer: &mut [u8]) -> io::Result<usize> {
+        Read::read(self, buffer)
+    }
+
+    fn put_out(&mut self, bytes: &[u8]) -> io::Result<usize> {
+        Write::write(self, bytes)
     }
 
     fn left(self) -> Left {

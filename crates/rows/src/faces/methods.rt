@@ -13,10 +13,20 @@ use ftp_session::session::{Answer, Call, Session, Setting};
 use ftp_transfer::Transfer;
 use row_text::RowError;
 use std::alloc::{AllocError, Global};
+use std::io;
+use std::io::{Read, Write};
 
 impl Held for Transfer<MemoryConn> {
     fn sent(&self) -> &[u8] {
         self.get_ref().sent()
+    }
+
+    fn take_in(&mut self, buffer: &mut [u8]) -> io::Result<usize> {
+        Read::read(self, buffer)
+    }
+
+    fn put_out(&mut self, bytes: &[u8]) -> io::Result<usize> {
+        Write::write(self, bytes)
     }
 
     fn left(self) -> Left {

@@ -6,13 +6,18 @@ use ftp_calls::exchange::drains_first;
 use ftp_control::mark::Left;
 use ftp_session::session::{Answer, Call};
 use std::alloc::{AllocError, Global};
-use std::io::{Read, Write};
-use std::mem;
+use std::{io, mem};
 
 /// A transfer over memory.
-pub trait Held: Read + Write + Drop {
+pub trait Held: Drop {
     /// What was written to its data connection.
     fn sent(&self) -> &[u8];
+
+    /// Reads from it, in one read.
+    fn take_in(&mut self, buffer: &mut [u8]) -> io::Result<usize>;
+
+    /// Writes to it, in one write.
+    fn put_out(&mut self, bytes: &[u8]) -> io::Result<usize>;
 
     /// Leaves it.
     fn left(self) -> Left;
@@ -71,7 +76,7 @@ impl<T: Held> Transfers<T> {
         };
         let mut buffer = Vec::new(alloc);
         buffer.resize(most, 0)?;
-        match transfer.read(&mut buffer[..]) {
+        match transfer.take_in(&mut buffer[..]) {
             Ok(count) => {
                 buffer.truncate(count);
                 Ok(Answer::Bytes(Bytes::from_vec(buffer)))
@@ -87,7 +92,7 @@ impl<T: Held> Transfers<T> {
         let Some(transfer) = &mut self.live else {
             return Answer::NoTransfer;
         };
-        match transfer.write(bytes) {
+        match transfer.put_out(bytes) {
             Ok(count) => Answer::Count(count as u64),
             Err(error) => {
                 Answer::Fault(FtpError::ConnectionError(ConnectionError::Io(error.kind())))
