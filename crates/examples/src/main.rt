@@ -3,6 +3,7 @@
 #![tactic(auto)]
 
 mod ask;
+mod directory;
 mod download;
 mod listing;
 
@@ -22,6 +23,11 @@ fn main(rt: HostRuntime) -> ExitCode {
             words[1].as_str(),
             words[2].as_str(),
         ),
+        Ok(words) if words.len() == 3 && words[0].as_str() == "list" => directory::print_lines(
+            &rt,
+            words[1].as_str(),
+            words[2].as_str(),
+        ),
         Ok(words) if words.len() == 3 && words[0].as_str() == "file" => ask::print_file(
             &rt,
             words[1].as_str(),
@@ -29,7 +35,7 @@ fn main(rt: HostRuntime) -> ExitCode {
         ),
         _ => {
             let _ = rt.eprintln(
-                "usage: examples ADDRESS | examples file ADDRESS NAME | examples get ADDRESS NAME | examples entry LINE",
+                "usage: examples ADDRESS | examples file ADDRESS NAME | examples get ADDRESS NAME | examples list ADDRESS DIRECTORY | examples entry LINE",
             );
             ExitCode::from(2)
         }
