@@ -1,7 +1,7 @@
 -- A clone of a call is the call.
 use Rattle.std.proofs.Common.{◌≡◌, rules}
 use Rattle.ftp_calls.specs.declared.call.Call.{Call}
-use Rattle.ftp_calls.specs.declared.call.Call.TheVariants.{Greet, Login, Cwd, Cdup, Pwd, Noop, Eprt, Opts, Site, TransferType, Mkdir, Rmdir, Rm, Rename, Quit, Mlst, Mdtm, Size, Feat, CustomCommand, ReadResponse, ReadResponseIn, ResumeTransfer, RetrAsStream, PutWithStream, AppendWithStream, CustomDataCommand, Retr, List as Listing, Nlst, Mlsd, Set, Read, Write, Finish, Abort, Leave, Drain}
+use Rattle.ftp_calls.specs.declared.call.Call.TheVariants.{Greet, Login, Cwd, Cdup, Pwd, Noop, Eprt, Opts, Site, TransferType, Mkdir, Rmdir, Rm, Rename, Quit, Mlst, Mdtm, Size, Feat, CustomCommand, ReadResponse, ReadResponseIn, ResumeTransfer, RetrAsStream, PutWithStream, AppendWithStream, CustomDataCommand, Retr, List as Listing, Nlst, Mlsd, PutFile, AppendFile, Set, Read, Write, Finish, Abort, Leave, Drain}
 use Rattle.ftp_calls.specs.contracts.call.CallClone.TheImpl.{by_variants}
 
 pub same_call : (call copy : Call) → by_variants call copy → copy ≡ call
@@ -36,6 +36,8 @@ same_call (Retr path) copy is = search rules
 same_call (Listing path) copy is = search rules
 same_call (Nlst path) copy is = search rules
 same_call (Mlsd path) copy is = search rules
+same_call (PutFile path bytes) copy is = search rules
+same_call (AppendFile path bytes) copy is = search rules
 same_call (Set setting) copy is = search rules
 same_call (Read most) copy is = search rules
 same_call (Write bytes) copy is = search rules

@@ -1,7 +1,7 @@
 -- Which calls open a data connection.
 use Rattle.std.proofs.Common.{◌≡◌, Bool, true, false, ◌&&◌, refl}
 use Rattle.ftp_calls.specs.declared.call.Call.{Call}
-use Rattle.ftp_calls.specs.declared.call.Call.TheVariants.{Greet, Login, Cwd, Cdup, Pwd, Noop, Eprt, Opts, Site, TransferType, Mkdir, Rmdir, Rm, Rename, Quit, Mlst, Mdtm, Size, Feat, CustomCommand, ReadResponse, ReadResponseIn, ResumeTransfer, RetrAsStream, PutWithStream, AppendWithStream, CustomDataCommand, Retr, List as Listing, Nlst, Mlsd, Set, Read, Write, Finish, Abort, Leave, Drain}
+use Rattle.ftp_calls.specs.declared.call.Call.TheVariants.{Greet, Login, Cwd, Cdup, Pwd, Noop, Eprt, Opts, Site, TransferType, Mkdir, Rmdir, Rm, Rename, Quit, Mlst, Mdtm, Size, Feat, CustomCommand, ReadResponse, ReadResponseIn, ResumeTransfer, RetrAsStream, PutWithStream, AppendWithStream, CustomDataCommand, Retr, List as Listing, Nlst, Mlsd, PutFile, AppendFile, Set, Read, Write, Finish, Abort, Leave, Drain}
 use Rattle.ftp_calls.specs.declared.exchange.Turn.TheVariants.{Second}
 use Rattle.ftp_calls.specs.Exchanges.{drains, is_read, negotiates, opens, row_of}
 
@@ -38,6 +38,8 @@ opens_alike (Retr p) = refl
 opens_alike (Listing p) = refl
 opens_alike (Nlst p) = refl
 opens_alike (Mlsd p) = refl
+opens_alike (PutFile p b) = refl
+opens_alike (AppendFile p b) = refl
 opens_alike (Set s) = refl
 opens_alike (Read n) = refl
 opens_alike (Write b) = refl
@@ -79,6 +81,8 @@ read_opens_none (Retr p) opens = refl
 read_opens_none (Listing p) opens = refl
 read_opens_none (Nlst p) opens = refl
 read_opens_none (Mlsd p) opens = refl
+read_opens_none (PutFile p b) opens = refl
+read_opens_none (AppendFile p b) opens = refl
 read_opens_none (Set s) opens = let clash : false ≡ true = opens in cc
 read_opens_none (Read n) opens = let clash : false ≡ true = opens in cc
 read_opens_none (Write b) opens = let clash : false ≡ true = opens in cc
@@ -120,6 +124,8 @@ draining_reads (Retr p) is = let clash : false ≡ true = is in cc
 draining_reads (Listing p) is = let clash : false ≡ true = is in cc
 draining_reads (Nlst p) is = let clash : false ≡ true = is in cc
 draining_reads (Mlsd p) is = let clash : false ≡ true = is in cc
+draining_reads (PutFile p b) is = let clash : false ≡ true = is in cc
+draining_reads (AppendFile p b) is = let clash : false ≡ true = is in cc
 draining_reads (Set s) is = let clash : false ≡ true = is in cc
 draining_reads (Read n) is = let clash : false ≡ true = is in cc
 draining_reads (Write b) is = let clash : false ≡ true = is in cc

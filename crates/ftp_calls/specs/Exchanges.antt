@@ -9,15 +9,17 @@ use Rattle.ftp_base.specs.declared.types.file_type.FileType.TheVariants.{Ascii, 
 use Rattle.ftp_base.specs.declared.command.Command.{Command}
 use Rattle.ftp_base.specs.declared.command.Command.TheVariants as command
 use Rattle.ftp_calls.specs.declared.call.Call.{Call}
-use Rattle.ftp_calls.specs.declared.call.Call.TheVariants.{Greet, Login, Cwd, Cdup, Pwd, Noop, Eprt, Opts, Site, TransferType, Mkdir, Rmdir, Rm, Rename, Quit, Mlst, Mdtm, Size, Feat, CustomCommand, ReadResponse, ReadResponseIn, ResumeTransfer, RetrAsStream, PutWithStream, AppendWithStream, CustomDataCommand, Retr, List as Listing, Nlst, Mlsd, Set, Read, Write, Finish, Abort, Leave, Drain}
+use Rattle.ftp_calls.specs.declared.call.Call.TheVariants.{Greet, Login, Cwd, Cdup, Pwd, Noop, Eprt, Opts, Site, TransferType, Mkdir, Rmdir, Rm, Rename, Quit, Mlst, Mdtm, Size, Feat, CustomCommand, ReadResponse, ReadResponseIn, ResumeTransfer, RetrAsStream, PutWithStream, AppendWithStream, CustomDataCommand, Retr, List as Listing, Nlst, Mlsd, PutFile, AppendFile, Set, Read, Write, Finish, Abort, Leave, Drain}
 use Rattle.ftp_calls.specs.declared.exchange.Turn.{Turn}
 use Rattle.ftp_calls.specs.declared.exchange.Turn.TheVariants.{First, Second, Passive, ExtendedPassive, Active, Restart, Closed, Aborted}
 use Rattle.ftp_calls.specs.declared.exchange.Codes.{Codes}
 use Rattle.ftp_calls.specs.declared.exchange.Codes.TheVariants.{One, Either, Given, Features}
 use Rattle.ftp_calls.specs.declared.exchange.Ending.{Ending}
-use Rattle.ftp_calls.specs.declared.exchange.Ending.TheVariants.{Done, GivesReply, Greets, GivesPath, GivesSecondLine, GivesTime, GivesSize, GivesFeatures, SetsText, GoesOn, Continues, GivesAddress, GivesPort, Opens, Fetches, Finishes, Drains, Stops}
+use Rattle.ftp_calls.specs.declared.exchange.Ending.TheVariants.{Done, GivesReply, Greets, GivesPath, GivesSecondLine, GivesTime, GivesSize, GivesFeatures, SetsText, GoesOn, Continues, GivesAddress, GivesPort, Opens, Performs, Finishes, Drains, Stops}
 use Rattle.ftp_calls.specs.declared.exchange.Fetch.{Fetch}
 use Rattle.ftp_calls.specs.declared.exchange.Fetch.TheVariants.{Whole, Listed}
+use Rattle.ftp_calls.specs.declared.exchange.Task.{Task}
+use Rattle.ftp_calls.specs.declared.exchange.Task.TheVariants as task
 use Rattle.ftp_calls.specs.declared.exchange.Row.{Row}
 use Rattle.ftp_calls.specs.declared.exchange.Row.TheVariants.{Exchanges, Arms, Sets, Moves}
 use Rattle.ftp_calls.specs.declared.exchange.Movement.TheVariants as movement
@@ -38,9 +40,12 @@ says command codes ending = Exchanges (record { says = Some command; hears = cod
 abbrev pub hears : Codes → Ending → Row
 hears codes ending = Exchanges (record { says = None; hears = codes; ending = ending })
 
--- a command whose data are the lines of a listing
-abbrev pub lists : Command → Row
-lists command = says command (Either AboutToSend AlreadyOpen) (Fetches Listed)
+-- a command whose data are read whole, and one whose data are these bytes
+abbrev pub fetches : Command → Fetch → Row
+fetches command form = says command (Either AboutToSend AlreadyOpen) (Performs (task.Fetch form))
+
+abbrev pub stores : Command → List ℕ → Row
+stores command bytes = says command (Either AlreadyOpen AboutToSend) (Performs (task.Store bytes))
 
 -- text is in ASCII: RFC 959, section 3.1.1.1
 abbrev pub is_ascii : FileType → Bool
@@ -81,10 +86,12 @@ own_row (RetrAsStream path) first = says (command.Retr path) (Either AboutToSend
 own_row (PutWithStream path) first = says (command.Store path) (Either AlreadyOpen AboutToSend) (Opens false)
 own_row (AppendWithStream path) first = says (command.Appe path) (Either AlreadyOpen AboutToSend) (Opens false)
 own_row (CustomDataCommand line codes) first = says (command.Custom line) (Given codes) (Opens true)
-own_row (Retr path) first = says (command.Retr path) (Either AboutToSend AlreadyOpen) (Fetches Whole)
-own_row (Listing path) first = lists (command.List path)
-own_row (Nlst path) first = lists (command.Nlst path)
-own_row (Mlsd path) first = lists (command.Mlsd path)
+own_row (Retr path) first = fetches (command.Retr path) Whole
+own_row (Listing path) first = fetches (command.List path) Listed
+own_row (Nlst path) first = fetches (command.Nlst path) Listed
+own_row (Mlsd path) first = fetches (command.Mlsd path) Listed
+own_row (PutFile path bytes) first = stores (command.Store path) bytes
+own_row (AppendFile path bytes) first = stores (command.Appe path) bytes
 own_row (Set setting) first = Sets setting
 own_row (Read most) first = Moves (movement.Read most)
 own_row (Write bytes) first = Moves (movement.Write bytes)
@@ -124,6 +131,11 @@ abbrev pub kind_of_fetch : Fetch → Kind
 kind_of_fetch Whole = Movements
 kind_of_fetch Listed = Listings
 
+-- and what is answered where bytes are sent: their number
+abbrev pub kind_of_task : Task → Kind
+kind_of_task (task.Fetch form) = kind_of_fetch form
+kind_of_task (task.Store bytes) = Movements
+
 abbrev pub kind_of : Ending → Kind
 kind_of Done = Nothing
 kind_of GivesReply = Replies
@@ -139,7 +151,7 @@ kind_of Continues = Nothing
 kind_of GivesAddress = Nothing
 kind_of GivesPort = Nothing
 kind_of (Opens gives_reply) = Connections
-kind_of (Fetches form) = kind_of_fetch form
+kind_of (Performs task) = kind_of_task task
 kind_of (Finishes fault) = Nothing
 kind_of Drains = Nothing
 kind_of Stops = Nothing
@@ -160,7 +172,7 @@ gives_reply Continues = false
 gives_reply GivesAddress = false
 gives_reply GivesPort = false
 gives_reply (Opens replies) = false
-gives_reply (Fetches form) = false
+gives_reply (Performs task) = false
 gives_reply (Finishes fault) = false
 gives_reply Drains = false
 gives_reply Stops = false
@@ -207,7 +219,7 @@ is_read call = reads (row_of call First)
 -- an accepted reply opens a data connection
 abbrev pub is_opening : Ending → Bool
 is_opening (Opens replies) = true
-is_opening (Fetches form) = true
+is_opening (Performs task) = true
 is_opening other = false
 
 abbrev pub opens : Row → Bool
@@ -228,6 +240,8 @@ restarts (PutWithStream path) = true
 restarts (AppendWithStream path) = true
 restarts (CustomDataCommand line codes) = true
 restarts (Retr path) = true
+restarts (PutFile path bytes) = true
+restarts (AppendFile path bytes) = true
 restarts other = false
 
 -- the turn after the connection is agreed on: the offset, where there is one, and then the command
@@ -326,4 +340,6 @@ drains_first call = drained_row (row_of call First)
 abbrev pub uploads : Call → Bool
 uploads (PutWithStream path) = true
 uploads (AppendWithStream path) = true
+uploads (PutFile path bytes) = true
+uploads (AppendFile path bytes) = true
 uploads other = false

@@ -92,6 +92,11 @@ pub enum Call {
     Nlst(Option<Text>),
     /// `MLSD`, likewise.
     Mlsd(Option<Text>),
+    /// A data connection is opened, and `STOR` (125, 150); these bytes are sent, as text unless `TYPE` was answered for
+    /// another type, and the transfer's last reply is read (226, 250).
+    PutFile(Text, Items<u8>),
+    /// `APPE` (125, 150), likewise.
+    AppendFile(Text, Items<u8>),
     /// A setting changes; nothing is said or heard, and a session that has failed takes it, too.
     Set(Setting),
     /// At most so many bytes are read from the transfer's data connection, in one read.

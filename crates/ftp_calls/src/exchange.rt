@@ -5,7 +5,7 @@
 //! of `Call`, a row of `own_row`, and its row in the definition.
 
 ghost use Rattle.std.specs.Prelude.{◌≡◌, Bool, IfOk};
-ghost use Rattle.ftp_calls.specs.Exchanges.{aborts, drains, drains_first, finishes, hears, is_local, lists, negotiates, next_turn, of_transfer, own_row, restarted, restarts, row_of, says, uploads};
+ghost use Rattle.ftp_calls.specs.Exchanges.{aborts, drains, drains_first, finishes, fetches, hears, is_local, negotiates, next_turn, of_transfer, own_row, restarted, restarts, row_of, says, stores, uploads};
 
 use crate::active::port_command;
 use crate::call::{Call, Setting};
@@ -51,7 +51,7 @@ pub enum Codes {
 }
 
 /// How an exchange ends once a reply was accepted.
-#[derive(Clone, Copy, Debug)]
+#[derive(Clone, Debug, Drop)]
 pub enum Ending {
     /// The call is done.
     Done,
@@ -81,8 +81,8 @@ pub enum Ending {
     GivesPort,
     /// The data connection carries a transfer from now on; the reply is part of the answer, or isn't.
     Opens(bool),
-    /// All that the data connection carries is the answer, once the transfer has come to its end.
-    Fetches(Fetch),
+    /// The data connection carries a whole file or listing, and the transfer comes to its end.
+    Performs(Task),
     /// The transfer has come to its end; the fault of an upload's close is told before the reply's.
     Finishes(Option<ErrorKind>),
     /// The transfer that was left has come to its end, whatever the reply's status is.
@@ -98,6 +98,15 @@ pub enum Fetch {
     Whole,
     /// As the lines of a listing.
     Listed,
+}
+
+/// What is done with a whole data connection.
+#[derive(Clone, Debug, Drop)]
+pub enum Task {
+    /// It is read to its end; what came is the answer.
+    Fetch(Fetch),
+    /// These bytes are written; the answer is how many went out.
+    Store(Items<u8>),
 }
 
 /// One command and its reply, or one reply.
@@ -187,6 +196,8 @@ pub fn negotiates(call: &Call) -> bool
             | Call::List(_)
             | Call::Nlst(_)
             | Call::Mlsd(_)
+            | Call::PutFile(..)
+            | Call::AppendFile(..)
     )
 }
 
@@ -259,7 +270,13 @@ pub fn drains_first(call: &Call) -> bool
 pub fn uploads(call: &Call) -> bool
     ensures { result ≡ uploads call.now }
 {
-    matches!(call, Call::PutWithStream(_) | Call::AppendWithStream(_))
+    matches!(
+        call,
+        Call::PutWithStream(_)
+            | Call::AppendWithStream(_)
+            | Call::PutFile(..)
+            | Call::AppendFile(..)
+    )
 }
 
 /// The turn after the connection is agreed on: the offset, where there is one, and then the command.
@@ -284,6 +301,8 @@ fn restarts(call: &Call) -> bool
             | Call::AppendWithStream(_)
             | Call::CustomDataCommand(..)
             | Call::Retr(_)
+            | Call::PutFile(..)
+            | Call::AppendFile(..)
     )
 }
 
@@ -349,10 +368,12 @@ fn own_row(call: Call, first: bool) -> Row
                 Ending::Opens(true),
             )
         }
-        Call::Retr(path) => says(Command::Retr(path), sent(), Ending::Fetches(Fetch::Whole)),
-        Call::List(path) => listed(Command::List(path)),
-        Call::Nlst(path) => listed(Command::Nlst(path)),
-        Call::Mlsd(path) => listed(Command::Mlsd(path)),
+        Call::Retr(path) => fetched(Command::Retr(path), Fetch::Whole),
+        Call::List(path) => fetched(Command::List(path), Fetch::Listed),
+        Call::Nlst(path) => fetched(Command::Nlst(path), Fetch::Listed),
+        Call::Mlsd(path) => fetched(Command::Mlsd(path), Fetch::Listed),
+        Call::PutFile(path, bytes) => stored_whole(Command::Store(path), bytes),
+        Call::AppendFile(path, bytes) => stored_whole(Command::Appe(path), bytes),
         Call::Set(setting) => Row::Sets(setting),
         Call::Read(most) => Row::Moves(Movement::Read(most)),
         Call::Write(bytes) => Row::Moves(Movement::Write(bytes)),
@@ -433,11 +454,18 @@ fn transfer_type(kind: FileType) -> Row
     says(Command::TransferType(kind), ok(), Ending::SetsText(text))
 }
 
-/// A command (150, 125) whose data are the lines of a listing.
-fn listed(command: Command) -> Row
-    ensures { result ≡ lists command }
+/// A command (150, 125) whose data are read whole.
+fn fetched(command: Command, form: Fetch) -> Row
+    ensures { result ≡ fetches command form }
 {
-    says(command, sent(), Ending::Fetches(Fetch::Listed))
+    says(command, sent(), Ending::Performs(Task::Fetch(form)))
+}
+
+/// A command (125, 150) whose data are these bytes.
+fn stored_whole(command: Command, bytes: Items<u8>) -> Row
+    ensures { result ≡ stores command bytes }
+{
+    says(command, stored(), Ending::Performs(Task::Store(bytes)))
 }
 
 /// 150 or 125.

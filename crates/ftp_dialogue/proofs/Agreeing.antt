@@ -3,23 +3,23 @@ use Rattle.std.proofs.Common.{◌≡◌, ◌<◌, ◌-◌, ◌+◌, Bool, true, 
 use Rattle.ftp_calls.proofs.Openings.{opens_alike}
 use Rattle.ftp_calls.specs.declared.call.Answer.{Answer}
 use Rattle.ftp_calls.specs.declared.call.Call.{Call}
-use Rattle.ftp_calls.specs.declared.call.Call.TheVariants.{Greet, Login, Cwd, Cdup, Pwd, Noop, Eprt, Opts, Site, TransferType, Mkdir, Rmdir, Rm, Rename, Quit, Mlst, Mdtm, Size, Feat, CustomCommand, ReadResponse, ReadResponseIn, ResumeTransfer, RetrAsStream, PutWithStream, AppendWithStream, CustomDataCommand, Retr, List as Listing, Nlst, Mlsd, Set, Read, Write, Finish, Abort, Leave, Drain}
+use Rattle.ftp_calls.specs.declared.call.Call.TheVariants.{Greet, Login, Cwd, Cdup, Pwd, Noop, Eprt, Opts, Site, TransferType, Mkdir, Rmdir, Rm, Rename, Quit, Mlst, Mdtm, Size, Feat, CustomCommand, ReadResponse, ReadResponseIn, ResumeTransfer, RetrAsStream, PutWithStream, AppendWithStream, CustomDataCommand, Retr, List as Listing, Nlst, Mlsd, PutFile, AppendFile, Set, Read, Write, Finish, Abort, Leave, Drain}
 use Rattle.ftp_calls.specs.declared.exchange.Ending.{Ending}
 use Rattle.ftp_calls.specs.declared.exchange.Ending.TheVariants.{Finishes, Stops}
 use Rattle.ftp_dialogue.proofs.Sorts.{finishing_moves, aborts_finish}
-use Rattle.ftp_calls.specs.declared.exchange.Fetch.{Fetch}
+use Rattle.ftp_calls.specs.declared.exchange.Task.{Task}
 use Rattle.ftp_calls.specs.declared.exchange.Row.{Row}
 use Rattle.ftp_calls.specs.declared.exchange.Row.TheVariants.{Exchanges, Arms, Sets, Moves}
 use Rattle.ftp_calls.specs.declared.exchange.Turn.{Turn}
 use Rattle.ftp_calls.specs.declared.exchange.Turn.TheVariants.{First, Second, Passive, ExtendedPassive, Active, Restart, Closed, Aborted}
-use Rattle.ftp_calls.specs.Exchanges.{Kind, ending_of, given_by, kind_of, kind_of_fetch, negotiates, opens, own_row, row_of}
+use Rattle.ftp_calls.specs.Exchanges.{Kind, ending_of, given_by, kind_of, kind_of_task, negotiates, opens, own_row, row_of}
 use Rattle.ftp_dialogue.specs.declared.stage.Asking.{Asking}
 use Rattle.ftp_dialogue.specs.declared.stage.Asking.TheVariants.{PeerPort, Connection, Peer, Accepting}
-use Rattle.ftp_dialogue.specs.declared.stage.Opened.TheVariants.{Gives as GivesAnswer, Fetches as FetchesAll}
+use Rattle.ftp_dialogue.specs.declared.stage.Opened.TheVariants.{Gives as GivesAnswer, Performs as PerformsAll}
 use Rattle.ftp_dialogue.specs.Dialogue.{most_reads, strangers}
 use Rattle.ftp_dialogue.specs.Promises.{IsFault}
 use Rattle.ftp_dialogue.specs.Steps.Moving.{AskingAnswers, agrees}
-use Rattle.ftp_dialogue.specs.Steps.Stages.{AnswersKind, AskingOf, Gives, MayAnswer, MayFetch, TurnOf, nodes_asked, nodes_from}
+use Rattle.ftp_dialogue.specs.Steps.Stages.{AnswersKind, AskingOf, Gives, MayAnswer, MayPerform, TurnOf, nodes_asked, nodes_from}
 
 abbrev pub row_agrees : Option Ending → Bool
 row_agrees None = false
@@ -60,6 +60,8 @@ own_agrees (Retr p) first = refl
 own_agrees (Listing p) first = refl
 own_agrees (Nlst p) first = refl
 own_agrees (Mlsd p) first = refl
+own_agrees (PutFile p b) first = refl
+own_agrees (AppendFile p b) first = refl
 own_agrees (Set s) first = refl
 own_agrees (Read n) first = refl
 own_agrees (Write b) first = refl
@@ -103,7 +105,7 @@ row_answers (Arms offset) ending answer is answers = let clash : None ≡ Some e
 row_answers (Sets setting) ending answer is answers = let clash : None ≡ Some ending = is in cc
 row_answers (Moves movement) ending answer is answers = let clash : None ≡ Some ending = is in cc
 
--- a call whose reply leads to all that a data connection carries
+-- a call whose reply leads to a whole file or listing
 row_gives : (row : Row) (ending : Ending) → ending_of row ≡ Some ending → given_by row ≡ kind_of ending
 unfolding some_ending
 row_gives (Exchanges exchange) ending is = ap (λ o. kind_of (some_ending ending o)) is
@@ -111,14 +113,14 @@ row_gives (Arms offset) ending is = let clash : None ≡ Some ending = is in cc
 row_gives (Sets setting) ending is = let clash : None ≡ Some ending = is in cc
 row_gives (Moves movement) ending is = let clash : None ≡ Some ending = is in cc
 
-pub may_fetch : (call : Call) (turn : Turn) (ending : Ending) (form : Fetch) → TurnOf call turn → ending_of (row_of call turn) ≡ Some ending → agrees ending ≡ true → kind_of ending ≡ kind_of_fetch form → MayFetch call form
-may_fetch call turn ending form of row leads kind = (asks_opens call turn ending row leads of, (turn, of, row_gives (row_of call turn) ending row ∙ kind))
+pub may_perform : (call : Call) (turn : Turn) (ending : Ending) (task : Task) → TurnOf call turn → ending_of (row_of call turn) ≡ Some ending → agrees ending ≡ true → kind_of ending ≡ kind_of_task task → MayPerform call task
+may_perform call turn ending task of row leads kind = (asks_opens call turn ending row leads of, (turn, of, row_gives (row_of call turn) ending row ∙ kind))
 
 pub asking_answers : (call : Call) (turn : Turn) (ending : Ending) (asking : Asking) → TurnOf call turn → ending_of (row_of call turn) ≡ Some ending → agrees ending ≡ true → AskingAnswers (kind_of ending) asking → AskingOf call asking
 asking_answers call turn ending (PeerPort port) of row leads answers = tt
 asking_answers call turn ending (Connection address) of row leads answers = tt
 asking_answers call turn ending (Peer (GivesAnswer answer)) of row leads answers = (turn, inl of, row_answers (row_of call turn) ending answer row answers)
-asking_answers call turn ending (Peer (FetchesAll form)) of row leads answers = may_fetch call turn ending form of row leads answers
+asking_answers call turn ending (Peer (PerformsAll task)) of row leads answers = may_perform call turn ending task of row leads answers
 asking_answers call turn ending (Accepting peer left opened) of row leads answers = absurd answers
 
 many_nodes : (turn : Turn) → most_reads + strangers + 19 < nodes_from turn

@@ -1,5 +1,5 @@
 -- What holds of the trees of calls that open a data connection, and of all that they come to.
-use Rattle.std.proofs.Common.{◌≡◌, ℕ, zero, suc, Bool, true, false, ◌&&◌, nat_le, nat_lt, length, cond, is_none, List, [], ◌∷◌, ◌++◌, Option, Some, None, Result, Ok, Err, inl, inr, refl, ap, sym, ◌∙◌, subst, append-nil, append_assoc}
+use Rattle.std.proofs.Common.{◌≡◌, ℕ, zero, suc, Bool, true, false, ◌&&◌, nat_le, nat_lt, drop, length, cond, is_none, List, [], ◌∷◌, ◌++◌, Option, Some, None, Result, Ok, Err, inl, inr, refl, ap, sym, ◌∙◌, subst, append-nil, append_assoc}
 use Rattle.std.specs.List.{AllByRecursion}
 use Rattle.std.proofs.lemmas.List.Elements.{All-from_recursion}
 use Rattle.std.specs.Net.Socket.{socket_ip, socket_port}
@@ -23,8 +23,11 @@ use Rattle.ftp_calls.specs.declared.call.Answer.TheVariants.{Fault}
 use Rattle.ftp_calls.specs.declared.call.Answer.TheVariants as answer
 use Rattle.ftp_calls.specs.declared.call.Call.{Call}
 use Rattle.ftp_calls.specs.declared.exchange.Ending.{Ending}
-use Rattle.ftp_calls.specs.declared.exchange.Ending.TheVariants.{Continues, GivesAddress, GivesPort, Opens, Fetches}
+use Rattle.ftp_calls.specs.declared.exchange.Ending.TheVariants.{Continues, GivesAddress, GivesPort, Opens, Performs}
 use Rattle.ftp_calls.specs.declared.exchange.Fetch.{Fetch}
+use Rattle.ftp_calls.specs.declared.exchange.Fetch.TheVariants.{Whole as WholeFile}
+use Rattle.ftp_calls.specs.declared.exchange.Task.{Task}
+use Rattle.ftp_calls.specs.declared.exchange.Task.TheVariants as tasks
 use Rattle.ftp_calls.specs.declared.exchange.Row.{Row}
 use Rattle.ftp_calls.specs.declared.exchange.Row.TheVariants.{Exchanges, Arms, Sets, Moves}
 use Rattle.ftp_calls.specs.declared.exchange.Movement.{Movement}
@@ -42,7 +45,7 @@ use Rattle.ftp_control.specs.declared.transport.room.Room.{Room}
 use Rattle.ftp_dialogue.proofs.Sorts.{finishing_opens, opens_drains_none, opens_no_local, unheld_call}
 use Rattle.ftp_dialogue.specs.Coding.{Coding}
 use Rattle.ftp_dialogue.specs.Deals.{answers, constructed, constructing, dealing, dealt, moved, settled}
-use Rattle.ftp_dialogue.specs.Dialogue.{Here, There, Tree, Say, Hear, Look, Ask, Build, Move, Leaf, accepting, admitting, agreeing, at_port, awaiting, concluded, connecting_to, connecting_to_peer, dialogue, doing, entered, expected_of, fetch_concluded, fetch_parting, fetched, fetching, from_turn, gathering, last_turn, later, lets_in, most_bytes, most_reads, negotiating, negotiating_unless, on_address, on_built, on_connection, on_data, opened_answer, opened_from, opening, restart_turn, saying, strangers, to_address, to_port, too_long, unfetched, with_left, with_transfer, parting}
+use Rattle.ftp_dialogue.specs.Dialogue.{Here, There, Tree, Say, Hear, Look, Ask, Build, Move, Leaf, accepting, admitting, agreeing, at_port, awaiting, closed_as, concluded, connecting_to, connecting_to_peer, dialogue, doing, entered, expected_of, fetch_concluded, fetch_parting, fetched, from_turn, gathering, last_turn, later, lets_in, most_bytes, most_reads, negotiating, negotiating_unless, on_address, on_built, on_connection, on_data, on_sent, opened_answer, opened_from, opening, performing, restart_turn, saying, sending, sending_all, size_to_send, strangers, to_address, to_port, told_of_close, too_long, unfetched, wire_data, with_left, with_transfer, parting}
 use Rattle.ftp_dialogue.specs.Laws.{AsksPeerAlone, LeadsTo, UsesPeerHost, offset_after, reached}
 use Rattle.ftp_dialogue.specs.Play.{Lacking, asked_then, built_then, finally, fits, heard_then, lacks, leaving, moved_then, play, play_call, play_unless, refusal, refused_if_failed, taken}
 use Rattle.ftp_dialogue.specs.Sound.{cannot_beside, cannot_open}
@@ -127,11 +130,11 @@ module _ (peer : SocketAddr) (Sort : Request → Type 0) (state : State) (admits
 
   -- a whole data connection is read
   parting_keeps : (form : Fetch) (answer : Answer) → Keeps peer Sort (fetch_parting form answer state)
-  parting_keeps form answer = λ came heard. concluded_keeps heard
+  parting_keeps form answer = λ came heard. concluded_keeps (closed_as (told_of_close state.uploads came) answer) heard
     where
-      concluded_keeps : (heard : Result Response FtpError) → Keeps peer Sort (fetch_concluded form answer state heard)
-      concluded_keeps (Ok reply) = none
-      concluded_keeps (Err fault) = none
+      concluded_keeps : (told : Answer) (heard : Result Response FtpError) → Keeps peer Sort (fetch_concluded form told state heard)
+      concluded_keeps told (Ok reply) = none
+      concluded_keeps told (Err fault) = none
 
   data_keeps : (coding : Coding) (form : Fetch) (all : List ℕ) (on : List ℕ → Tree) → ((more : List ℕ) → Keeps peer Sort (on more)) → (outcome : DealOutcome) → Keeps peer Sort (on_data coding form all on (λ answer. fetch_parting form answer state) outcome)
   data_keeps coding form all on keeps (came.Read []) = parting_keeps form (fetched coding form all)
@@ -152,6 +155,34 @@ module _ (peer : SocketAddr) (Sort : Request → Type 0) (state : State) (admits
   gathering_keeps coding form zero all = parting_keeps form (too_long form)
   gathering_keeps coding form (suc left) all = data_keeps coding form all (λ more. gathering coding form left more state) (λ more. gathering_keeps coding form left more)
 
+  -- a whole upload
+  module _ (rest : List ℕ) (on : List ℕ → Tree) (keeps : (more : List ℕ) → Keeps peer Sort (on more)) where
+    sent_keeps : (outcome : DealOutcome) → Keeps peer Sort (on_sent rest on state outcome)
+    sent_keeps (came.Wrote count) = keeps (drop count rest)
+    sent_keeps (came.Failed kind) = none
+    sent_keeps came.NoMemory = none
+    sent_keeps (came.Answered outcome) = none
+    sent_keeps (came.Built fault) = none
+    sent_keeps (came.Read bytes) = none
+    sent_keeps came.Closed = none
+
+  sending_keeps : (left total : ℕ) (rest : List ℕ) → Keeps peer Sort (sending left total rest state)
+  unfolding sending
+  sending_keeps zero total [] = parting_keeps WholeFile (answer.Count total)
+  sending_keeps zero total (byte ∷ rest) = none
+  sending_keeps (suc left) total [] = parting_keeps WholeFile (answer.Count total)
+  sending_keeps (suc left) total (byte ∷ rest) = sent_keeps (byte ∷ rest) (λ more. sending left total more state) (λ more. sending_keeps left total more)
+
+  sending_all_keeps : (size : Option ℕ) (bytes : List ℕ) → Keeps peer Sort (sending_all size bytes state)
+  sending_all_keeps (Some total) bytes = sending_keeps total total bytes
+  sending_all_keeps None bytes = none
+
+  performing_keeps : (coding : Coding) (task : Task) → Keeps peer Sort (performing coding task state)
+  performing_keeps coding (tasks.Fetch form) = gathering_keeps coding form most_reads []
+  performing_keeps coding (tasks.Store bytes) =
+      let bytes_sent : List ℕ = wire_data state.settings.text bytes in
+      sending_all_keeps (size_to_send bytes_sent) bytes_sent
+
   saying_keeps : (coding : Coding) (command : Option Command) (next : Tree) → Keeps peer Sort next → Keeps peer Sort (saying coding command next)
   saying_keeps coding None next keeps = keeps
   saying_keeps coding (Some command) next keeps = keeps
@@ -161,8 +192,8 @@ module _ (peer : SocketAddr) (Sort : Request → Type 0) (state : State) (admits
     ending_keeps : (ending : Ending) → is_opening ending ≡ true → (heard : Result Response FtpError) → Keeps peer Sort (concluded coding ending state after heard)
     ending_keeps (Opens gives_reply) is (Ok reply) = opening_keeps (Leaf (opened_answer gives_reply reply) (with_transfer state)) none state.settings.mode
     ending_keeps (Opens gives_reply) is (Err fault) = none
-    ending_keeps (Fetches form) is (Ok reply) = opening_keeps (fetching coding form state) (gathering_keeps coding form most_reads []) state.settings.mode
-    ending_keeps (Fetches form) is (Err fault) = none
+    ending_keeps (Performs task) is (Ok reply) = opening_keeps (performing coding task state) (performing_keeps coding task) state.settings.mode
+    ending_keeps (Performs task) is (Err fault) = none
     ending_keeps other is heard = let clash : false ≡ true = is in cc
 
     row_keeps : (row : Row) → opens row ≡ true → Keeps peer Sort (doing coding row state after)

@@ -5,7 +5,7 @@ use Rattle.ftp_calls.specs.declared.call.Answer.TheVariants as answers
 use Rattle.ftp_calls.specs.declared.call.Call.{Call}
 use Rattle.ftp_calls.specs.declared.call.Call.TheVariants.{Drain}
 use Rattle.ftp_calls.specs.declared.exchange.Ending.{Ending}
-use Rattle.ftp_calls.specs.declared.exchange.Ending.TheVariants.{Done, GivesReply, Greets, GivesPath, GivesSecondLine, GivesTime, GivesSize, GivesFeatures, SetsText, GoesOn, Continues, GivesAddress, GivesPort, Opens, Fetches, Finishes, Drains, Stops}
+use Rattle.ftp_calls.specs.declared.exchange.Ending.TheVariants.{Done, GivesReply, Greets, GivesPath, GivesSecondLine, GivesTime, GivesSize, GivesFeatures, SetsText, GoesOn, Continues, GivesAddress, GivesPort, Opens, Performs, Finishes, Drains, Stops}
 use Rattle.ftp_calls.specs.declared.exchange.Row.{Row}
 use Rattle.ftp_calls.specs.declared.exchange.Row.TheVariants.{Exchanges, Arms, Sets, Moves}
 use Rattle.ftp_calls.specs.declared.exchange.Turn.{Turn}
@@ -71,7 +71,7 @@ finishing_follows Continues is = let clash : false ≡ true = is in cc
 finishing_follows GivesAddress is = let clash : false ≡ true = is in cc
 finishing_follows GivesPort is = let clash : false ≡ true = is in cc
 finishing_follows (Opens replies) is = let clash : false ≡ true = is in cc
-finishing_follows (Fetches form) is = let clash : false ≡ true = is in cc
+finishing_follows (Performs task) is = let clash : false ≡ true = is in cc
 finishing_follows Drains is = let clash : false ≡ true = is in cc
 
 pub finishes_first : (call : Call) → finishes call ≡ true → drains_first call ≡ false

@@ -1,5 +1,5 @@
 -- Lemmas on the steps of a call that reads a whole data connection.
-use Rattle.std.proofs.Common.{◌≡◌, ◌<◌, ◌-◌, ◌+◌, ◌⊎◌, ◌&&◌, Option, Some, ℕ, zero, suc, Bool, true, false, cond, nat_le, List, [], ◌∷◌, ◌++◌, length, Result, Ok, Err, inl, inr, refl, ap, sym, ◌∙◌, subst, arith}
+use Rattle.std.proofs.Common.{◌≡◌, ◌<◌, ◌-◌, ◌+◌, ◌⊎◌, ◌&&◌, Option, Some, None, ℕ, zero, suc, Bool, true, false, cond, nat_le, List, [], ◌∷◌, ◌++◌, length, Result, Ok, Err, inl, inr, refl, ap, sym, ◌∙◌, subst, arith}
 use Rattle.futures.specs.declared.task.Poll.{Poll}
 use Rattle.std.proofs.lemmas.Bool.{ne_eqb}
 use Rattle.futures.specs.declared.task.Poll.TheVariants as poll
@@ -15,6 +15,7 @@ use Rattle.ftp_calls.specs.declared.call.Answer.TheVariants.{Fault}
 use Rattle.ftp_calls.specs.declared.call.Call.{Call}
 use Rattle.ftp_calls.specs.declared.exchange.Fetch.{Fetch}
 use Rattle.ftp_calls.specs.declared.exchange.Fetch.TheVariants.{Whole, Listed}
+use Rattle.ftp_calls.specs.declared.exchange.Task.TheVariants as task
 use Rattle.ftp_calls.specs.declared.exchange.Movement.TheVariants as movement
 use Rattle.ftp_calls.specs.declared.exchange.Turn.TheVariants.{First}
 use Rattle.ftp_calls.specs.Exchanges.{Kind, given_by, kind_of_fetch, row_of}
@@ -31,7 +32,7 @@ use Rattle.ftp_dialogue.specs.declared.state.State.{State}
 use Rattle.ftp_dialogue.specs.Coding.{Coding}
 use Rattle.ftp_dialogue.specs.Deals.{MovementIs, Net, ReadIs, answers}
 use Rattle.ftp_dialogue.specs.Gathering.{GrowsBy}
-use Rattle.ftp_dialogue.specs.Dialogue.{Tree, Hear, Move, Leaf, chunk, expecting, fetch_concluded, fetch_ending, fetch_parting, fetched, fetching, first_fault, gathering, grown, most_bytes, most_reads, on_data, too_long, unfetched, with_fetched}
+use Rattle.ftp_dialogue.specs.Dialogue.{Tree, Hear, Move, Leaf, chunk, closed_as, expecting, fetch_concluded, fetch_ending, fetch_parting, fetched, fetching, first_fault, gathering, grown, most_bytes, most_reads, on_data, told_of_close, too_long, unfetched, with_fetched}
 use Rattle.ftp_dialogue.specs.Link.{Link}
 use Rattle.ftp_dialogue.specs.Promises.{Aborts, AbortsRead, FailsRead, IsFault, Untouched, failed_from}
 use Rattle.ftp_dialogue.specs.State.{SessionValue}
@@ -63,9 +64,13 @@ too_long_kind : (form : Fetch) → AnswersKind (kind_of_fetch form) (too_long fo
 too_long_kind Whole = tt
 too_long_kind Listed = tt
 
+closed_kind : (form : Fetch) (told : Option ErrorKind) (answer : Answer) → AnswersKind (kind_of_fetch form) answer → AnswersKind (kind_of_fetch form) (closed_as told answer)
+closed_kind form None answer kind = kind
+closed_kind form (Some fault) answer kind = tt
+
 module _ (link : Link) (coding : Coding) (call : Call) where
   -- the next node is reached
-  fetch_on : (f f' : Fetched) (old new : SessionValue) → Still link (fetch_left coding old.state f) (fetch_left coding old.state f') old new → nodes_of_fetch f' < nodes_of_fetch f → FetchOf call f' → BreaksOff link coding call (Fetching f) (Fetching f') old new Next
+  pub fetch_on : (f f' : Fetched) (old new : SessionValue) → Still link (fetch_left coding old.state f) (fetch_left coding old.state f') old new → nodes_of_fetch f' < nodes_of_fetch f → FetchOf call f' → BreaksOff link coding call (Fetching f) (Fetching f') old new Next
   fetch_on f f' old new still fewer of = record {
     steps = still.advances;
     quiet = λ none. let clash : true ≡ false = none in cc;
@@ -76,10 +81,10 @@ module _ (link : Link) (coding : Coding) (call : Call) where
   }
 
   -- no byte was read yet
-  pub fetch_starts : (form : Fetch) (v : SessionValue) → MayFetch call form → BreaksOff link coding call (Fetching (Starting form)) (Fetching (Gathering form most_reads [])) v v Next
+  pub fetch_starts : (form : Fetch) (v : SessionValue) → MayFetch call form → BreaksOff link coding call (Fetching (Starting (task.Fetch form))) (Fetching (Gathering form most_reads [])) v v Next
   fetch_starts form v may =
       let tree : Tree = fetching coding form v.state in
-      fetch_on (Starting form) (Gathering form most_reads []) v v (unchanged_still link tree tree v v refl refl) (omega arith) may
+      fetch_on (Starting (task.Fetch form)) (Gathering form most_reads []) v v (unchanged_still link tree tree v v refl refl) (omega arith) may
 
   -- too many reads were made
   pub fetch_full : (form : Fetch) (left : ℕ) (all : List ℕ) (v : SessionValue) → left ≡ 0 → MayFetch call form → BreaksOff link coding call (Fetching (Gathering form left all)) (Fetching (Parting form (too_long form))) v v Next
@@ -88,11 +93,12 @@ module _ (link : Link) (coding : Coding) (call : Call) where
       subst P (sym none) (fetch_on (Gathering form zero all) (Parting form (too_long form)) v v (unchanged_still link (gathering coding form zero all v.state) (fetch_parting form (too_long form) v.state) v v refl (sym (gathering_over coding form all v.state))) (omega arith) (may, too_long_kind form))
 
   -- the data connection is closed
-  pub fetch_parted : (form : Fetch) (answer : Answer) (old new : SessionValue) (outcome : DealOutcome) → new ≡ record old { net = new.net } → (link.tells → MovementIs movement.Close outcome old.net new.net) → FetchOf call (Parting form answer) → BreaksOff link coding call (Fetching (Parting form answer)) (Fetching (Ending form answer)) old new Next
+  pub fetch_parted : (form : Fetch) (answer : Answer) (old new : SessionValue) (outcome : DealOutcome) → new ≡ record old { net = new.net } → (link.tells → MovementIs movement.Close outcome old.net new.net) → FetchOf call (Parting form answer) → BreaksOff link coding call (Fetching (Parting form answer)) (Fetching (Ending form (closed_as (told_of_close old.state.uploads outcome) answer))) old new Next
   fetch_parted form answer old new outcome beside tie of =
-      let V : SessionValue → Type 0 = λ v. BreaksOff link coding call (Fetching (Parting form answer)) (Fetching (Ending form answer)) old v Next in
-      let still = moved_still link old new.net movement.Close outcome tie (λ came. fetch_ending form answer old.state) in
-      subst V (sym beside) (fetch_on (Parting form answer) (Ending form answer) old (record old { net = new.net }) still (omega arith) of)
+      let told : DealOutcome → Answer = λ came. closed_as (told_of_close old.state.uploads came) answer in
+      let V : SessionValue → Type 0 = λ v. BreaksOff link coding call (Fetching (Parting form answer)) (Fetching (Ending form (told outcome))) old v Next in
+      let still = moved_still link old new.net movement.Close outcome tie (λ came. fetch_ending form (told came) old.state) in
+      subst V (sym beside) (fetch_on (Parting form answer) (Ending form (told outcome)) old (record old { net = new.net }) still (omega arith) (of.0, closed_kind form (told_of_close old.state.uploads outcome) answer of.1))
 
   -- there is no data connection
   pub fetch_lacks : (f : Fetched) (stage' : Stage) (old : SessionValue) → old.channel.failed ≡ false → BreaksOff link coding call (Fetching f) stage' old (failed_from old) (Done (Fault OutOfMemory))

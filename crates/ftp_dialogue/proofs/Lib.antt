@@ -8,6 +8,7 @@ pub mod Faults
 pub mod FetchingLemmas
 pub mod GatheringLemmas
 pub mod Hearing
+pub mod SendingLemmas
 pub mod Sorts
 pub mod Moving
 pub mod NegotiationLemmas
@@ -16,4 +17,5 @@ pub mod Polls
 pub mod Reading
 pub mod Stages
 pub mod TransitionsLemmas
+pub mod UnsentLemmas
 pub mod Wired

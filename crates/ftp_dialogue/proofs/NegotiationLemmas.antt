@@ -29,10 +29,10 @@ use Rattle.ftp_dialogue.specs.declared.nodes.Accepted.TheVariants as accepts
 use Rattle.ftp_dialogue.specs.declared.stage.Awaits.{Awaits}
 use Rattle.ftp_dialogue.specs.declared.stage.Stage.{Stage}
 use Rattle.ftp_dialogue.specs.declared.stage.Stage.TheVariants.{At, Agreeing, Fetching}
-use Rattle.ftp_calls.specs.declared.exchange.Fetch.{Fetch}
+use Rattle.ftp_calls.specs.declared.exchange.Task.{Task}
 use Rattle.ftp_dialogue.specs.declared.stage.Fetching.TheVariants.{Starting}
 use Rattle.ftp_dialogue.specs.declared.stage.Opened.{Opened as Opening}
-use Rattle.ftp_dialogue.specs.declared.stage.Opened.TheVariants.{Gives as GivesAnswer, Fetches as FetchesAll}
+use Rattle.ftp_dialogue.specs.declared.stage.Opened.TheVariants.{Gives as GivesAnswer, Performs as PerformsAll}
 use Rattle.ftp_dialogue.specs.declared.stage.Step.{Step}
 use Rattle.ftp_dialogue.specs.declared.stage.Step.TheVariants.{Next, Pending, Done}
 use Rattle.ftp_dialogue.specs.Coding.{Coding}
@@ -57,7 +57,7 @@ use Rattle.ftp_dialogue.specs.Play.{asked_then, play, address_at}
 use Rattle.ftp_dialogue.specs.Promises.{standing, Goes, Aborts, Untouched, failed_from}
 use Rattle.ftp_dialogue.specs.State.{SessionValue}
 use Rattle.ftp_dialogue.specs.Steps.Moving.{AsksFirst, LetsIn, dropped, Accepts, Concludes, ConnectsTo, Ends, LooksUp, Meets, MeetsIf, Moves, NothingTouched, Speaks, Still, TurnsAway, Walks}
-use Rattle.ftp_dialogue.specs.Steps.Stages.{GoesOnTo, MayAnswer, MayFetch, OpeningOf, many, opened_by, StageOf, StepAnswers, TurnOf, is_later, begun_at, first_by, has_asked, nodes_from, nodes_left, nodes_of, remaining, way_of}
+use Rattle.ftp_dialogue.specs.Steps.Stages.{GoesOnTo, MayAnswer, MayPerform, OpeningOf, many, opened_by, StageOf, StepAnswers, TurnOf, is_later, begun_at, first_by, has_asked, nodes_from, nodes_left, nodes_of, remaining, way_of}
 use Rattle.ftp_dialogue.proofs.Moving.{advances_on, leads_on, moves_on, leaf_ends, lacks_memory_at, nothing_leads, nothing_shrinks, stays_put}
 
 pub play-Ask : (room : Room) (request : Request) (next : RequestOutcome → Tree) (outcome : RequestOutcome) (outcomes : List DealOutcome) (s : Standing) → play room (Ask request next) (record s { outcomes = Answered outcome ∷ outcomes }) ≡ play room (next outcome) (record s { dealings = dealt request outcome s.dealings; outcomes = outcomes })
@@ -679,12 +679,12 @@ module _ (link : Link) (coding : Coding) (how : Opening) (peer from : SocketAddr
       let L : State → Tree = λ s. Leaf answer (with_transfer s) in
       subst P (sym same) (leaf_ends link waiting answer old mid (record mid { state = with_transfer mid.state }) (subst T (ap (λ o. opened_by coding o old.state) gives ∙ ap L (sym moves.state)) moves) (λ f. inl (sym here.advances.failed ∙ f)) refl refl)
 
-  -- it is let in, and all that it carries is read
-  pub lets_in_fetches : (call : Call) (turn : Turn) (form : Fetch) → how ≡ FetchesAll form → negotiates call ≡ true → MayFetch call form → lets_in old.state peer from ≡ true → Knocks → Walks link coding call (Agreeing (Asking turn (Accepting peer left how))) (Fetching (Starting form)) old mid Next
-  lets_in_fetches call turn form fetches opens may is still =
+  -- it is let in, and a whole file or listing goes over its connection
+  pub lets_in_performs : (call : Call) (turn : Turn) (task : Task) → how ≡ PerformsAll task → negotiates call ≡ true → MayPerform call task → lets_in old.state peer from ≡ true → Knocks → Walks link coding call (Agreeing (Asking turn (Accepting peer left how))) (Fetching (Starting task)) old mid Next
+  lets_in_performs call turn task performs opens may is still =
       let T : Opening → Type 0 = λ o. Still link waiting (opened_by coding o old.state) old mid in
       let S : Tree → Type 0 = Speaks in
-      walks_on link coding call (Asking turn (Accepting peer left how)) opens (Fetching (Starting form)) old mid (subst T fetches (knocked true is still)) refl (λ s. absurd (subst S (accepting_is opened peer left old.state) s)) (omega arith) may
+      walks_on link coding call (Asking turn (Accepting peer left how)) opens (Fetching (Starting task)) old mid (subst T performs (knocked true is still)) refl (λ s. absurd (subst S (accepting_is opened peer left old.state) s)) (omega arith) may
 
   -- it is turned away
   pub turns_away : (call : Call) (turn : Turn) (stage' : Stage) (new : SessionValue) (result : Step) → negotiates call ≡ true → OpeningOf call how → lets_in old.state peer from ≡ false → Knocks → TurnsAway turn peer left how stage' mid new result → Walks link coding call (Agreeing (Asking turn (Accepting peer left how))) stage' old new result
@@ -734,12 +734,12 @@ meets_walks link coding call turn peer left how (Address from) stage' old mid ne
             let P : Step → Type 0 = λ r. Walks link coding call (Agreeing (Asking turn (Accepting peer left how))) stage' old new r in
             let O : Opening → Type 0 = λ x. OpeningOf call x in
             subst P (sym done) (walks_end link coding call (Asking turn (Accepting peer left how)) opens stage' answer old new (inl (lets_in_ends link coding how peer from left old mid answer new gives is (still (knocks (opened_by coding how old.state) peer left old.state)) same)) (subst O gives may))
-        entered (FetchesAll form) fetches (on, at, same) =
+        entered (PerformsAll task) performs (on, at, same) =
             let P : Step → Type 0 = λ r. Walks link coding call (Agreeing (Asking turn (Accepting peer left how))) stage' old new r in
             let Q : Stage → Type 0 = λ s. Walks link coding call (Agreeing (Asking turn (Accepting peer left how))) s old new Next in
-            let V : SessionValue → Type 0 = λ v. Walks link coding call (Agreeing (Asking turn (Accepting peer left how))) (Fetching (Starting form)) old v Next in
+            let V : SessionValue → Type 0 = λ v. Walks link coding call (Agreeing (Asking turn (Accepting peer left how))) (Fetching (Starting task)) old v Next in
             let O : Opening → Type 0 = λ x. OpeningOf call x in
-            subst P (sym on) (subst Q (sym at) (subst V (sym same) (lets_in_fetches link coding how peer from left old mid call turn form fetches opens (subst O fetches may) is (still (knocks (opened_by coding how old.state) peer left old.state)))))
+            subst P (sym on) (subst Q (sym at) (subst V (sym same) (lets_in_performs link coding how peer from left old mid call turn task performs opens (subst O performs may) is (still (knocks (opened_by coding how old.state) peer left old.state)))))
     go false is away = turns_away link coding how peer from left old mid call turn stage' new result opens may is (still (knocks (opened_by coding how old.state) peer left old.state)) away
 meets_walks link coding call turn peer left how (Refused fault) stage' old mid new result opens may still (same, is) =
     let way : Way = Asking turn (Accepting peer left how) in

@@ -33,7 +33,7 @@ goes_on_unread ending.Continues kind undrained = refl
 goes_on_unread ending.GivesAddress kind undrained = refl
 goes_on_unread ending.GivesPort kind undrained = refl
 goes_on_unread (ending.Opens replies) kind undrained = refl
-goes_on_unread (ending.Fetches form) kind undrained = refl
+goes_on_unread (ending.Performs task) kind undrained = refl
 goes_on_unread (ending.Finishes close) kind undrained = refl
 goes_on_unread ending.Drains kind undrained = let clash : true ≡ false = undrained in cc
 goes_on_unread ending.Stops kind undrained = refl

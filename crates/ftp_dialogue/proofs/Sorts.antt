@@ -1,9 +1,9 @@
 -- Which calls go over the control connection, which open a data connection, and which bring a transfer to its end.
 use Rattle.std.proofs.Common.{◌≡◌, ◌⊎◌, inl, inr, Bool, true, false, ◌&&◌, ◌||◌, is_none, refl, ap, sym, ◌∙◌}
 use Rattle.ftp_calls.specs.declared.call.Call.{Call}
-use Rattle.ftp_calls.specs.declared.call.Call.TheVariants.{Greet, Login, Cwd, Cdup, Pwd, Noop, Eprt, Opts, Site, TransferType, Mkdir, Rmdir, Rm, Rename, Quit, Mlst, Mdtm, Size, Feat, CustomCommand, ReadResponse, ReadResponseIn, ResumeTransfer, RetrAsStream, PutWithStream, AppendWithStream, CustomDataCommand, Retr, List as Listing, Nlst, Mlsd, Set, Read, Write, Finish, Abort, Leave, Drain}
+use Rattle.ftp_calls.specs.declared.call.Call.TheVariants.{Greet, Login, Cwd, Cdup, Pwd, Noop, Eprt, Opts, Site, TransferType, Mkdir, Rmdir, Rm, Rename, Quit, Mlst, Mdtm, Size, Feat, CustomCommand, ReadResponse, ReadResponseIn, ResumeTransfer, RetrAsStream, PutWithStream, AppendWithStream, CustomDataCommand, Retr, List as Listing, Nlst, Mlsd, PutFile, AppendFile, Set, Read, Write, Finish, Abort, Leave, Drain}
 use Rattle.ftp_calls.specs.declared.exchange.Ending.{Ending}
-use Rattle.ftp_calls.specs.declared.exchange.Ending.TheVariants.{Done, GivesReply, Greets, GivesPath, GivesSecondLine, GivesTime, GivesSize, GivesFeatures, SetsText, GoesOn, Continues, GivesAddress, GivesPort, Opens, Fetches, Finishes, Drains, Stops}
+use Rattle.ftp_calls.specs.declared.exchange.Ending.TheVariants.{Done, GivesReply, Greets, GivesPath, GivesSecondLine, GivesTime, GivesSize, GivesFeatures, SetsText, GoesOn, Continues, GivesAddress, GivesPort, Opens, Performs, Finishes, Drains, Stops}
 use Rattle.ftp_calls.specs.declared.exchange.Row.{Row}
 use Rattle.ftp_calls.specs.declared.exchange.Row.TheVariants.{Exchanges, Arms, Sets, Moves}
 use Rattle.ftp_calls.specs.declared.exchange.Turn.{Turn}
@@ -12,7 +12,7 @@ use Rattle.ftp_calls.specs.Exchanges.{draining_row, drains, finishes, finishing_
 use Rattle.ftp_dialogue.specs.declared.stage.Stage.{Stage}
 use Rattle.ftp_dialogue.specs.declared.stage.Stage.TheVariants.{At, Saying, Hearing, Arming, Agreeing, Closing, Aborting, Fetching}
 use Rattle.ftp_dialogue.specs.declared.stage.Fetching.{Fetching as Fetched}
-use Rattle.ftp_dialogue.specs.declared.stage.Fetching.TheVariants.{Starting, Gathering, Parting, Ending as LastReply}
+use Rattle.ftp_dialogue.specs.declared.stage.Fetching.TheVariants.{Starting, Gathering, Sending as SendingData, Parting, Ending as LastReply}
 use Rattle.ftp_dialogue.specs.Steps.Stages.{FetchOf, StageOf, TurnOf}
 
 -- Endings
@@ -32,7 +32,7 @@ finishing_gives_none Continues is = refl
 finishing_gives_none GivesAddress is = refl
 finishing_gives_none GivesPort is = refl
 finishing_gives_none (Opens replies) is = refl
-finishing_gives_none (Fetches form) is = refl
+finishing_gives_none (Performs task) is = refl
 finishing_gives_none (Finishes close) is = refl
 finishing_gives_none Drains is = let clash : false ≡ true = is in cc
 finishing_gives_none Stops is = refl
@@ -52,7 +52,7 @@ finishing_opens_none Continues is = refl
 finishing_opens_none GivesAddress is = refl
 finishing_opens_none GivesPort is = refl
 finishing_opens_none (Opens replies) is = let clash : false ≡ true = is in cc
-finishing_opens_none (Fetches form) is = let clash : false ≡ true = is in cc
+finishing_opens_none (Performs task) is = let clash : false ≡ true = is in cc
 finishing_opens_none (Finishes close) is = refl
 finishing_opens_none Drains is = refl
 finishing_opens_none Stops is = refl
@@ -72,7 +72,7 @@ reply_ending Continues is = let clash : false ≡ true = is in cc
 reply_ending GivesAddress is = let clash : false ≡ true = is in cc
 reply_ending GivesPort is = let clash : false ≡ true = is in cc
 reply_ending (Opens replies) is = let clash : false ≡ true = is in cc
-reply_ending (Fetches form) is = let clash : false ≡ true = is in cc
+reply_ending (Performs task) is = let clash : false ≡ true = is in cc
 reply_ending (Finishes close) is = let clash : false ≡ true = is in cc
 reply_ending Drains is = inr refl
 reply_ending Stops is = let clash : false ≡ true = is in cc
@@ -92,7 +92,7 @@ opening_drains_none Continues is = refl
 opening_drains_none GivesAddress is = refl
 opening_drains_none GivesPort is = refl
 opening_drains_none (Opens replies) is = refl
-opening_drains_none (Fetches form) is = refl
+opening_drains_none (Performs task) is = refl
 opening_drains_none (Finishes close) is = refl
 opening_drains_none Drains is = let clash : false ≡ true = is in cc
 opening_drains_none Stops is = refl
@@ -239,7 +239,7 @@ aborting_ends Continues is = let clash : false ≡ true = is in cc
 aborting_ends GivesAddress is = let clash : false ≡ true = is in cc
 aborting_ends GivesPort is = let clash : false ≡ true = is in cc
 aborting_ends (Opens replies) is = let clash : false ≡ true = is in cc
-aborting_ends (Fetches form) is = let clash : false ≡ true = is in cc
+aborting_ends (Performs task) is = let clash : false ≡ true = is in cc
 aborting_ends (Finishes close) is = let clash : false ≡ true = is in cc
 aborting_ends Drains is = let clash : false ≡ true = is in cc
 
@@ -265,8 +265,9 @@ turn_no_local call (Closed close) of = finishing_no_local call of
 turn_no_local call Aborted of = finishing_no_local call (aborts_finish call of)
 
 pub fetch_opens : (call : Call) (fetching : Fetched) → FetchOf call fetching → negotiates call ≡ true
-fetch_opens call (Starting form) of = of.0
+fetch_opens call (Starting task) of = of.0
 fetch_opens call (Gathering form left all) of = of.0
+fetch_opens call (SendingData left total rest) of = of.0
 fetch_opens call (Parting form answer) of = of.0.0
 fetch_opens call (LastReply form answer) of = of.0.0
 
@@ -315,6 +316,8 @@ local_alike (Retr p) = refl
 local_alike (Listing p) = refl
 local_alike (Nlst p) = refl
 local_alike (Mlsd p) = refl
+local_alike (PutFile p b) = refl
+local_alike (AppendFile p b) = refl
 local_alike (Set s) = refl
 local_alike (Read n) = refl
 local_alike (Write b) = refl
@@ -356,6 +359,8 @@ drains_alike (Retr p) = refl
 drains_alike (Listing p) = refl
 drains_alike (Nlst p) = refl
 drains_alike (Mlsd p) = refl
+drains_alike (PutFile p b) = refl
+drains_alike (AppendFile p b) = refl
 drains_alike (Set s) = refl
 drains_alike (Read n) = refl
 drains_alike (Write b) = refl

@@ -149,7 +149,7 @@ accepted_leaf coding ending.Continues state reply plain = (Unit, state, refl)
 accepted_leaf coding ending.GivesAddress state reply plain = let clash : true ≡ false = plain in cc
 accepted_leaf coding ending.GivesPort state reply plain = let clash : true ≡ false = plain in cc
 accepted_leaf coding (ending.Opens replies) state reply plain = let clash : true ≡ false = plain in cc
-accepted_leaf coding (ending.Fetches form) state reply plain = let clash : true ≡ false = plain in cc
+accepted_leaf coding (ending.Performs task) state reply plain = let clash : true ≡ false = plain in cc
 accepted_leaf coding (ending.Finishes close) state reply plain = (finish_answer close, with_finished state, refl)
 accepted_leaf coding ending.Drains state reply plain = (Unit, with_drained state, refl)
 accepted_leaf coding ending.Stops state reply plain = (Unit, _, same (eqb (code_of reply.status) (code_of TransferAborted)))
@@ -243,7 +243,7 @@ module _ (coding : Coding) (call : Call) (answer : Answer) (s t : Standing) (sta
   next ending.GivesAddress reply m plain done = let clash : true ≡ false = plain in cc
   next ending.GivesPort reply m plain done = let clash : true ≡ false = plain in cc
   next (ending.Opens replies) reply m plain done = let clash : true ≡ false = plain in cc
-  next (ending.Fetches form) reply m plain done = let clash : true ≡ false = plain in cc
+  next (ending.Performs task) reply m plain done = let clash : true ≡ false = plain in cc
   next (ending.Finishes close) reply m plain done = stays m _ _ done
   next ending.Drains reply m plain done = stays m _ _ done
   next ending.Stops reply m plain done =

@@ -1,8 +1,9 @@
 -- The dialogues of a session as trees: RFC 959, sections 5.4 and 6. A tree says, hears and asks in turn, and ends
 -- in an answer with the change of state.
-use Rattle.std.specs.Prelude.{ℕ, zero, suc, length, nat_le, nat_lt, ◌++◌, ◌&&◌, Bool, List, [], ◌∷◌, ◌==◌, Option, Some, None, Result, Ok, Err, if◌then◌else◌}
+use Rattle.std.specs.Prelude.{ℕ, zero, suc, drop, length, nat_le, nat_lt, ◌++◌, ◌&&◌, Bool, List, [], ◌∷◌, ◌==◌, Option, Some, None, Result, Ok, Err, if◌then◌else◌}
 use Rattle.std.specs.Net.Socket.{socket_ip, socket_port}
 use Rattle.std.specs.declared.io.ErrorKind.{ErrorKind}
+use Rattle.std.specs.declared.io.ErrorKind.TheVariants.{WriteZero}
 use Rattle.std.specs.declared.net.socket_addr.SocketAddr.{SocketAddr}
 use Rattle.std.specs.declared.net.socket_addr.SocketAddr.TheVariants.{V4, V6}
 use Rattle.ftp_base.specs.declared.status.Status.{Status}
@@ -15,6 +16,7 @@ use Rattle.ftp_base.specs.declared.command.Command.{Command}
 use Rattle.ftp_base.specs.declared.command.Command.TheVariants as command
 use Rattle.ftp_base.specs.Command.{text_of}
 use Rattle.ftp_base.specs.Wire.{wire}
+use Rattle.ftp_base.specs.Ascii.{crlf}
 use Rattle.ftp_base.specs.Welcome.{Welcome, welcome_text}
 use Rattle.ftp_control.specs.declared.control.form.ReplyForm.{ReplyForm}
 use Rattle.ftp_control.specs.declared.control.form.ReplyForm.TheVariants as form
@@ -28,7 +30,7 @@ use Rattle.ftp_calls.specs.declared.call.Answer.{Answer}
 use Rattle.ftp_calls.specs.declared.call.Answer.TheVariants.{Unit, Reply, Text, Time, Size, Opened, OpenedWith, Lines, Fault}
 use Rattle.ftp_calls.specs.declared.call.Answer.TheVariants as answer
 use Rattle.ftp_base.specs.declared.types.fault.FtpError.TheVariants.{ConnectionError as Connection, UnexpectedResponse, BadResponse, OutOfMemory}
-use Rattle.ftp_base.specs.declared.types.fault.ConnectionError.TheVariants.{Io, NoAddress as Nowhere, TimedOut}
+use Rattle.ftp_base.specs.declared.types.fault.ConnectionError.TheVariants.{Io, NoAddress as Nowhere, SourceTooLarge, TimedOut}
 use Rattle.ftp_base.specs.declared.types.mode.Mode.{Mode}
 use Rattle.ftp_base.specs.declared.types.mode.Mode.TheVariants as mode
 use Rattle.ftp_base.specs.Peer.{allows}
@@ -47,9 +49,11 @@ use Rattle.ftp_dialogue.specs.declared.state.Owed.TheVariants as owed
 use Rattle.ftp_calls.specs.declared.exchange.Turn.{Turn}
 use Rattle.ftp_calls.specs.declared.exchange.Turn.TheVariants.{First, Second, Passive, ExtendedPassive, Active, Restart, Closed, Aborted}
 use Rattle.ftp_calls.specs.declared.exchange.Ending.{Ending}
-use Rattle.ftp_calls.specs.declared.exchange.Ending.TheVariants.{Done, GivesReply, Greets, GivesPath, GivesSecondLine, GivesTime, GivesSize, GivesFeatures, SetsText, GoesOn, Continues, GivesAddress, GivesPort, Opens, Fetches, Finishes, Drains, Stops}
+use Rattle.ftp_calls.specs.declared.exchange.Ending.TheVariants.{Done, GivesReply, Greets, GivesPath, GivesSecondLine, GivesTime, GivesSize, GivesFeatures, SetsText, GoesOn, Continues, GivesAddress, GivesPort, Opens, Performs, Finishes, Drains, Stops}
 use Rattle.ftp_calls.specs.declared.exchange.Fetch.{Fetch}
 use Rattle.ftp_calls.specs.declared.exchange.Fetch.TheVariants.{Whole, Listed}
+use Rattle.ftp_calls.specs.declared.exchange.Task.{Task}
+use Rattle.ftp_calls.specs.declared.exchange.Task.TheVariants as task
 use Rattle.ftp_calls.specs.declared.exchange.Exchange.{Exchange}
 use Rattle.ftp_calls.specs.declared.exchange.Row.{Row}
 use Rattle.ftp_calls.specs.declared.exchange.Row.TheVariants.{Exchanges, Arms, Sets, Moves}
@@ -314,9 +318,13 @@ fetch_concluded form answer state (Err fault) = Leaf (Fault (first_fault form an
 abbrev pub fetch_ending : Fetch → Answer → State → Tree
 fetch_ending form answer state = Hear (expecting (ClosingDataConnection ∷ RequestedFileActionOk ∷ [])) (fetch_concluded form answer state)
 
--- the data connection is closed first, and what that comes to is told to nobody
+-- the data connection is closed first; the fault of an upload's close is the answer, and another's is told to nobody
+abbrev pub closed_as : Option ErrorKind → Answer → Answer
+closed_as None answer = answer
+closed_as (Some kind) answer = Fault (Connection (Io kind))
+
 abbrev pub fetch_parting : Fetch → Answer → State → Tree
-fetch_parting form answer state = Move movement.Close (λ came. fetch_ending form answer state)
+fetch_parting form answer state = Move movement.Close (λ came. fetch_ending form (closed_as (told_of_close state.uploads came) answer) state)
 
 -- so many bytes one read asks for; more than so many can't be held; so many reads are enough, since each gives a byte
 -- but the last
@@ -351,6 +359,50 @@ gathering coding form (suc left) all state =
 abbrev pub fetching : Coding → Fetch → State → Tree
 fetching coding form state = gathering coding form most_reads [] state
 
+-- A whole upload: RFC 959, sections 3.1.1.1 and 4.1.3 (STOR, APPE)
+
+-- the bytes of a file as they go over the data connection: a text's lines end in CR LF
+abbrev pub wire_data : Bool → List ℕ → List ℕ
+wire_data text bytes = if text then crlf bytes else bytes
+
+-- a transfer was opened, and is left
+abbrev pub with_abandoned : State → State
+with_abandoned state = with_left (with_transfer state)
+
+-- where bytes can't be sent the transfer is left, and its last reply isn't heard
+abbrev pub giving_up : FtpError → State → Tree
+giving_up fault state = Leaf (Fault fault) (with_abandoned state)
+
+-- what a write of bytes came to: so many of them have gone out, or a failure
+abbrev pub on_sent : List ℕ → (List ℕ → Tree) → State → DealOutcome → Tree
+on_sent rest on state (came.Wrote count) = on (drop count rest)
+on_sent rest on state (came.Failed kind) = giving_up (Connection (Io kind)) state
+on_sent rest on state other = giving_up (Connection (Io WriteZero)) state
+
+-- bytes are sent, by so many writes at most, and then the answer is the number of all; as many writes as bytes are
+-- enough, since each takes one
+unfoldable pub sending : ℕ → ℕ → List ℕ → State → Tree
+sending left total [] state = fetch_parting Whole (answer.Count total) state
+sending zero total (byte ∷ rest) state = giving_up (Connection (Io WriteZero)) state
+sending (suc left) total (byte ∷ rest) state =
+    Move (movement.Write (byte ∷ rest)) (on_sent (byte ∷ rest) (λ more. sending left total more state) state)
+
+-- how many bytes there are, where they can be sent
+abbrev pub size_to_send : List ℕ → Option ℕ
+size_to_send bytes = if nat_le (length bytes) most_bytes then Some (length bytes) else None
+
+abbrev pub sending_all : Option ℕ → List ℕ → State → Tree
+sending_all (Some total) bytes state = sending total total bytes state
+sending_all None bytes state = giving_up (Connection SourceTooLarge) state
+
+abbrev pub storing : List ℕ → State → Tree
+storing bytes state = sending_all (size_to_send (wire_data state.settings.text bytes)) (wire_data state.settings.text bytes) state
+
+-- what is done with a whole data connection
+abbrev pub performing : Coding → Task → State → Tree
+performing coding (task.Fetch form) state = fetching coding form state
+performing coding (task.Store bytes) state = storing bytes state
+
 -- Exchanges
 
 -- what an accepted reply does, where `later` is the next exchange
@@ -369,7 +421,7 @@ accepted coding Continues state reply later = later state
 accepted coding GivesAddress state reply later = to_address state reply (later state) (passive_address_of reply.body)
 accepted coding GivesPort state reply later = to_port state reply (later state) (extended_port_of reply.body)
 accepted coding (Opens gives_reply) state reply later = opening state.settings.mode (Leaf (opened_answer gives_reply reply) (with_transfer state)) state
-accepted coding (Fetches form) state reply later = opening state.settings.mode (fetching coding form state) state
+accepted coding (Performs task) state reply later = opening state.settings.mode (performing coding task state) state
 accepted coding (Finishes close) state reply later = Leaf (finish_answer close) (with_finished state)
 accepted coding Drains state reply later = Leaf Unit (with_drained state)
 accepted coding Stops state reply later = if code_of reply.status == code_of TransferAborted then later state else Leaf Unit (with_aborted state)

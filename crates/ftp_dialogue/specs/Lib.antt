@@ -8,6 +8,7 @@ pub mod Play
 pub mod Promises
 pub mod Reading
 pub mod Run
+pub mod Sending
 pub mod Sound
 pub mod State
 pub mod Steps

@@ -6,7 +6,7 @@
 ghost use Rattle.std.specs.Prelude.{◌≡◌, ◌<◌, length, None, Ok, Result};
 ghost use Rattle.std.specs.declared.net.socket_addr.SocketAddr.{SocketAddr as Address};
 ghost use Rattle.ftp_base.specs.declared.types.fault.FtpError.{FtpError as Faults};
-ghost use Rattle.ftp_control.specs.Told.{ReadTells, ReadsAtMost, Told};
+ghost use Rattle.ftp_control.specs.Told.{ReadTells, ReadsAtMost, Told, WriteTells, WritesSome};
 ghost use Rattle.ftp_dialogue.specs.Link.{built_by};
 ghost use Rattle.futures.specs.declared.task.Poll.TheVariants as poll;
 ghost use Rattle.ftp_control.specs.Asking.{Asks as Records, Supplies, built_as, comes_as, connects_as, done, done_at};
@@ -94,9 +94,17 @@ pub trait Asks<Tr: Network, W> {
         ensures waits { may_ask → result ≡ Ok poll.Pending → may_wait }
         ensures told { may_ask → Tr.Conn.tells →
             ReadTells result buffer.new (Tr.Conn.told conn.old) (Tr.Conn.told conn.new) };
+
+    /// Writes bytes to a data connection, from the front, at least one.
+    fn write(&self, conn: &mut Tr::Conn, w: &mut W, bytes: &[u8]) -> Result<Poll<usize>, ErrorKind>
+        requires { 0 < length bytes.now }
+        ensures bound { may_ask → WritesSome result (length bytes.now) }
+        ensures waits { may_ask → result ≡ Ok poll.Pending → may_wait }
+        ensures told { may_ask → Tr.Conn.tells →
+            WriteTells result bytes.now (Tr.Conn.told conn.old) (Tr.Conn.told conn.new) };
 }
 
-/// Asks by a runtime, and a builder, where there is one. Data connections are read blocking.
+/// Asks by a runtime, and a builder, where there is one. Data connections are read and written blocking.
 #[derive(Drop)]
 pub struct By<'r, R, B>(pub &'r R, pub &'r Option<B>);
 
@@ -157,6 +165,18 @@ where
             Err(kind) => Err(kind),
         }
     }
+
+    fn write(
+        &self,
+        conn: &mut Tr::Conn,
+        _w: &mut W,
+        bytes: &[u8],
+    ) -> Result<Poll<usize>, ErrorKind> {
+        match conn.write(bytes) {
+            Ok(count) => Ok(Poll::Ready(count)),
+            Err(kind) => Err(kind),
+        }
+    }
 }
 
 /// Asks nothing: what the calls are passed that open no data connection.
@@ -207,6 +227,15 @@ impl<Tr: Network, W> Asks<Tr, W> for Nothing {
         _conn: &mut Tr::Conn,
         _w: &mut W,
         _buffer: &mut [u8],
+    ) -> Result<Poll<usize>, ErrorKind> {
+        Err(ErrorKind::Unsupported)
+    }
+
+    fn write(
+        &self,
+        _conn: &mut Tr::Conn,
+        _w: &mut W,
+        _bytes: &[u8],
     ) -> Result<Poll<usize>, ErrorKind> {
         Err(ErrorKind::Unsupported)
     }

@@ -109,7 +109,7 @@ impl<Tr: Network> Machine<Tr> {
 pub(super) fn pass_over(_outcome: DealOutcome) {}
 
 /// The fault of a close that is told before the reply's: that of an upload.
-fn told_of_close(uploads: bool, outcome: &DealOutcome) -> Option<ErrorKind>
+pub(super) fn told_of_close(uploads: bool, outcome: &DealOutcome) -> Option<ErrorKind>
     ensures { result ≡ told_of_close uploads outcome.now }
 {
     match outcome {

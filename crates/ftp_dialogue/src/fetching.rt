@@ -1,20 +1,22 @@
-//! All that a data connection carries is read, and its transfer brought to its end (RFC 959, sections 4.1.3 and 5.4).
+//! A whole file or listing goes over a data connection, and its transfer is brought to its end (RFC 959, sections 4.1.3
+//! and 5.4).
 //!
-//! The bytes come into one growing buffer, which is the answer, or of which the lines of a listing are made. Whatever
-//! comes of them, the data connection is closed and the transfer's last reply is read; only then is the transfer
-//! counted, as opened and as finished.
+//! Bytes that come are read into one growing buffer, which is the answer, or of which the lines of a listing are made.
+//! Whatever comes of them, the data connection is closed and the transfer's last reply is read; only then is the
+//! transfer counted, as opened and as finished.
 
 ghost use Rattle.std.specs.Prelude.{◌≡◌, ◌⊎◌, is_none, true, false};
 ghost use Rattle.ftp_calls.specs.Exchanges.{negotiates};
 ghost use Rattle.ftp_control.specs.Told.{EndsAsTold};
 ghost use Rattle.ftp_dialogue.specs.Coding.{Coding, coding_of};
-ghost use Rattle.ftp_dialogue.specs.Dialogue.{fault_or, fetched, first_fault, too_long, unfetched};
+ghost use Rattle.ftp_calls.specs.declared.exchange.Task.TheVariants as tasks;
+ghost use Rattle.ftp_dialogue.specs.Dialogue.{closed_as, fault_or, fetched, first_fault, too_long, unfetched};
 ghost use Rattle.ftp_dialogue.specs.Link.{building};
 ghost use Rattle.ftp_dialogue.specs.Steps.Moving.{BreaksOff, EndsFetch, Follows, Grows};
 ghost use Rattle.ftp_dialogue.specs.Steps.Stages.{FetchOf, MayFetch};
 
 use super::asks::Asks;
-use super::carrying::pass_over;
+use super::carrying::told_of_close;
 use super::gathered::{Gathered, More};
 use super::machine::Machine;
 use super::nodes::wants_memory;
@@ -24,7 +26,7 @@ use ftp_answers::read_listing;
 use ftp_base::encoding::Encoding;
 use ftp_base::status::Status;
 use ftp_base::types::{ConnectionError, FtpError};
-use ftp_calls::exchange::Fetch;
+use ftp_calls::exchange::{Fetch, Task};
 use ftp_calls::lines::Lines;
 use ftp_control::transport::{Network, PollConn};
 use futures::task::Poll;
@@ -38,7 +40,7 @@ const MOST_BYTES: usize = (1 << 63) - 1;
 const MOST_READS: u64 = 1 << 63;
 
 impl<Tr: Network> Machine<Tr> {
-    /// One node of a call that reads a whole data connection.
+    /// One node of a call that reads or writes a whole data connection.
     pub(super) fn fetch<W, E: Encoding, A: Asks<Tr, W>>(
         &mut self,
         asker: &A,
@@ -61,9 +63,17 @@ impl<Tr: Network> Machine<Tr> {
             (Stage.Fetching fetching) stage.new self.old self.new result }
     {
         match fetching {
-            Fetching::Starting(form) => self.start_fetch(asker, alloc, call, form, stage, w),
+            Fetching::Starting(Task::Fetch(form)) => self.start_fetch(
+                asker, alloc, call, form, stage, w,
+            ),
+            Fetching::Starting(Task::Store(bytes)) => self.start_store(
+                asker, call, bytes, stage, w,
+            ),
             Fetching::Gathering(form, left, gathered) => self.gather(
                 asker, alloc, encoding, call, form, left, gathered, stage, w,
+            ),
+            Fetching::Sending(left, total, unsent) => self.send_more(
+                asker, call, left, total, unsent, stage, w,
             ),
             Fetching::Parting(form, answer) => self.part_fetched(
                 asker, call, form, answer, stage, w,
@@ -86,11 +96,11 @@ impl<Tr: Network> Machine<Tr> {
     ) -> Step
     where
         Tr::Conn: PollConn<W>,
-        requires of { FetchOf _call.now (Fetching.Starting form) }
+        requires of { MayFetch _call.now form }
         ensures moves { result ≡ Step.Pending → ⊥ }
         ensures end { self.new.channel.ended ≡ self.old.channel.ended }
         ensures breaks { (coding : Coding) → BreaksOff (building (A.builds _asker.now) Tr.Conn.tells Tr.Conn.read_faults Tr.Conn.write_faults Tr.Conn.end_faults A.may_wait) coding _call.now
-            (Stage.Fetching (Fetching.Starting form)) stage.new self.old self.new result }
+            (Stage.Fetching (Fetching.Starting (tasks.Fetch form))) stage.new self.old self.new result }
     {
         let none = Gathered::new(alloc);
         go_to(
@@ -150,7 +160,7 @@ impl<Tr: Network> Machine<Tr> {
     }
 
     /// Whether there is no data connection.
-    fn is_unheld(&self) -> bool
+    pub(super) fn is_unheld(&self) -> bool
         ensures { result ≡ is_none self.now.net.data_conn }
     {
         self.data_conn.is_none()
@@ -176,7 +186,7 @@ impl<Tr: Network> Machine<Tr> {
         gathered.read_more(asker, conn, w)
     }
 
-    /// The data connection is closed, whatever that comes to, and the transfer's last reply is due.
+    /// The data connection is closed, and the transfer's last reply is due. The fault of an upload's close is the answer.
     fn part_fetched<W, A: Asks<Tr, W>>(
         &mut self,
         _asker: &A,
@@ -194,8 +204,12 @@ impl<Tr: Network> Machine<Tr> {
         ensures breaks { (coding : Coding) → BreaksOff (building (A.builds _asker.now) Tr.Conn.tells Tr.Conn.read_faults Tr.Conn.write_faults Tr.Conn.end_faults A.may_wait) coding _call.now
             (Stage.Fetching (Fetching.Parting form answer)) stage.new self.old self.new result }
     {
-        pass_over(self.close_data());
-        go_to(stage, Stage::Fetching(Fetching::Ending(form, answer)));
+        let outcome = self.close_data();
+        let told = told_of_close(self.state.uploads, &outcome);
+        go_to(
+            stage,
+            Stage::Fetching(Fetching::Ending(form, closed_as(told, answer))),
+        );
         Step::Next
     }
 
@@ -316,6 +330,16 @@ fn first_fault(form: Fetch, answer: Answer, fault: FtpError) -> FtpError
     match form {
         Fetch::Whole => fault_or(answer, fault),
         Fetch::Listed => fault,
+    }
+}
+
+/// The answer after a close: its fault, where it is told.
+fn closed_as(told: Option<ErrorKind>, answer: Answer) -> Answer
+    ensures { result ≡ closed_as told answer }
+{
+    match told {
+        None => answer,
+        Some(kind) => Answer::Fault(FtpError::ConnectionError(ConnectionError::Io(kind))),
     }
 }
 

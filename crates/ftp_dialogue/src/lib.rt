@@ -22,9 +22,11 @@ pub mod model;
 mod negotiation;
 mod nodes;
 mod requests;
+mod sending;
 pub mod stage;
 pub mod state;
 mod transitions;
+pub mod unsent;
 
 pub use draining::unless_unit;
 pub use ftp_calls::call::{Answer, Call, Setting};

@@ -389,8 +389,8 @@ impl<Tr: Network> Machine<Tr> {
                 self.state.counts.open();
                 Step::Done(answer)
             }
-            Opened::Fetches(form) => {
-                go_to(stage, Stage::Fetching(Fetching::Starting(form)));
+            Opened::Performs(task) => {
+                go_to(stage, Stage::Fetching(Fetching::Starting(task)));
                 Step::Next
             }
         }

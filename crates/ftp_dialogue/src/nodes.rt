@@ -23,7 +23,7 @@ use ftp_answers::{NoAddress, read_extended_port, read_passive_address};
 use ftp_base::encoding::{Encoding, WelcomeMessage};
 use ftp_base::status::Status;
 use ftp_base::types::{ConnectionError, FtpError, FtpResult, Mode, Response};
-use ftp_calls::exchange::{Codes, Ending, Fetch};
+use ftp_calls::exchange::{Codes, Ending, Task};
 use ftp_control::control::{ReplyForm, WireLine, form_of};
 use ftp_control::transport::{Network, PollConn};
 use futures::task::Poll;
@@ -142,8 +142,8 @@ pub(crate) enum Accepted {
     GoesOn,
     /// The transport is asked, or an address looked up, before the next exchange or the answer.
     Asks(Asking),
-    /// All that the data connection carries is read.
-    Fetches(Fetch),
+    /// A whole file or listing goes over the data connection.
+    Performs(Task),
     /// The answer.
     Done(Answer),
 }
@@ -183,7 +183,7 @@ pub(crate) fn accept<E: Encoding>(
         Ending::GivesAddress => Ok(address_told(reply, state)),
         Ending::GivesPort => Ok(port_told(reply)),
         Ending::Opens(gives_reply) => Ok(opens(gives_reply, reply, state)),
-        Ending::Fetches(form) => Ok(fetches(form, state)),
+        Ending::Performs(task) => Ok(performs(task, state)),
         Ending::Finishes(close) => {
             state.counts.finish();
             Ok(Accepted::Done(finish_answer(close)))
@@ -334,15 +334,15 @@ fn opens(gives_reply: bool, reply: Response, state: &mut State) -> Accepted
     }
 }
 
-/// The command was accepted, and all is read that comes.
-fn fetches(form: Fetch, state: &State) -> Accepted
+/// The command was accepted, and a whole file or listing goes over the data connection.
+fn performs(task: Task, state: &State) -> Accepted
     ensures accepts { (coding : Coding) (reply : Heard) →
-        Accepts coding (Ending.Fetches form) reply state.now state.now result }
-    ensures answers { AnswersAs (Ending.Fetches form) result }
+        Accepts coding (Ending.Performs task) reply state.now state.now result }
+    ensures answers { AnswersAs (Ending.Performs task) result }
 {
     match state.settings.mode {
-        Mode::Active => Accepted::Asks(Asking::Peer(Opened::Fetches(form))),
-        Mode::Passive | Mode::ExtendedPassive => Accepted::Fetches(form),
+        Mode::Active => Accepted::Asks(Asking::Peer(Opened::Performs(task))),
+        Mode::Passive | Mode::ExtendedPassive => Accepted::Performs(task),
     }
 }
 

@@ -13,11 +13,12 @@ ghost use Rattle.ftp_calls.specs.Exchanges.{row_of};
 ghost use Rattle.ftp_dialogue.specs.Steps.Stages.{Begins, FirstNode, GoesOnTo, TurnOf, is_later};
 
 use super::gathered::Gathered;
+use super::unsent::Unsent;
 use super::{Answer, Call};
 use ftp_base::command::Command;
 use ftp_base::encoding::Encoding;
 use ftp_base::types::FtpResult;
-use ftp_calls::exchange::{Codes, Ending, Exchange, Fetch, Row, Turn, next_turn, row_at};
+use ftp_calls::exchange::{Codes, Ending, Exchange, Fetch, Row, Task, Turn, next_turn, row_at};
 use ftp_control::control::WireLine;
 use std::alloc::Global;
 use std::net::SocketAddr;
@@ -39,18 +40,20 @@ pub enum Stage {
     Closing,
     /// The transfer is aborted.
     Aborting(Aborting),
-    /// All that the data connection carries is read.
+    /// A whole file or listing goes over the data connection.
     Fetching(Fetching),
 }
 
-/// How far a whole data connection was read, and the end of its transfer.
+/// How far a whole file or listing has gone over the data connection, and the end of its transfer.
 #[derive(Drop)]
 pub enum Fetching {
     /// It begins.
-    Starting(Fetch),
+    Starting(Task),
     /// It is read, by so many reads more at most, after these bytes.
     Gathering(Fetch, u64, Gathered),
-    /// It is closed. This is the answer, by what came of the data.
+    /// It is written, by so many writes more at most: the number of all its bytes, and those that haven't gone out.
+    Sending(u64, u64, Unsent),
+    /// The data connection is closed. This is the answer, by what came of the data.
     Parting(Fetch, Answer),
     /// The transfer's last reply is read.
     Ending(Fetch, Answer),
@@ -61,8 +64,8 @@ pub enum Fetching {
 pub enum Opened {
     /// It carries a transfer, and this is the answer.
     Gives(Answer),
-    /// All that it carries is read.
-    Fetches(Fetch),
+    /// It carries a whole file or listing.
+    Performs(Task),
 }
 
 /// How far an abort has come, before its replies are read.

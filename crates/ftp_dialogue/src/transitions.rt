@@ -245,8 +245,8 @@ impl<Tr: Network> Machine<Tr> {
                 );
                 Step::Next
             }
-            Ok(Accepted::Fetches(form)) => {
-                go_to(stage, Stage::Fetching(Fetching::Starting(form)));
+            Ok(Accepted::Performs(task)) => {
+                go_to(stage, Stage::Fetching(Fetching::Starting(task)));
                 Step::Next
             }
             Err(fault) => {

@@ -7,7 +7,7 @@ use Rattle.ftp_control.specs.declared.transport.room.Room.{Room}
 use Rattle.ftp_dialogue.specs.declared.state.State.{State}
 use Rattle.ftp_dialogue.specs.declared.model.Played.{Played}
 use Rattle.ftp_dialogue.specs.Coding.{Coding}
-use Rattle.ftp_dialogue.specs.Dialogue.{Expected, Tree, on_data}
+use Rattle.ftp_dialogue.specs.Dialogue.{Expected, Tree, giving_up, on_data, on_sent}
 use Rattle.ftp_dialogue.specs.Deals.{answers}
 use Rattle.ftp_dialogue.specs.Play.{play, asked_then, built_then, heard_then, moved_then}
 use Rattle.ftp_calls.specs.declared.call.Answer.{Answer}
@@ -17,6 +17,8 @@ use Rattle.ftp_dialogue.specs.declared.model.DealOutcome.{DealOutcome}
 use Rattle.ftp_dialogue.specs.declared.model.DealOutcome.TheVariants.{Answered, Built}
 use Rattle.std.specs.declared.net.socket_addr.SocketAddr.{SocketAddr}
 use Rattle.ftp_base.specs.declared.types.fault.FtpError.{FtpError}
+use Rattle.ftp_base.specs.declared.types.fault.FtpError.TheVariants.{ConnectionError}
+use Rattle.ftp_base.specs.declared.types.fault.ConnectionError.TheVariants.{Io}
 use Rattle.session_plain.specs.declared.building.Answered.{Answered as FromBuilder}
 use Rattle.session_plain.specs.declared.building.Answered.TheVariants as built
 use Rattle.session_plain.specs.declared.carrying.Carried.{Carried}
@@ -32,6 +34,8 @@ use Rattle.session_plain.specs.declared.hearing.Heard.{Heard}
 use Rattle.session_plain.specs.declared.hearing.Heard.TheVariants as heard
 use Rattle.session_plain.specs.declared.fetching.Follows.{Follows}
 use Rattle.session_plain.specs.declared.fetching.Follows.TheVariants.{More, Over}
+use Rattle.session_plain.specs.declared.storing.Sent.{Sent}
+use Rattle.session_plain.specs.declared.storing.Sent.TheVariants.{Rest, Failed}
 use Rattle.session_plain.specs.declared.exchange.Progress.{Progress}
 use Rattle.session_plain.specs.declared.exchange.Progress.TheVariants.{Stops, Continues}
 
@@ -92,3 +96,8 @@ LeadsTo coding form all outcome (More more) =
     (on : List ℕ → Tree) (over : Answer → Tree) → on_data coding form all on over outcome ≡ on more
 LeadsTo coding form all outcome (Over answer) =
     (on : List ℕ → Tree) (over : Answer → Tree) → on_data coding form all on over outcome ≡ over answer
+
+-- what follows a write of an upload's bytes: the others are sent, or the upload can't go on
+abbrev pub SendsOn : List ℕ → DealOutcome → Sent → Type 0
+SendsOn rest outcome (Rest more) = (on : List ℕ → Tree) (state : State) → on_sent rest on state outcome ≡ on more
+SendsOn rest outcome (Failed kind) = (on : List ℕ → Tree) (state : State) → on_sent rest on state outcome ≡ giving_up (ConnectionError (Io kind)) state

@@ -258,7 +258,7 @@ fn accepted<E: Encoding>(
         Ending::GivesAddress => to_address(alloc, reply, standing),
         Ending::GivesPort => to_port(alloc, reply, standing),
         Ending::Opens(gives_reply) => opens(alloc, opened_answer(gives_reply, reply), standing),
-        Ending::Fetches(form) => fetches(alloc, encoding, form, standing),
+        Ending::Performs(task) => performs(alloc, encoding, task, standing),
         Ending::Finishes(close) => Ok(done(finish_answer(close), finished(standing))),
         Ending::Drains => Ok(done(Answer::Unit, drained(standing))),
         Ending::Stops => {

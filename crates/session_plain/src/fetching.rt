@@ -1,25 +1,26 @@
-//! All that a data connection carries is read, on all outcomes at once, and its transfer is brought to its end.
+//! A whole file or listing goes over a data connection, on all outcomes at once, and its transfer is brought to its end.
 
 ghost use Rattle.std.specs.Prelude.{◌≡◌, ◌++◌, IfOk, length};
 ghost use Rattle.ftp_control.specs.declared.transport.room.Room.{Room as Rooms};
 ghost use Rattle.ftp_calls.specs.declared.exchange.Ending.TheVariants as ending;
 ghost use Rattle.ftp_dialogue.specs.Coding.{Coding, coding_of};
-ghost use Rattle.ftp_dialogue.specs.Dialogue.{Leaf, Tree, fault_or, fetch_concluded, fetch_ending, fetch_parting, fetched, fetching, first_fault, gathering, opening, too_long, unfetched, with_fetched};
+ghost use Rattle.ftp_dialogue.specs.Dialogue.{Leaf, Tree, closed_as, fault_or, fetch_concluded, fetch_ending, fetch_parting, fetched, fetching, first_fault, gathering, opening, performing, too_long, unfetched, with_fetched};
 ghost use Rattle.ftp_dialogue.specs.Play.{play};
 ghost use Rattle.ftp_dialogue.specs.declared.state.State.{State as States};
 ghost use Rattle.ftp_dialogue.specs.declared.model.DealOutcome.TheVariants as came;
 ghost use Rattle.session_plain.specs.Progress.{ComesTo, LeadsTo};
 
-use crate::carrying::{Carried, moved_by, pass_over};
+use crate::carrying::{Carried, moved_by};
 use crate::exchange::Progress;
-use crate::finishing::finished;
+use crate::finishing::{finished, told_of_close};
 use crate::hearing::{Heard, hear_reply};
 use crate::opening::{opened, with_transfer};
+use crate::storing::storing;
 use ftp_answers::read_listing;
 use ftp_base::encoding::Encoding;
 use ftp_base::status::Status;
 use ftp_base::types::{Bytes, ConnectionError, FtpError, FtpResult, Response};
-use ftp_calls::exchange::{Fetch, Movement};
+use ftp_calls::exchange::{Fetch, Movement, Task};
 use ftp_calls::lines::Lines;
 use ftp_control::control::form_of;
 use ftp_session::model::{DealOutcome, Played, Standing, Wait};
@@ -45,22 +46,39 @@ pub(crate) enum Follows {
     Over(Answer),
 }
 
-/// The command was accepted, and all is read that comes.
+/// The command was accepted, and a whole file or listing goes over the data connection.
 #[tactic(auto, unfolding(ftp_dialogue::specs::Play::play))]
-pub(crate) fn fetches<E: Encoding>(
+pub(crate) fn performs<E: Encoding>(
     alloc: Global,
     encoding: &E,
-    form: Fetch,
+    task: Task,
     standing: Standing,
 ) -> Result<Progress, AllocError>
     ensures { IfOk result (λ progress. (room : Rooms) (later : States → Tree) →
         let coding = coding_of E.decoded E.encoded encoding.now in
         ComesTo room later (play room (opening standing.state.settings.mode
-        (fetching coding form standing.state) standing.state) standing) progress) }
+        (performing coding task standing.state) standing.state) standing) progress) }
 {
     match opened(alloc, standing)? {
         Progress::Stops(played) => Ok(Progress::Stops(played)),
-        Progress::Continues(here) => fetching(alloc, encoding, form, here),
+        Progress::Continues(here) => performing(alloc, encoding, task, here),
+    }
+}
+
+/// What is done with a whole data connection.
+fn performing<E: Encoding>(
+    alloc: Global,
+    encoding: &E,
+    task: Task,
+    standing: Standing,
+) -> Result<Progress, AllocError>
+    ensures { IfOk result (λ progress. (room : Rooms) (later : States → Tree) →
+        let coding = coding_of E.decoded E.encoded encoding.now in
+        ComesTo room later (play room (performing coding task standing.state) standing) progress) }
+{
+    match task {
+        Task::Fetch(form) => fetching(alloc, encoding, form, standing),
+        Task::Store(bytes) => storing(alloc, bytes, standing),
     }
 }
 
@@ -106,9 +124,9 @@ fn gathering<E: Encoding>(
     }
 }
 
-/// The data connection is closed, and what that comes to is told to nobody.
+/// The data connection is closed; the fault of an upload's close is the answer.
 #[tactic(auto, unfolding(ftp_dialogue::specs::Play::play))]
-fn parting(
+pub(crate) fn parting(
     alloc: Global,
     form: Fetch,
     answer: Answer,
@@ -120,9 +138,19 @@ fn parting(
     match moved_by(alloc, Movement::Close, standing)? {
         Carried::Unknown(here) => Ok(Progress::Stops(Played::Pending(Wait::Outcome, here))),
         Carried::Known(outcome, here) => {
-            pass_over(outcome);
-            last_reply(alloc, form, answer, here)
+            let told = told_of_close(here.state.uploads, outcome);
+            last_reply(alloc, form, closed_as(told, answer), here)
         }
+    }
+}
+
+/// The answer after a close.
+fn closed_as(told: Option<ErrorKind>, answer: Answer) -> Answer
+    ensures { result ≡ closed_as told answer }
+{
+    match told {
+        None => answer,
+        Some(kind) => Answer::Fault(FtpError::ConnectionError(ConnectionError::Io(kind))),
     }
 }
 

@@ -42,7 +42,7 @@ pub(crate) fn closing<E: Encoding>(
 }
 
 /// The fault of an upload's close is told before the reply's.
-fn told_of_close(uploads: bool, outcome: DealOutcome) -> Option<ErrorKind>
+pub(crate) fn told_of_close(uploads: bool, outcome: DealOutcome) -> Option<ErrorKind>
     ensures { result ≡ told_of_close uploads outcome }
 {
     if !uploads {

@@ -21,6 +21,7 @@ mod outcomes;
 mod play;
 mod runs;
 mod settings;
+mod storing;
 mod turns;
 
 pub use connecting::connect_in_turn;

@@ -1,6 +1,6 @@
 -- What a step of a dialogue does: whatever the server still sends, and whatever room there is, the tree before it and
 -- the tree after it come to the same. Beside what is promised it keeps how much is kept of a reply under way.
-use Rattle.std.specs.Prelude.{◌++◌, ◌==◌, ◌≡◌, ◌<◌, ◌≤◌, ◌+◌, ◌⊎◌, nat_le, ◌∷◌, ℕ, zero, suc, Bool, true, false, ◌&&◌, if◌then◌else◌, Option, None, List, [], length, Result, Ok, Err}
+use Rattle.std.specs.Prelude.{◌++◌, ◌==◌, ◌≡◌, ◌<◌, ◌≤◌, ◌+◌, ◌⊎◌, nat_le, ◌∷◌, ℕ, zero, suc, Bool, true, false, ◌&&◌, if◌then◌else◌, Option, None, List, [], drop, length, Result, Ok, Err}
 use Rattle.futures.specs.declared.task.Poll.{Poll}
 use Rattle.futures.specs.declared.task.Poll.TheVariants as poll
 use Rattle.ftp_base.specs.declared.types.reply.Response.{Response}
@@ -26,14 +26,14 @@ use Rattle.ftp_calls.specs.declared.call.Setting.{Setting}
 use Rattle.ftp_calls.specs.declared.exchange.Movement.TheVariants as movement
 use Rattle.ftp_calls.specs.declared.call.Call.{Call}
 use Rattle.ftp_calls.specs.declared.exchange.Ending.{Ending}
-use Rattle.ftp_calls.specs.declared.exchange.Ending.TheVariants.{GivesAddress, GivesPort, Opens, Fetches}
+use Rattle.ftp_calls.specs.declared.exchange.Ending.TheVariants.{GivesAddress, GivesPort, Opens, Performs}
 use Rattle.ftp_calls.specs.declared.exchange.Fetch.{Fetch}
 use Rattle.ftp_dialogue.specs.declared.gathered.More.{More}
 use Rattle.ftp_dialogue.specs.declared.gathered.More.TheVariants as more
 use Rattle.ftp_dialogue.specs.declared.stage.Fetching.{Fetching as Fetched}
 use Rattle.ftp_dialogue.specs.declared.stage.Fetching.TheVariants as fetch
 use Rattle.ftp_dialogue.specs.declared.stage.Opened.{Opened as Opening}
-use Rattle.ftp_dialogue.specs.declared.stage.Opened.TheVariants.{Gives as GivesAnswer, Fetches as FetchesAll}
+use Rattle.ftp_dialogue.specs.declared.stage.Opened.TheVariants.{Gives as GivesAnswer, Performs as PerformsAll}
 use Rattle.ftp_dialogue.specs.declared.model.DealOutcome.TheVariants as came
 use Rattle.ftp_dialogue.specs.declared.nodes.Accepted.{Accepted}
 use Rattle.ftp_dialogue.specs.declared.nodes.Accepted.TheVariants as accepts
@@ -56,8 +56,8 @@ use Rattle.ftp_calls.specs.declared.exchange.Row.{Row}
 use Rattle.ftp_calls.specs.declared.exchange.Row.TheVariants.{Exchanges, Arms}
 use Rattle.ftp_calls.specs.declared.exchange.Row.TheVariants as row
 use Rattle.ftp_control.specs.Refusal.{IsRefusalOf}
-use Rattle.ftp_calls.specs.Exchanges.{is_draining, is_local, is_read, row_of, says_of, Kind, Nothing, kind_of, kind_of_fetch}
-use Rattle.ftp_dialogue.specs.Dialogue.{Expected, End, Tree, Say, Hear, Look, Ask, Build, Move, Leaf, accepted, chunk, fetched, fetching, first_fault, later, lets_in, most_bytes, moved_answer, too_long, unfetched, with_fetched, set_to, answer_to_fault, after_fault_of, with_aborted, with_left, with_transfer, dialogue}
+use Rattle.ftp_calls.specs.Exchanges.{is_draining, is_local, is_read, row_of, says_of, Kind, Nothing, kind_of, kind_of_task}
+use Rattle.ftp_dialogue.specs.Dialogue.{Expected, End, Tree, Say, Hear, Look, Ask, Build, Move, Leaf, accepted, chunk, fetched, first_fault, later, lets_in, most_bytes, moved_answer, performing, too_long, unfetched, with_fetched, set_to, answer_to_fault, after_fault_of, with_aborted, with_left, with_transfer, dialogue}
 use Rattle.ftp_dialogue.specs.Run.{Resumes, Silent}
 use Rattle.ftp_dialogue.specs.Promises.{DrainsIf, due_of, AbortsRead, IsFault, Leads, Completes, Aborts, However, SaidOrTaken, Untouched, Rests, IsRefused, begun_by, failed_from, refusal_of, IsApart}
 use Rattle.ftp_dialogue.specs.Steps.Stages.{AnswersKind, Begun, GoesOnTo, StageAfter, StepAnswers, asking_of, nodes_left, remaining, begun_at, is_later, is_out, line_of}
@@ -249,7 +249,7 @@ Hears link codes next old new poll.Pending = Advances link (Hear codes next) (He
 abbrev pub Accepts : Coding → Ending → Response → State → State → Accepted → Type 0
 Accepts coding ending reply state state' accepts.GoesOn = (state' ≡ state) × ((later : State → Tree) → accepted coding ending state reply later ≡ later state)
 Accepts coding ending reply state state' (accepts.Asks asking) = (state' ≡ state) × ((later : State → Tree) → accepted coding ending state reply later ≡ asking_of coding asking state (later state))
-Accepts coding ending reply state state' (accepts.Fetches form) = (state' ≡ state) × ((later : State → Tree) → accepted coding ending state reply later ≡ fetching coding form state)
+Accepts coding ending reply state state' (accepts.Performs task) = (state' ≡ state) × ((later : State → Tree) → accepted coding ending state reply later ≡ performing coding task state)
 Accepts coding ending reply state state' (accepts.Done answer) = (later : State → Tree) → accepted coding ending state reply later ≡ Leaf answer state'
 
 abbrev pub wants_memory : FtpError → Bool
@@ -367,12 +367,12 @@ abbrev pub agrees : Ending → Bool
 agrees GivesAddress = true
 agrees GivesPort = true
 agrees (Opens replies) = true
-agrees (Fetches form) = true
+agrees (Performs task) = true
 agrees other = false
 
 abbrev pub OpeningAnswers : Kind → Opening → Type 0
 OpeningAnswers kind (GivesAnswer answer) = AnswersKind kind answer
-OpeningAnswers kind (FetchesAll form) = kind ≡ kind_of_fetch form
+OpeningAnswers kind (PerformsAll task) = kind ≡ kind_of_task task
 
 abbrev pub AskingAnswers : Kind → Asking → Type 0
 AskingAnswers kind (PeerPort port) = Unit {0}
@@ -384,7 +384,7 @@ AskingAnswers kind (Accepting peer left opened) = ⊥
 abbrev pub AnswersAs : Ending → Accepted → Type 0
 AnswersAs ending accepts.GoesOn = (kind_of ending ≡ Nothing) × (is_draining ending ≡ false)
 AnswersAs ending (accepts.Asks asking) = (agrees ending ≡ true) × AskingAnswers (kind_of ending) asking
-AnswersAs ending (accepts.Fetches form) = (agrees ending ≡ true) × (kind_of ending ≡ kind_of_fetch form)
+AnswersAs ending (accepts.Performs task) = (agrees ending ≡ true) × (kind_of ending ≡ kind_of_task task)
 AnswersAs ending (accepts.Done answer) = AnswersKind (kind_of ending) answer
 
 -- a reply that was heard is accepted: the next exchange is reached, or the answer with the change of state; where
@@ -433,10 +433,10 @@ ConnectsTo call turn outcomes.Done stage result = GoesOnTo call turn stage resul
 ConnectsTo call turn (outcomes.Address address) stage result = GoesOnTo call turn stage result
 ConnectsTo call turn (outcomes.Refused fault) stage result = result ≡ Done (Fault (ConnectionError fault))
 
--- a peer was let in: a transfer is live, and that is the answer; or all that the connection carries is read
+-- a peer was let in: a transfer is live, and that is the answer; or a whole file or listing goes over the connection
 abbrev pub LetsIn : Opening → Stage → SessionValue → SessionValue → Step → Type 0
 LetsIn (GivesAnswer answer) stage old new result = (result ≡ Done answer) × (new ≡ record old { state = with_transfer old.state })
-LetsIn (FetchesAll form) stage old new result = (result ≡ Next) × (stage ≡ Fetching (fetch.Starting form)) × (new ≡ old)
+LetsIn (PerformsAll task) stage old new result = (result ≡ Next) × (stage ≡ Fetching (fetch.Starting task)) × (new ≡ old)
 
 -- a peer came: one that is let in opens the transfer, another is dropped; or none came
 abbrev pub MeetsIf : Bool → Turn → SocketAddr → ℕ → Opening → Stage → SessionValue → SessionValue → Step → Type 0
@@ -541,6 +541,12 @@ Follows coding form left all more.Grew next = next ≡ (if nat_le (length all) m
 Follows coding form left all more.Ended next = (next ≡ fetch.Parting form (fetched coding form all)) ⊎ (next ≡ fetch.Parting form (Fault OutOfMemory))
 Follows coding form left all (more.Failed kind) next = next ≡ fetch.Parting form (unfetched form kind)
 Follows coding form left all more.NoMemory next = next ≡ fetch.Parting form (Fault OutOfMemory)
+
+-- bytes were written to the data connection, from the front, and the rest is left; or that failed; or it is waited for
+abbrev pub Sends : Link → List ℕ → List ℕ → SessionValue → SessionValue → Result (Poll (Unit {0})) ErrorKind → Type 0
+Sends link rest rest' old new (Ok (poll.Ready done)) = (count : ℕ) × (rest' ≡ drop count rest) × MovesBy link (movement.Write rest) old new (came.Wrote count)
+Sends link rest rest' old new (Err kind) = MovesBy link (movement.Write rest) old new (came.Failed kind)
+Sends link rest rest' old new (Ok poll.Pending) = (rest' ≡ rest) × ((tree : Tree) → Still link tree tree old new) × link.asks_wait
 
 -- a fault was heard in place of the last reply: what is answered, and what it leaves
 abbrev pub FetchFailsIf : Bool → Fetch → Answer → FtpError → State → State → Answer → Type 0

@@ -19,14 +19,16 @@ use Rattle.ftp_calls.specs.declared.exchange.Turn.{Turn}
 use Rattle.ftp_calls.specs.declared.exchange.Turn.TheVariants.{First, Second, Passive, ExtendedPassive, Active, Restart, Closed, Aborted}
 use Rattle.ftp_calls.specs.declared.exchange.Exchange.{Exchange}
 use Rattle.ftp_calls.specs.declared.exchange.Fetch.{Fetch}
+use Rattle.ftp_calls.specs.declared.exchange.Fetch.TheVariants.{Whole}
+use Rattle.ftp_calls.specs.declared.exchange.Task.{Task}
 use Rattle.ftp_dialogue.specs.declared.stage.Awaits.{Awaits}
 use Rattle.ftp_dialogue.specs.declared.stage.Stage.{Stage}
 use Rattle.ftp_dialogue.specs.declared.stage.Stage.TheVariants.{At, Saying, Hearing, Arming, Agreeing, Closing, Aborting, Fetching}
 use Rattle.ftp_dialogue.specs.declared.stage.Fetching.{Fetching as Fetched}
-use Rattle.ftp_dialogue.specs.declared.stage.Fetching.TheVariants.{Starting, Gathering, Ending}
+use Rattle.ftp_dialogue.specs.declared.stage.Fetching.TheVariants.{Starting, Gathering, Sending as SendingData, Ending}
 use Rattle.ftp_dialogue.specs.declared.stage.Fetching.TheVariants as fetch
 use Rattle.ftp_dialogue.specs.declared.stage.Opened.{Opened as Opening}
-use Rattle.ftp_dialogue.specs.declared.stage.Opened.TheVariants.{Gives as GivesAnswer, Fetches}
+use Rattle.ftp_dialogue.specs.declared.stage.Opened.TheVariants.{Gives as GivesAnswer, Performs}
 use Rattle.ftp_dialogue.specs.declared.stage.Agreeing.{Agreeing as Way}
 use Rattle.ftp_dialogue.specs.declared.stage.Agreeing.TheVariants.{Negotiating, Locating, Binding, Asking}
 use Rattle.ftp_dialogue.specs.declared.stage.Aborting.{Aborting as Abort}
@@ -38,8 +40,8 @@ use Rattle.ftp_dialogue.specs.declared.stage.Step.TheVariants as step
 use Rattle.ftp_dialogue.specs.Coding.{Coding}
 use Rattle.ftp_dialogue.specs.Promises.{IsFault}
 use Rattle.ftp_calls.specs.declared.exchange.Row.TheVariants.{Arms}
-use Rattle.ftp_calls.specs.Exchanges.{row_of, aborts, finishes, is_local, is_read, negotiates, next_turn, of_transfer, Movements, Listings, Kind, kind_of_fetch, Nothing, Replies, Texts, Times, Sizes, Lists, Connections, ending_of, given_by, says_of}
-use Rattle.ftp_dialogue.specs.Dialogue.{expected_of, Tree, Say, Look, There, Leaf, armed, awaiting, aborting, breaking_off, closing, later, from_turn, negotiating, listening, listening_at, connecting_to, connecting_to_peer, accepting, fetch_ending, fetch_parting, fetching, gathering, most_reads, strangers, with_transfer}
+use Rattle.ftp_calls.specs.Exchanges.{row_of, aborts, finishes, is_local, is_read, negotiates, next_turn, of_transfer, Movements, Listings, Kind, kind_of_fetch, kind_of_task, Nothing, Replies, Texts, Times, Sizes, Lists, Connections, ending_of, given_by, says_of}
+use Rattle.ftp_dialogue.specs.Dialogue.{expected_of, Tree, Say, Look, There, Leaf, armed, awaiting, aborting, breaking_off, closing, later, from_turn, negotiating, listening, listening_at, connecting_to, connecting_to_peer, accepting, fetch_ending, fetch_parting, gathering, most_reads, performing, sending, strangers, with_transfer}
 
 -- an exchange was made before
 abbrev pub is_later : Turn → Bool
@@ -55,7 +57,7 @@ is_later Aborted = true
 -- what follows once the data connection stands
 abbrev pub opened_by : Coding → Opening → State → Tree
 opened_by coding (GivesAnswer answer) state = Leaf answer (with_transfer state)
-opened_by coding (Fetches form) state = fetching coding form state
+opened_by coding (Performs task) state = performing coding task state
 
 -- what an outcome is awaited for, on the way to a data connection
 abbrev pub asking_of : Coding → Asked → State → Tree → Tree
@@ -87,10 +89,11 @@ abort_left coding call state Wording = aborting coding call state
 abort_left coding call state (Sending line) = Say (Ok (due line)) (breaking_off coding call state)
 abort_left coding call state Parting = breaking_off coding call state
 
--- what is left where a whole data connection is read
+-- what is left where a whole file or listing goes over the data connection
 abbrev pub fetch_left : Coding → State → Fetched → Tree
-fetch_left coding state (Starting form) = fetching coding form state
+fetch_left coding state (Starting task) = performing coding task state
 fetch_left coding state (Gathering form left all) = gathering coding form left all state
+fetch_left coding state (SendingData left total rest) = sending left total rest state
 fetch_left coding state (fetch.Parting form answer) = fetch_parting form answer state
 fetch_left coding state (Ending form answer) = fetch_ending form answer state
 
@@ -170,8 +173,9 @@ nodes_of_abort (Sending line) = many + 32
 nodes_of_abort Parting = many + 31
 
 abbrev pub nodes_of_fetch : Fetched → ℕ
-nodes_of_fetch (Starting form) = most_reads + 11
+nodes_of_fetch (Starting task) = most_reads + 11
 nodes_of_fetch (Gathering form left all) = left + 10
+nodes_of_fetch (SendingData left total rest) = left + 10
 nodes_of_fetch (fetch.Parting form answer) = 5
 nodes_of_fetch (Ending form answer) = 4
 
@@ -240,14 +244,20 @@ TurnOf call Aborted = aborts call ≡ true
 abbrev pub MayAnswer : Call → Answer → Type 0
 MayAnswer call answer = (turn : Turn) × (TurnOf call turn ⊎ IsFault answer) × AnswersKind (given_by (row_of call turn)) answer
 
--- a call may give all that a data connection carries
-abbrev pub MayFetch : Call → Fetch → Type 0
-MayFetch call form = (negotiates call ≡ true) × ((turn : Turn) × TurnOf call turn × (given_by (row_of call turn) ≡ kind_of_fetch form))
+-- a call may give what comes of a whole data connection
+abbrev pub MayGive : Call → Kind → Type 0
+MayGive call kind = (negotiates call ≡ true) × ((turn : Turn) × TurnOf call turn × (given_by (row_of call turn) ≡ kind))
 
--- what is kept while an outcome is awaited: the answer, or what is fetched
+abbrev pub MayFetch : Call → Fetch → Type 0
+MayFetch call form = MayGive call (kind_of_fetch form)
+
+abbrev pub MayPerform : Call → Task → Type 0
+MayPerform call task = MayGive call (kind_of_task task)
+
+-- what is kept while an outcome is awaited: the answer, or what is done with the data connection
 abbrev pub OpeningOf : Call → Opening → Type 0
 OpeningOf call (GivesAnswer answer) = MayAnswer call answer
-OpeningOf call (Fetches form) = MayFetch call form
+OpeningOf call (Performs task) = MayPerform call task
 
 abbrev pub AskingOf : Call → Asked → Type 0
 AskingOf call (PeerPort port) = Unit {0}
@@ -255,10 +265,11 @@ AskingOf call (Connection address) = Unit {0}
 AskingOf call (Peer opened) = OpeningOf call opened
 AskingOf call (Accepting peer left opened) = OpeningOf call opened
 
--- and while a data connection is read
+-- and while a whole file or listing goes over it
 abbrev pub FetchOf : Call → Fetched → Type 0
-FetchOf call (Starting form) = MayFetch call form
+FetchOf call (Starting task) = MayPerform call task
 FetchOf call (Gathering form left all) = MayFetch call form
+FetchOf call (SendingData left total rest) = MayFetch call Whole
 FetchOf call (fetch.Parting form answer) = MayFetch call form × AnswersKind (kind_of_fetch form) answer
 FetchOf call (Ending form answer) = MayFetch call form × AnswersKind (kind_of_fetch form) answer
 

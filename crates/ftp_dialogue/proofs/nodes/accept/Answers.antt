@@ -18,8 +18,8 @@ returns-in-GivesPort-clause-accepts g c = rw c.in-GivesPort.is (c.port_told.ensu
 pub returns-in-Opens-clause-accepts : goal.returns-in-Opens-clause-accepts
 returns-in-Opens-clause-accepts g c = rw c.in-Opens.is (c.opens.ensures.accepts (coding_of g.E.Encoding.decoded g.E.Encoding.encoded c.args.encoding.now))
 
-pub returns-in-Fetches-clause-accepts : goal.returns-in-Fetches-clause-accepts
-returns-in-Fetches-clause-accepts g c = rw c.in-Fetches.is (c.fetches.ensures.accepts (coding_of g.E.Encoding.decoded g.E.Encoding.encoded c.args.encoding.now) c.args.reply)
+pub returns-in-Performs-clause-accepts : goal.returns-in-Performs-clause-accepts
+returns-in-Performs-clause-accepts g c = rw c.in-Performs.is (c.performs.ensures.accepts (coding_of g.E.Encoding.decoded g.E.Encoding.encoded c.args.encoding.now) c.args.reply)
 
 pub returns-in-Stops-clause-accepts : goal.returns-in-Stops-clause-accepts
 returns-in-Stops-clause-accepts g c = rw c.in-Stops.is (c.aborted.ensures.accepts (coding_of g.E.Encoding.decoded g.E.Encoding.encoded c.args.encoding.now))

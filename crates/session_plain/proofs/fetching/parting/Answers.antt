@@ -3,7 +3,7 @@ use Rattle.ftp_control.specs.declared.transport.room.Room.{Room}
 use Rattle.ftp_dialogue.specs.declared.state.State.{State}
 use Rattle.ftp_dialogue.specs.declared.model.DealOutcome.{DealOutcome}
 use Rattle.ftp_dialogue.specs.declared.model.Standing.{Standing}
-use Rattle.ftp_dialogue.specs.Dialogue.{Tree, fetch_ending, fetch_parting}
+use Rattle.ftp_dialogue.specs.Dialogue.{Tree, closed_as, fetch_ending, fetch_parting, told_of_close}
 use Rattle.ftp_dialogue.specs.Play.{play}
 use Rattle.session_plain.proofs.Parts.{leads}
 use Rattle.session_plain.proofs.fetching.parting.Goals as goal
@@ -15,7 +15,10 @@ returns-in-Known c =
     let s = c.args.standing in
     let here = c.in-Known.here in
     let came = rw c.in-Known.is at c.in_ok-here.ensures in
-    let one = λ (room : Room) (later : State → Tree). play room (fetch_ending c.args.form c.args.answer here.state) here in
+    let told = λ (state : State) (outcome : DealOutcome). closed_as (told_of_close state.uploads outcome) c.args.answer in
+    let is : told here.state c.in-Known.outcome ≡ c.closed_as.result = sym (c.closed_as.ensures ∙ ap (λ t. closed_as t c.args.answer) c.told_of_close-told.ensures) in
+    let one = λ (room : Room) (later : State → Tree). play room (fetch_ending c.args.form c.closed_as.result here.state) here in
     let other = λ (room : Room) (later : State → Tree). play room (fetch_parting c.args.form c.args.answer s.state) s in
-    let same = λ (room : Room). ap (λ state. play room (fetch_ending c.args.form c.args.answer state) here) (sym came.0) in
-    leads one other (λ room later. came.1 (λ (outcome : DealOutcome) (t : Standing). play room (fetch_ending c.args.form c.args.answer s.state) t) ∙ same room) c.last_reply.result c.last_reply.ensures
+    let same = λ (room : Room). ap (λ state. play room (fetch_ending c.args.form (told state c.in-Known.outcome) state) here) (sym came.0) in
+    let as_told = λ (room : Room). ap (λ answer. play room (fetch_ending c.args.form answer here.state) here) is in
+    leads one other (λ room later. came.1 (λ (outcome : DealOutcome) (t : Standing). play room (fetch_ending c.args.form (told s.state outcome) s.state) t) ∙ same room ∙ as_told room) c.last_reply.result c.last_reply.ensures

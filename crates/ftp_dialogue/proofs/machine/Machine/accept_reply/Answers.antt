@@ -1,7 +1,7 @@
 use Rattle.std.proofs.Common.{inl, ap}
 use Rattle.ftp_dialogue.specs.Coding.{coding_of}
 use Rattle.ftp_dialogue.specs.State.{SessionValue}
-use Rattle.ftp_dialogue.proofs.Agreeing.{asking_answers, asking_fewer, fetch_fewer, may_fetch, asks_opens, row_answers}
+use Rattle.ftp_dialogue.proofs.Agreeing.{asking_answers, asking_fewer, fetch_fewer, may_perform, asks_opens, row_answers}
 use Rattle.ftp_dialogue.proofs.NegotiationLemmas.{concludes_on}
 use Rattle.ftp_dialogue.proofs.Nexts.{stage_after}
 use Rattle.ftp_dialogue.proofs.machine.Machine.accept_reply.Goals as goal
@@ -35,10 +35,10 @@ returns-in-Ok-Asks-clause-fewer g c = λ next.
     let answers = rw (c.in-Ok-Asks.is, c.in-Ok-Asks.field-0-is) at c.accept.ensures.answers in
     rw c.go_to.ensures (asking_fewer c.args.awaits.turn _ c.in-Ok-Asks.asking answers.1)
 
-pub returns-in-Ok-Fetches-clause-stage : goal.returns-in-Ok-Fetches-clause-stage
-returns-in-Ok-Fetches-clause-stage g c =
-    let answers = rw (c.in-Ok-Fetches.is, c.in-Ok-Fetches.field-0-is) at c.accept.ensures.answers in
-    rw c.go_to-in-Ok-Fetches.ensures (may_fetch _ c.args.awaits.turn c.args.awaits.ending c.in-Ok-Fetches.form c.requires.stage.2 c.requires.stage.0 answers.0 answers.1)
+pub returns-in-Ok-Performs-clause-stage : goal.returns-in-Ok-Performs-clause-stage
+returns-in-Ok-Performs-clause-stage g c =
+    let answers = rw (c.in-Ok-Performs.is, c.in-Ok-Performs.field-0-is) at c.accept.ensures.answers in
+    rw c.go_to-in-Ok-Performs.ensures (may_perform _ c.args.awaits.turn c.args.awaits.ending c.in-Ok-Performs.task c.requires.stage.2 c.requires.stage.0 answers.0 answers.1)
 
-pub returns-in-Ok-Fetches-clause-fewer : goal.returns-in-Ok-Fetches-clause-fewer
-returns-in-Ok-Fetches-clause-fewer g c = λ next. rw c.go_to-in-Ok-Fetches.ensures (fetch_fewer c.args.awaits.turn)
+pub returns-in-Ok-Performs-clause-fewer : goal.returns-in-Ok-Performs-clause-fewer
+returns-in-Ok-Performs-clause-fewer g c = λ next. rw c.go_to-in-Ok-Performs.ensures (fetch_fewer c.args.awaits.turn)

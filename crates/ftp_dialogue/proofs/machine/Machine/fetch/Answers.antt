@@ -2,8 +2,14 @@ use Rattle.ftp_dialogue.specs.Coding.{coding_of}
 use Rattle.std.proofs.Common.{inl, inr}
 use Rattle.ftp_dialogue.proofs.machine.Machine.fetch.Goals as goal
 
-pub returns-in-Starting-clause-breaks : goal.returns-in-Starting-clause-breaks
-returns-in-Starting-clause-breaks g c = rw c.in-Starting.is (c.start_fetch.ensures.breaks (coding_of g.E.Encoding.decoded g.E.Encoding.encoded c.args.encoding.now))
+pub returns-in-Starting-Fetch-clause-breaks : goal.returns-in-Starting-Fetch-clause-breaks
+returns-in-Starting-Fetch-clause-breaks g c = rw (c.in-Starting-Fetch.is, c.in-Starting-Fetch.field-0-is) (c.start_fetch.ensures.breaks (coding_of g.E.Encoding.decoded g.E.Encoding.encoded c.args.encoding.now))
+
+pub returns-in-Starting-Store-clause-breaks : goal.returns-in-Starting-Store-clause-breaks
+returns-in-Starting-Store-clause-breaks g c = rw (c.in-Starting-Store.is, c.in-Starting-Store.field-0-is) (c.start_store.ensures.breaks (coding_of g.E.Encoding.decoded g.E.Encoding.encoded c.args.encoding.now))
+
+pub returns-in-Sending-clause-breaks : goal.returns-in-Sending-clause-breaks
+returns-in-Sending-clause-breaks g c = rw c.in-Sending.is (c.send_more.ensures.breaks (coding_of g.E.Encoding.decoded g.E.Encoding.encoded c.args.encoding.now))
 
 pub returns-in-Gathering-clause-breaks : goal.returns-in-Gathering-clause-breaks
 returns-in-Gathering-clause-breaks g c = rw c.in-Gathering.is c.gather.ensures.breaks

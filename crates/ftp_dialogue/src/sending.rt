@@ -1,0 +1,143 @@
+//! A whole upload: a file's bytes are written to the data connection (RFC 959, section 4.1.3).
+//!
+//! Where they can't be, the transfer is left, and what the server says of it is read before the next command.
+
+ghost use Rattle.std.specs.Prelude.{◌≡◌, ◌<◌, is_none, false, length};
+ghost use Rattle.ftp_calls.specs.declared.exchange.Fetch.TheVariants.{Whole};
+ghost use Rattle.ftp_calls.specs.declared.exchange.Task.TheVariants.{Store};
+ghost use Rattle.ftp_dialogue.specs.Coding.{Coding};
+ghost use Rattle.ftp_dialogue.specs.Dialogue.{with_abandoned};
+ghost use Rattle.ftp_dialogue.specs.Link.{building};
+ghost use Rattle.ftp_dialogue.specs.Steps.Moving.{BreaksOff, Sends};
+ghost use Rattle.ftp_dialogue.specs.Steps.Stages.{MayFetch};
+
+use super::asks::Asks;
+use super::machine::Machine;
+use super::stage::{Fetching, Stage, Step, go_to};
+use super::unsent::{Unsent, size_to_send};
+use super::{Answer, Call};
+use ftp_base::types::{ConnectionError, FtpError, Items};
+use ftp_calls::exchange::Fetch;
+use ftp_control::transport::{Network, PollConn};
+use futures::task::Poll;
+use std::io::ErrorKind;
+
+impl<Tr: Network> Machine<Tr> {
+    /// No byte was written yet.
+    pub(super) fn start_store<W, A: Asks<Tr, W>>(
+        &mut self,
+        _asker: &A,
+        _call: &Call,
+        bytes: Items<u8>,
+        stage: &mut Stage,
+        _w: &mut W,
+    ) -> Step
+    where
+        Tr::Conn: PollConn<W>,
+        requires going { self.old.channel.failed ≡ false }
+        requires of { MayFetch _call.now Whole }
+        ensures moves { result ≡ Step.Pending → ⊥ }
+        ensures end { self.new.channel.ended ≡ self.old.channel.ended }
+        ensures breaks { (coding : Coding) → BreaksOff (building (A.builds _asker.now) Tr.Conn.tells Tr.Conn.read_faults Tr.Conn.write_faults Tr.Conn.end_faults A.may_wait) coding _call.now
+            (Stage.Fetching (Fetching.Starting (Store bytes))) stage.new self.old self.new result }
+    {
+        let text = self.state.settings.text;
+        match size_to_send(text, bytes.as_slice()) {
+            Some(total) => {
+                let unsent = Unsent::new(text, bytes);
+                go_to(
+                    stage,
+                    Stage::Fetching(Fetching::Sending(total, total, unsent)),
+                );
+                Step::Next
+            }
+            None => self.give_up(ConnectionError::SourceTooLarge),
+        }
+    }
+
+    /// Some bytes are written, where any are left.
+    pub(super) fn send_more<W, A: Asks<Tr, W>>(
+        &mut self,
+        asker: &A,
+        _call: &Call,
+        left: u64,
+        total: u64,
+        mut unsent: Unsent,
+        stage: &mut Stage,
+        w: &mut W,
+    ) -> Step
+    where
+        Tr::Conn: PollConn<W>,
+        requires going { self.old.channel.failed ≡ false }
+        requires of { MayFetch _call.now Whole }
+        requires may { A.may_ask }
+        ensures waits { result ≡ Step.Pending → A.may_wait }
+        ensures end { self.new.channel.ended ≡ self.old.channel.ended }
+        ensures breaks { (coding : Coding) → BreaksOff (building (A.builds asker.now) Tr.Conn.tells Tr.Conn.read_faults Tr.Conn.write_faults Tr.Conn.end_faults A.may_wait) coding _call.now
+            (Stage.Fetching (Fetching.Sending left total unsent)) stage.new self.old self.new result }
+    {
+        if unsent.is_empty() {
+            let answer = Answer::Count(total);
+            go_to(
+                stage,
+                Stage::Fetching(Fetching::Parting(Fetch::Whole, answer)),
+            );
+            return Step::Next;
+        }
+        if left == 0 {
+            return self.give_up(ConnectionError::Io(ErrorKind::WriteZero));
+        }
+        if self.is_unheld() {
+            return self.lack_memory();
+        }
+        match self.write_some(asker, &mut unsent, w) {
+            Ok(Poll::Ready(())) => {
+                go_to(
+                    stage,
+                    Stage::Fetching(Fetching::Sending(left - 1, total, unsent)),
+                );
+                Step::Next
+            }
+            Ok(Poll::Pending) => {
+                go_to(
+                    stage,
+                    Stage::Fetching(Fetching::Sending(left, total, unsent)),
+                );
+                Step::Pending
+            }
+            Err(kind) => self.give_up(ConnectionError::Io(kind)),
+        }
+    }
+
+    /// Writes some of the bytes that haven't gone out.
+    fn write_some<W, A: Asks<Tr, W>>(
+        &mut self,
+        asker: &A,
+        unsent: &mut Unsent,
+        w: &mut W,
+    ) -> Result<Poll<()>, ErrorKind>
+    where
+        Tr::Conn: PollConn<W>,
+        requires some { 0 < length unsent.old }
+        requires held { is_none self.old.net.data_conn ≡ false }
+        requires may { A.may_ask }
+        ensures end { self.new.channel.ended ≡ self.old.channel.ended }
+        ensures state { self.new.state ≡ self.old.state }
+        ensures sends { Sends (building (A.builds asker.now) Tr.Conn.tells Tr.Conn.read_faults Tr.Conn.write_faults Tr.Conn.end_faults A.may_wait) unsent.old unsent.new self.old self.new result }
+    {
+        let Some(conn) = &mut self.data_conn else {
+            unreachable!();
+        };
+        unsent.write_some(asker, conn, w)
+    }
+
+    /// The upload can't go on: its transfer was opened, and is left.
+    fn give_up(&mut self, fault: ConnectionError) -> Step
+        ensures done { result ≡ Step.Done (Answer.Fault (FtpError.ConnectionError fault)) }
+        ensures left { self.new ≡ record self.old { state = with_abandoned self.old.state } }
+    {
+        self.state.counts.open();
+        self.state.counts.leave();
+        Step::Done(Answer::Fault(FtpError::ConnectionError(fault)))
+    }
+}
