@@ -1,7 +1,9 @@
 pub mod Carried
 pub mod Connecting
+pub mod CopyingLemmas
 pub mod Drained
 pub mod Events
+pub mod FilesLemmas
 pub mod Following
 pub mod Handed
 pub mod HiddenCalls

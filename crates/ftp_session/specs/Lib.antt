@@ -1,6 +1,8 @@
 pub mod Calls
+pub mod Copying
 pub mod Connecting
 pub mod Fetched
+pub mod Files
 pub mod Handed
 pub mod Script
 pub mod Scripted

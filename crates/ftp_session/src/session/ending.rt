@@ -77,7 +77,7 @@ where
     /// # Errors
     /// `NotOwed` for one of another number; `OutOfMemory`, or `SessionFailed` on a session that has failed, where there is
     /// no memory for the record that a close will need, and the transfer is left.
-    fn take_back(&mut self, transfer: Transfer<Tr::Conn>) -> FtpResult<()>
+    pub(super) fn take_back(&mut self, transfer: Transfer<Tr::Conn>) -> FtpResult<()>
         ensures takes { TakesBack transfer self.old.mark self.new.mark self.old.machine self.new.machine result }
         ensures encoding { self.new.encoding ≡ self.old.encoding }
         ensures builder { self.new.builder ≡ self.old.builder }

@@ -1,0 +1,8 @@
+use Rattle.ftp_session.proofs.FilesLemmas.{puts_on}
+use Rattle.ftp_session.proofs.session.client.Session.put_file.Goals as goal
+
+pub returns-in-Ok-clause-puts : goal.returns-in-Ok-clause-puts
+returns-in-Ok-clause-puts g c =
+    let opened = rw c.in-Ok.is at c.put_with_stream.ensures.opens in
+    let stores = rw c.put_with_stream.ensures.encoding at c.store.ensures.stores in
+    puts_on _ _ _ _ _ c.put_with_stream.new.self.mark _ _ c.put_with_stream.new.self.former _ c.put_with_stream.new.self.machine _ c.in-Ok.transfer _ _ _ opened stores

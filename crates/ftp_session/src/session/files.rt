@@ -1,0 +1,189 @@
+//! Whole files, from a caller's source or to a caller's reader (RFC 959, sections 3.2 and 4.1.3).
+//!
+//! Each opens a transfer as its stream form does, moves the bytes, and brings the transfer to its end, of which the caller
+//! sees nothing. An upload that breaks off leaves its transfer: the server's last word on it is read before the next
+//! command.
+
+ghost use Rattle.std.specs.Prelude.{◌≡◌};
+ghost use Rattle.ftp_dialogue.specs.Coding.{chosen};
+ghost use Rattle.ftp_dialogue.specs.Link.{building, built_by, link};
+ghost use Rattle.ftp_session.specs.Files.{Abandons, Puts, Retrieves, Stores, first_of, unless_failed};
+
+use super::client::Session;
+use super::copying::copy;
+use super::{Answer, Call};
+use ftp_base::encoding::Encoding;
+use ftp_base::types::FtpResult;
+use ftp_control::transport::{Conn, Network, PassiveStreamBuilder, Transport};
+use ftp_transfer::Transfer;
+use std::alloc::Global;
+use std::io::Read;
+
+/// What reads a download for [`Session::retr`], and what it makes of it: a `D`.
+///
+/// A closure that takes a transfer can't stand in a bound, so a reader is a type of its own.
+pub trait DownloadReader<C: Conn + Drop, D> {
+    ghost use Rattle.std.specs.Prelude.{Result};
+    ghost use Rattle.ftp_base.specs.declared.types.fault.FtpError.{FtpError as Faults};
+    ghost use Rattle.ftp_transfer.specs.Transfer.{TransferValue};
+
+    /// What it may return for a transfer, and how it leaves the transfer.
+    ghost reads: { TransferValue → Result D Faults → TransferValue → Type 0 };
+
+    /// Reads from the transfer, as much as it wants to. It is called once.
+    ///
+    /// # Errors
+    /// Its own, which are those of `retr`.
+    fn read(&mut self, transfer: &mut Transfer<C>) -> FtpResult<D>
+        ensures { reads transfer.old result transfer.new };
+}
+
+impl<Tr: Network, K: Drop, E: Encoding, B: PassiveStreamBuilder<Tr::Conn>> Session<Tr, K, E, B>
+where
+    Tr::Conn: Conn,
+{
+    /// Uploads all that a source gives to this file, in the place of what it held: `STOR` (125, 150), the bytes, and the
+    /// last reply (226, 250). Returns how many bytes were written. They are a text, whose lines end in CR LF on the wire
+    /// (RFC 959, section 3.1.1.1), until a `TYPE` of another kind is accepted. The upload begins at the offset that
+    /// `resume_transfer` set, if it did; the offset is taken away.
+    ///
+    /// # Errors
+    /// Those of a data command: `DataConnectionAlreadyOpen` where a transfer is live, and nothing is said. The fault of
+    /// the source or of the data connection, `SourceTooLarge` where more than 2^63 - 1 bytes would be written,
+    /// `OutOfMemory` for a buffer: what the source gave before is written, the last reply isn't read, and the transfer is
+    /// left. The fault of the data connection's close comes before that of the last reply.
+    pub fn put_file<R, S: Read>(
+        &mut self,
+        alloc: Global,
+        rt: &R,
+        path: &str,
+        source: &mut S,
+    ) -> FtpResult<u64>
+    where
+        Tr: Transport<R>,
+        ensures puts { Puts (building (built_by B.answers self.old.builder) Tr.Conn.tells Tr.Conn.blocking_read_faults Tr.Conn.blocking_write_faults Tr.Conn.end_faults ⊥) (link Tr.Conn.tells Tr.Conn.blocking_read_faults Tr.Conn.blocking_write_faults Tr.Conn.end_faults) (chosen E.decoded E.encoded self.old.encoding.0) (Call.PutWithStream path.now)
+            (S.remaining source.old) (S.remaining source.new) self.old.mark self.new.mark self.old.former self.old.machine self.new.machine result }
+        ensures encoding { self.new.encoding ≡ self.old.encoding }
+        ensures builder { self.new.builder ≡ self.old.builder }
+    {
+        match self.put_with_stream(alloc, rt, path) {
+            Ok(transfer) => self.store(alloc, source, transfer),
+            Err(fault) => Err(fault),
+        }
+    }
+
+    /// Uploads all that a source gives to the end of this file: `APPE` (125, 150), as `put_file` does.
+    ///
+    /// # Errors
+    /// Those of `put_file`.
+    pub fn append_file<R, S: Read>(
+        &mut self,
+        alloc: Global,
+        rt: &R,
+        path: &str,
+        source: &mut S,
+    ) -> FtpResult<u64>
+    where
+        Tr: Transport<R>,
+        ensures puts { Puts (building (built_by B.answers self.old.builder) Tr.Conn.tells Tr.Conn.blocking_read_faults Tr.Conn.blocking_write_faults Tr.Conn.end_faults ⊥) (link Tr.Conn.tells Tr.Conn.blocking_read_faults Tr.Conn.blocking_write_faults Tr.Conn.end_faults) (chosen E.decoded E.encoded self.old.encoding.0) (Call.AppendWithStream path.now)
+            (S.remaining source.old) (S.remaining source.new) self.old.mark self.new.mark self.old.former self.old.machine self.new.machine result }
+        ensures encoding { self.new.encoding ≡ self.old.encoding }
+        ensures builder { self.new.builder ≡ self.old.builder }
+    {
+        match self.append_with_stream(alloc, rt, path) {
+            Ok(transfer) => self.store(alloc, source, transfer),
+            Err(fault) => Err(fault),
+        }
+    }
+
+    /// Downloads this file to a reader of the caller's: `RETR` (150, 125), the reader, which is called once on the
+    /// transfer, and the last reply (226, 250). Returns what the reader returned. The bytes are as they come, and it isn't
+    /// asked for that all of them are read. The download begins at the offset that `resume_transfer` set, if it did; the
+    /// offset is taken away.
+    ///
+    /// # Errors
+    /// Those of a data command: `DataConnectionAlreadyOpen` where a transfer is live, and nothing is said. The reader's
+    /// fault, whatever the last reply is, which is read all the same; else the fault of the last reply.
+    pub fn retr<R, D: Drop, F: DownloadReader<Tr::Conn, D>>(
+        &mut self,
+        alloc: Global,
+        rt: &R,
+        path: &str,
+        reader: &mut F,
+    ) -> FtpResult<D>
+    where
+        Tr: Transport<R>,
+        ensures retrieves { Retrieves (building (built_by B.answers self.old.builder) Tr.Conn.tells Tr.Conn.blocking_read_faults Tr.Conn.blocking_write_faults Tr.Conn.end_faults ⊥) (link Tr.Conn.tells Tr.Conn.blocking_read_faults Tr.Conn.blocking_write_faults Tr.Conn.end_faults) (chosen E.decoded E.encoded self.old.encoding.0) (Call.RetrAsStream path.now)
+            F.reads self.old.mark self.new.mark self.old.former self.old.machine self.new.machine result }
+        ensures encoding { self.new.encoding ≡ self.old.encoding }
+        ensures builder { self.new.builder ≡ self.old.builder }
+    {
+        match self.retr_as_stream(alloc, rt, path) {
+            Ok(mut transfer) => {
+                let read = reader.read(&mut transfer);
+                first_of(read, self.finish(alloc, transfer))
+            }
+            Err(fault) => Err(fault),
+        }
+    }
+
+    /// Copies a source to a transfer, and brings it to its end; or leaves it, where that can't be done.
+    fn store<S: Read>(
+        &mut self,
+        alloc: Global,
+        source: &mut S,
+        mut transfer: Transfer<Tr::Conn>,
+    ) -> FtpResult<u64>
+        ensures stores { Stores (link Tr.Conn.tells Tr.Conn.blocking_read_faults Tr.Conn.blocking_write_faults Tr.Conn.end_faults) (chosen E.decoded E.encoded self.old.encoding.0)
+            (S.remaining source.old) (S.remaining source.new) transfer self.old.mark self.new.mark self.old.machine self.new.machine result }
+        ensures encoding { self.new.encoding ≡ self.old.encoding }
+        ensures builder { self.new.builder ≡ self.old.builder }
+    {
+        match copy(
+            alloc,
+            self.machine.state.settings.text,
+            source,
+            &mut transfer,
+        ) {
+            Ok(count) => unless_failed(count, self.finish(alloc, transfer)),
+            Err(fault) => {
+                self.abandon(alloc, transfer);
+                Err(fault)
+            }
+        }
+    }
+
+    /// Leaves a transfer, and hands its data connection back, closed.
+    fn abandon(&mut self, alloc: Global, transfer: Transfer<Tr::Conn>)
+        ensures abandons { Abandons Tr.Conn.tells transfer self.old.mark self.new.mark self.old.machine self.new.machine }
+        ensures encoding { self.new.encoding ≡ self.old.encoding }
+        ensures builder { self.new.builder ≡ self.old.builder }
+    {
+        if self.take_back(transfer).is_ok() {
+            pass_over(self.machine.carry(alloc, &Call::Leave));
+        }
+    }
+}
+
+/// What leaving a transfer came to is told to nobody.
+fn pass_over(_answer: Answer) {}
+
+/// A value, unless a call after it failed.
+fn unless_failed<T: Drop>(value: T, ended: FtpResult<()>) -> FtpResult<T>
+    ensures { result ≡ unless_failed value ended }
+{
+    match ended {
+        Ok(()) => Ok(value),
+        Err(fault) => Err(fault),
+    }
+}
+
+/// The fault of the first, or that of the second, or what the first gave.
+fn first_of<T: Drop>(read: FtpResult<T>, ended: FtpResult<()>) -> FtpResult<T>
+    ensures { result ≡ first_of read ended }
+{
+    match read {
+        Ok(value) => unless_failed(value, ended),
+        Err(fault) => Err(fault),
+    }
+}
