@@ -59,5 +59,5 @@ fn micros(time: Duration) -> u64 {
 
 /// How many in a second, where so many take so many microseconds.
 fn per_second(count: u64, micros: u64) -> u64 {
-    count.saturating_mul(1000) / (micros / 1000).max(1)
+    count.saturating_mul(1_000_000) / micros.max(1)
 }

@@ -11,7 +11,10 @@ const LINE: &[u8; 80] =
     b"The quick brown fox jumps over the lazy dog, and then it does so again, and yet\n";
 
 /// How many lines stand in memory.
-const LINES: usize = 100;
+const LINES: usize = 1024;
+
+/// How many bytes are converted at once in memory: about as many as a copy reads, in whole lines.
+const AT_ONCE: usize = 8_000;
 
 /// The lines that stand in memory.
 pub fn lines(alloc: Global) -> Result<Vec<u8>, AllocError> {
@@ -62,7 +65,7 @@ pub fn convert(alloc: Global, lines: &[u8], length: u64) -> Result<u64, AllocErr
     let mut left = length / 80 * 80;
     let mut total = 0u64;
     for _ in 0..u64::MAX {
-        let count = least(lines.len(), left);
+        let count = least(lines.len().min(AT_ONCE), left);
         if count == 0 {
             break;
         }
