@@ -1,6 +1,6 @@
 //! The control channel by itself: reads of replies and of single lines, blocking and polled.
 
-use crate::scene::{conn_with, fault_text, number, poll_text};
+use crate::scene::{boxed, conn_with, fault_text, number, poll_text};
 use ftp_base::status::Status;
 use ftp_base::types::{Bytes, FtpResult};
 use ftp_control::control::ControlChannel;
@@ -74,19 +74,22 @@ fn line_text(alloc: Global, answer: Poll<FtpResult<Bytes>>) -> Result<String, Al
 
 /// What a read of a reply with so many letters in its first line returns, and whether the channel has failed after it.
 fn read_long_reply(alloc: Global, letters: usize) -> FtpResult<(u8, bool)> {
-    let mut channel = ControlChannel::new(alloc, conn_with(alloc, b"220-")?);
+    let mut channel = boxed(
+        alloc,
+        ControlChannel::new(alloc, conn_with(alloc, b"220-")?),
+    )?;
     for _ in 0..letters {
         channel.feed(b"a")?;
     }
     channel.feed(b"\r\n220 ready\r\n")?;
-    let answer = number(&channel.read_response(alloc, Status::Ready));
+    let answer = number(channel.read_response(alloc, Status::Ready));
     Ok((answer, channel.failed()))
 }
 
 #[test]
 fn a_reply_comes_in_pieces(rt: HostRuntime) -> Result<(), Fail> {
     let alloc = rt.alloc();
-    let mut channel = ControlChannel::new(alloc, MemoryConn::new(alloc));
+    let mut channel = boxed(alloc, ControlChannel::new(alloc, MemoryConn::new(alloc)))?;
     for (polled, bytes, due) in REPLIES {
         channel.feed(bytes)?;
         let text = read_reply(alloc, &mut channel, polled)?;
@@ -98,7 +101,7 @@ fn a_reply_comes_in_pieces(rt: HostRuntime) -> Result<(), Fail> {
 #[test]
 fn lines_are_read_one_by_one(rt: HostRuntime) -> Result<(), Fail> {
     let alloc = rt.alloc();
-    let mut channel = ControlChannel::new(alloc, MemoryConn::new(alloc));
+    let mut channel = boxed(alloc, ControlChannel::new(alloc, MemoryConn::new(alloc)))?;
     for (polled, bytes, due) in LINES {
         channel.feed(bytes)?;
         let text = read_line(alloc, &mut channel, polled)?;

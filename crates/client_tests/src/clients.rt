@@ -113,14 +113,14 @@ fn the_control_connection_is_lent(rt: HostRuntime) -> Result<(), Fail> {
     let control = client.get_ref(&rt);
     assert_eq!(rt; control.socket().sent(), b"CWD pub\r\n".as_slice());
     drop(control);
-    assert_eq!(rt; number(&client.noop(&rt)), 2);
+    assert_eq!(rt; number(client.noop(&rt)), 2);
     Ok(())
 }
 
 #[test]
 fn a_client_is_sent_to_a_thread_and_back(rt: HostRuntime) -> Result<(), Fail> {
     let client = client_of(rt.alloc(), b"220 r\r\n200 ok\r\n200 ok\r\n")?;
-    let child = thread::spawn(&rt, move || (number(&client.noop(&rt)), client))?;
+    let child = thread::spawn(&rt, move || (number(client.noop(&rt)), client))?;
     let (answer, client) = child.join(&rt);
     assert_eq!(rt; answer, 0);
     assert!(rt; is_alive(&rt, &client));
@@ -131,7 +131,7 @@ fn a_client_is_sent_to_a_thread_and_back(rt: HostRuntime) -> Result<(), Fail> {
 fn commands_of_two_threads_are_not_torn(rt: HostRuntime) -> Result<(), Fail> {
     let (client, server) = connected(&rt, b"200 ok\r\n", 40)?;
     let (first, second) = thread::join(&rt, || noops(&rt, &client), || noops(&rt, &client));
-    assert_eq!(rt; (number(&first), number(&second)), (0, 0));
+    assert_eq!(rt; (number(first), number(second)), (0, 0));
     drop(client);
     let rounds = rounds_received(rt.alloc(), server, "NOOP\r\n")?;
     assert_eq!(rt; rounds, (40, 240));
@@ -142,7 +142,7 @@ fn commands_of_two_threads_are_not_torn(rt: HostRuntime) -> Result<(), Fail> {
 fn the_two_lines_of_a_rename_stay_together(rt: HostRuntime) -> Result<(), Fail> {
     let (client, server) = connected(&rt, b"350 to?\r\n250 ok\r\n", 40)?;
     let (first, second) = thread::join(&rt, || renames(&rt, &client), || renames(&rt, &client));
-    assert_eq!(rt; (number(&first), number(&second)), (0, 0));
+    assert_eq!(rt; (number(first), number(second)), (0, 0));
     drop(client);
     let rounds = rounds_received(rt.alloc(), server, "RNFR a\r\nRNTO b\r\n")?;
     assert_eq!(rt; rounds, (40, 640));

@@ -2,7 +2,7 @@
 
 ghost use Rattle.std.specs.Prelude.{[]};
 
-use crate::scene::{asked_text, conn_with, number};
+use crate::scene::{asked_text, boxed, conn_with, number};
 use ftp_base::types::{ConnectionError, FtpError, FtpResult};
 use ftp_control::transport::{
     Accepted, Connected, Listening, MemoryTransport, Network, Supply, TcpConn, TcpConnListener,
@@ -32,9 +32,18 @@ fn after_two_refusals(alloc: Global, input: &[u8]) -> Result<MemoryTransport, Al
     Ok(transport)
 }
 
+/// The session over memory that connects to the first of these addresses that doesn't refuse.
+fn connected<R: AllocGlobal>(
+    rt: &R,
+    transport: MemoryTransport,
+    addresses: &[SocketAddr],
+) -> FtpResult<Session<MemoryTransport>> {
+    Session::connect(rt.alloc(), rt, transport, addresses)
+}
+
 /// The kind of a connection's fault.
-fn kind_of<T: Drop>(answer: &FtpResult<T>) -> Option<ErrorKind> {
-    match answer {
+fn kind_of<T: Drop>(answer: FtpResult<T>) -> Option<ErrorKind> {
+    match &answer {
         Err(FtpError::ConnectionError(fault)) => Some(fault.kind()),
         _ => None,
     }
@@ -124,7 +133,7 @@ fn within<R: Wait + AllocGlobal>(rt: &R, seconds: u64) -> Result<(u8, u32), Allo
         limit,
     );
     let asked = *count.lock(rt);
-    Ok((number(&session), asked))
+    Ok((number(session), asked))
 }
 
 /// A server of one client: it sends all its replies at once, and returns what it received.
@@ -150,10 +159,8 @@ fn the_first_address_that_does_not_refuse_is_taken(rt: HostRuntime) -> Result<()
     let alloc = rt.alloc();
     let transport = after_two_refusals(alloc, b"220 r\r\n200 ok\r\n")?;
     let addresses = [address(1), address(2), address(3), address(4)];
-    let mut session: Session<MemoryTransport> = Session::connect(
-        alloc, &rt, transport, &addresses,
-    )?;
-    assert_eq!(rt; number(&session.noop(alloc)), 0);
+    let mut session = boxed(alloc, connected(&rt, transport, &addresses)?)?;
+    assert_eq!(rt; number(session.noop(alloc)), 0);
     let asked = asked_text(alloc, session.transport().asked())?;
     assert_eq!(rt;
         asked.as_str(),
@@ -166,20 +173,10 @@ fn the_first_address_that_does_not_refuse_is_taken(rt: HostRuntime) -> Result<()
 fn the_last_address_says_why_none_connects(rt: HostRuntime) -> Result<(), Fail> {
     let alloc = rt.alloc();
     let transport = after_two_refusals(alloc, b"220 r\r\n")?;
-    let session: FtpResult<Session<MemoryTransport>> = Session::connect(
-        alloc,
-        &rt,
-        transport,
-        &[address(1), address(2)],
-    );
-    assert_eq!(rt; kind_of(&session), Some(ErrorKind::ConnectionReset));
-    let session: FtpResult<Session<MemoryTransport>> = Session::connect(
-        alloc,
-        &rt,
-        MemoryTransport::new(alloc),
-        &[address(1)],
-    );
-    assert_eq!(rt; kind_of(&session), Some(ErrorKind::ConnectionRefused));
+    let session = connected(&rt, transport, &[address(1), address(2)]);
+    assert_eq!(rt; kind_of(session), Some(ErrorKind::ConnectionReset));
+    let session = connected(&rt, MemoryTransport::new(alloc), &[address(1)]);
+    assert_eq!(rt; kind_of(session), Some(ErrorKind::ConnectionRefused));
     Ok(())
 }
 
@@ -196,6 +193,7 @@ fn a_connection_within_a_time_is_asked_for_with_it(rt: HostRuntime) -> Result<()
         address(1),
         limit,
     )?;
+    let session = boxed(alloc, session)?;
     let asked = asked_text(alloc, session.transport().asked())?;
     assert_eq!(rt; asked.as_str(), "+192.0.2.1:21 in 7 ");
     Ok(())
@@ -215,7 +213,7 @@ fn a_client_logs_in_on_the_address_that_answers(rt: HostRuntime) -> Result<(), F
     let open = listener.local_addr()?;
     let replies = b"220 ready\r\n331 pw\r\n230 in\r\n200 ok\r\n221 bye\r\n";
     let server = thread::spawn(&rt, move || serve(rt.alloc(), &listener, replies))?;
-    assert_eq!(rt; number(&visit(&rt, &[closed, open])), 0);
+    assert_eq!(rt; number(visit(&rt, &[closed, open])), 0);
     let received = server.join(&rt)?;
     let lines = "USER anonymous\r\nPASS guest@example.org\r\nNOOP\r\nQUIT\r\n";
     assert_eq!(rt; received.as_str(), lines);
@@ -228,7 +226,7 @@ fn a_client_connects_within_a_time_and_not_in_none(rt: HostRuntime) -> Result<()
     let address = listener.local_addr()?;
     let server = thread::spawn(&rt, move || serve(rt.alloc(), &listener, b"220 ready\r\n"))?;
     assert_eq!(rt;
-        number(&FtpStream::connect_timeout(&rt, address, Duration::ZERO)),
+        number(FtpStream::connect_timeout(&rt, address, Duration::ZERO)),
         8
     );
     let client = FtpStream::connect_timeout(&rt, address, Duration::from_secs(5))?;

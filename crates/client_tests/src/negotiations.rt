@@ -1,9 +1,10 @@
 //! Data connections that a run opens over loopback sockets, in each mode.
 
-use crate::scene::fault_text;
-use ftp_base::types::{ActivePeerCheck, Mode, Text};
+use crate::scene::{boxed, fault_text};
+use ftp_base::types::{ActivePeerCheck, FtpResult, Mode, Text};
 use ftp_control::transport::{TcpConn, TcpTransport};
 use ftp_session::session::{Answer, Call, Session};
+use std::alloc::Global;
 use std::io::{BufRead, BufReader, Write};
 use std::net::{Net, SocketAddr, TcpListener, TcpStream};
 use std::test::Fail;
@@ -11,7 +12,7 @@ use std::time::{Clock, Duration};
 use std::{io, thread};
 
 /// A session whose server greets, and the server's end. The server has another address than the client.
-pub fn connected<R>(rt: &R, mode: Mode) -> Result<(Session<TcpTransport>, TcpStream), Fail>
+pub fn connected<R>(rt: &R, mode: Mode) -> Result<(Box<Session<TcpTransport>>, TcpStream), Fail>
 where
     R: Net<Listener = TcpListener, Stream = TcpStream> + AllocGlobal,
 {
@@ -20,13 +21,14 @@ where
     let (mut server, _peer) = listener.accept()?;
     server.write_all(b"220 ready\r\n")?;
     let conn = TcpConn::new(client);
-    let mut session: Session<TcpTransport> = Session::connect_with_stream(
-        rt.alloc(),
-        TcpTransport,
-        conn,
-    )?;
+    let mut session = boxed(rt.alloc(), greeted(rt.alloc(), conn)?)?;
     session.set_mode(mode);
     Ok((session, server))
+}
+
+/// A session on a socket, once the greeting was read.
+fn greeted(alloc: Global, conn: TcpConn) -> FtpResult<Session<TcpTransport>> {
+    Session::connect_with_stream(alloc, TcpTransport, conn)
 }
 
 /// What a run of one download answers: `open`, or its fault.

@@ -1,6 +1,6 @@
 //! Reads of one reply by a session, polled and blocking.
 
-use crate::scene::{conn_with, poll_text};
+use crate::scene::{boxed, conn_with, poll_text};
 use ftp_base::status::Status;
 use ftp_base::types::{Bytes, FtpResult};
 use ftp_control::transport::{MemoryConn, MemoryTransport, Supply};
@@ -47,6 +47,15 @@ const AFTER_A_LEFT_TRANSFER: [(Reading, &[u8], &str); 3] = [
     (Reading::Polled, b"0 ok\r\n", "200 200 ok\\r\\n, 0 and 14"),
 ];
 
+/// A session that has read nothing.
+fn begun(
+    alloc: Global,
+    transport: MemoryTransport,
+    conn: MemoryConn,
+) -> FtpResult<Box<Session<MemoryTransport>>> {
+    boxed(alloc, Session::new(alloc, transport, conn)?)
+}
+
 /// More bytes of the server come.
 fn feed(alloc: Global, session: &mut Session<MemoryTransport>, bytes: &[u8]) -> FtpResult<()> {
     session.run_polled(alloc, &[Event::Feed(Bytes::from_slice(alloc, bytes)?)])?;
@@ -74,7 +83,7 @@ fn read(
 #[test]
 fn a_reply_is_read_whole_and_an_unexpected_one_returned(rt: HostRuntime) -> Result<(), Fail> {
     let alloc = rt.alloc();
-    let mut session = Session::new(alloc, MemoryTransport::new(alloc), MemoryConn::new(alloc))?;
+    let mut session = begun(alloc, MemoryTransport::new(alloc), MemoryConn::new(alloc))?;
     for (kind, bytes, due) in REPLIES {
         feed(alloc, &mut session, bytes)?;
         let text = read(alloc, &mut session, kind)?;
@@ -89,7 +98,7 @@ fn the_last_reply_of_a_left_transfer_is_polled_before_a_read(rt: HostRuntime) ->
     let mut transport = MemoryTransport::new(alloc);
     transport.supply(Supply::Connects(MemoryConn::new(alloc)))?;
     let conn = conn_with(alloc, b"227 x (10,0,0,1,4,0).\r\n150 b\r\n")?;
-    let mut session = Session::new(alloc, transport, conn)?;
+    let mut session = begun(alloc, transport, conn)?;
     drop(session.retr_as_stream(alloc, &rt, "a")?);
     let text = read(alloc, &mut session, Reading::Polled)?;
     assert_eq!(rt; text.as_str(), "waits, 0 and 14");

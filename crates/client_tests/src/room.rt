@@ -1,6 +1,6 @@
 //! Lines for which there is little room.
 
-use crate::scene::conn_with;
+use crate::scene::{boxed, conn_with};
 use ftp_base::command::Command;
 use ftp_base::encoding::Utf8Encoding;
 use ftp_base::types::{ConnectionError, FtpError, FtpResult};
@@ -75,15 +75,16 @@ fn with_traffic(
     format!(in alloc; "{first}, {second}: {sent} and {received}")
 }
 
+/// A session on a connection, once the greeting was read.
+fn greeted(alloc: Global, conn: MemoryConn) -> FtpResult<Session<MemoryTransport>> {
+    Session::connect_with_stream(alloc, MemoryTransport::new(alloc), conn)
+}
+
 /// Two commands of a session that blocks, with room for so many bytes.
 fn two_commands(alloc: Global, room: u64) -> FtpResult<String> {
     let mut conn = conn_with(alloc, b"220 r\r\n200 ok\r\n")?;
     conn.allow(room);
-    let mut session: Session<MemoryTransport> = Session::connect_with_stream(
-        alloc,
-        MemoryTransport::new(alloc),
-        conn,
-    )?;
+    let mut session = boxed(alloc, greeted(alloc, conn)?)?;
     let words = (word(session.noop(alloc)), word(session.noop(alloc)));
     Ok(with_traffic(alloc, session.get_ref(), words)?)
 }
@@ -91,7 +92,7 @@ fn two_commands(alloc: Global, room: u64) -> FtpResult<String> {
 #[test]
 fn a_line_waits_for_the_unsent_tail_of_the_one_before(rt: HostRuntime) -> Result<(), Fail> {
     let alloc = rt.alloc();
-    let mut channel = ControlChannel::new(alloc, MemoryConn::new(alloc));
+    let mut channel = boxed(alloc, ControlChannel::new(alloc, MemoryConn::new(alloc)))?;
     channel.perform(alloc, &Command::Noop, &Utf8Encoding)?;
     for (quit, room, due) in OFFERS {
         channel.allow(room);

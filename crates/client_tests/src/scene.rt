@@ -17,12 +17,18 @@ pub fn conn_with(alloc: Global, input: &[u8]) -> Result<MemoryConn, AllocError> 
 
 /// A session whose server sent these bytes, the greeting first.
 pub fn greeted(alloc: Global, input: &[u8]) -> FtpResult<Session<MemoryTransport>> {
-    Session::connect_with_stream(alloc, MemoryTransport::new(alloc), conn_with(alloc, input)?)
+    let conn = conn_with(alloc, input)?;
+    Session::connect_with_stream(alloc, MemoryTransport::new(alloc), conn)
+}
+
+/// The same value in a box.
+pub fn boxed<T: Drop>(alloc: Global, value: T) -> FtpResult<Box<T>> {
+    Ok(Box::new(alloc, value)?)
 }
 
 /// The number of a fault; 0 where there is none.
-pub fn number<T: Drop>(answer: &FtpResult<T>) -> u8 {
-    match answer {
+pub fn number<T: Drop>(answer: FtpResult<T>) -> u8 {
+    match &answer {
         Ok(_) => 0,
         Err(fault) => fault.number(),
     }
@@ -68,13 +74,19 @@ fn code_and_bytes(alloc: Global, reply: &Response) -> Result<String, AllocError>
 pub fn asked_text(alloc: Global, asked: &[Asked]) -> Result<String, AllocError> {
     let mut text = String::new(alloc);
     for one in asked {
-        write_sign(&mut text, &one.outcome)?;
-        write_request(&mut text, &one.request)?;
-        if let RequestOutcome::Address(address) = one.outcome {
-            write!(text, "at {address} ")?;
-        }
+        write_asked(&mut text, one)?;
     }
     Ok(text)
+}
+
+/// Adds one request and its outcome.
+fn write_asked(text: &mut String, asked: &Asked) -> Result<(), AllocError> {
+    write_sign(text, &asked.outcome)?;
+    write_request(text, &asked.request)?;
+    match asked.outcome {
+        RequestOutcome::Address(address) => write!(text, "at {address} "),
+        RequestOutcome::Done | RequestOutcome::Refused(_) => Ok(()),
+    }
 }
 
 /// Adds whether it was done.

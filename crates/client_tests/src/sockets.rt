@@ -23,7 +23,7 @@ where
         TcpTransport,
         TcpConn::new(client),
     );
-    Ok(number(&answer))
+    Ok(number(answer))
 }
 
 #[test]

@@ -1,6 +1,6 @@
 //! What a session keeps beside its channel.
 
-use crate::scene::greeted;
+use crate::scene::{boxed, greeted};
 use ftp_base::types::{ActivePeerCheck, FtpResult, Mode};
 use ftp_control::transport::{MemoryConn, MemoryTransport};
 use ftp_session::session::{Counts, Session, Settings};
@@ -51,7 +51,7 @@ fn a_session_begins_passive_and_a_greeting_changes_the_welcome(
             "Passive false ControlPeer 60 true false 0 0 220 r",
         ),
     ] {
-        let session = begun(rt.alloc(), greeting)?;
+        let session = boxed(rt.alloc(), begun(rt.alloc(), greeting)?)?;
         let text = text_of(rt.alloc(), &session)?;
         assert_eq!(rt; text.as_str(), due);
     }
@@ -60,7 +60,7 @@ fn a_session_begins_passive_and_a_greeting_changes_the_welcome(
 
 #[test]
 fn settings_stay_as_they_were_set(rt: HostRuntime) -> Result<(), Fail> {
-    let mut session = begun(rt.alloc(), None)?;
+    let mut session = boxed(rt.alloc(), begun(rt.alloc(), None)?)?;
     session.set_mode(Mode::ExtendedPassive);
     session.set_passive_nat_workaround(true);
     session.set_active_peer_check(ActivePeerCheck::Any);
@@ -75,7 +75,8 @@ fn settings_stay_as_they_were_set(rt: HostRuntime) -> Result<(), Fail> {
 
 #[test]
 fn the_active_mode_has_a_deadline(rt: HostRuntime) -> Result<(), Fail> {
-    let mut session = begun(rt.alloc(), None)?.active_mode(Duration::from_secs(5));
+    let session = begun(rt.alloc(), None)?.active_mode(Duration::from_secs(5));
+    let mut session = boxed(rt.alloc(), session)?;
     session.resume_transfer(rt.alloc(), 7)?;
     session.resume_transfer(rt.alloc(), 0)?;
     let text = text_of(rt.alloc(), &session)?;

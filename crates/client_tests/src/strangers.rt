@@ -1,10 +1,10 @@
 //! Peers that may not open a data connection: how many of them a data command drops, and how long each accept waits.
 
-use crate::scene::{asked_text, fault_text};
-use ftp_base::types::{Mode, Text};
+use crate::scene::{asked_text, boxed, fault_text};
+use ftp_base::types::{FtpResult, Mode, Text};
 use ftp_control::transport::{MemoryConn, MemoryTransport, Supply};
 use ftp_session::session::{Answer, Call, Session};
-use std::alloc::Global;
+use std::alloc::{AllocError, Global};
 use std::net::SocketAddr;
 use std::test::Fail;
 use std::time::Duration;
@@ -20,19 +20,28 @@ fn stranger() -> SocketAddr {
 }
 
 /// A session in the active mode, to whose listener so many strangers connect, and then the server.
-fn session_with(alloc: Global, strangers: usize) -> Result<Session<MemoryTransport>, Fail> {
+fn session_with(alloc: Global, strangers: usize) -> Result<Box<Session<MemoryTransport>>, Fail> {
+    let transport = supplied(alloc, strangers)?;
+    let mut session = boxed(alloc, greeted(alloc, transport)?)?;
+    session.set_mode(Mode::Active);
+    Ok(session)
+}
+
+/// A transport to whose listener so many strangers connect, and then the server.
+fn supplied(alloc: Global, strangers: usize) -> Result<MemoryTransport, AllocError> {
     let mut transport = MemoryTransport::new(alloc);
     for _ in 0..strangers {
         transport.supply(Supply::Peer(stranger(), MemoryConn::new(alloc)))?;
     }
     transport.supply(Supply::Peer(server(), MemoryConn::new(alloc)))?;
+    Ok(transport)
+}
+
+/// A session over this transport, once the greeting was read.
+fn greeted(alloc: Global, transport: MemoryTransport) -> FtpResult<Session<MemoryTransport>> {
     let mut conn = MemoryConn::between(alloc, SocketAddr::from(([192, 0, 2, 1], 50_000)), server());
     conn.feed(b"220 ready\r\n200 ok\r\n150 here it comes\r\n")?;
-    let mut session: Session<MemoryTransport> = Session::connect_with_stream(
-        alloc, transport, conn,
-    )?;
-    session.set_mode(Mode::Active);
-    Ok(session)
+    Session::connect_with_stream(alloc, transport, conn)
 }
 
 /// Downloads, and compares the answer (`open`, or a fault) and how often the transport was asked.

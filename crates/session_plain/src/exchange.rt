@@ -14,7 +14,7 @@ ghost use Rattle.session_plain.specs.Progress.{ComesTo};
 use crate::aborting::aborted;
 use crate::addresses::{to_address, to_port};
 use crate::carrying::carrying;
-use crate::fetching::fetches;
+use crate::fetching::performs;
 use crate::finishing::{after_fault, answer_to_fault, drained, finish_answer, finished};
 use crate::hearing::{Heard, hear_reply};
 use crate::opening::{opened_answer, opens};
@@ -221,7 +221,7 @@ fn concluded<E: Encoding>(
     match heard {
         Ok(reply) => accepted(alloc, encoding, ending, reply, standing),
         Err(fault) => {
-            let answer = answer_to_fault(ending, fault);
+            let answer = answer_to_fault(&ending, fault);
             Ok(done(answer, after_fault(ending, standing)))
         }
     }

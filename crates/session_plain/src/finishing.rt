@@ -75,11 +75,11 @@ fn finish_fault(close: Option<ErrorKind>, fault: FtpError) -> FtpError
 }
 
 /// The answer where this fault was heard in place of a reply.
-pub(crate) fn answer_to_fault(ending: Ending, fault: FtpError) -> Answer
-    ensures { result ≡ answer_to_fault ending fault }
+pub(crate) fn answer_to_fault(ending: &Ending, fault: FtpError) -> Answer
+    ensures { result ≡ answer_to_fault ending.now fault }
 {
     match ending {
-        Ending::Finishes(close) => Answer::Fault(finish_fault(close, fault)),
+        Ending::Finishes(close) => Answer::Fault(finish_fault(*close, fault)),
         Ending::Drains => drain_answer(fault),
         _ => Answer::Fault(fault),
     }

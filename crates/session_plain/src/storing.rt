@@ -72,7 +72,7 @@ fn sending(
         standing,
     )? {
         Carried::Unknown(here) => Ok(Progress::Stops(Played::Pending(Wait::Outcome, here))),
-        Carried::Known(outcome, here) => match sent(alloc, rest.as_slice(), outcome)? {
+        Carried::Known(outcome, here) => match follow_write(alloc, rest.as_slice(), outcome)? {
             Sent::Rest(more) => sending(alloc, left - 1, total, more, here),
             Sent::Failed(kind) => Ok(gave_up(ConnectionError::Io(kind), here)),
         },
@@ -89,7 +89,7 @@ fn as_items(alloc: Global, bytes: &[u8]) -> Result<Items<u8>, AllocError>
 }
 
 /// What follows a write of these bytes that came to this.
-fn sent(alloc: Global, rest: &[u8], outcome: DealOutcome) -> Result<Sent, AllocError>
+fn follow_write(alloc: Global, rest: &[u8], outcome: DealOutcome) -> Result<Sent, AllocError>
     ensures { IfOk result (λ follows. SendsOn rest.now outcome follows) }
 {
     match outcome {

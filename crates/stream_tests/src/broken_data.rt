@@ -127,32 +127,44 @@ impl<R> Transport<R> for One {
 }
 
 /// A session whose server answers a data command, and then this; its data connection is reset after these bytes.
-fn session_on(alloc: Global, data: &[u8], last: &[u8]) -> Result<Session<One>, Fail> {
+fn session_on(alloc: Global, data: &[u8], last: &[u8]) -> Result<Box<Session<One>>, Fail> {
     let mut input = Vec::from_slice(alloc, b"220 r\r\n227 x (10,0,0,1,4,0).\r\n150 b\r\n")?;
     input.extend_from_slice(last)?;
-    let control = Breaking {
-        conn: conn_with(alloc, &input)?,
-        fault: None,
-    };
-    let data = Breaking {
-        conn: conn_with(alloc, data)?,
-        fault: Some(ErrorKind::ConnectionReset),
-    };
-    Ok(Session::connect_with_stream(alloc, One { data: Some(data) }, control)?)
+    let data = breaks_after(alloc, data, Some(ErrorKind::ConnectionReset))?;
+    let control = breaks_after(alloc, &input, None)?;
+    Ok(greeted(alloc, One { data: Some(data) }, control)?)
+}
+
+/// A connection that these bytes came on, and what comes after them.
+fn breaks_after(
+    alloc: Global,
+    bytes: &[u8],
+    fault: Option<ErrorKind>,
+) -> Result<Breaking, AllocError> {
+    let conn = conn_with(alloc, bytes)?;
+    Ok(Breaking { conn, fault })
+}
+
+/// A session on a connection, once the greeting was read.
+fn greeted(alloc: Global, transport: One, control: Breaking) -> FtpResult<Box<Session<One>>> {
+    Ok(Box::new(
+        alloc,
+        Session::connect_with_stream(alloc, transport, control)?,
+    )?)
 }
 
 /// The numbers of the refusals of a listing and of the command after it.
 fn listed(alloc: Global, last: &[u8]) -> Result<(u8, u8), Fail> {
     let mut session = session_on(alloc, b"a\r\nb\r\n", last)?;
-    let list = number(&session.list(alloc, &(), None));
-    Ok((list, number(&session.noop(alloc))))
+    let list = number(session.list(alloc, &(), None));
+    Ok((list, number(session.noop(alloc))))
 }
 
 /// The kind of the fault of a download, and the number of the refusal of the command after it.
 fn downloaded(alloc: Global, last: &[u8]) -> Result<(Option<ErrorKind>, u8), Fail> {
     let mut session = session_on(alloc, b"abc", last)?;
     let kind = kind_of(session.retr_as_buffer(alloc, &(), "a"));
-    Ok((kind, number(&session.noop(alloc))))
+    Ok((kind, number(session.noop(alloc))))
 }
 
 /// The kind of a connection's fault.

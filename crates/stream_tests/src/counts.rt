@@ -1,19 +1,10 @@
 //! How transfers are counted that came to their end in one way or another.
 
-use crate::scene::conn_with;
+use crate::scene::{conn_with, session_on, transport_with};
 use ftp_base::types::Text;
-use ftp_control::transport::{MemoryConn, MemoryTransport, Supply};
-use ftp_session::session::{Call, Counts, Session};
+use ftp_session::session::{Call, Counts};
 use std::alloc::{AllocError, Global};
 use std::test::Fail;
-
-/// A transport with two data connections.
-fn transport(alloc: Global) -> Result<MemoryTransport, AllocError> {
-    let mut transport = MemoryTransport::new(alloc);
-    transport.supply(Supply::Connects(MemoryConn::new(alloc)))?;
-    transport.supply(Supply::Connects(MemoryConn::new(alloc)))?;
-    Ok(transport)
-}
 
 /// How many were opened, finished, aborted and drained, and what is owed.
 pub fn text_of(alloc: Global, counts: &Counts) -> Result<String, AllocError> {
@@ -29,7 +20,7 @@ pub fn text_of(alloc: Global, counts: &Counts) -> Result<String, AllocError> {
 fn counted(rt: &HostRuntime, input: &[u8], calls: &[Call]) -> Result<String, Fail> {
     let alloc = rt.alloc();
     let conn = conn_with(alloc, input)?;
-    let mut session: Session<MemoryTransport> = Session::new(alloc, transport(alloc)?, conn)?;
+    let mut session = session_on(alloc, transport_with(alloc, b"")?, conn)?;
     session.run(alloc, &(), calls)?;
     Ok(text_of(alloc, session.counts())?)
 }

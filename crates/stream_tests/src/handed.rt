@@ -1,38 +1,12 @@
 //! Transfers that a session hands out, over memory: their bytes, their end, and their leaving.
 
 use crate::counts::text_of;
-use crate::scene::{conn_with, number};
+use crate::scene::{greeted, number, opened, sent};
 use ftp_base::status::Status;
-use ftp_base::types::FtpResult;
-use ftp_control::transport::{MemoryConn, MemoryTransport, Supply};
-use ftp_session::session::{Call, Session};
-use ftp_transfer::{Direction, Transfer};
-use std::alloc::Global;
+use ftp_session::session::Call;
+use ftp_transfer::Direction;
 use std::test::Fail;
 use std::thread;
-
-/// A session whose server greets, and then sends this; each data connection carries `hello`.
-pub fn greeted(alloc: Global, replies: &str) -> Result<Session<MemoryTransport>, Fail> {
-    let mut transport = MemoryTransport::new(alloc);
-    for _ in 0..2 {
-        transport.supply(Supply::Connects(conn_with(alloc, b"hello")?))?;
-    }
-    let conn = conn_with(alloc, replies.as_bytes())?;
-    Ok(Session::new(alloc, transport, conn)?)
-}
-
-/// Opens a download.
-pub fn opened<R: AllocGlobal>(
-    rt: &R,
-    session: &mut Session<MemoryTransport>,
-) -> FtpResult<Transfer<MemoryConn>> {
-    session.retr_as_stream(rt.alloc(), rt, "a")
-}
-
-/// What was sent on the control connection.
-pub fn sent(session: &Session<MemoryTransport>) -> &[u8] {
-    session.get_ref().sent()
-}
 
 #[test]
 fn a_download_is_handed_out_read_and_finished(rt: HostRuntime) -> Result<(), Fail> {
@@ -41,7 +15,7 @@ fn a_download_is_handed_out_read_and_finished(rt: HostRuntime) -> Result<(), Fai
         alloc,
         "227 x (10,0,0,1,4,0).\r\n150 b\r\n226 d\r\n200 ok\r\n",
     )?;
-    let mut transfer = opened(&rt, &mut session)?;
+    let mut transfer = opened(alloc, &mut session)?;
     assert_eq!(rt;
         (transfer.number(), transfer.direction()),
         (1, Direction::Download)
@@ -49,12 +23,12 @@ fn a_download_is_handed_out_read_and_finished(rt: HostRuntime) -> Result<(), Fai
     let mut buffer = [0u8; 8];
     assert_eq!(rt; transfer.read(&mut buffer), Ok(5));
     assert_eq!(rt; &buffer[..5], b"hello".as_slice());
-    assert_eq!(rt; number(&session.finish(alloc, transfer)), 0);
+    assert_eq!(rt; number(session.finish(alloc, transfer)), 0);
     assert_eq!(rt;
         text_of(alloc, session.counts())?.as_str(),
         "1 1 0 0 Nothing"
     );
-    assert_eq!(rt; number(&session.noop(alloc)), 0);
+    assert_eq!(rt; number(session.noop(alloc)), 0);
     assert_eq!(rt; sent(&session), b"PASV\r\nRETR a\r\nNOOP\r\n".as_slice());
     Ok(())
 }
@@ -66,12 +40,12 @@ fn the_last_reply_of_a_dropped_transfer_is_read_first(rt: HostRuntime) -> Result
         alloc,
         "227 x (10,0,0,1,4,0).\r\n150 b\r\n426 d\r\n200 ok\r\n",
     )?;
-    drop(opened(&rt, &mut session)?);
+    drop(opened(alloc, &mut session)?);
     assert_eq!(rt;
         text_of(alloc, session.counts())?.as_str(),
         "1 0 0 0 Live(1)"
     );
-    assert_eq!(rt; number(&session.noop(alloc)), 0);
+    assert_eq!(rt; number(session.noop(alloc)), 0);
     assert_eq!(rt;
         text_of(alloc, session.counts())?.as_str(),
         "1 0 0 1 Nothing"
@@ -87,9 +61,9 @@ fn a_transfer_that_another_thread_drops_is_seen(rt: HostRuntime) -> Result<(), F
         alloc,
         "227 x (10,0,0,1,4,0).\r\n150 b\r\n226 d\r\n200 ok\r\n",
     )?;
-    let transfer = opened(&rt, &mut session)?;
+    let transfer = opened(alloc, &mut session)?;
     thread::spawn(&rt, move || drop(transfer))?.join(&rt);
-    assert_eq!(rt; number(&session.noop(alloc)), 0);
+    assert_eq!(rt; number(session.noop(alloc)), 0);
     assert_eq!(rt;
         text_of(alloc, session.counts())?.as_str(),
         "1 0 0 1 Nothing"
@@ -104,11 +78,11 @@ fn a_live_transfer_refuses_another_and_no_other_command(rt: HostRuntime) -> Resu
         alloc,
         "227 x (10,0,0,1,4,0).\r\n150 b\r\n200 ok\r\n226 d\r\n",
     )?;
-    let transfer = opened(&rt, &mut session)?;
-    assert_eq!(rt; number(&opened(&rt, &mut session)), 12);
+    let transfer = opened(alloc, &mut session)?;
+    assert_eq!(rt; number(opened(alloc, &mut session)), 12);
     assert_eq!(rt; sent(&session), b"PASV\r\nRETR a\r\n".as_slice());
-    assert_eq!(rt; number(&session.noop(alloc)), 0);
-    assert_eq!(rt; number(&session.finish(alloc, transfer)), 0);
+    assert_eq!(rt; number(session.noop(alloc)), 0);
+    assert_eq!(rt; number(session.finish(alloc, transfer)), 0);
     Ok(())
 }
 
@@ -119,12 +93,12 @@ fn a_command_that_is_refused_opens_nothing(rt: HostRuntime) -> Result<(), Fail> 
         alloc,
         "227 x (10,0,0,1,4,0).\r\n550 no\r\n227 x (10,0,0,1,4,0).\r\n150 b\r\n",
     )?;
-    assert_eq!(rt; number(&opened(&rt, &mut session)), 10);
+    assert_eq!(rt; number(opened(alloc, &mut session)), 10);
     assert_eq!(rt;
         text_of(alloc, session.counts())?.as_str(),
         "0 0 0 0 Nothing"
     );
-    assert_eq!(rt; opened(&rt, &mut session)?.number(), 1);
+    assert_eq!(rt; opened(alloc, &mut session)?.number(), 1);
     Ok(())
 }
 
@@ -132,10 +106,10 @@ fn a_command_that_is_refused_opens_nothing(rt: HostRuntime) -> Result<(), Fail> 
 fn an_upload_is_told_by_the_transport(rt: HostRuntime) -> Result<(), Fail> {
     let alloc = rt.alloc();
     let mut session = greeted(alloc, "227 x (10,0,0,1,4,0).\r\n125 b\r\n250 d\r\n")?;
-    let mut transfer = session.put_with_stream(alloc, &rt, "b")?;
+    let mut transfer = session.put_with_stream(alloc, &(), "b")?;
     assert_eq!(rt; transfer.direction(), Direction::Upload);
     assert_eq!(rt; transfer.write(b"abc"), Ok(3));
-    assert_eq!(rt; number(&session.finish(alloc, transfer)), 0);
+    assert_eq!(rt; number(session.finish(alloc, transfer)), 0);
     let uploaded = session.transport().uploaded();
     match uploaded {
         [conn] => assert_eq!(rt; conn.sent(), b"abc".as_slice()),
@@ -152,8 +126,8 @@ fn an_append_begins_at_the_offset(rt: HostRuntime) -> Result<(), Fail> {
         "227 x (10,0,0,1,4,0).\r\n350 at 7\r\n150 b\r\n226 d\r\n",
     )?;
     session.resume_transfer(alloc, 7)?;
-    let transfer = session.append_with_stream(alloc, &rt, "b")?;
-    assert_eq!(rt; number(&session.finish(alloc, transfer)), 0);
+    let transfer = session.append_with_stream(alloc, &(), "b")?;
+    assert_eq!(rt; number(session.finish(alloc, transfer)), 0);
     assert_eq!(rt; sent(&session), b"PASV\r\nREST 7\r\nAPPE b\r\n".as_slice());
     Ok(())
 }
@@ -164,12 +138,12 @@ fn a_line_of_the_callers_gives_its_reply(rt: HostRuntime) -> Result<(), Fail> {
     let mut session = greeted(alloc, "227 x (10,0,0,1,4,0).\r\n150 b\r\n226 d\r\n")?;
     let (reply, transfer) = session.custom_data_command(
         alloc,
-        &rt,
+        &(),
         "LIST -a",
         &[Status::AboutToSend],
     )?;
     assert_eq!(rt; reply.body.as_slice(), b"150 b\r\n".as_slice());
-    assert_eq!(rt; number(&session.finish(alloc, transfer)), 0);
+    assert_eq!(rt; number(session.finish(alloc, transfer)), 0);
     assert_eq!(rt; sent(&session), b"PASV\r\nLIST -a\r\n".as_slice());
     Ok(())
 }
@@ -181,14 +155,14 @@ fn a_receipt_is_settled_once(rt: HostRuntime) -> Result<(), Fail> {
         alloc,
         "227 x (10,0,0,1,4,0).\r\n150 b\r\n226 d\r\n200 ok\r\n",
     )?;
-    let mut left = opened(&rt, &mut session)?.leave();
-    assert_eq!(rt; number(&session.settle(alloc, &mut left)), 0);
+    let mut left = opened(alloc, &mut session)?.leave();
+    assert_eq!(rt; number(session.settle(alloc, &mut left)), 0);
     assert_eq!(rt;
         text_of(alloc, session.counts())?.as_str(),
         "1 0 0 1 Nothing"
     );
-    assert_eq!(rt; number(&session.settle(alloc, &mut left)), 0);
-    assert_eq!(rt; number(&session.noop(alloc)), 0);
+    assert_eq!(rt; number(session.settle(alloc, &mut left)), 0);
+    assert_eq!(rt; number(session.noop(alloc)), 0);
     Ok(())
 }
 
@@ -200,10 +174,10 @@ fn a_transfer_of_another_number_is_left(rt: HostRuntime) -> Result<(), Fail> {
         "227 x (10,0,0,1,4,0).\r\n150 b\r\n226 d\r\n200 ok\r\n",
     )?;
     let mut other = greeted(alloc, "200 ok\r\n")?;
-    let transfer = opened(&rt, &mut session)?;
-    assert_eq!(rt; number(&other.finish(alloc, transfer)), 18);
-    assert_eq!(rt; number(&other.noop(alloc)), 0);
-    assert_eq!(rt; number(&session.noop(alloc)), 0);
+    let transfer = opened(alloc, &mut session)?;
+    assert_eq!(rt; number(other.finish(alloc, transfer)), 18);
+    assert_eq!(rt; number(other.noop(alloc)), 0);
+    assert_eq!(rt; number(session.noop(alloc)), 0);
     assert_eq!(rt;
         text_of(alloc, session.counts())?.as_str(),
         "1 0 0 1 Nothing"
@@ -215,9 +189,9 @@ fn a_transfer_of_another_number_is_left(rt: HostRuntime) -> Result<(), Fail> {
 fn a_failed_session_leaves_the_transfer_it_is_to_finish(rt: HostRuntime) -> Result<(), Fail> {
     let alloc = rt.alloc();
     let mut session = greeted(alloc, "227 x (10,0,0,1,4,0).\r\n150 b\r\n")?;
-    let transfer = opened(&rt, &mut session)?;
-    assert_eq!(rt; number(&session.noop(alloc)), 2);
-    assert_eq!(rt; number(&session.finish(alloc, transfer)), 14);
+    let transfer = opened(alloc, &mut session)?;
+    assert_eq!(rt; number(session.noop(alloc)), 2);
+    assert_eq!(rt; number(session.finish(alloc, transfer)), 14);
     assert_eq!(rt;
         text_of(alloc, session.counts())?.as_str(),
         "1 0 0 0 Left(1)"
@@ -232,8 +206,8 @@ fn a_run_sees_a_transfer_that_was_left_before(rt: HostRuntime) -> Result<(), Fai
         alloc,
         "227 x (10,0,0,1,4,0).\r\n150 b\r\n226 d\r\n200 ok\r\n",
     )?;
-    drop(opened(&rt, &mut session)?);
-    session.run(alloc, &rt, &[Call::Noop])?;
+    drop(opened(alloc, &mut session)?);
+    session.run(alloc, &(), &[Call::Noop])?;
     assert_eq!(rt;
         text_of(alloc, session.counts())?.as_str(),
         "1 0 0 1 Nothing"

@@ -1,8 +1,14 @@
-//! What the tests share.
+//! What the tests share: sessions over memory, and what their calls return.
 
 use ftp_base::types::FtpResult;
-use ftp_control::transport::MemoryConn;
+use ftp_control::transport::{MemoryConn, MemoryTransport, Supply};
+use ftp_session::session::Session;
+use ftp_transfer::Transfer;
 use std::alloc::{AllocError, Global};
+use std::test::Fail;
+
+/// A session over memory.
+pub type MemorySession = Session<MemoryTransport>;
 
 /// A connection over memory that the server's bytes came on.
 pub fn conn_with(alloc: Global, input: &[u8]) -> Result<MemoryConn, AllocError> {
@@ -11,9 +17,47 @@ pub fn conn_with(alloc: Global, input: &[u8]) -> Result<MemoryConn, AllocError> 
     Ok(conn)
 }
 
+/// A transport with two data connections, on each of which these bytes come.
+pub fn transport_with(alloc: Global, data: &[u8]) -> Result<MemoryTransport, AllocError> {
+    let mut transport = MemoryTransport::new(alloc);
+    add_data(alloc, &mut transport, data)?;
+    add_data(alloc, &mut transport, data)?;
+    Ok(transport)
+}
+
+/// Adds a data connection.
+fn add_data(alloc: Global, transport: &mut MemoryTransport, data: &[u8]) -> Result<(), AllocError> {
+    transport.supply(Supply::Connects(conn_with(alloc, data)?))
+}
+
+/// A session whose server greets, and then sends this; each data connection carries `hello`.
+pub fn greeted(alloc: Global, replies: &str) -> Result<Box<MemorySession>, Fail> {
+    let conn = conn_with(alloc, replies.as_bytes())?;
+    Ok(session_on(alloc, transport_with(alloc, b"hello")?, conn)?)
+}
+
+/// A session on a connection, of which nothing was read.
+pub fn session_on(
+    alloc: Global,
+    transport: MemoryTransport,
+    conn: MemoryConn,
+) -> FtpResult<Box<MemorySession>> {
+    Ok(Box::new(alloc, Session::new(alloc, transport, conn)?)?)
+}
+
+/// Opens a download.
+pub fn opened(alloc: Global, session: &mut MemorySession) -> FtpResult<Transfer<MemoryConn>> {
+    session.retr_as_stream(alloc, &(), "a")
+}
+
+/// What was sent on the control connection.
+pub fn sent(session: &MemorySession) -> &[u8] {
+    session.get_ref().sent()
+}
+
 /// The number of a fault; 0 where there is none.
-pub fn number<T: Drop>(answer: &FtpResult<T>) -> u8 {
-    match answer {
+pub fn number<T: Drop>(answer: FtpResult<T>) -> u8 {
+    match &answer {
         Ok(_) => 0,
         Err(fault) => fault.number(),
     }

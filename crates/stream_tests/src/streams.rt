@@ -109,8 +109,8 @@ fn a_client_goes_on_after_a_transfer_that_it_left(rt: HostRuntime) -> Result<(),
     let server = thread::spawn(&rt, move || serve(&rt, &listener, &data))?;
     let client = FtpStream::connect(&rt, &[address])?;
     assert_eq!(rt; downloaded(&rt, &client, "a")?.as_str(), "hello");
-    assert_eq!(rt; number(&left(&rt, &client, "b")), 0);
-    assert_eq!(rt; number(&client.noop(&rt)), 0);
+    assert_eq!(rt; number(left(&rt, &client, "b")), 0);
+    assert_eq!(rt; number(client.noop(&rt)), 0);
     assert_eq!(rt; downloaded(&rt, &client, "a")?.as_str(), "hello");
     drop(client);
     assert_eq!(rt; server.join(&rt)?, 7);

@@ -1,17 +1,35 @@
 //! Files and listings that take more than one read.
 
-use crate::scene::conn_with;
-use ftp_control::transport::{MemoryTransport, Supply};
+use crate::scene::{MemorySession, conn_with};
+use ftp_base::types::FtpResult;
+use ftp_control::transport::{MemoryConn, MemoryTransport, Supply};
 use ftp_session::session::Session;
-use std::alloc::Global;
+use std::alloc::{AllocError, Global};
 use std::test::Fail;
 
 /// A session whose server agrees to one data command, on whose connection these bytes come.
-fn session_on(alloc: Global, data: &[u8]) -> Result<Session<MemoryTransport>, Fail> {
-    let replies = b"220 r\r\n227 x (10,0,0,1,4,0).\r\n150 b\r\n226 d\r\n";
+fn session_on(alloc: Global, data: &[u8]) -> Result<Box<MemorySession>, Fail> {
+    let conn = conn_with(
+        alloc,
+        b"220 r\r\n227 x (10,0,0,1,4,0).\r\n150 b\r\n226 d\r\n",
+    )?;
+    Ok(greeted(alloc, transport_with(alloc, data)?, conn)?)
+}
+
+/// A transport with one data connection, on which these bytes come.
+fn transport_with(alloc: Global, data: &[u8]) -> Result<MemoryTransport, AllocError> {
     let mut transport = MemoryTransport::new(alloc);
     transport.supply(Supply::Connects(conn_with(alloc, data)?))?;
-    Ok(Session::connect_with_stream(alloc, transport, conn_with(alloc, replies)?)?)
+    Ok(transport)
+}
+
+/// A session on a connection, once the greeting was read.
+fn greeted(
+    alloc: Global,
+    transport: MemoryTransport,
+    conn: MemoryConn,
+) -> FtpResult<Box<MemorySession>> {
+    Ok(Box::new(alloc, Session::connect_with_stream(alloc, transport, conn)?)?)
 }
 
 /// So many times these bytes.
