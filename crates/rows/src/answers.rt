@@ -13,22 +13,13 @@ use std::alloc::{AllocError, Global};
 pub fn text_of(alloc: Global, answer: &Answer) -> Result<String, AllocError> {
     match answer {
         Answer::Unit => String::from_str(alloc, "ok"),
-        Answer::Reply(reply) => {
-            let body = shown(alloc, reply.body.as_slice())?;
-            format!(in alloc; "ok {body}")
-        }
-        Answer::Text(text) => {
-            let text = shown(alloc, text.as_str().as_bytes())?;
-            format!(in alloc; "ok {text}")
-        }
+        Answer::Reply(reply) => word_and_bytes(alloc, "ok", reply.body.as_slice()),
+        Answer::Text(text) => word_and_bytes(alloc, "ok", text.as_str().as_bytes()),
         Answer::Time(time) => time_text(alloc, *time),
         Answer::Size(size) => format!(in alloc; "ok {size}"),
         Answer::Features(features) => features_text(alloc, features),
         Answer::Opened => String::from_str(alloc, "opened"),
-        Answer::OpenedWith(reply) => {
-            let body = shown(alloc, reply.body.as_slice())?;
-            format!(in alloc; "opened with {body}")
-        }
+        Answer::OpenedWith(reply) => word_and_bytes(alloc, "opened with", reply.body.as_slice()),
         Answer::Bytes(bytes) => bytes_text(alloc, bytes.as_slice()),
         Answer::Lines(lines) => lines_text(alloc, lines.as_slice()),
         Answer::Count(count) => format!(in alloc; "count {count}"),
@@ -37,13 +28,18 @@ pub fn text_of(alloc: Global, answer: &Answer) -> Result<String, AllocError> {
     }
 }
 
+/// A word and these bytes.
+fn word_and_bytes(alloc: Global, word: &str, bytes: &[u8]) -> Result<String, AllocError> {
+    let text = shown(alloc, bytes)?;
+    format!(in alloc; "{word} {text}")
+}
+
 /// The bytes of a read: `bytes` alone at the end.
 fn bytes_text(alloc: Global, bytes: &[u8]) -> Result<String, AllocError> {
     if bytes.is_empty() {
         return String::from_str(alloc, "bytes");
     }
-    let text = shown(alloc, bytes)?;
-    format!(in alloc; "bytes {text}")
+    word_and_bytes(alloc, "bytes", bytes)
 }
 
 /// The lines of a listing, joined by LF: `lines` alone where there are none.
@@ -51,9 +47,15 @@ fn lines_text(alloc: Global, lines: &[String]) -> Result<String, AllocError> {
     let mut text = String::from_str(alloc, "lines")?;
     for (place, line) in lines.iter().enumerate() {
         text.push_str(if place == 0 { " " } else { "\\n" })?;
-        text.push_str(shown(alloc, line.as_bytes())?.as_str())?;
+        add_shown(alloc, &mut text, line)?;
     }
     Ok(text)
+}
+
+/// Adds a text as rows show it.
+fn add_shown(alloc: Global, text: &mut String, more: &str) -> Result<(), AllocError> {
+    let more = shown(alloc, more.as_bytes())?;
+    text.push_str(more.as_str())
 }
 
 /// A date and a time of day.
@@ -73,10 +75,10 @@ fn features_text(alloc: Global, features: &Features) -> Result<String, AllocErro
             text.push(';')?;
         }
         first = false;
-        text.push_str(shown(alloc, name.as_bytes())?.as_str())?;
+        add_shown(alloc, &mut text, name)?;
         if let Some(value) = value {
             text.push('=')?;
-            text.push_str(shown(alloc, value.as_bytes())?.as_str())?;
+            add_shown(alloc, &mut text, value)?;
         }
     }
     Ok(text)

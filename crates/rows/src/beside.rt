@@ -63,17 +63,19 @@ pub fn next_outcome(
         Call::Read(most) => Ok(DealOutcome::Read(unread(alloc, setup, *most, dealings)?)),
         Call::Write(bytes) => Ok(DealOutcome::Wrote(bytes.as_slice().len())),
         Call::Finish | Call::Abort | Call::Leave => Ok(DealOutcome::Closed),
-        _ => {
-            let asked = dealings.asked.as_slice();
-            if let Some(Request::Build(_)) = asked.last() {
-                return Ok(DealOutcome::Built(setup.fault_of_builder()?));
-            }
-            let outcomes = setup.outcomes(alloc, asked)?;
-            match outcomes.last() {
-                Some(outcome) => Ok(DealOutcome::Answered(*outcome)),
-                None => Err(RowError::NotUnderstood),
-            }
-        }
+        _ => next_answer(alloc, setup, dealings.asked.as_slice()),
+    }
+}
+
+/// What the last of these requests comes to.
+fn next_answer(alloc: Global, setup: &Setup, asked: &[Request]) -> Result<DealOutcome, RowError> {
+    if let Some(Request::Build(_)) = asked.last() {
+        return Ok(DealOutcome::Built(setup.fault_of_builder()?));
+    }
+    let outcomes = setup.outcomes(alloc, asked)?;
+    match outcomes.last() {
+        Some(outcome) => Ok(DealOutcome::Answered(*outcome)),
+        None => Err(RowError::NotUnderstood),
     }
 }
 

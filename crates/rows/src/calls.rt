@@ -2,7 +2,7 @@
 
 use crate::settings::setting;
 use ftp_base::status::Status;
-use ftp_base::types::Items;
+use ftp_base::types::{Items, Text};
 use ftp_session::session::Call;
 use row_text::{RowError, bytes_of, file_type, pair, text, value};
 use std::alloc::Global;
@@ -40,23 +40,8 @@ fn bare(alloc: Global, name: &str) -> Option<Call> {
 /// A call that takes something.
 fn with_argument(alloc: Global, name: &str, argument: &str) -> Result<Call, RowError> {
     match name {
-        "cwd" => Ok(Call::Cwd(text(alloc, argument)?)),
         "eprt" => Ok(Call::Eprt(value(argument)?)),
-        "site" => Ok(Call::Site(text(alloc, argument)?)),
         "type" => Ok(Call::TransferType(file_type(argument)?)),
-        "mkdir" => Ok(Call::Mkdir(text(alloc, argument)?)),
-        "rmdir" => Ok(Call::Rmdir(text(alloc, argument)?)),
-        "rm" => Ok(Call::Rm(text(alloc, argument)?)),
-        "mlst" => Ok(Call::Mlst(Some(text(alloc, argument)?))),
-        "mdtm" => Ok(Call::Mdtm(text(alloc, argument)?)),
-        "size" => Ok(Call::Size(text(alloc, argument)?)),
-        "list" => Ok(Call::List(Some(text(alloc, argument)?))),
-        "nlst" => Ok(Call::Nlst(Some(text(alloc, argument)?))),
-        "mlsd" => Ok(Call::Mlsd(Some(text(alloc, argument)?))),
-        "retr_as_buffer" => Ok(Call::Retr(text(alloc, argument)?)),
-        "retr" => Ok(Call::RetrAsStream(text(alloc, argument)?)),
-        "put" => Ok(Call::PutWithStream(text(alloc, argument)?)),
-        "append" => Ok(Call::AppendWithStream(text(alloc, argument)?)),
         "data" => data(alloc, argument),
         "resume" => Ok(Call::ResumeTransfer(value(argument)?)),
         "receive" => Ok(Call::Read(value(argument)?)),
@@ -65,7 +50,30 @@ fn with_argument(alloc: Global, name: &str, argument: &str) -> Result<Call, RowE
         "opts" => opts(alloc, argument),
         "read" => Ok(Call::ReadResponse(status(argument)?)),
         "reads" => Ok(Call::ReadResponseIn(statuses(alloc, argument)?)),
-        _ => with_two(alloc, name, argument),
+        "login" | "rename" | "custom" => with_two(alloc, name, argument),
+        _ => with_text(name, text(alloc, argument)?),
+    }
+}
+
+/// A call that takes a text.
+fn with_text(name: &str, text: Text) -> Result<Call, RowError> {
+    match name {
+        "cwd" => Ok(Call::Cwd(text)),
+        "site" => Ok(Call::Site(text)),
+        "mkdir" => Ok(Call::Mkdir(text)),
+        "rmdir" => Ok(Call::Rmdir(text)),
+        "rm" => Ok(Call::Rm(text)),
+        "mlst" => Ok(Call::Mlst(Some(text))),
+        "mdtm" => Ok(Call::Mdtm(text)),
+        "size" => Ok(Call::Size(text)),
+        "list" => Ok(Call::List(Some(text))),
+        "nlst" => Ok(Call::Nlst(Some(text))),
+        "mlsd" => Ok(Call::Mlsd(Some(text))),
+        "retr_as_buffer" => Ok(Call::Retr(text)),
+        "retr" => Ok(Call::RetrAsStream(text)),
+        "put" => Ok(Call::PutWithStream(text)),
+        "append" => Ok(Call::AppendWithStream(text)),
+        _ => Err(RowError::NotUnderstood),
     }
 }
 

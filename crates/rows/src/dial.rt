@@ -127,12 +127,25 @@ impl Dial {
     pub fn transport(&self, alloc: Global, piece: usize) -> Result<MemoryTransport, AllocError> {
         let mut transport = MemoryTransport::new(alloc);
         for host in &self.hosts {
-            transport.supply(match host {
-                Host::Sends(bytes) => Supply::Connects(conn_with(alloc, bytes, piece)?),
-                Host::Refuses => Supply::Refuses(ErrorKind::ConnectionRefused),
-            })?;
+            supply(alloc, &mut transport, host, piece)?;
         }
         Ok(transport)
+    }
+}
+
+/// Supplies a transport with a host.
+fn supply(
+    alloc: Global,
+    transport: &mut MemoryTransport,
+    host: &Host,
+    piece: usize,
+) -> Result<(), AllocError> {
+    match host {
+        Host::Sends(bytes) => {
+            let conn = conn_with(alloc, bytes, piece)?;
+            transport.supply(Supply::Connects(conn))
+        }
+        Host::Refuses => transport.supply(Supply::Refuses(ErrorKind::ConnectionRefused)),
     }
 }
 

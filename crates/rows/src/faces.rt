@@ -143,23 +143,25 @@ impl Face {
     ) -> Result<Came, RowError> {
         let alloc = rt.alloc();
         let places = self.places(alloc, play)?;
-        let mut marks = Vec::new(alloc);
-        for count in &places {
+        let marks = self.marks(rt, play, &places)?;
+        let end = self.standing(rt, play, self.length(play))?;
+        came_to(alloc, &end, marks, places.len(), welcome)
+    }
+
+    /// How far the row has come at those of these places that are before its end.
+    fn marks<R: Wait + AllocGlobal>(
+        self,
+        rt: &R,
+        play: &Play,
+        places: &[usize],
+    ) -> Result<Vec<Mark>, RowError> {
+        let mut marks = Vec::new(rt.alloc());
+        for count in places {
             if *count < self.length(play) {
                 marks.push(self.mark(rt, play, *count)?)?;
             }
         }
-        let end = self.standing(rt, play, self.length(play))?;
-        if marks.len() < places.len() {
-            marks.push(end.mark())?;
-        }
-        let mut transcript = end.transcript(alloc, &marks)?;
-        end.add_end(alloc, &mut transcript, welcome)?;
-        Ok(Came {
-            transcript,
-            failed: end.failed,
-            seen: end.seen,
-        })
+        Ok(marks)
     }
 
     /// How many calls or events the row has.
@@ -210,6 +212,26 @@ impl Face {
             Face::Polled => session::polled(alloc, events, play),
         }
     }
+}
+
+/// What a row came to that ended here, and had come so far at those of so many places that are before its end.
+fn came_to(
+    alloc: Global,
+    end: &Standing,
+    mut marks: Vec<Mark>,
+    places: usize,
+    welcome: bool,
+) -> Result<Came, RowError> {
+    if marks.len() < places {
+        marks.push(end.mark())?;
+    }
+    let mut transcript = end.transcript(alloc, &marks)?;
+    end.add_end(alloc, &mut transcript, welcome)?;
+    Ok(Came {
+        transcript,
+        failed: end.failed,
+        seen: end.seen,
+    })
 }
 
 /// After how many calls each call is done.

@@ -14,6 +14,7 @@ mod calls;
 mod dial;
 mod encodings;
 mod faces;
+mod memory;
 mod play;
 mod reader;
 mod requests;

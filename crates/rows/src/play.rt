@@ -52,19 +52,30 @@ impl Play {
             dial: None,
             setup: Setup::new(alloc),
         };
+        play.take(alloc, steps, has_events)?;
+        Ok(play)
+    }
+
+    /// Takes these steps.
+    fn take(
+        &mut self,
+        alloc: Global,
+        steps: &[Step<'_>],
+        has_events: bool,
+    ) -> Result<(), RowError> {
         for step in steps {
-            play.add_input(alloc, *step)?;
+            self.add_input(alloc, *step)?;
         }
-        if let Some(dial) = &play.dial {
-            play.input = dial.input(alloc)?.unwrap_or(Vec::new(alloc));
+        if let Some(dial) = &self.dial {
+            self.input = dial.input(alloc)?.unwrap_or(Vec::new(alloc));
         }
         if !has_events {
-            play.add_all(alloc)?;
+            self.add_all(alloc)?;
         }
         for step in steps {
-            play.add(alloc, *step, has_events)?;
+            self.add(alloc, *step, has_events)?;
         }
-        Ok(play)
+        Ok(())
     }
 
     /// Adds what the server sends.
@@ -106,11 +117,7 @@ impl Play {
     fn add(&mut self, alloc: Global, step: Step<'_>, has_events: bool) -> Result<(), RowError> {
         match step {
             Step::Server(bytes) if has_events => self.feed(alloc, bytes),
-            Step::Call(words) => {
-                self.calls.push(call(alloc, words)?)?;
-                self.start(alloc, words)?;
-                self.push(Event::Poll)
-            }
+            Step::Call(words) => self.make(alloc, words),
             Step::Feed(bytes) => self.feed(alloc, bytes),
             Step::End => self.push(Event::End),
             Step::Room(count) => self.push(Event::Room(value(count)?)),
@@ -142,6 +149,13 @@ impl Play {
                 .push(Event::Feed(Bytes::from_slice(alloc, part)?))?;
         }
         Ok(())
+    }
+
+    /// A call is made whole; among events it begins and is polled.
+    fn make(&mut self, alloc: Global, words: &str) -> Result<(), RowError> {
+        self.calls.push(call(alloc, words)?)?;
+        self.start(alloc, words)?;
+        self.push(Event::Poll)
     }
 
     fn start(&mut self, alloc: Global, words: &str) -> Result<(), RowError> {

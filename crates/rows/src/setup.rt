@@ -100,8 +100,9 @@ impl Setup {
 
     /// A state in which a session with these settings begins.
     pub fn state(&self) -> Result<State, AllocError> {
+        let settings = self.settings.clone()?;
         let mut state = State::new();
-        state.settings = self.settings.clone()?;
+        state.settings = settings;
         Ok(state)
     }
 
@@ -122,11 +123,7 @@ impl Setup {
         let mut transport = MemoryTransport::new(alloc);
         transport.listens_on(self.port);
         for item in &self.items {
-            transport.supply(match item {
-                Item::Connects(bytes) => Supply::Connects(conn_of(alloc, bytes)?),
-                Item::Comes(address, bytes) => Supply::Peer(*address, conn_of(alloc, bytes)?),
-                Item::Refuses(kind) => Supply::Refuses(*kind),
-            })?;
+            supply(alloc, &mut transport, item)?;
         }
         Ok(transport)
     }
@@ -173,6 +170,21 @@ impl Setup {
             }
         }
         data
+    }
+}
+
+/// Supplies a transport with an item.
+fn supply(alloc: Global, transport: &mut MemoryTransport, item: &Item) -> Result<(), AllocError> {
+    match item {
+        Item::Connects(bytes) => {
+            let conn = conn_of(alloc, bytes)?;
+            transport.supply(Supply::Connects(conn))
+        }
+        Item::Comes(address, bytes) => {
+            let conn = conn_of(alloc, bytes)?;
+            transport.supply(Supply::Peer(*address, conn))
+        }
+        Item::Refuses(kind) => transport.supply(Supply::Refuses(*kind)),
     }
 }
 

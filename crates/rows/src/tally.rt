@@ -64,9 +64,19 @@ impl<'a> Tally<'a> {
     ) -> Result<()> {
         let alloc = rt.alloc();
         let play = Play::of(alloc, &row.steps, row.has_events(), piece)?;
+        self.play_on_all(rt, row, &play)
+    }
+
+    /// Plays a row on its faces.
+    fn play_on_all<R: Wait + Print + AllocGlobal>(
+        &mut self,
+        rt: &R,
+        row: &Row<'_>,
+        play: &Play,
+    ) -> Result<()> {
         let mut agreement = Agreement::new();
         for face in faces_of(row) {
-            self.play_on(rt, row, *face, &play, &mut agreement)?;
+            self.play_on(rt, row, *face, play, &mut agreement)?;
         }
         Ok(())
     }
@@ -106,15 +116,27 @@ impl<'a> Tally<'a> {
         }
         let mut lists = Lists::new(alloc, row, longest)?;
         for _ in 0..u64::MAX {
-            let due = play_list(rt, &lists, Face::Script)?;
-            let came = play_list(rt, &lists, Face::Polled)?;
-            self.count(due.is_same(&came));
-            if !due.is_same(&came) {
-                show_list(rt, row, &lists, &due, &came)?;
-            }
+            self.play_next(rt, row, &lists)?;
             if !lists.advance()? {
                 return Ok(());
             }
+        }
+        Ok(())
+    }
+
+    /// Plays the list that it stands at, on both faces.
+    fn play_next<R: Wait + Print + AllocGlobal>(
+        &mut self,
+        rt: &R,
+        row: &Row<'_>,
+        lists: &Lists<'_>,
+    ) -> Result<()> {
+        let due = play_list(rt, lists, Face::Script)?;
+        let came = play_list(rt, lists, Face::Polled)?;
+        let agrees = due.is_same(&came);
+        self.count(agrees);
+        if !agrees {
+            show_list(rt, row, lists, &due, &came)?;
         }
         Ok(())
     }

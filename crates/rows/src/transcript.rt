@@ -51,21 +51,25 @@ impl Standing {
             answers: 0,
         };
         for mark in marks {
-            for line in between(&self.asked, before.asked, mark.asked) {
-                write!(text, "{line}\n")?;
-            }
-            add_sent(
-                alloc,
-                &mut text,
-                between(&self.sent, before.sent, mark.sent),
-            )?;
-            add_answers(
-                &mut text,
-                between(&self.answers, before.answers, mark.answers),
-            )?;
+            self.add_part(alloc, &mut text, before, *mark)?;
             before = *mark;
         }
         Ok(text)
+    }
+
+    /// Adds what happened from one place to another.
+    fn add_part(
+        &self,
+        alloc: Global,
+        text: &mut String,
+        before: Mark,
+        mark: Mark,
+    ) -> Result<(), AllocError> {
+        for line in between(&self.asked, before.asked, mark.asked) {
+            write!(text, "{line}\n")?;
+        }
+        add_sent(alloc, text, between(&self.sent, before.sent, mark.sent))?;
+        add_answers(text, between(&self.answers, before.answers, mark.answers))
     }
 
     /// The last lines of a transcript.
@@ -76,18 +80,23 @@ impl Standing {
         welcome: bool,
     ) -> Result<(), AllocError> {
         if welcome {
-            match &self.welcome {
-                Some(welcome) => {
-                    let welcome = shown(alloc, welcome.as_bytes())?;
-                    write!(text, "W: {welcome}\n")?;
-                }
-                None => text.push_str("W: none\n")?,
-            }
+            self.add_welcome(alloc, text)?;
         }
         for sent in &self.uploaded {
             add_upload(alloc, text, sent)?;
         }
         write!(text, "T: {}\n", self.taken)
+    }
+
+    /// The line of the text that the server greeted with.
+    fn add_welcome(&self, alloc: Global, text: &mut String) -> Result<(), AllocError> {
+        match &self.welcome {
+            Some(welcome) => {
+                let welcome = shown(alloc, welcome.as_bytes())?;
+                write!(text, "W: {welcome}\n")
+            }
+            None => text.push_str("W: none\n"),
+        }
     }
 }
 

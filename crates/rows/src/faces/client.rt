@@ -5,6 +5,7 @@ use super::transfers::{Held, Transfers};
 use crate::answers::{bytes, features, lines, reply, size, text, texts_of, time, unit};
 use crate::builder::RowBuilder;
 use crate::encodings::Named;
+use crate::memory::had;
 use crate::play::Play;
 use crate::requests::recorded;
 use crate::transcript::Standing;
@@ -73,7 +74,7 @@ pub fn called<R: Wait + AllocGlobal>(
         others,
     } = greeted(rt.alloc(), calls, play)?;
     let asked = recorded(rt.alloc(), session.transport().asked())?;
-    let client = had(ImplFtpStream::new(rt.alloc(), session))?;
+    let client = had(ImplFtpStream::new(rt.alloc(), Box::into_inner(session)))?;
     if let Some(encoding) = play.encoding {
         had(client.set_encoding(rt, encoding))?;
     }
@@ -135,14 +136,6 @@ fn make_next<R: Wait + AllocGlobal>(
     transfers.made(call, &answer);
     answers.push(answer)?;
     Ok(())
-}
-
-/// What fails only where memory ran out.
-fn had<T: Drop>(outcome: FtpResult<T>) -> Result<T, RowError> {
-    match outcome {
-        Ok(value) => Ok(value),
-        Err(_) => Err(RowError::OutOfMemory),
-    }
 }
 
 /// Makes a call by its method.
@@ -275,8 +268,7 @@ fn stands<R: Wait + AllocGlobal>(
     let answers = texts_of(rt.alloc(), answers)?;
     let welcome = had(client.get_welcome_msg(rt))?;
     let (sent, taken) = traffic(rt, client)?;
-    // A client doesn't tell whether its session has failed, but its next call does.
-    let failed = matches!(client.noop(rt), Err(FtpError::SessionFailed));
+    let failed = is_failed(&client.noop(rt));
     Ok(Standing {
         asked: Vec::new(rt.alloc()),
         uploaded: Vec::new(rt.alloc()),
@@ -287,6 +279,11 @@ fn stands<R: Wait + AllocGlobal>(
         failed,
         welcome,
     })
+}
+
+/// Whether a session has failed: a client doesn't tell, but its next call does.
+fn is_failed(answer: &FtpResult<()>) -> bool {
+    matches!(answer, Err(FtpError::SessionFailed))
 }
 
 /// What was sent, and how many bytes were taken: a call that blocks receives none beyond its reply.

@@ -6,6 +6,7 @@ use crate::beside::{
 };
 use crate::dial::Dial;
 use crate::encodings::Named;
+use crate::memory::boxed;
 use crate::play::Play;
 use crate::requests::lines_of;
 use crate::transcript::Standing;
@@ -26,8 +27,11 @@ fn first(
     outcomes: &[DealOutcome],
 ) -> Result<model::Standing, AllocError> {
     let (local, peer) = play.setup.ends();
+    let bytes = Bytes::from_slice(alloc, input)?;
+    let outcomes = copy_of(alloc, outcomes)?;
+    let state = play.setup.state()?;
     Ok(model::Standing {
-        state: play.setup.state()?,
+        state,
         failed: false,
         rule: ReplyRule::Lenient,
         said: Bytes::new(alloc),
@@ -35,9 +39,9 @@ fn first(
         local,
         peer,
         dealings: no_dealings(alloc),
-        bytes: Bytes::from_slice(alloc, input)?,
+        bytes,
         ended: true,
-        outcomes: copy_of(alloc, outcomes)?,
+        outcomes,
     })
 }
 
@@ -66,6 +70,7 @@ fn no_dealings(alloc: Global) -> Dealings {
 
 /// A script that begins: nothing came, and nothing was said.
 fn first_script(alloc: Global, play: &Play) -> Result<Script, AllocError> {
+    let state = play.setup.state()?;
     Ok(Script {
         items: Items::from_vec(Vec::new(alloc)),
         answers: Items::from_vec(Vec::new(alloc)),
@@ -83,7 +88,7 @@ fn first_script(alloc: Global, play: &Play) -> Result<Script, AllocError> {
         dealings: no_dealings(alloc),
         seen: 0,
         form: ReplyForm::Plain,
-        state: play.setup.state()?,
+        state,
         failed: false,
     })
 }
@@ -99,8 +104,8 @@ pub fn ran(alloc: Global, calls: &[Call], play: &Play) -> Result<Standing, RowEr
         return dialled(alloc, dial, others, play);
     }
     let outcomes = outcomes_of(alloc, calls, play)?;
-    let end = played(alloc, calls, play, &outcomes)?;
     let answers = of_requests(alloc, &outcomes)?;
+    let end = played(alloc, calls, play, &outcomes)?;
     stands_after(alloc, &end, &answers, play.input.len())
 }
 
@@ -123,18 +128,41 @@ fn stands_after(
 fn outcomes_of(alloc: Global, calls: &[Call], play: &Play) -> Result<Vec<DealOutcome>, RowError> {
     let mut outcomes = Vec::new(alloc);
     for _ in 0..u64::MAX {
-        match played(alloc, calls, play, &outcomes)? {
-            Ran::Waiting(answers, Wait::Outcome, here) => {
-                let Some(call) = calls.get(answers.as_slice().len()) else {
-                    return Err(RowError::NotUnderstood);
-                };
-                let more = next_outcomes(alloc, &play.setup, call, &here.dealings)?;
-                add_all(&mut outcomes, more)?;
-            }
-            Ran::Finished(..) | Ran::Waiting(..) => return Ok(outcomes),
+        match more_outcomes(alloc, calls, play, &outcomes)? {
+            Some(more) => add_all(&mut outcomes, more)?,
+            None => return Ok(outcomes),
         }
     }
     Err(RowError::NotUnderstood)
+}
+
+/// The outcomes that these calls wait for next, where these are known.
+fn more_outcomes(
+    alloc: Global,
+    calls: &[Call],
+    play: &Play,
+    known: &[DealOutcome],
+) -> Result<Option<Vec<DealOutcome>>, RowError> {
+    let ran = played(alloc, calls, play, known)?;
+    outcomes_after(alloc, calls, play, &ran)
+}
+
+/// The outcomes that this run of these calls waits for.
+fn outcomes_after(
+    alloc: Global,
+    calls: &[Call],
+    play: &Play,
+    ran: &Ran,
+) -> Result<Option<Vec<DealOutcome>>, RowError> {
+    match ran {
+        Ran::Waiting(answers, Wait::Outcome, here) => {
+            let Some(call) = calls.get(answers.as_slice().len()) else {
+                return Err(RowError::NotUnderstood);
+            };
+            Ok(Some(next_outcomes(alloc, &play.setup, call, &here.dealings)?))
+        }
+        Ran::Finished(..) | Ran::Waiting(..) => Ok(None),
+    }
 }
 
 /// What these calls come to, where these outcomes are known.
@@ -143,9 +171,12 @@ fn played(
     calls: &[Call],
     play: &Play,
     outcomes: &[DealOutcome],
-) -> Result<Ran, AllocError> {
+) -> Result<Box<Ran>, AllocError> {
     let begun = first(alloc, &play.input, play, outcomes)?;
-    run(alloc, Room::Any, &encoding_of(play), calls, begun)
+    boxed(
+        alloc,
+        run(alloc, Room::Any, &encoding_of(play), calls, begun)?,
+    )
 }
 
 /// Where a session comes to that connects first, and then makes these calls. Without a connection it makes none.
@@ -153,13 +184,21 @@ fn dialled(alloc: Global, dial: &Dial, others: &[Call], play: &Play) -> Result<S
     let outcomes = dial.outcomes(alloc)?;
     match connected(alloc, dial, play, &outcomes)? {
         Played::Done(Answer::Unit, here) => greeted(alloc, others, play, here, &outcomes),
-        Played::Done(answer, here) => {
-            let mut all = Vec::new(alloc);
-            all.push(answer)?;
-            stands(alloc, Vec::new(alloc), &all, &here, play.input.len())
-        }
+        Played::Done(answer, here) => refused(alloc, answer, &here, play.input.len()),
         Played::Pending(_, _) => Err(RowError::NotUnderstood),
     }
+}
+
+/// Where a session stands that didn't connect.
+fn refused(
+    alloc: Global,
+    answer: Answer,
+    here: &model::Standing,
+    came: usize,
+) -> Result<Standing, RowError> {
+    let mut all = Vec::new(alloc);
+    all.push(answer)?;
+    stands(alloc, Vec::new(alloc), &all, here, came)
 }
 
 /// What connecting comes to, where its requests come to these outcomes.
@@ -192,11 +231,22 @@ fn greeted(
     let asked = lines_of(alloc, here.dealings.asked.as_slice(), outcomes)?;
     match run(alloc, Room::Any, &encoding_of(play), others, here)? {
         Ran::Finished(answers, here) | Ran::Waiting(answers, _, here) => {
-            let mut all = answers.into_vec();
-            all.insert(0, Answer::Unit)?;
-            stands(alloc, asked, &all, &here, play.input.len())
+            stands_greeted(alloc, asked, answers, &here, play.input.len())
         }
     }
+}
+
+/// Where a session stands that was greeted, and then had these answers.
+fn stands_greeted(
+    alloc: Global,
+    asked: Vec<String>,
+    answers: Items<Answer>,
+    here: &model::Standing,
+    came: usize,
+) -> Result<Standing, RowError> {
+    let mut all = answers.into_vec();
+    all.insert(0, Answer::Unit)?;
+    stands(alloc, asked, &all, here, came)
 }
 
 /// Where a run stands that had these answers.
@@ -232,8 +282,9 @@ pub fn welcome(alloc: Global, state: &State) -> Result<Option<String>, AllocErro
 /// Where these events lead to.
 pub fn scripted(alloc: Global, events: &[Event], play: &Play) -> Result<Standing, RowError> {
     let outcomes = script_outcomes(alloc, events, play)?;
+    let requests = of_requests(alloc, &outcomes)?;
     let script = script_of(alloc, events, play, &outcomes)?;
-    stands_in(alloc, &script, &of_requests(alloc, &outcomes)?)
+    stands_in(alloc, &script, &requests)
 }
 
 /// What happens beside these events: after each event that leaves a call waiting for an outcome, it comes.
@@ -299,7 +350,7 @@ fn fetched_after(
         return Ok(Vec::new(alloc));
     }
     let script = script_of(alloc, events, play, known)?;
-    let (closed, more) = fetched_in(alloc, play, script)?;
+    let (closed, more) = fetched_in(alloc, play, &script)?;
     if more.is_empty() || is_closed(alloc, events, play, known, &more, closed)? {
         return Ok(more);
     }
@@ -319,9 +370,9 @@ fn fetch(events: &[Event]) -> bool {
 fn fetched_in(
     alloc: Global,
     play: &Play,
-    script: Script,
+    script: &Script,
 ) -> Result<(usize, Vec<DealOutcome>), AllocError> {
-    let closed = closed_in(&script);
+    let closed = closed_in(script);
     match &script.call {
         Some(call) if fetches(call) && script.dealings.data_conn.is_some() => {
             Ok((closed, fetched(alloc, &play.setup, &script.dealings)?))
@@ -434,7 +485,7 @@ fn script_of(
     events: &[Event],
     play: &Play,
     outcomes: &[DealOutcome],
-) -> Result<Script, AllocError> {
+) -> Result<Box<Script>, AllocError> {
     let begun = first(alloc, b"", play, outcomes)?;
     script_from(alloc, events, play, &begun)
 }
@@ -445,13 +496,11 @@ fn script_from(
     events: &[Event],
     play: &Play,
     begun: &model::Standing,
-) -> Result<Script, AllocError> {
-    run_polled(
+) -> Result<Box<Script>, AllocError> {
+    let script = first_script(alloc, play)?;
+    boxed(
         alloc,
-        &encoding_of(play),
-        begun,
-        first_script(alloc, play)?,
-        events,
+        run_polled(alloc, &encoding_of(play), begun, script, events)?,
     )
 }
 

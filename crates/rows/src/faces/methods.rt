@@ -3,10 +3,11 @@
 use super::session::{NamedSession, conn_of, encoded, stands, unread};
 use super::transfers::{Held, Transfers};
 use crate::answers::{bytes, features, lines, reply, size, text, time, unit};
+use crate::memory::boxed;
 use crate::play::Play;
 use crate::transcript::Standing;
 use ftp_base::status::Status;
-use ftp_base::types::{FtpResult, Text};
+use ftp_base::types::{FtpError, FtpResult, Text};
 use ftp_control::mark::Left;
 use ftp_control::transport::MemoryConn;
 use ftp_session::session::{Answer, Call, Session, Setting};
@@ -38,7 +39,7 @@ impl Held for Transfer<MemoryConn> {
 #[derive(Drop)]
 pub struct Opening<'a> {
     /// The session.
-    pub session: NamedSession,
+    pub session: Box<NamedSession>,
     /// The answer to the greeting, if it was read.
     pub answers: Vec<Answer>,
     /// The calls that are still to be made.
@@ -55,43 +56,69 @@ pub fn greeted<'a>(alloc: Global, calls: &'a [Call], play: &Play) -> Result<Open
         });
     };
     match connected(alloc, play)? {
-        Ok(mut session) => {
-            play.setup.set(&mut session)?;
-            Ok(Opening {
-                session,
-                answers: first(alloc, Answer::Unit)?,
-                others,
-            })
-        }
-        // The session is gone with its connection: another that reads the same bytes stands for it.
-        Err(fault) => {
-            let mut session = unread(alloc, play)?;
-            if play.dial.is_none() {
-                let _again = session.read_response(alloc, Status::Ready);
-            }
-            Ok(Opening {
-                session,
-                answers: first(alloc, Answer::Fault(fault))?,
-                others,
-            })
-        }
+        Ok(session) => after_a_greeting(alloc, session, play, others),
+        Err(fault) => after_a_failed_greeting(alloc, fault, play, others),
     }
 }
 
+/// A session that was greeted.
+fn after_a_greeting<'a>(
+    alloc: Global,
+    mut session: Box<NamedSession>,
+    play: &Play,
+    others: &'a [Call],
+) -> Result<Opening<'a>, RowError> {
+    play.setup.set(&mut session)?;
+    let answers = first(alloc, Answer::Unit)?;
+    Ok(Opening {
+        session,
+        answers,
+        others,
+    })
+}
+
+/// A session whose greeting failed is gone with its connection: another that reads the same bytes stands for it.
+fn after_a_failed_greeting<'a>(
+    alloc: Global,
+    fault: FtpError,
+    play: &Play,
+    others: &'a [Call],
+) -> Result<Opening<'a>, RowError> {
+    let answers = first(alloc, Answer::Fault(fault))?;
+    let mut session = unread(alloc, play)?;
+    if play.dial.is_none() {
+        drop(session.read_response(alloc, Status::Ready));
+    }
+    Ok(Opening {
+        session,
+        answers,
+        others,
+    })
+}
+
 /// The session that connects as the row says: on the connection itself, or to addresses.
-fn connected(alloc: Global, play: &Play) -> Result<FtpResult<NamedSession>, RowError> {
+fn connected(alloc: Global, play: &Play) -> Result<FtpResult<Box<NamedSession>>, RowError> {
     let Some(dial) = &play.dial else {
         let conn = conn_of(alloc, play)?;
         let transport = play.setup.transport(alloc)?;
-        return Ok(Session::connect_with_stream(alloc, transport, conn));
+        return Ok(in_box(alloc, Session::connect_with_stream(alloc, transport, conn)));
     };
     let transport = dial.transport(alloc, play.piece)?;
     match (dial.limit, dial.addresses.first()) {
-        (Some(limit), Some(address)) => {
-            Ok(Session::connect_timeout(alloc, &(), transport, *address, limit))
-        }
-        _ => Ok(Session::connect(alloc, &(), transport, &dial.addresses)),
+        (Some(limit), Some(address)) => Ok(in_box(
+            alloc,
+            Session::connect_timeout(alloc, &(), transport, *address, limit),
+        )),
+        _ => Ok(in_box(
+            alloc,
+            Session::connect(alloc, &(), transport, &dial.addresses),
+        )),
     }
+}
+
+/// The same session in a box.
+fn in_box(alloc: Global, outcome: FtpResult<NamedSession>) -> FtpResult<Box<NamedSession>> {
+    Ok(boxed(alloc, outcome?)?)
 }
 
 /// Where these calls lead to, each made by its method.

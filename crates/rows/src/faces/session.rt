@@ -5,6 +5,7 @@ use crate::answers::texts_of;
 use crate::builder::RowBuilder;
 use crate::dial::fed;
 use crate::encodings::Named;
+use crate::memory::{boxed, had};
 use crate::play::Play;
 use crate::requests::recorded;
 use crate::transcript::Standing;
@@ -28,48 +29,41 @@ pub fn conn_of(alloc: Global, play: &Play) -> Result<MemoryConn, AllocError> {
 }
 
 /// A session on the server's bytes, of which nothing was read.
-pub fn unread(alloc: Global, play: &Play) -> Result<NamedSession, RowError> {
+pub fn unread(alloc: Global, play: &Play) -> Result<Box<NamedSession>, RowError> {
     session_on(alloc, conn_of(alloc, play)?, play)
 }
 
 /// A session with the row's settings.
-fn session_on(alloc: Global, conn: MemoryConn, play: &Play) -> Result<NamedSession, RowError> {
-    match Session::new(alloc, play.setup.transport(alloc)?, conn) {
-        Ok(mut session) => {
-            play.setup.set(&mut session)?;
-            Ok(session)
-        }
-        Err(_) => Err(RowError::OutOfMemory),
-    }
+fn session_on(alloc: Global, conn: MemoryConn, play: &Play) -> Result<Box<NamedSession>, RowError> {
+    let transport = play.setup.transport(alloc)?;
+    let mut session = boxed(alloc, had(Session::new(alloc, transport, conn))?)?;
+    play.setup.set(&mut session)?;
+    Ok(session)
 }
 
 /// Such a session with the row's encoding.
-fn begun(alloc: Global, conn: MemoryConn, play: &Play) -> Result<NamedSession, RowError> {
+fn begun(alloc: Global, conn: MemoryConn, play: &Play) -> Result<Box<NamedSession>, RowError> {
     encoded(alloc, session_on(alloc, conn, play)?, play)
 }
 
 /// A session with the row's encoding.
 pub fn encoded(
     alloc: Global,
-    mut session: NamedSession,
+    mut session: Box<NamedSession>,
     play: &Play,
-) -> Result<NamedSession, RowError> {
+) -> Result<Box<NamedSession>, RowError> {
     let Some(encoding) = play.encoding else {
         return Ok(session);
     };
-    match session.set_encoding(alloc, encoding) {
-        Ok(()) => Ok(session),
-        Err(_) => Err(RowError::OutOfMemory),
-    }
+    had(session.set_encoding(alloc, encoding))?;
+    Ok(session)
 }
 
 /// Where a run of these calls ends.
 pub fn ran(alloc: Global, calls: &[Call], play: &Play) -> Result<Standing, RowError> {
     let mut session = begun(alloc, conn_of(alloc, play)?, play)?;
-    match session.run(alloc, &(), calls) {
-        Ok(answers) => stands(alloc, &session, &answers),
-        Err(_) => Err(RowError::OutOfMemory),
-    }
+    let answers = had(session.run(alloc, &(), calls))?;
+    stands(alloc, &session, &answers)
 }
 
 /// Where these events lead to, in runs that begin at these places.
@@ -98,10 +92,7 @@ fn happen(
     events: &[Event],
     answers: &mut Vec<Answer>,
 ) -> Result<(), RowError> {
-    let Ok(more) = session.run_polled(alloc, events) else {
-        return Err(RowError::OutOfMemory);
-    };
-    for answer in more {
+    for answer in had(session.run_polled(alloc, events))? {
         answers.push(answer)?;
     }
     Ok(())
