@@ -84,7 +84,10 @@ so_far_more tells text r s t old mid new after after' count size piece far taken
 
 -- the source has given nothing more
 pub so_far_kept : (tells : Type 0) (text : Bool) (r s t : Option (List ℕ)) (old new : TransferValue) (after : Bool) (count : ℕ) → SoFar tells text r s old new after count → Keeps s t → SoFar tells text r t old new after count
-so_far_kept tells text r s t old new after count far keeps = record { copied = record far.copied { taken = Consumes-kept r s t far.copied.given far.copied.taken keeps }; last = far.last }
+so_far_kept tells text r s t old new after count far keeps = record {
+  copied = record { given = far.copied.given; taken = Consumes-kept r s t far.copied.given far.copied.taken keeps; wrote = far.copied.wrote; counted = far.copied.counted };
+  last = far.last;
+}
 
 -- the source failed
 pub source_fails : (tells : Type 0) (text : Bool) (r s : Option (List ℕ)) (old new : TransferValue) (after : Bool) (count : ℕ) (fault : FtpError) → SoFar tells text r s old new after count → IsCopyFault fault → GaveUp tells text r s old new fault
@@ -121,7 +124,7 @@ pub adds_bytes : (before piece : List ℕ) → Adds false before piece piece
 adds_bytes before piece = record { whole = refl; longer = omega arith }
 
 -- what a piece adds, as it is
-added_of : Bool → List ℕ → List ℕ → List ℕ
+abbrev added_of : Bool → List ℕ → List ℕ → List ℕ
 added_of true before piece = converted (ends_in_return before) piece
 added_of false before piece = piece
 
@@ -131,7 +134,7 @@ adds_always false before piece = adds_bytes before piece
 
 -- a piece for which there is no memory
 pub no_memory : (tells : Type 0) (text : Bool) (before piece : List ℕ) (after : Bool) (t : TransferValue) (count : ℕ) (result : Result ℕ FtpError) → IsErr result → IsErrAnd result (λ fault. fault ≡ OutOfMemory) → SendsPiece tells text before piece after t t count result
-no_memory tells text before piece after t count (Ok size) fails is = absurd fails
+no_memory tells text before piece after t count (Ok size) fails is = let clash : false ≡ true = fails in cc
 no_memory tells text before piece after t count (Err fault) fails is = record {
   added = added_of text before piece;
   adds = adds_always text before piece;
@@ -146,5 +149,5 @@ text_sent tells before piece bytes after old new count (Err fault) adds last (wr
 
 -- a copy that gives up answers that
 pub gives_up_as : (tells : Type 0) (text : Bool) (r s : Option (List ℕ)) (old new : TransferValue) (fault : FtpError) (result : Result ℕ FtpError) → IsErr result → IsErrAnd result (λ f. f ≡ fault) → GaveUp tells text r s old new fault → Copies tells text r s old new result
-gives_up_as tells text r s old new fault (Ok count) fails is gave = absurd fails
+gives_up_as tells text r s old new fault (Ok count) fails is gave = let clash : false ≡ true = fails in cc
 gives_up_as tells text r s old new fault (Err other) fails is gave = subst (λ f. GaveUp tells text r s old new f) (sym is) gave

@@ -24,6 +24,7 @@ mod settings;
 
 pub use chosen::Chosen;
 pub use client::Session;
+pub use files::DownloadReader;
 pub use ftp_calls::call::{Answer, Call, Event, Setting};
 pub use ftp_dialogue::{Counts, Owed, Settings, State};
 pub use parameters::{NoStreamBuilder, NoTlsConnector};

@@ -12,32 +12,61 @@ use std::alloc::{AllocError, Global};
 /// How many bytes a read of a whole data connection asks for.
 const CHUNK: usize = 65_536;
 
-/// Whether a call reads a whole data connection.
-pub fn fetches(call: &Call) -> bool {
+/// Whether a whole file or listing goes over a call's data connection.
+pub fn is_whole(call: &Call) -> bool {
     matches!(
         call,
-        Call::Retr(_) | Call::List(_) | Call::Nlst(_) | Call::Mlsd(_)
+        Call::Retr(_)
+            | Call::List(_)
+            | Call::Nlst(_)
+            | Call::Mlsd(_)
+            | Call::PutFile(..)
+            | Call::AppendFile(..)
     )
 }
 
-/// The outcomes that this call waits for next: where it reads a whole data connection, which stands, all that follow on
-/// that, and else one.
+/// The outcomes that this call waits for next: where a whole file or listing goes over its data connection, which stands,
+/// all that follow on that, and else one.
 pub fn next_outcomes(
     alloc: Global,
     setup: &Setup,
     call: &Call,
     dealings: &Dealings,
 ) -> Result<Vec<DealOutcome>, RowError> {
-    if fetches(call) && dealings.data_conn.is_some() {
-        return Ok(fetched(alloc, setup, dealings)?);
+    if is_whole(call) && dealings.data_conn.is_some() {
+        return Ok(carried(alloc, setup, call, dealings)?);
     }
     let mut outcomes = Vec::new(alloc);
     outcomes.push(next_outcome(alloc, setup, call, dealings)?)?;
     Ok(outcomes)
 }
 
-/// What becomes of a whole data connection: reads give its bytes, the last of them none, and then it is closed.
-pub fn fetched(
+/// What becomes of a whole data connection.
+pub fn carried(
+    alloc: Global,
+    setup: &Setup,
+    call: &Call,
+    dealings: &Dealings,
+) -> Result<Vec<DealOutcome>, AllocError> {
+    match call {
+        Call::PutFile(_, bytes) | Call::AppendFile(_, bytes) => stored(alloc, bytes.as_slice()),
+        _ => fetched(alloc, setup, dealings),
+    }
+}
+
+/// A write takes all bytes that go out for these, which are twice as many at most; of none nothing is written; and then
+/// the data connection is closed.
+fn stored(alloc: Global, bytes: &[u8]) -> Result<Vec<DealOutcome>, AllocError> {
+    let mut outcomes = Vec::new(alloc);
+    if !bytes.is_empty() {
+        outcomes.push(DealOutcome::Wrote(bytes.len().saturating_mul(2)))?;
+    }
+    outcomes.push(DealOutcome::Closed)?;
+    Ok(outcomes)
+}
+
+/// Reads give the bytes of a data connection, the last of them none, and then it is closed.
+fn fetched(
     alloc: Global,
     setup: &Setup,
     dealings: &Dealings,

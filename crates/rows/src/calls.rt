@@ -51,6 +51,7 @@ fn with_argument(alloc: Global, name: &str, argument: &str) -> Result<Call, RowE
         "read" => Ok(Call::ReadResponse(status(argument)?)),
         "reads" => Ok(Call::ReadResponseIn(statuses(alloc, argument)?)),
         "login" | "rename" | "custom" => with_two(alloc, name, argument),
+        "put_file" | "append_file" => file(alloc, name, argument),
         _ => with_text(name, text(alloc, argument)?),
     }
 }
@@ -86,6 +87,17 @@ fn with_two(alloc: Global, name: &str, arguments: &str) -> Result<Call, RowError
         "rename" => Ok(Call::Rename(text(alloc, first)?, second)),
         "custom" => Ok(Call::CustomCommand(second, statuses(alloc, first)?)),
         _ => Err(RowError::NotUnderstood),
+    }
+}
+
+/// `PATH`, or `PATH BYTES`.
+fn file(alloc: Global, name: &str, argument: &str) -> Result<Call, RowError> {
+    let (path, bytes) = argument.split_once(' ').unwrap_or((argument, ""));
+    let bytes = Items::from_vec(bytes_of(alloc, bytes)?);
+    let path = text(alloc, path)?;
+    match name {
+        "put_file" => Ok(Call::PutFile(path, bytes)),
+        _ => Ok(Call::AppendFile(path, bytes)),
     }
 }
 

@@ -12,6 +12,8 @@ mod handed;
 #[cfg(test)]
 mod scene;
 #[cfg(test)]
+mod sources;
+#[cfg(test)]
 mod streams;
 #[cfg(test)]
 mod whole;

@@ -18,6 +18,7 @@ pub use ftp_calls::{active, call, exchange};
 pub use ftp_control::transport::PassiveStreamBuilder;
 pub use ftp_control::{control, mark, plain, transport};
 pub use ftp_list as list;
+pub use ftp_session::session::DownloadReader;
 pub use ftp_session::{laws as session_laws, model, session};
 pub use sync_ftp::{ControlSocket, FtpStream, ImplFtpStream};
 pub use transfer_stream::TransferStream;

@@ -12,6 +12,7 @@
 mod commands;
 mod connecting;
 mod control_socket;
+mod files;
 mod questions;
 mod settings;
 mod transfers;

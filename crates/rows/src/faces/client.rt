@@ -44,21 +44,26 @@ impl Held for Stream {
     }
 }
 
-/// Whether the client has a method for each of these calls. It reads a reply alone only where it is the greeting,
-/// which a session has read before the client is made.
+/// Whether rows can play each of these calls by the client's methods. It reads a reply alone only where it is the greeting,
+/// which a session has read before the client is made; and what went out in an upload of one call is told by its session,
+/// which the client doesn't lend.
 pub fn has_methods(calls: &[Call]) -> bool {
     let others = match calls.split_first() {
         Some((Call::Greet, others)) => others,
         _ => calls,
     };
-    !others.iter().any(|call| is_read(call))
+    !others.iter().any(|call| is_apart(call))
 }
 
-/// Whether a call reads a reply and says nothing.
-fn is_read(call: &Call) -> bool {
+/// Whether a call reads a reply and says nothing, or uploads a whole file.
+fn is_apart(call: &Call) -> bool {
     matches!(
         call,
-        Call::Greet | Call::ReadResponse(_) | Call::ReadResponseIn(_)
+        Call::Greet
+            | Call::ReadResponse(_)
+            | Call::ReadResponseIn(_)
+            | Call::PutFile(..)
+            | Call::AppendFile(..)
     )
 }
 

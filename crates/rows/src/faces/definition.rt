@@ -2,7 +2,7 @@
 
 use crate::answers::texts_of;
 use crate::beside::{
-    answers_of, fetched, fetches, next_outcome, next_outcomes, of_requests, uploaded, waiting,
+    answers_of, carried, is_whole, next_outcome, next_outcomes, of_requests, uploaded, waiting,
 };
 use crate::dial::Dial;
 use crate::encodings::Named;
@@ -357,16 +357,16 @@ fn fetched_after(
     Ok(Vec::new(alloc))
 }
 
-/// Whether a call of these events reads a whole data connection.
+/// Whether a whole file or listing goes over the data connection of a call of these events.
 fn fetch(events: &[Event]) -> bool {
     events.iter().any(|event| match event {
-        Event::Start(call) => fetches(call),
+        Event::Start(call) => is_whole(call),
         _ => false,
     })
 }
 
-/// How many data connections a script has closed, and what would become of the one that its call under way reads whole,
-/// where it does.
+/// How many data connections a script has closed, and what would become of the one over which a whole file or listing
+/// goes, where one does.
 fn fetched_in(
     alloc: Global,
     play: &Play,
@@ -374,8 +374,8 @@ fn fetched_in(
 ) -> Result<(usize, Vec<DealOutcome>), AllocError> {
     let closed = closed_in(script);
     match &script.call {
-        Some(call) if fetches(call) && script.dealings.data_conn.is_some() => {
-            Ok((closed, fetched(alloc, &play.setup, &script.dealings)?))
+        Some(call) if is_whole(call) && script.dealings.data_conn.is_some() => {
+            Ok((closed, carried(alloc, &play.setup, call, &script.dealings)?))
         }
         _ => Ok((closed, Vec::new(alloc))),
     }

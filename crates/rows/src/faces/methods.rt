@@ -223,9 +223,12 @@ fn make(
         | Call::PutWithStream(_)
         | Call::AppendWithStream(_)
         | Call::CustomDataCommand(..) => open(alloc, session, transfers, call)?,
-        Call::Retr(_) | Call::List(_) | Call::Nlst(_) | Call::Mlsd(_) => {
-            fetch(alloc, session, transfers, call)?
-        }
+        Call::Retr(_)
+        | Call::List(_)
+        | Call::Nlst(_)
+        | Call::Mlsd(_)
+        | Call::PutFile(..)
+        | Call::AppendFile(..) => carry(alloc, session, transfers, call)?,
         Call::Set(setting) => set(session, setting)?,
         Call::Read(most) => transfers.receive(alloc, *most)?,
         Call::Write(bytes) => transfers.send(bytes.as_slice()),
@@ -261,8 +264,8 @@ fn open(
     })
 }
 
-/// Reads a whole data connection, and notes what was written to it once it is over.
-fn fetch(
+/// Carries a whole file or listing, and notes what was written to its data connection once it is over.
+fn carry(
     alloc: Global,
     session: &mut NamedSession,
     transfers: &mut Transfers<Transfer<MemoryConn>>,
@@ -274,6 +277,10 @@ fn fetch(
         Call::List(path) => lines(session.list(alloc, &(), optional(path))),
         Call::Nlst(path) => lines(session.nlst(alloc, &(), optional(path))),
         Call::Mlsd(path) => lines(session.mlsd(alloc, &(), optional(path))),
+        Call::PutFile(path, bytes) | Call::AppendFile(path, bytes) => {
+            let append = matches!(call, Call::AppendFile(..));
+            upload(alloc, session, append, path.as_str(), bytes.as_slice())
+        }
         _ => return Err(RowError::NotUnderstood),
     };
     for conn in session.transport().uploaded().iter().skip(before) {
@@ -282,6 +289,25 @@ fn fetch(
             .push(Vec::from_slice(alloc, conn.sent())?)?;
     }
     Ok(answer)
+}
+
+/// Uploads these bytes to a file, in the place of what it held or to its end.
+fn upload(
+    alloc: Global,
+    session: &mut NamedSession,
+    append: bool,
+    path: &str,
+    mut bytes: &[u8],
+) -> Answer {
+    let outcome = if append {
+        session.append_file(alloc, &(), path, &mut bytes)
+    } else {
+        session.put_file(alloc, &(), path, &mut bytes)
+    };
+    match outcome {
+        Ok(count) => Answer::Count(count),
+        Err(fault) => Answer::Fault(fault),
+    }
 }
 
 /// A path that may be left out.

@@ -1,0 +1,76 @@
+//! Whole files, a method each: the session's call of that name, in one hold of the lock.
+
+use super::ImplFtpStream;
+use ftp_base::encoding::Encoding;
+use ftp_base::types::FtpResult;
+use ftp_control::transport::{Conn, Network, PassiveStreamBuilder, Transport};
+use ftp_session::session::DownloadReader;
+use std::io::Read;
+use std::sync::Wait;
+
+impl<Tr: Network, K: Drop, E: Encoding, B: PassiveStreamBuilder<Tr::Conn>> ImplFtpStream<
+    Tr,
+    K,
+    E,
+    B,
+>
+where
+    Tr::Conn: Conn,
+{
+    /// Uploads all that a source gives to this file, in the place of what it held: `STOR` (125, 150; RFC 959, section
+    /// 4.1.3), the bytes, and the last reply (226, 250). Returns how many bytes were written. They are a text, whose lines
+    /// end in CR LF on the wire (RFC 959, section 3.1.1.1), until a `TYPE` of another kind is accepted. The offset is taken
+    /// as by `retr_as_stream`.
+    ///
+    /// # Errors
+    /// Those of a data command. The fault of the source or of the data connection, `SourceTooLarge`, or `OutOfMemory` for a
+    /// buffer: then the transfer is left. The fault of the data connection's close comes before that of the last reply.
+    pub fn put_file<R: Wait + AllocGlobal, S: Read>(
+        &self,
+        rt: &R,
+        path: &str,
+        source: &mut S,
+    ) -> FtpResult<u64>
+    where
+        Tr: Transport<R>,
+    {
+        self.session.lock(rt).put_file(rt.alloc(), rt, path, source)
+    }
+
+    /// Uploads all that a source gives to the end of this file: `APPE` (125, 150; RFC 959, section 4.1.3), as `put_file`
+    /// does.
+    ///
+    /// # Errors
+    /// Those of `put_file`.
+    pub fn append_file<R: Wait + AllocGlobal, S: Read>(
+        &self,
+        rt: &R,
+        path: &str,
+        source: &mut S,
+    ) -> FtpResult<u64>
+    where
+        Tr: Transport<R>,
+    {
+        self.session
+            .lock(rt)
+            .append_file(rt.alloc(), rt, path, source)
+    }
+
+    /// Downloads this file to a reader of the caller's: `RETR` (150, 125; RFC 959, section 4.1.3), the reader, which is
+    /// called once on the transfer, and the last reply (226, 250). Returns what the reader returned. The offset is taken as
+    /// by `retr_as_stream`. The client is busy until the reader returns.
+    ///
+    /// # Errors
+    /// Those of a data command. The reader's fault comes before that of the last reply, which is read all the same.
+    pub fn retr<R: Wait + AllocGlobal, D: Drop, F: DownloadReader<Tr::Conn, D>>(
+        &self,
+        rt: &R,
+        path: &str,
+        reader: &mut F,
+    ) -> FtpResult<D>
+    where
+        Tr: Transport<R>,
+    {
+        self.session.lock(rt).retr(rt.alloc(), rt, path, reader)
+    }
+}
