@@ -3,3 +3,4 @@ pub mod Openings
 pub mod Parts
 pub mod Polled
 pub mod Requests
+pub mod Sends

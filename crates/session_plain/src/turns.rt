@@ -120,5 +120,7 @@ fn restarts(call: &Call) -> bool
             | Call::AppendWithStream(_)
             | Call::CustomDataCommand(..)
             | Call::Retr(_)
+            | Call::PutFile(..)
+            | Call::AppendFile(..)
     )
 }

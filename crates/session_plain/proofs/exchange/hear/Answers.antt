@@ -21,9 +21,9 @@ returns-in-Unknown g c = λ room later.
     rw formed (due (λ heard t. play room (concluded coding c.args.ending s.state later heard) t))
 
 -- they say it, or a fault takes its place
-pub returns : goal.returns
+pub returns-in-Known : goal.returns-in-Known
 unfolding play
-returns g c =
+returns-in-Known g c =
     let coding = coding_of g.E.Encoding.decoded g.E.Encoding.encoded c.args.encoding.now in
     let s = c.args.standing in
     let codes : Expected = expected_of c.args.codes in
