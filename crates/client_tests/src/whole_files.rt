@@ -150,7 +150,7 @@ impl DownloadReader<TcpConn, usize> for Counts {
     fn read(&mut self, transfer: &mut Transfer<TcpConn>) -> FtpResult<usize> {
         let mut count = 0usize;
         for _ in 0..10_000_000 {
-            let taken = transfer.read(&mut self.buffer)?;
+            let taken = Read::read(transfer, &mut self.buffer)?;
             if taken == 0 {
                 return Ok(count);
             }

@@ -63,7 +63,7 @@ fn interrupted(interruptions: u32) -> Stumbling {
 fn a_source_that_was_interrupted_64_times_is_read_again(rt: HostRuntime) -> Result<(), Fail> {
     let mut session = greeted(rt.alloc(), UPLOAD)?;
     assert_eq!(rt; put(&rt, &mut session, &mut interrupted(64)), 1);
-    assert!(rt; uploaded(&session) == b"a");
+    assert!(rt; uploaded(&session) == b"a".as_slice());
     Ok(())
 }
 
@@ -71,7 +71,7 @@ fn a_source_that_was_interrupted_64_times_is_read_again(rt: HostRuntime) -> Resu
 fn a_source_that_was_interrupted_65_times_fails(rt: HostRuntime) -> Result<(), Fail> {
     let mut session = greeted(rt.alloc(), UPLOAD)?;
     assert_eq!(rt; put(&rt, &mut session, &mut interrupted(65)), 1001);
-    assert!(rt; uploaded(&session) == b"");
+    assert!(rt; uploaded(&session).is_empty());
     assert_eq!(rt; number(session.noop(rt.alloc())), 0);
     Ok(())
 }
@@ -87,7 +87,7 @@ fn what_a_source_gave_before_its_fault_is_uploaded(rt: HostRuntime) -> Result<()
         fault: Some(ErrorKind::BrokenPipe),
     };
     assert_eq!(rt; put(&rt, &mut session, &mut source), 1001);
-    assert!(rt; uploaded(&session) == b"ab");
+    assert!(rt; uploaded(&session) == b"ab".as_slice());
     assert_eq!(rt; number(session.noop(rt.alloc())), 0);
     Ok(())
 }
@@ -103,16 +103,16 @@ impl DownloadReader<MemoryConn, u16> for Pair {
 
     fn read(&mut self, transfer: &mut Transfer<MemoryConn>) -> FtpResult<u16> {
         let mut pair = [0u8; 2];
-        transfer.read(&mut pair)?;
+        Read::read(transfer, &mut pair)?;
         if self.fails {
             return Err(FtpError::InvalidAddress);
         }
-        Ok(u16::from(pair[0]) * 256 + u16::from(pair[1]))
+        Ok(u16::from_be_bytes(pair))
     }
 }
 
 /// What a download by a reader gives, or the number of its fault.
-fn pair<R: AllocGlobal>(rt: &R, session: &mut MemorySession, fails: bool) -> u16 {
+fn pair_of<R: AllocGlobal>(rt: &R, session: &mut MemorySession, fails: bool) -> u16 {
     match session.retr(rt.alloc(), &(), "f", &mut Pair { fails }) {
         Ok(pair) => pair,
         Err(fault) => u16::from(fault.number()),
@@ -122,7 +122,7 @@ fn pair<R: AllocGlobal>(rt: &R, session: &mut MemorySession, fails: bool) -> u16
 #[test]
 fn a_reader_gives_what_it_read(rt: HostRuntime) -> Result<(), Fail> {
     let mut session = greeted(rt.alloc(), UPLOAD)?;
-    assert_eq!(rt; pair(&rt, &mut session, false), 0x6865);
+    assert_eq!(rt; pair_of(&rt, &mut session, false), 0x6865);
     assert_eq!(rt; number(session.noop(rt.alloc())), 0);
     Ok(())
 }
@@ -131,7 +131,7 @@ fn a_reader_gives_what_it_read(rt: HostRuntime) -> Result<(), Fail> {
 fn a_readers_fault_is_told_before_the_last_reply(rt: HostRuntime) -> Result<(), Fail> {
     let replies = "227 x (10,0,0,1,4,0).\r\n150 b\r\n426 n\r\n200 o\r\n";
     let mut session = greeted(rt.alloc(), replies)?;
-    assert_eq!(rt; pair(&rt, &mut session, true), 15);
+    assert_eq!(rt; pair_of(&rt, &mut session, true), 15);
     assert_eq!(rt; number(session.noop(rt.alloc())), 0);
     Ok(())
 }

@@ -177,7 +177,11 @@ fn make<R: Wait + AllocGlobal>(
         Call::CustomCommand(line, codes) => {
             reply(client.custom_command(rt, line.as_str(), codes.as_slice()))
         }
-        Call::Greet | Call::ReadResponse(_) | Call::ReadResponseIn(_) => {
+        Call::Greet
+        | Call::ReadResponse(_)
+        | Call::ReadResponseIn(_)
+        | Call::PutFile(..)
+        | Call::AppendFile(..) => {
             return Err(RowError::NotUnderstood);
         }
         Call::RetrAsStream(_)
