@@ -6,6 +6,7 @@ mod ask;
 mod directory;
 mod download;
 mod listing;
+mod upload;
 
 use std::process::ExitCode;
 use std::rt::Env;
@@ -28,6 +29,12 @@ fn main(rt: HostRuntime) -> ExitCode {
             words[1].as_str(),
             words[2].as_str(),
         ),
+        Ok(words) if words.len() == 4 && words[0].as_str() == "put" => upload::print_count(
+            &rt,
+            words[1].as_str(),
+            words[2].as_str(),
+            words[3].as_str(),
+        ),
         Ok(words) if words.len() == 3 && words[0].as_str() == "file" => ask::print_file(
             &rt,
             words[1].as_str(),
@@ -35,7 +42,7 @@ fn main(rt: HostRuntime) -> ExitCode {
         ),
         _ => {
             let _ = rt.eprintln(
-                "usage: examples ADDRESS | examples file ADDRESS NAME | examples get ADDRESS NAME | examples list ADDRESS DIRECTORY | examples entry LINE",
+                "usage: examples ADDRESS | examples file ADDRESS NAME | examples get ADDRESS NAME | examples list ADDRESS DIRECTORY | examples put ADDRESS NAME TEXT | examples entry LINE",
             );
             ExitCode::from(2)
         }
