@@ -143,7 +143,7 @@ fn lines(answer: Answer) -> FtpResult<Vec<String>>
 }
 
 /// `RETR` of a whole file, as a call.
-fn retr_call(alloc: Global, path: &str) -> Result<Call, AllocError>
+pub fn retr_call(alloc: Global, path: &str) -> Result<Call, AllocError>
     ensures call { IfOk result (λ call. call ≡ Call.Retr path.now) }
     ensures kind { IfOk result IsOpening }
 {
@@ -151,7 +151,7 @@ fn retr_call(alloc: Global, path: &str) -> Result<Call, AllocError>
 }
 
 /// `LIST` as a call.
-fn list_call(alloc: Global, path: Option<&str>) -> Result<Call, AllocError>
+pub fn list_call(alloc: Global, path: Option<&str>) -> Result<Call, AllocError>
     ensures call { IfOk result (λ call. call ≡ Call.List (option_map (λ text. text.now) path.entry)) }
     ensures kind { IfOk result IsOpening }
 {
@@ -159,7 +159,7 @@ fn list_call(alloc: Global, path: Option<&str>) -> Result<Call, AllocError>
 }
 
 /// `NLST` as a call.
-fn nlst_call(alloc: Global, path: Option<&str>) -> Result<Call, AllocError>
+pub fn nlst_call(alloc: Global, path: Option<&str>) -> Result<Call, AllocError>
     ensures call { IfOk result (λ call. call ≡ Call.Nlst (option_map (λ text. text.now) path.entry)) }
     ensures kind { IfOk result IsOpening }
 {
@@ -167,7 +167,7 @@ fn nlst_call(alloc: Global, path: Option<&str>) -> Result<Call, AllocError>
 }
 
 /// `MLSD` as a call.
-fn mlsd_call(alloc: Global, path: Option<&str>) -> Result<Call, AllocError>
+pub fn mlsd_call(alloc: Global, path: Option<&str>) -> Result<Call, AllocError>
     ensures call { IfOk result (λ call. call ≡ Call.Mlsd (option_map (λ text. text.now) path.entry)) }
     ensures kind { IfOk result IsOpening }
 {

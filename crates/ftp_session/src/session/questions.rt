@@ -107,7 +107,7 @@ where
 }
 
 /// `MLST` as a call.
-fn mlst_call(alloc: Global, path: Option<&str>) -> Result<Call, AllocError>
+pub fn mlst_call(alloc: Global, path: Option<&str>) -> Result<Call, AllocError>
     ensures call { IfOk result (λ call. call ≡ Call.Mlst (option_map (λ text. text.now) path.entry)) }
     ensures kind { IfOk result GivesText }
 {
@@ -115,7 +115,7 @@ fn mlst_call(alloc: Global, path: Option<&str>) -> Result<Call, AllocError>
 }
 
 /// `MDTM` as a call.
-fn mdtm_call(alloc: Global, path: &str) -> Result<Call, AllocError>
+pub fn mdtm_call(alloc: Global, path: &str) -> Result<Call, AllocError>
     ensures call { IfOk result (λ call. call ≡ Call.Mdtm path.now) }
     ensures kind { IfOk result GivesTime }
 {
@@ -123,7 +123,7 @@ fn mdtm_call(alloc: Global, path: &str) -> Result<Call, AllocError>
 }
 
 /// `SIZE` as a call.
-fn size_call(alloc: Global, path: &str) -> Result<Call, AllocError>
+pub fn size_call(alloc: Global, path: &str) -> Result<Call, AllocError>
     ensures call { IfOk result (λ call. call ≡ Call.Size path.now) }
     ensures kind { IfOk result GivesSize }
 {

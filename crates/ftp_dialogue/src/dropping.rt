@@ -1,0 +1,41 @@
+//! A call that waits is dropped.
+//!
+//! Nothing is sent or read then: the unsent tail of a line goes out before any other byte, and what came of a reply is
+//! kept. A transfer that the call held is left, so that its last reply is read before the next command.
+
+ghost use Rattle.std.specs.Prelude.{◌≡◌};
+ghost use Rattle.ftp_dialogue.specs.Dropping.{DropsCall, is_fetching};
+
+use super::Call;
+use super::aborting::is_out;
+use super::machine::Machine;
+use super::stage::Stage;
+use ftp_calls::exchange::{aborts, finishes};
+use ftp_control::transport::Network;
+
+impl<Tr: Network> Machine<Tr> {
+    /// A call that waits at this stage is dropped. One that brings a transfer to its end leaves it, but for an abort whose
+    /// `ABOR` has gone out whole: that transfer is over. The transfer of a whole file or listing that is under way is
+    /// left, too.
+    pub fn drop_call(&mut self, call: &Call, stage: &Stage)
+        ensures drops { DropsCall Tr.Conn.tells call.now stage.now self.old self.new }
+    {
+        if is_fetching(stage) {
+            self.state.counts.open();
+            self.state.counts.leave();
+        } else if finishes(call) {
+            self.state.counts.leave();
+        }
+        self.let_go();
+        if aborts(call) && is_out(stage) {
+            self.state.counts.abort();
+        }
+    }
+}
+
+/// Whether a whole file or listing is under way.
+fn is_fetching(stage: &Stage) -> bool
+    ensures { result ≡ is_fetching stage.now }
+{
+    matches!(stage, Stage::Fetching(_))
+}
