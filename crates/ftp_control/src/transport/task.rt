@@ -20,7 +20,7 @@ pub trait TaskConn: Tells {
 
     /// Registers the task for what the last read and the last write wait for, where they do.
     fn poll_ready(&mut self, cx: &mut Context<'_>) -> Waiting
-        ensures told { told self.new ≡ told self.old }
+        ensures told { Self.told self.new ≡ Self.told self.old }
         ensures registered { result ≡ waits.Registered → Covers cx.new (needs self.new) }
         ensures nothing { result ≡ waits.Nothing → (source : ℕ) → needs self.new source → ⊥ }
         ensures kept { Keeps cx.old cx.new };
@@ -30,20 +30,20 @@ pub trait TaskConn: Tells {
 pub trait TaskTransport: Network {
     /// Gives up what was begun for a request that is not made again.
     fn forget(&mut self)
-        ensures asked { asked self.new ≡ asked self.old }
-        ensures ready { ready self.new ≡ ready self.old }
-        ensures closed { closed self.new ≡ closed self.old }
-        ensures port { port self.new ≡ port self.old }
-        ensures room { has_room self.old → has_room self.new };
+        ensures asked { Self.asked self.new ≡ Self.asked self.old }
+        ensures ready { Self.ready self.new ≡ Self.ready self.old }
+        ensures closed { Self.closed self.new ≡ Self.closed self.old }
+        ensures port { Self.port self.new ≡ Self.port self.old }
+        ensures room { Self.has_room self.old → Self.has_room self.new };
 
     /// Registers the task for the connect that waits, where one does. While a deadline runs the task is polled again at
     /// once.
     fn poll_connect_ready(&mut self, cx: &mut Context<'_>) -> Waiting
-        ensures asked { asked self.new ≡ asked self.old }
-        ensures ready { ready self.new ≡ ready self.old }
-        ensures closed { closed self.new ≡ closed self.old }
-        ensures port { port self.new ≡ port self.old }
-        ensures room { has_room self.old → has_room self.new }
+        ensures asked { Self.asked self.new ≡ Self.asked self.old }
+        ensures ready { Self.ready self.new ≡ Self.ready self.old }
+        ensures closed { Self.closed self.new ≡ Self.closed self.old }
+        ensures port { Self.port self.new ≡ Self.port self.old }
+        ensures room { Self.has_room self.old → Self.has_room self.new }
         ensures registered { result ≡ waits.Registered → IsArmed cx.new }
         ensures kept { Keeps cx.old cx.new };
 

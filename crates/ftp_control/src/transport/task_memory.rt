@@ -3,8 +3,6 @@
 //! Nothing tells when bytes come over memory, so no task can be registered: one that waits there asks to be polled
 //! again.
 
-ghost use Rattle.std.specs.Prelude.{⊥};
-
 use super::{MemoryConn, MemoryListener, MemoryTransport, TaskConn, TaskTransport, Waiting};
 use futures::task::Context;
 
