@@ -1,6 +1,6 @@
 //! Accepts over tokio's sockets.
 
-use crate::tasks::Accept;
+use crate::requests::Accept;
 use ftp_base::types::ConnectionError;
 use ftp_control::transport::PollTransport;
 use ftp_tokio::{TokioListener, TokioTransport};

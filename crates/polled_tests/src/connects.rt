@@ -1,6 +1,6 @@
 //! Connects over tokio's sockets.
 
-use crate::tasks::Connect;
+use crate::requests::Connect;
 use ftp_base::types::ConnectionError;
 use ftp_control::transport::Tells;
 use ftp_tokio::TokioTransport;

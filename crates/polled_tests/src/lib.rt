@@ -4,8 +4,10 @@
 #[cfg(test)]
 mod accepts;
 #[cfg(test)]
-mod bytes;
+mod calls;
 #[cfg(test)]
 mod connects;
 #[cfg(test)]
-mod tasks;
+mod requests;
+#[cfg(test)]
+mod traffic;

@@ -1,6 +1,6 @@
 //! Reads and writes of connections over tokio's sockets.
 
-use crate::tasks::ReadByte;
+use crate::calls::{ReadByte, WriteOn};
 use ftp_control::transport::{PollConn, Tells};
 use ftp_tokio::TokioConn;
 use futures::task::Poll;
@@ -30,10 +30,24 @@ fn a_read_that_waits_returns_what_comes(rt: HostRuntime) -> Result<(), Fail> {
     let read = ReadByte {
         conn,
         peer,
-        waited: false,
+        registered: false,
     };
     let came = runtime.block_on(&rt, read)?;
     assert_eq!(rt; came, Ok((1, b'x')));
+    Ok(())
+}
+
+#[test]
+fn a_write_that_waits_goes_on_once_there_is_room(rt: HostRuntime) -> Result<(), Fail> {
+    let mut runtime = LocalRuntime::new(&rt)?;
+    let (conn, peer) = pair(&rt, runtime.handle().reactor())?;
+    let write = WriteOn {
+        conn,
+        peer,
+        registered: false,
+    };
+    let written = runtime.block_on(&rt, write)?;
+    assert_eq!(rt; written, Ok(1));
     Ok(())
 }
 

@@ -1,12 +1,12 @@
-//! Requests and calls of a connection as futures, the way the polled client waits for them.
+//! Requests for connections as futures, the way the polled client waits for them.
 
 use ftp_base::types::ConnectionError;
-use ftp_control::transport::{PollConn, PollTransport, TaskConn, TaskTransport, Waiting};
+use ftp_control::transport::{PollTransport, TaskTransport, Waiting};
 use ftp_tokio::{TokioConn, TokioListener, TokioTransport};
 use futures::Future;
 use futures::task::{Context, Poll};
-use std::io::{ErrorKind, Write};
-use std::net::{Net, SocketAddr, TcpStream};
+use std::io::ErrorKind;
+use std::net::{Net, SocketAddr};
 use std::time::{Clock, Duration};
 
 /// A connect to an address.
@@ -64,38 +64,6 @@ impl<R: Net + Clock> Future for Accept<'_, R> {
             Poll::Pending => {}
         }
         match TokioTransport::poll_accept_ready(&mut self.listener, cx) {
-            Waiting::Registered => Poll::Pending,
-            Waiting::Over | Waiting::Nothing => cx.yield_now(),
-        }
-    }
-}
-
-/// A read of one byte. Its peer writes once the read has waited.
-#[derive(Drop)]
-pub struct ReadByte {
-    pub conn: TokioConn,
-    pub peer: TcpStream,
-    pub waited: bool,
-}
-
-impl Future for ReadByte {
-    type Output = Result<(usize, u8), ErrorKind>;
-
-    fn poll(&mut self, cx: &mut Context<'_>) -> Poll<Result<(usize, u8), ErrorKind>> {
-        let mut byte = [0u8; 1];
-        match self.conn.poll_read(&mut (), &mut byte) {
-            Ok(Poll::Ready(count)) => return Poll::Ready(Ok((count, byte[0]))),
-            Err(kind) => return Poll::Ready(Err(kind)),
-            Ok(Poll::Pending) => {}
-        }
-        let waiting = self.conn.poll_ready(cx);
-        if !self.waited {
-            self.waited = true;
-            if let Err(error) = self.peer.write_all(b"x") {
-                return Poll::Ready(Err(error.kind()));
-            }
-        }
-        match waiting {
             Waiting::Registered => Poll::Pending,
             Waiting::Over | Waiting::Nothing => cx.yield_now(),
         }
