@@ -4,7 +4,7 @@
 //! kept. A transfer that the call held is left, so that its last reply is read before the next command.
 
 ghost use Rattle.std.specs.Prelude.{◌≡◌};
-ghost use Rattle.ftp_dialogue.specs.Dropping.{DropsCall, is_fetching};
+ghost use Rattle.ftp_dialogue.specs.Dropping.{DropsCall, aborted_by, is_fetching, left_by};
 
 use super::Call;
 use super::aborting::is_out;
@@ -20,13 +20,27 @@ impl<Tr: Network> Machine<Tr> {
     pub fn drop_call(&mut self, call: &Call, stage: &Stage)
         ensures drops { DropsCall Tr.Conn.tells call.now stage.now self.old self.new }
     {
+        self.leave_by(call, stage);
+        self.let_go();
+        self.abort_by(call, stage);
+    }
+
+    /// The transfer of a call that is dropped at this stage is left.
+    fn leave_by(&mut self, call: &Call, stage: &Stage)
+        ensures { self.new ≡ record self.old { state = left_by call.now stage.now self.old.state } }
+    {
         if is_fetching(stage) {
             self.state.counts.open();
             self.state.counts.leave();
         } else if finishes(call) {
             self.state.counts.leave();
         }
-        self.let_go();
+    }
+
+    /// The transfer of an abort that is dropped once `ABOR` has gone out whole was aborted.
+    fn abort_by(&mut self, call: &Call, stage: &Stage)
+        ensures { self.new ≡ record self.old { state = aborted_by call.now stage.now self.old.state } }
+    {
         if aborts(call) && is_out(stage) {
             self.state.counts.abort();
         }

@@ -48,7 +48,7 @@ where
     fn poll(&mut self, cx: &mut Context<'_>) -> Poll<FtpResult<()>> {
         match self.hold.poll_lock(cx) {
             Poll::Ready(Ok(())) => {
-                let adjusted = adjust(self.rt.alloc(), &mut self.hold, self.adjustment.take());
+                let adjusted = change(self.rt.alloc(), &mut self.hold, self.adjustment.take());
                 self.hold.let_go();
                 Poll::Ready(adjusted)
             }
@@ -59,7 +59,7 @@ where
 }
 
 /// Changes a setting under the lock.
-fn adjust<Tr: TaskTransport, K: Drop, E: Encoding, B: Drop>(
+fn change<Tr: TaskTransport, K: Drop, E: Encoding, B: Drop>(
     alloc: Global,
     hold: &mut Hold<Session<Tr, K, E, B>>,
     adjustment: Option<Adjustment<E, B>>,
@@ -90,11 +90,7 @@ where
     Tr::Conn: TaskConn,
 {
     /// The state of a setting.
-    fn adjust<'r, R>(
-        &self,
-        rt: &'r R,
-        adjustment: Adjustment<E, B>,
-    ) -> Adjust<'r, R, Tr, K, E, B> {
+    fn set<'r, R>(&self, rt: &'r R, adjustment: Adjustment<E, B>) -> Adjust<'r, R, Tr, K, E, B> {
         Adjust {
             rt,
             hold: Hold::on(&self.session),
@@ -104,7 +100,7 @@ where
 
     /// Sets how later data connections come about.
     pub fn set_mode<'r, R>(&self, rt: &'r R, mode: Mode) -> Adjust<'r, R, Tr, K, E, B> {
-        self.adjust(rt, Adjustment::Mode(mode))
+        self.set(rt, Adjustment::Mode(mode))
     }
 
     /// Sets whether the control connection's address stands for the one that `PASV` is answered with.
@@ -113,7 +109,7 @@ where
         rt: &'r R,
         enabled: bool,
     ) -> Adjust<'r, R, Tr, K, E, B> {
-        self.adjust(rt, Adjustment::PassiveNatWorkaround(enabled))
+        self.set(rt, Adjustment::PassiveNatWorkaround(enabled))
     }
 
     /// Sets which peers may open a data connection in active mode.
@@ -122,7 +118,7 @@ where
         rt: &'r R,
         check: ActivePeerCheck,
     ) -> Adjust<'r, R, Tr, K, E, B> {
-        self.adjust(rt, Adjustment::ActivePeerCheck(check))
+        self.set(rt, Adjustment::ActivePeerCheck(check))
     }
 
     /// Sets how long a peer's data connection is waited for in active mode.
@@ -131,17 +127,17 @@ where
         rt: &'r R,
         deadline: Duration,
     ) -> Adjust<'r, R, Tr, K, E, B> {
-        self.adjust(rt, Adjustment::ActiveDeadline(deadline))
+        self.set(rt, Adjustment::ActiveDeadline(deadline))
     }
 
     /// Sets active mode, and how long a peer's data connection is waited for.
     pub fn active_mode<'r, R>(&self, rt: &'r R, deadline: Duration) -> Adjust<'r, R, Tr, K, E, B> {
-        self.adjust(rt, Adjustment::ActiveMode(deadline))
+        self.set(rt, Adjustment::ActiveMode(deadline))
     }
 
     /// Sets the encoding of texts on the control connection; the text of the greeting is read again under it.
     pub fn set_encoding<'r, R>(&self, rt: &'r R, encoding: E) -> Adjust<'r, R, Tr, K, E, B> {
-        self.adjust(rt, Adjustment::Encoding(encoding))
+        self.set(rt, Adjustment::Encoding(encoding))
     }
 
     /// Has later passive data connections made by this builder.
@@ -150,6 +146,6 @@ where
         rt: &'r R,
         builder: B,
     ) -> Adjust<'r, R, Tr, K, E, B> {
-        self.adjust(rt, Adjustment::Builder(builder))
+        self.set(rt, Adjustment::Builder(builder))
     }
 }

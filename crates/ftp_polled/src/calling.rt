@@ -69,9 +69,7 @@ where
         ensures kept { Keeps cx.old cx.new }
     {
         let Hold::Has(session) = &mut self.hold else {
-            return Poll::Ready(Answer::Fault(FtpError::ConnectionError(
-                ConnectionError::NotOwed,
-            )));
+            return Poll::Ready(Answer::Fault(FtpError::ConnectionError(ConnectionError::NotOwed)));
         };
         let alloc = self.rt.alloc();
         let polled = match &mut self.call {

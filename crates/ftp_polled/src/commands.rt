@@ -75,11 +75,7 @@ where
     ///
     /// # Errors
     /// Those of a command and its reply.
-    pub fn eprt<'r, R>(
-        &self,
-        rt: &'r R,
-        address: SocketAddr,
-    ) -> Dialogue<'r, R, Tr, K, E, B, ()> {
+    pub fn eprt<'r, R>(&self, rt: &'r R, address: SocketAddr) -> Dialogue<'r, R, Tr, K, E, B, ()> {
         self.dialogue(rt, Ok(Call::Eprt(address)))
     }
 

@@ -38,7 +38,14 @@ where
     greeting: PolledCall,
 }
 
-impl<'r, R: AllocGlobal, Tr: TaskTransport, K: Drop, E: Encoding, B: Drop> Connect<'r, R, Tr, K, E, B>
+impl<'r, R: AllocGlobal, Tr: TaskTransport, K: Drop, E: Encoding, B: Drop> Connect<
+    'r,
+    R,
+    Tr,
+    K,
+    E,
+    B,
+>
 where
     Tr::Conn: TaskConn,
 {

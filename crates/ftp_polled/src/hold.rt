@@ -15,13 +15,15 @@ use std::sync::Arc;
 use tokio::sync::{LockOwned, Mutex, OwnedMutexGuard};
 
 /// A wait for a lock, which hasn't ended.
-pub(crate) struct Queued<S> {
+#[derive(Drop)]
+pub(crate) struct Queued<S: Drop> {
     lock: LockOwned<S>,
     ghost can: { CanLock lock },
 }
 
 /// How far a state has come with the lock of its client.
-pub(crate) enum Hold<S> {
+#[derive(Drop)]
+pub(crate) enum Hold<S: Drop> {
     /// There was no memory to wait for it.
     Lacks,
     /// It is waited for.

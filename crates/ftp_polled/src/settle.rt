@@ -63,8 +63,7 @@ where
     }
 }
 
-impl<'r, 'l, R: AllocGlobal, Tr, K: Drop, E: Encoding, B> Future
-    for Settle<'r, 'l, R, Tr, K, E, B>
+impl<'r, 'l, R: AllocGlobal, Tr, K: Drop, E: Encoding, B> Future for Settle<'r, 'l, R, Tr, K, E, B>
 where
     Tr: PollTransport<R, ()> + TaskTransport,
     Tr::Conn: PollConn<()> + TaskConn,

@@ -1,4 +1,4 @@
-//! Tests of connections over tokio's sockets, on loopback.
+//! Tests of connections over tokio's sockets, and of the polled client over them, on loopback.
 #![tactic(auto)]
 
 #[cfg(test)]
@@ -6,8 +6,12 @@ mod accepts;
 #[cfg(test)]
 mod calls;
 #[cfg(test)]
+mod clients;
+#[cfg(test)]
 mod connects;
 #[cfg(test)]
 mod requests;
+#[cfg(test)]
+mod scene;
 #[cfg(test)]
 mod traffic;

@@ -94,7 +94,13 @@ impl Face {
     ];
 
     /// Those of them that are sessions.
-    pub const SESSIONS_OF_CALLS: [Face; 5] = [Face::Run, Face::Methods, Face::Client, Face::States, Face::Polled];
+    pub const SESSIONS_OF_CALLS: [Face; 5] = [
+        Face::Run,
+        Face::Methods,
+        Face::Client,
+        Face::States,
+        Face::Polled,
+    ];
 
     /// The faces of a row with events.
     pub const OF_EVENTS: [Face; 2] = [Face::Script, Face::Polled];

@@ -36,7 +36,11 @@ impl<'a> Reader<'a> {
         self.take(rt, line).context(format_args!("line {number}"))
     }
 
-    fn take<R: Wait + Print + RandomSource + AllocGlobal>(&mut self, rt: &R, line: &'a str) -> Result<()> {
+    fn take<R: Wait + Print + RandomSource + AllocGlobal>(
+        &mut self,
+        rt: &R,
+        line: &'a str,
+    ) -> Result<()> {
         if line.is_empty() {
             return self.play(rt);
         }

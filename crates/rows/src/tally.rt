@@ -45,7 +45,11 @@ impl<'a> Tally<'a> {
     }
 
     /// Plays a row on all its faces, and prints what differs.
-    pub fn play<R: Wait + Print + RandomSource + AllocGlobal>(&mut self, rt: &R, row: &Row<'_>) -> Result<()> {
+    pub fn play<R: Wait + Print + RandomSource + AllocGlobal>(
+        &mut self,
+        rt: &R,
+        row: &Row<'_>,
+    ) -> Result<()> {
         self.rows = self.rows.saturating_add(1);
         if let Some(longest) = row.lists() {
             return self.play_lists(rt, row, longest);

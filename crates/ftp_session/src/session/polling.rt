@@ -11,7 +11,7 @@ ghost use Rattle.ftp_dialogue.specs.Link.{building, built_by};
 ghost use Rattle.ftp_dialogue.specs.Steps.Polls.{StageIn, StartsTo};
 ghost use Rattle.ftp_dialogue.specs.Steps.Stages.{StageOf};
 ghost use Rattle.ftp_calls.specs.Exchanges.{is_local};
-ghost use Rattle.ftp_session.specs.Polled.{Drops, PollsCall, PollsNext};
+ghost use Rattle.ftp_session.specs.Polled.{Drops, LooksFirst, PollsCall, PollsNext};
 
 use super::client::Session;
 use super::looking::look;
@@ -19,6 +19,7 @@ use super::{Answer, Call};
 use ftp_base::encoding::Encoding;
 use ftp_base::types::{ConnectionError, FtpError};
 use ftp_calls::exchange::{Turn, is_local};
+use ftp_control::mark::SessionEnd;
 use ftp_control::transport::{Network, PassiveStreamBuilder, PollConn, PollTransport};
 use ftp_dialogue::asks::InTask;
 use ftp_dialogue::machine::Machine;
@@ -118,11 +119,9 @@ impl<Tr: Network, K: Drop, E: Encoding, B: PassiveStreamBuilder<Tr::Conn>> Sessi
         if polled.over {
             return Poll::Ready(Answer::Fault(FtpError::ConnectionError(ConnectionError::NotOwed)));
         }
-        if polled.looks {
-            look(&mut self.machine, &mut self.mark);
-        }
+        look_first(&mut self.machine, &mut self.mark, polled.looks);
         polled.looks = false;
-        let next = poll_next(
+        match poll_next(
             &mut self.machine,
             alloc,
             rt,
@@ -131,12 +130,14 @@ impl<Tr: Network, K: Drop, E: Encoding, B: PassiveStreamBuilder<Tr::Conn>> Sessi
             &polled.call,
             &mut polled.stage,
             w,
-        );
-        if next.is_ready() {
-            polled.stage = Stage::At(Turn::First);
-            polled.over = true;
+        ) {
+            Poll::Ready(answer) => {
+                rest(&mut polled.stage);
+                polled.over = true;
+                Poll::Ready(answer)
+            }
+            Poll::Pending => Poll::Pending,
         }
-        next
     }
 }
 
@@ -153,6 +154,15 @@ impl<Tr: Network, K: Drop, E: Encoding, B: Drop> Session<Tr, K, E, B> {
         if !polled.over {
             self.machine.drop_call(&polled.call, &polled.stage);
         }
+    }
+}
+
+/// Looks once at the mark, at the first poll of a call that looks.
+fn look_first<Tr: Network>(machine: &mut Machine<Tr>, mark: &mut Option<SessionEnd>, looks: bool)
+    ensures { LooksFirst looks mark.old mark.new machine.old machine.new }
+{
+    if looks {
+        look(machine, mark);
     }
 }
 
@@ -215,6 +225,13 @@ where
     );
     forget(stage);
     drained
+}
+
+/// A call that has its answer stands nowhere: as one that wasn't begun.
+fn rest(stage: &mut Stage)
+    ensures { stage.new ≡ Stage.At Turn.First }
+{
+    *stage = Stage::At(Turn::First);
 }
 
 /// How far a call has come isn't asked any more.

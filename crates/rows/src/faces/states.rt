@@ -206,7 +206,10 @@ fn make<'r, R: Wait + RandomSource + AllocGlobal>(
         Call::Feat => features(done(rt, client.feat(rt))),
         Call::ResumeTransfer(offset) => unit(done(rt, client.resume_transfer(rt, *offset))),
         Call::CustomCommand(line, codes) => {
-            reply(done(rt, client.custom_command(rt, line.as_str(), codes.as_slice())))
+            reply(done(
+                rt,
+                client.custom_command(rt, line.as_str(), codes.as_slice()),
+            ))
         }
         Call::ReadResponse(status) => reply(done(rt, client.read_response(rt, *status))),
         Call::ReadResponseIn(codes) => {
@@ -239,24 +242,27 @@ fn open<'r, R: Wait + RandomSource + AllocGlobal>(
 ) -> Result<Answer, RowError> {
     Ok(match call {
         Call::RetrAsStream(path) => {
-            transfers.opened(carried(rt, done(rt, client.retr_as_stream(rt, path.as_str()))))
+            transfers.opened(with_runtime(rt, done(rt, client.retr_as_stream(rt, path.as_str()))))
         }
         Call::PutWithStream(path) => {
-            transfers.opened(carried(rt, done(rt, client.put_with_stream(rt, path.as_str()))))
+            transfers.opened(with_runtime(rt, done(rt, client.put_with_stream(rt, path.as_str()))))
         }
         Call::AppendWithStream(path) => {
-            transfers.opened(carried(rt, done(rt, client.append_with_stream(rt, path.as_str()))))
+            transfers.opened(with_runtime(rt, done(rt, client.append_with_stream(rt, path.as_str()))))
         }
-        Call::CustomDataCommand(line, codes) => transfers.opened_with(carried_with(
+        Call::CustomDataCommand(line, codes) => transfers.opened_with(with_runtime_and_reply(
             rt,
-            done(rt, client.custom_data_command(rt, line.as_str(), codes.as_slice())),
+            done(
+                rt,
+                client.custom_data_command(rt, line.as_str(), codes.as_slice()),
+            ),
         )),
         _ => return Err(RowError::NotUnderstood),
     })
 }
 
 /// A transfer that was opened, with its runtime.
-fn carried<'r, R>(rt: &'r R, opened: FtpResult<Stream>) -> FtpResult<Carried<'r, R>> {
+fn with_runtime<'r, R>(rt: &'r R, opened: FtpResult<Stream>) -> FtpResult<Carried<'r, R>> {
     match opened {
         Ok(stream) => Ok(Carried { rt, stream }),
         Err(fault) => Err(fault),
@@ -264,7 +270,7 @@ fn carried<'r, R>(rt: &'r R, opened: FtpResult<Stream>) -> FtpResult<Carried<'r,
 }
 
 /// A transfer that was opened with its reply, with its runtime.
-fn carried_with<'r, R>(
+fn with_runtime_and_reply<'r, R>(
     rt: &'r R,
     opened: FtpResult<(Response, Stream)>,
 ) -> FtpResult<(Response, Carried<'r, R>)> {
