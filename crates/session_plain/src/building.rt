@@ -31,7 +31,12 @@ pub(crate) fn built(
     ensures { IfOk result (λ built. BuildsAt address standing built) }
 {
     let before = mem::replace(&mut standing.dealings, no_dealings(alloc));
-    let Some(fault) = next_built(standing.outcomes.as_slice())? else {
+    let Ok(next) = next_built(standing.outcomes.as_slice()) else {
+        drop(before);
+        drop(standing);
+        return Err(AllocError);
+    };
+    let Some(fault) = next else {
         let Ok(after) = constructing(address, before) else {
             drop(standing);
             return Err(AllocError);

@@ -129,7 +129,11 @@ fn poll_drain<E: Encoding>(
     ensures { OnOk result (here.new ≡ drained_as (coding_of E.decoded E.encoded encoding.now)
         first.now call here.old (run_with (coding_of E.decoded E.encoded encoding.now) first.now Call.Drain (draining here.old))) }
 {
-    match run_with(alloc, encoding, first, here, &Call::Drain)? {
+    let Ok(ran) = run_with(alloc, encoding, first, here, &Call::Drain) else {
+        drop(call);
+        return Err(AllocError);
+    };
+    match ran {
         Ran::Finished(answers, there) => {
             end_drain(alloc, encoding, first, here, call, answers, there)
         }
@@ -176,6 +180,7 @@ fn end_drain<E: Encoding>(
         pass_over(answers);
         return go_on(alloc, encoding, first, here, call, there);
     }
+    drop(call);
     finish(alloc, here, Item::Shown(Call::Drain), answers, there)
 }
 
@@ -214,7 +219,11 @@ fn poll_call<E: Encoding>(
     ensures { OnOk result (here.new ≡ polled_as (run_with (coding_of E.decoded E.encoded encoding.now) first.now call here.old)
         call (record here.old { call = Some call })) }
 {
-    match run_with(alloc, encoding, first, here, &call)? {
+    let Ok(ran) = run_with(alloc, encoding, first, here, &call) else {
+        drop(call);
+        return Err(AllocError);
+    };
+    match ran {
         Ran::Finished(answers, there) => finish(alloc, here, Item::Shown(call), answers, there),
         Ran::Waiting(_answers, wait, there) => suspend(here, call, wait, there),
     }

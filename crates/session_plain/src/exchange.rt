@@ -111,7 +111,11 @@ pub(crate) fn say<E: Encoding>(
     match line_of(alloc, encoding, command) {
         Ok(line) => said_then(room, line.as_slice(), standing),
         Err(FtpError::ConnectionError(cause)) => Ok(done(Answer::Fault(cause.into()), standing)),
-        Err(_) => Err(AllocError),
+        Err(fault) => {
+            drop(fault);
+            drop(standing);
+            Err(AllocError)
+        }
     }
 }
 
