@@ -150,7 +150,10 @@ fn closed_as(told: Option<ErrorKind>, answer: Answer) -> Answer
 {
     match told {
         None => answer,
-        Some(kind) => Answer::Fault(FtpError::ConnectionError(ConnectionError::Io(kind))),
+        Some(kind) => {
+            drop(answer);
+            Answer::Fault(FtpError::ConnectionError(ConnectionError::Io(kind)))
+        }
     }
 }
 
@@ -284,7 +287,10 @@ fn first_fault(form: Fetch, answer: Answer, fault: FtpError) -> FtpError
 {
     match form {
         Fetch::Whole => fault_or(answer, fault),
-        Fetch::Listed => fault,
+        Fetch::Listed => {
+            drop(answer);
+            fault
+        }
     }
 }
 
@@ -293,7 +299,13 @@ fn fault_or(answer: Answer, fault: FtpError) -> FtpError
     ensures { result ≡ fault_or answer fault }
 {
     match answer {
-        Answer::Fault(first) => first,
-        _ => fault,
+        Answer::Fault(first) => {
+            drop(fault);
+            first
+        }
+        other => {
+            drop(other);
+            fault
+        }
     }
 }

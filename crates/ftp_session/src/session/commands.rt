@@ -107,7 +107,7 @@ where
         ensures encoding { self.new.encoding ≡ self.old.encoding }
         ensures builder { self.new.builder ≡ self.old.builder }
     {
-        unit(self.call(alloc, &Call::Eprt(address)))
+        self.perform(alloc, Ok(Call::Eprt(address)))
     }
 
     /// Sets an option of the server's, to a value or without one: `OPTS` (200; RFC 2389, section 4).
@@ -146,7 +146,7 @@ where
         ensures encoding { self.new.encoding ≡ self.old.encoding }
         ensures builder { self.new.builder ≡ self.old.builder }
     {
-        unit(self.call(alloc, &Call::TransferType(kind)))
+        self.perform(alloc, Ok(Call::TransferType(kind)))
     }
 
     /// Makes a directory: `MKD` (257, 200).
@@ -242,7 +242,7 @@ where
         ensures encoding { self.new.encoding ≡ self.old.encoding }
         ensures builder { self.new.builder ≡ self.old.builder }
     {
-        reply(self.call(alloc, &Call::ReadResponse(expected)))
+        self.perform_for_reply(alloc, Ok(Call::ReadResponse(expected)))
     }
 
     /// Reads one reply whose status is among the expected. Nothing is said.
@@ -268,7 +268,7 @@ where
         ensures encoding { self.new.encoding ≡ self.old.encoding }
         ensures builder { self.new.builder ≡ self.old.builder }
     {
-        unit(self.call(alloc, &Call::ResumeTransfer(offset)))
+        self.perform(alloc, Ok(Call::ResumeTransfer(offset)))
     }
 
     /// Makes a call.
@@ -294,7 +294,11 @@ where
             self.old.mark self.new.mark self.old.machine self.new.machine (unit_answer result) }
     {
         match call {
-            Ok(call) => unit(self.call(alloc, &call)),
+            Ok(call) => {
+                let answer = self.call(alloc, &call);
+                drop(call);
+                unit(answer)
+            }
             Err(AllocError) => Err(self.withheld_call()),
         }
     }
@@ -313,7 +317,11 @@ where
             self.old.mark self.new.mark self.old.machine self.new.machine (reply_answer result) }
     {
         match call {
-            Ok(call) => reply(self.call(alloc, &call)),
+            Ok(call) => {
+                let answer = self.call(alloc, &call);
+                drop(call);
+                reply(answer)
+            }
             Err(AllocError) => Err(self.withheld_call()),
         }
     }

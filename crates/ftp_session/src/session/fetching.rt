@@ -107,14 +107,18 @@ where
     {
         look(&mut self.machine, &mut self.mark);
         match call {
-            Ok(call) => make(
-                &mut self.machine,
-                alloc,
-                rt,
-                &self.builder,
-                &self.encoding,
-                &call,
-            ),
+            Ok(call) => {
+                let answer = make(
+                    &mut self.machine,
+                    alloc,
+                    rt,
+                    &self.builder,
+                    &self.encoding,
+                    &call,
+                );
+                drop(call);
+                answer
+            }
             Err(AllocError) => Answer::Fault(self.withheld()),
         }
     }
@@ -127,7 +131,10 @@ fn bytes(answer: Answer) -> FtpResult<Vec<u8>>
     match answer {
         Answer::Bytes(bytes) => Ok(bytes.into_vec()),
         Answer::Fault(fault) => Err(fault),
-        _ => Err(FtpError::ConnectionError(ConnectionError::NotOwed)),
+        other => {
+            drop(other);
+            Err(FtpError::ConnectionError(ConnectionError::NotOwed))
+        }
     }
 }
 
@@ -138,7 +145,10 @@ fn lines(answer: Answer) -> FtpResult<Vec<String>>
     match answer {
         Answer::Lines(lines) => Ok(lines.into_vec()),
         Answer::Fault(fault) => Err(fault),
-        _ => Err(FtpError::ConnectionError(ConnectionError::NotOwed)),
+        other => {
+            drop(other);
+            Err(FtpError::ConnectionError(ConnectionError::NotOwed))
+        }
     }
 }
 

@@ -154,7 +154,11 @@ where
     {
         look(&mut self.machine, &mut self.mark);
         match call {
-            Ok(call) => self.open_call(alloc, rt, &call, replies, direction),
+            Ok(call) => {
+                let opened = self.open_call(alloc, rt, &call, replies, direction);
+                drop(call);
+                opened
+            }
             Err(AllocError) => Err(self.withheld()),
         }
     }
@@ -247,7 +251,10 @@ pub(super) fn opened(answer: Answer, replies: bool) -> Result<Option<Response>, 
         Answer::Opened if !replies => Ok(None),
         Answer::OpenedWith(reply) if replies => Ok(Some(reply)),
         Answer::Fault(fault) => Err(Some(fault)),
-        _ => Err(None),
+        other => {
+            drop(other);
+            Err(None)
+        }
     }
 }
 

@@ -51,7 +51,11 @@ where
         ensures builder { self.new.builder ≡ self.old.builder }
     {
         match mlst_call(alloc, path) {
-            Ok(call) => text(self.call(alloc, &call)),
+            Ok(call) => {
+                let answer = self.call(alloc, &call);
+                drop(call);
+                text(answer)
+            }
             Err(AllocError) => Err(self.withheld_call()),
         }
     }
@@ -68,7 +72,11 @@ where
         ensures builder { self.new.builder ≡ self.old.builder }
     {
         match mdtm_call(alloc, path) {
-            Ok(call) => time(self.call(alloc, &call)),
+            Ok(call) => {
+                let answer = self.call(alloc, &call);
+                drop(call);
+                time(answer)
+            }
             Err(AllocError) => Err(self.withheld_call()),
         }
     }
@@ -85,7 +93,11 @@ where
         ensures builder { self.new.builder ≡ self.old.builder }
     {
         match size_call(alloc, path) {
-            Ok(call) => size(self.call(alloc, &call)),
+            Ok(call) => {
+                let answer = self.call(alloc, &call);
+                drop(call);
+                size(answer)
+            }
             Err(AllocError) => Err(self.withheld_call()),
         }
     }
