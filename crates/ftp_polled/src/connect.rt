@@ -16,6 +16,7 @@ use ftp_session::session::{Call, PolledCall, Session};
 use futures::Future;
 use futures::task::{Context, Poll};
 use std::alloc::{AllocError, Global};
+use std::mem;
 use std::net::SocketAddr;
 use std::time::Duration;
 
@@ -111,7 +112,8 @@ where
         let Some(transport) = self.transport.take() else {
             return Err(FtpError::ConnectionError(ConnectionError::NotOwed));
         };
-        self.session = Some(Session::new(self.rt.alloc(), transport, conn)?);
+        let session = Session::new(self.rt.alloc(), transport, conn)?;
+        drop(mem::replace(&mut self.session, Some(session)));
         Ok(())
     }
 
@@ -131,7 +133,7 @@ where
             Poll::Ready(answer) => Poll::Ready(client_of(alloc, Outcome::of(answer), session)),
             Poll::Pending => {
                 let waits = wait(&mut session, cx);
-                self.session = Some(session);
+                drop(mem::replace(&mut self.session, Some(session)));
                 waits
             }
         }

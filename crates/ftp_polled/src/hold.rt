@@ -62,7 +62,7 @@ impl<S: Drop> Hold<S> {
             Hold::Lacks => Poll::Ready(Err(AllocError)),
             Hold::Waits(queued) => self.poll_queued(queued, cx),
             held => {
-                *self = held;
+                self.put(held);
                 Poll::Ready(Ok(()))
             }
         }
@@ -80,20 +80,25 @@ impl<S: Drop> Hold<S> {
         let Queued { mut lock } = queued;
         match lock.poll(cx) {
             Poll::Ready(Ok(guard)) => {
-                *self = Hold::Has(guard);
+                self.put(Hold::Has(guard));
                 Poll::Ready(Ok(()))
             }
             Poll::Ready(Err(AllocError)) => Poll::Ready(Err(AllocError)),
             Poll::Pending => {
-                *self = Hold::Waits(Queued { lock });
+                self.put(Hold::Waits(Queued { lock }));
                 Poll::Pending
             }
         }
     }
 
+    /// The hold is this one from now on.
+    fn put(&mut self, hold: Hold<S>) {
+        drop(mem::replace(self, hold));
+    }
+
     /// Lets the lock go.
     pub(crate) fn let_go(&mut self) {
-        *self = Hold::Gone;
+        self.put(Hold::Gone);
     }
 
     /// The hold, which is gone from here.

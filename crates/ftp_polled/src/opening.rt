@@ -18,6 +18,7 @@ use futures::Future;
 use futures::task::{Context, Poll};
 use std::alloc::{AllocError, Global};
 use std::marker::PhantomData;
+use std::mem;
 
 /// What an opening gives: the transfer, with the reply of its command where that is asked for.
 pub(crate) type Opened<C> = (Option<Response>, Transfer<C>);
@@ -135,7 +136,7 @@ where
                 Poll::Ready(session.hand_over(mark, answer, self.replies, self.direction))
             }
             Poll::Pending => {
-                self.mark = Some(mark);
+                drop(mem::replace(&mut self.mark, Some(mark)));
                 wait(session, cx)
             }
         }
@@ -247,7 +248,7 @@ where
                 Poll::Ready(stream_of(opened, session))
             }
             Poll::Pending => {
-                self.session = Some(session);
+                drop(mem::replace(&mut self.session, Some(session)));
                 Poll::Pending
             }
         }

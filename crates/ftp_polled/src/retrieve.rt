@@ -15,6 +15,7 @@ use ftp_session::session::calls::retr_stream_call;
 use ftp_transfer::{Direction, Transfer};
 use futures::Future;
 use futures::task::{Context, Poll};
+use std::mem;
 
 /// What reads a download.
 pub trait RetrReader<C: TaskConn + Drop>: Drop {
@@ -65,7 +66,7 @@ where
     {
         match self.opening.poll_opened(cx) {
             Poll::Ready(Ok((_reply, transfer))) => {
-                self.transfer = Some(transfer);
+                drop(mem::replace(&mut self.transfer, Some(transfer)));
                 Poll::Ready(Ok(()))
             }
             Poll::Ready(Err(fault)) => {
@@ -87,9 +88,10 @@ where
     {
         match self.reader.poll(&mut transfer, cx) {
             Poll::Ready(Ok(read)) => {
-                self.read = Some(read);
+                drop(mem::replace(&mut self.read, Some(read)));
                 let hold = self.opening.take_hold();
-                self.ending = Some(Ending::new(self.opening.runtime(), hold, transfer, false));
+                let ending = Ending::new(self.opening.runtime(), hold, transfer, false);
+                drop(mem::replace(&mut self.ending, Some(ending)));
                 Poll::Ready(Ok(()))
             }
             Poll::Ready(Err(fault)) => {
@@ -98,7 +100,7 @@ where
                 Poll::Ready(Err(fault))
             }
             Poll::Pending => {
-                self.transfer = Some(transfer);
+                drop(mem::replace(&mut self.transfer, Some(transfer)));
                 Poll::Pending
             }
         }

@@ -18,6 +18,7 @@ use ftp_transfer::{Direction, Transfer};
 use futures::Future;
 use futures::task::{Context, Poll};
 use std::alloc::AllocError;
+use std::mem;
 use tokio::io::AsyncRead;
 
 /// A source is uploaded: the command, the data, and the last reply, in one hold of the lock. It gives the number of bytes
@@ -62,7 +63,7 @@ where
         let alloc = self.opening.runtime().alloc();
         match self.copying.begin(alloc, self.opening.sends_text()) {
             Ok(()) => {
-                self.transfer = Some(transfer);
+                drop(mem::replace(&mut self.transfer, Some(transfer)));
                 Ok(())
             }
             Err(fault) => {
@@ -84,7 +85,8 @@ where
         match self.copying.poll_copy(&mut transfer, cx) {
             Poll::Ready(Ok(())) => {
                 let hold = self.opening.take_hold();
-                self.ending = Some(Ending::new(self.opening.runtime(), hold, transfer, false));
+                let ending = Ending::new(self.opening.runtime(), hold, transfer, false);
+                drop(mem::replace(&mut self.ending, Some(ending)));
                 Poll::Ready(Ok(()))
             }
             Poll::Ready(Err(fault)) => {
@@ -92,7 +94,7 @@ where
                 Poll::Ready(Err(fault))
             }
             Poll::Pending => {
-                self.transfer = Some(transfer);
+                drop(mem::replace(&mut self.transfer, Some(transfer)));
                 Poll::Pending
             }
         }
