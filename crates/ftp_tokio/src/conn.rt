@@ -4,8 +4,8 @@
 //! the task can be registered afterwards for just that: `Remembers` in their contracts. What a socket carries is not
 //! covered by any proof: its record is never true.
 
-ghost use Rattle.std.specs.Prelude.{◌≡◌, ◌⊎◌, ℕ, Err, None, Ok, false, length, true};
-ghost use Rattle.std.specs.declared.io.ErrorKind.TheVariants.{NotConnected};
+ghost use Rattle.std.specs.Prelude.{◌≡◌, ◌≢◌, ℕ, Err, None, Ok, false, length, true};
+ghost use Rattle.std.specs.declared.io.ErrorKind.TheVariants.{NotConnected, WouldBlock};
 ghost use Rattle.futures.specs.Task.{Covers, Keeps};
 ghost use Rattle.ftp_control.specs.Memory.{fresh_memory};
 ghost use Rattle.ftp_control.specs.Told.{ReadsAtMost, WritesSome};
@@ -137,12 +137,12 @@ impl TokioConn {
 
 /// What a call of a socket that doesn't block results in where it fails: that it waits, or a fault.
 fn waits_or_fails(kind: ErrorKind) -> Result<Poll<usize>, ErrorKind>
-    ensures { (result ≡ Ok Poll.Pending) ⊎ (result ≡ Err kind) }
+    ensures blocks { kind ≡ WouldBlock → result ≡ Ok Poll.Pending }
+    ensures fails { kind ≢ WouldBlock → result ≡ Err kind }
 {
-    if kind == ErrorKind::WouldBlock {
-        Ok(Poll::Pending)
-    } else {
-        Err(kind)
+    match kind {
+        ErrorKind::WouldBlock => Ok(Poll::Pending),
+        other => Err(other),
     }
 }
 
