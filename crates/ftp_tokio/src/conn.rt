@@ -5,6 +5,7 @@
 //! covered by any proof: its record is never true.
 
 ghost use Rattle.std.specs.Prelude.{◌≡◌, ◌≢◌, ℕ, Err, None, Ok, false, length, true};
+ghost use Rattle.std.specs.Option.{option_copied};
 ghost use Rattle.std.specs.declared.io.ErrorKind.TheVariants.{NotConnected, WouldBlock};
 ghost use Rattle.futures.specs.Task.{Covers, Keeps};
 ghost use Rattle.ftp_control.specs.Memory.{fresh_memory};
@@ -45,7 +46,9 @@ impl TokioConn {
     }
 
     /// The socket; none once the connection was closed here.
-    pub fn get_ref(&self) -> Option<&TcpStream> {
+    pub fn get_ref(&self) -> Option<&TcpStream>
+        ensures { option_copied result ≡ self.now.stream }
+    {
         self.stream.as_ref()
     }
 

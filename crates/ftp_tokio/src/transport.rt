@@ -143,7 +143,10 @@ impl<R: Net + Clock> PollTransport<R, ()> for TokioTransport {
         rt: &R,
         _w: &mut (),
         address: SocketAddr,
-    ) -> Poll<Listening<TokioListener>> {
+    ) -> Poll<Listening<TokioListener>>
+        ensures at_once { OnPending result ⊥ }
+        ensures same { self.new ≡ self.old }
+    {
         match TokioListener::bind(rt, address, &self.handle) {
             Ok(made) => Poll::Ready(Ok(Ok(made))),
             Err(error) => Poll::Ready(Ok(Err(fault(error)))),
