@@ -1,5 +1,5 @@
 -- The connect that a transport has under way.
-use Rattle.std.specs.Prelude.{◌≡◌, ℕ, Option, Some, None, Result}
+use Rattle.std.specs.Prelude.{◌≡◌, ℕ, Option, Some, None, Result, IsSome}
 use Rattle.std.specs.declared.io.Error.{Error}
 use Rattle.std.specs.declared.net.socket_addr.SocketAddr.{SocketAddr}
 use Rattle.tokio.specs.declared.net.stream.TcpStream.{TcpStream}
@@ -15,6 +15,11 @@ IsUnderWay None address = ⊥
 abbrev pub CameTo : Option Attempt → SocketAddr → Result TcpStream Error → Type 0
 CameTo (Some attempt) address outcome = (attempt.address ≡ address) × (attempt.outcome ≡ Some outcome)
 CameTo None address outcome = ⊥
+
+-- there is one, with an outcome that no connect has returned
+abbrev pub IsDone : Option Attempt → Type 0
+IsDone (Some attempt) = IsSome attempt.outcome
+IsDone None = ⊥
 
 -- what it waits for
 abbrev pub AttemptNeeds : Option Attempt → ℕ → Type 0

@@ -4,13 +4,15 @@
 //! the task can be registered afterwards for just that: `Remembers` in their contracts. What a socket carries is not
 //! covered by any proof: its record is never true.
 
-ghost use Rattle.std.specs.Prelude.{◌≡◌, ◌<◌, ◌⊎◌, ℕ, Err, None, false, length};
-ghost use Rattle.std.specs.declared.io.ErrorKind.TheVariants.{NotConnected};
+ghost use Rattle.std.specs.Prelude.{◌≡◌, ◌≢◌, ℕ, Err, None, Ok, false, length, true};
+ghost use Rattle.std.specs.Option.{option_copied};
+ghost use Rattle.std.specs.declared.io.ErrorKind.TheVariants.{NotConnected, WouldBlock};
 ghost use Rattle.futures.specs.Task.{Covers, Keeps};
 ghost use Rattle.ftp_control.specs.Memory.{fresh_memory};
 ghost use Rattle.ftp_control.specs.Told.{ReadsAtMost, WritesSome};
 ghost use Rattle.ftp_control.specs.declared.transport.waiting.Waiting.TheVariants as waits;
-ghost use Rattle.ftp_tokio.specs.Needs.{ReadNeeds, Remembers, WriteNeeds};
+ghost use Rattle.ftp_tokio.specs.Needs.{ConnNeeds, IsOverOn, ReadNeeds, Remembers, WriteNeeds};
+ghost use Rattle.ftp_tokio.specs.Outcomes.{conn_over};
 
 use ftp_base::retry::{read_retrying, write_retrying};
 use ftp_control::transport::{PollConn, TaskConn, Tells, Waiting};
@@ -34,7 +36,7 @@ pub struct TokioConn {
 impl TokioConn {
     /// A connection over a socket that is connected.
     pub fn new(stream: TcpStream) -> TokioConn
-        ensures { result ≡ record { stream = Some stream; read_waits = false; write_waits = false } }
+        ensures { result ≡ conn_over stream }
     {
         TokioConn {
             stream: Some(stream),
@@ -44,30 +46,10 @@ impl TokioConn {
     }
 
     /// The socket; none once the connection was closed here.
-    pub fn get_ref(&self) -> Option<&TcpStream> {
+    pub fn get_ref(&self) -> Option<&TcpStream>
+        ensures { option_copied result ≡ self.now.stream }
+    {
         self.stream.as_ref()
-    }
-
-    /// Drops the socket. Nothing is waited for any more.
-    fn drop_socket(&mut self)
-        ensures { self.new ≡ record { stream = None; read_waits = false; write_waits = false } }
-    {
-        self.stream = None;
-        self.read_waits = false;
-        self.write_waits = false;
-    }
-
-    /// Reads once, and remembers whether that waits.
-    fn read_once(&mut self, buffer: &mut [u8]) -> Result<Poll<usize>, ErrorKind>
-        requires { 0 < length buffer.old }
-        ensures bound { ReadsAtMost result (length buffer.old) }
-        ensures remembered { Remembers result self.new.read_waits }
-        ensures closed { self.old.stream ≡ None → result ≡ Err NotConnected }
-        ensures other { self.new.write_waits ≡ self.old.write_waits }
-    {
-        let read = self.try_read(buffer);
-        self.read_waits = matches!(read, Ok(Poll::Pending));
-        read
     }
 
     /// Reads what is there. An interrupted read is tried again, at most 64 times.
@@ -83,19 +65,6 @@ impl TokioConn {
             Ok(count) => Ok(Poll::Ready(count)),
             Err(error) => waits_or_fails(error.kind()),
         }
-    }
-
-    /// Writes once, and remembers whether that waits.
-    fn write_once(&mut self, bytes: &[u8]) -> Result<Poll<usize>, ErrorKind>
-        requires { 0 < length bytes.now }
-        ensures bound { WritesSome result (length bytes.now) }
-        ensures remembered { Remembers result self.new.write_waits }
-        ensures closed { self.old.stream ≡ None → result ≡ Err NotConnected }
-        ensures other { self.new.read_waits ≡ self.old.read_waits }
-    {
-        let written = self.try_write(bytes);
-        self.write_waits = matches!(written, Ok(Poll::Pending));
-        written
     }
 
     /// Writes what there is room for. An interrupted write is tried again, at most 64 times.
@@ -120,7 +89,8 @@ impl TokioConn {
             Covers cx.new (ReadNeeds self.new.stream self.new.read_waits) }
         ensures nothing { result ≡ waits.Nothing →
             (source : ℕ) → ReadNeeds self.new.stream self.new.read_waits source → ⊥ }
-        ensures over { result ≡ waits.Over → self.new.read_waits ≡ false }
+        ensures over { result ≡ waits.Over →
+            (self.old.read_waits ≡ true) × (self.new.read_waits ≡ false) }
         ensures stream { self.new.stream ≡ self.old.stream }
         ensures other { self.new.write_waits ≡ self.old.write_waits }
         ensures kept { Keeps cx.old cx.new }
@@ -146,7 +116,8 @@ impl TokioConn {
             Covers cx.new (WriteNeeds self.new.stream self.new.write_waits) }
         ensures nothing { result ≡ waits.Nothing →
             (source : ℕ) → WriteNeeds self.new.stream self.new.write_waits source → ⊥ }
-        ensures over { result ≡ waits.Over → self.new.write_waits ≡ false }
+        ensures over { result ≡ waits.Over →
+            (self.old.write_waits ≡ true) × (self.new.write_waits ≡ false) }
         ensures stream { self.new.stream ≡ self.old.stream }
         ensures other { self.new.read_waits ≡ self.old.read_waits }
         ensures kept { Keeps cx.old cx.new }
@@ -169,12 +140,12 @@ impl TokioConn {
 
 /// What a call of a socket that doesn't block results in where it fails: that it waits, or a fault.
 fn waits_or_fails(kind: ErrorKind) -> Result<Poll<usize>, ErrorKind>
-    ensures { (result ≡ Ok Poll.Pending) ⊎ (result ≡ Err kind) }
+    ensures blocks { kind ≡ WouldBlock → result ≡ Ok Poll.Pending }
+    ensures fails { kind ≢ WouldBlock → result ≡ Err kind }
 {
-    if kind == ErrorKind::WouldBlock {
-        Ok(Poll::Pending)
-    } else {
-        Err(kind)
+    match kind {
+        ErrorKind::WouldBlock => Ok(Poll::Pending),
+        other => Err(other),
     }
 }
 
@@ -207,9 +178,15 @@ impl Tells for TokioConn {
         }
     }
 
-    /// Drops the socket, and with it what waits. It never fails.
-    fn close(&mut self) -> Result<(), ErrorKind> {
-        self.drop_socket();
+    /// Drops the socket, and nothing is waited for any more. It never fails.
+    fn close(&mut self) -> Result<(), ErrorKind>
+        ensures ok { result ≡ Ok tt }
+        ensures dropped { self.new ≡
+            record { stream = None; read_waits = false; write_waits = false } }
+    {
+        self.stream = None;
+        self.read_waits = false;
+        self.write_waits = false;
         Ok(())
     }
 }
@@ -221,20 +198,38 @@ impl PollConn<()> for TokioConn {
 
     ghost write_faults = { λ _ _. Unit {0} };
 
-    fn poll_read(&mut self, _w: &mut (), buffer: &mut [u8]) -> Result<Poll<usize>, ErrorKind> {
-        self.read_once(buffer)
+    fn poll_read(&mut self, _w: &mut (), buffer: &mut [u8]) -> Result<Poll<usize>, ErrorKind>
+        ensures bound { ReadsAtMost result (length buffer.old) }
+        ensures remembered { Remembers result self.new.read_waits }
+        ensures closed { self.old.stream ≡ None → result ≡ Err NotConnected }
+        ensures other { self.new.write_waits ≡ self.old.write_waits }
+    {
+        let read = self.try_read(buffer);
+        self.read_waits = matches!(read, Ok(Poll::Pending));
+        read
     }
 
-    fn poll_write(&mut self, _w: &mut (), bytes: &[u8]) -> Result<Poll<usize>, ErrorKind> {
-        self.write_once(bytes)
+    fn poll_write(&mut self, _w: &mut (), bytes: &[u8]) -> Result<Poll<usize>, ErrorKind>
+        ensures bound { WritesSome result (length bytes.now) }
+        ensures remembered { Remembers result self.new.write_waits }
+        ensures closed { self.old.stream ≡ None → result ≡ Err NotConnected }
+        ensures other { self.new.read_waits ≡ self.old.read_waits }
+    {
+        let written = self.try_write(bytes);
+        self.write_waits = matches!(written, Ok(Poll::Pending));
+        written
     }
 }
 
 impl TaskConn for TokioConn {
-    ghost needs = { λ conn source. ReadNeeds conn.stream conn.read_waits source
-        ⊎ WriteNeeds conn.stream conn.write_waits source };
+    ghost needs = { λ conn source. ConnNeeds conn source };
 
-    fn poll_ready(&mut self, cx: &mut Context<'_>) -> Waiting {
+    fn poll_ready(&mut self, cx: &mut Context<'_>) -> Waiting
+        ensures registered { result ≡ waits.Registered → Covers cx.new (ConnNeeds self.new) }
+        ensures nothing { result ≡ waits.Nothing → (source : ℕ) → ConnNeeds self.new source → ⊥ }
+        ensures over { result ≡ waits.Over → IsOverOn self.old self.new }
+        ensures kept { Keeps cx.old cx.new }
+    {
         let reads = self.poll_reads(cx);
         let writes = self.poll_writes(cx);
         reads.or(writes)

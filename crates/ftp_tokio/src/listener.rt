@@ -7,7 +7,8 @@ ghost use Rattle.std.specs.Prelude.{◌≡◌, ℕ, true, false, IsSome, IfSome,
 ghost use Rattle.futures.specs.Poll.{IfReady, OnPending};
 ghost use Rattle.futures.specs.Task.{Covers, Keeps};
 ghost use Rattle.ftp_control.specs.declared.transport.waiting.Waiting.TheVariants as waits;
-ghost use Rattle.ftp_tokio.specs.Needs.{AcceptNeeds, with_fault};
+ghost use Rattle.ftp_tokio.specs.Needs.{AcceptNeeds};
+ghost use Rattle.ftp_tokio.specs.Outcomes.{with_fault};
 
 use crate::attempt::fault;
 use ftp_base::types::ConnectionError;
@@ -67,7 +68,8 @@ impl TokioListener {
     ) -> Poll<Result<Peer, ConnectionError>>
         ensures waits { OnPending result (self.new.waits ≡ true) }
         ensures done { IfReady result (λ _. self.new.waits ≡ false) }
-        ensures kept { IfSome self.old.accepted (λ accepted. result ≡ Poll.Ready (with_fault accepted)) }
+        ensures kept { IfSome self.old.accepted
+            (λ accepted. result ≡ Poll.Ready (with_fault accepted)) }
         ensures empty { self.new.accepted ≡ None }
     {
         self.waits = false;
@@ -104,6 +106,7 @@ impl TokioListener {
             Covers cx.new (AcceptNeeds self.new.socket self.new.waits) }
         ensures nothing { result ≡ waits.Nothing →
             (source : ℕ) → AcceptNeeds self.new.socket self.new.waits source → ⊥ }
+        ensures over { result ≡ waits.Over → self.old.waits ≡ true }
         ensures again { result ≡ waits.Registered → cx.new.is_woken ≡ true }
         ensures waits { self.new.waits ≡ self.old.waits }
         ensures first { IsSome self.old.accepted → self.new.accepted ≡ self.old.accepted }

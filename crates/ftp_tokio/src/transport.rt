@@ -4,12 +4,13 @@
 //! finished by `poll_connect_ready`, and its outcome is returned by the next poll for that address. No timer is used:
 //! while a limit runs the task is polled again at once.
 
-ghost use Rattle.std.specs.Prelude.{◌≡◌, [], None};
+ghost use Rattle.std.specs.Prelude.{◌≡◌, [], ℕ, IfSome, None, Ok, false, true};
 ghost use Rattle.futures.specs.Poll.{IfReady, OnPending};
 ghost use Rattle.futures.specs.Task.{Covers, Keeps};
 ghost use Rattle.ftp_control.specs.declared.transport.waiting.Waiting.TheVariants as waits;
-ghost use Rattle.ftp_tokio.specs.Attempts.{AttemptNeeds, CameTo, IsUnderWay};
-ghost use Rattle.ftp_tokio.specs.Needs.{with_fault};
+ghost use Rattle.ftp_tokio.specs.Attempts.{AttemptNeeds, CameTo, IsDone, IsUnderWay};
+ghost use Rattle.ftp_tokio.specs.Needs.{AcceptNeeds};
+ghost use Rattle.ftp_tokio.specs.Outcomes.{accepted_as, connected_as, with_fault};
 
 use crate::attempt::{Attempt, fault};
 use crate::{TokioConn, TokioListener};
@@ -81,26 +82,6 @@ impl TokioTransport {
             _ => Attempt::begin(net, address, &self.handle),
         }
     }
-
-    /// Drops the connect that is under way, or its outcome.
-    fn drop_attempt(&mut self)
-        ensures { self.new ≡ record self.old { attempt = None } }
-    {
-        self.attempt = None;
-    }
-
-    /// Registers the task for the connect that is under way, or keeps its outcome.
-    fn poll_attempt(&mut self, cx: &mut Context<'_>) -> Waiting
-        ensures registered { result ≡ waits.Registered →
-            Covers cx.new (AttemptNeeds self.new.attempt) }
-        ensures nothing { result ≡ waits.Nothing → self.new.attempt ≡ None }
-        ensures kept { Keeps cx.old cx.new }
-    {
-        match &mut self.attempt {
-            Some(attempt) => attempt.poll_ready(cx),
-            None => Waiting::Nothing,
-        }
-    }
 }
 
 impl Network for TokioTransport {
@@ -144,7 +125,12 @@ impl<R: Net + Clock> PollTransport<R, ()> for TokioTransport {
         _w: &mut (),
         address: SocketAddr,
         limit: Option<Duration>,
-    ) -> Poll<Connected<TokioConn>> {
+    ) -> Poll<Connected<TokioConn>>
+        ensures waits { OnPending result (IsUnderWay self.new.attempt address) }
+        ensures done { IfReady result (λ _. self.new.attempt ≡ None) }
+        ensures kept { (outcome : _) → CameTo self.old.attempt address outcome →
+            result ≡ Poll.Ready (Ok (connected_as outcome)) }
+    {
         match self.poll_stream(rt, address, limit) {
             Poll::Ready(Ok(stream)) => Poll::Ready(Ok(Ok(TokioConn::new(stream)))),
             Poll::Ready(Err(fault)) => Poll::Ready(Ok(Err(fault))),
@@ -157,7 +143,10 @@ impl<R: Net + Clock> PollTransport<R, ()> for TokioTransport {
         rt: &R,
         _w: &mut (),
         address: SocketAddr,
-    ) -> Poll<Listening<TokioListener>> {
+    ) -> Poll<Listening<TokioListener>>
+        ensures at_once { OnPending result ⊥ }
+        ensures same { self.new ≡ self.old }
+    {
         match TokioListener::bind(rt, address, &self.handle) {
             Ok(made) => Poll::Ready(Ok(Ok(made))),
             Err(error) => Poll::Ready(Ok(Err(fault(error)))),
@@ -170,7 +159,13 @@ impl<R: Net + Clock> PollTransport<R, ()> for TokioTransport {
         _w: &mut (),
         listener: &mut TokioListener,
         deadline: Duration,
-    ) -> Poll<Accepted<TokioConn>> {
+    ) -> Poll<Accepted<TokioConn>>
+        ensures waits { OnPending result (listener.new.waits ≡ true) }
+        ensures done { IfReady result (λ _. listener.new.waits ≡ false) }
+        ensures kept { IfSome listener.old.accepted
+            (λ accepted. result ≡ Poll.Ready (Ok (accepted_as accepted))) }
+        ensures same { self.new ≡ self.old }
+    {
         match listener.poll_peer(rt, deadline) {
             Poll::Ready(Ok((stream, peer))) => Poll::Ready(Ok(Ok((TokioConn::new(stream), peer)))),
             Poll::Ready(Err(fault)) => Poll::Ready(Ok(Err(fault))),
@@ -181,15 +176,33 @@ impl<R: Net + Clock> PollTransport<R, ()> for TokioTransport {
 
 impl TaskTransport for TokioTransport {
     /// Drops the connect that is under way.
-    fn forget(&mut self) {
-        self.drop_attempt();
+    fn forget(&mut self)
+        ensures { self.new ≡ record self.old { attempt = None } }
+    {
+        self.attempt = None;
     }
 
-    fn poll_connect_ready(&mut self, cx: &mut Context<'_>) -> Waiting {
-        self.poll_attempt(cx)
+    fn poll_connect_ready(&mut self, cx: &mut Context<'_>) -> Waiting
+        ensures registered { result ≡ waits.Registered →
+            Covers cx.new (AttemptNeeds self.new.attempt) }
+        ensures nothing { result ≡ waits.Nothing → self.new.attempt ≡ None }
+        ensures over { result ≡ waits.Over → IsDone self.new.attempt }
+        ensures kept { Keeps cx.old cx.new }
+    {
+        match &mut self.attempt {
+            Some(attempt) => attempt.poll_ready(cx),
+            None => Waiting::Nothing,
+        }
     }
 
-    fn poll_accept_ready(listener: &mut TokioListener, cx: &mut Context<'_>) -> Waiting {
+    fn poll_accept_ready(listener: &mut TokioListener, cx: &mut Context<'_>) -> Waiting
+        ensures registered { result ≡ waits.Registered →
+            Covers cx.new (AcceptNeeds listener.new.socket listener.new.waits) }
+        ensures nothing { result ≡ waits.Nothing →
+            (source : ℕ) → AcceptNeeds listener.new.socket listener.new.waits source → ⊥ }
+        ensures over { result ≡ waits.Over → listener.old.waits ≡ true }
+        ensures kept { Keeps cx.old cx.new }
+    {
         listener.poll_ready(cx)
     }
 }
