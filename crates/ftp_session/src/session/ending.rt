@@ -85,14 +85,17 @@ where
         ensures encoding { self.new.encoding ≡ self.old.encoding }
         ensures builder { self.new.builder ≡ self.old.builder }
     {
-        match self.begin_settle(left) {
-            Ok(true) => ended(
-                self.machine
-                    .call_alone(&Nothing, alloc, &self.encoding, &Call::Drain),
-            ),
-            Ok(false) => Ok(()),
-            Err(fault) => Err(fault),
+        let owed = match self.begin_settle(left) {
+            Ok(owed) => owed,
+            Err(fault) => return Err(fault),
+        };
+        if !owed {
+            return Ok(());
         }
+        ended(
+            self.machine
+                .call_alone(&Nothing, alloc, &self.encoding, &Call::Drain),
+        )
     }
 }
 
