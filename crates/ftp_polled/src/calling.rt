@@ -96,8 +96,10 @@ where
             mut hold,
             call,
         } = self;
-        if let Some(call) = call {
-            hold.drop_call(&call);
+        if let Some(made) = &call {
+            hold.drop_call(made);
         }
+        drop(call);
+        drop(hold);
     }
 }

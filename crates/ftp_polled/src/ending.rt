@@ -106,6 +106,9 @@ where
         if transfer.is_none() {
             hold.drop_call(&call);
         }
+        drop(call);
+        drop(transfer);
+        drop(hold);
     }
 }
 

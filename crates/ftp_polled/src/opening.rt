@@ -82,7 +82,9 @@ where
     pub(crate) fn abandon(&mut self, transfer: Transfer<Tr::Conn>) {
         if let Hold::Has(session) = &mut self.hold {
             if session.take_back(transfer).is_ok() {
-                session.drop_call(&PolledCall::alone(Call::Finish));
+                let call = PolledCall::alone(Call::Finish);
+                session.drop_call(&call);
+                drop(call);
             }
         }
         self.hold.let_go();
@@ -152,13 +154,16 @@ where
             rt: _,
             mut hold,
             call,
-            mark: _,
+            mark,
             replies: _,
             direction: _,
         } = self;
-        if let Some(call) = call {
-            hold.drop_call(&call);
+        if let Some(made) = &call {
+            hold.drop_call(made);
         }
+        drop(call);
+        drop(mark);
+        drop(hold);
     }
 }
 

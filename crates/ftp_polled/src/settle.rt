@@ -17,6 +17,7 @@ use ftp_session::session::{Call, PolledCall, Session};
 use futures::Future;
 use futures::task::{Context, Poll};
 use std::alloc::AllocError;
+use std::mem;
 
 /// The last reply of a transfer that was left is read, by its receipt.
 ///
@@ -30,6 +31,12 @@ where
     left: &'l mut Left,
     // The read of the reply, once the receipt was looked at and it is owed.
     call: Option<PolledCall>,
+}
+
+/// The read of the reply begins.
+fn begin(call: &mut Option<PolledCall>) {
+    let drain = PolledCall::alone(Call::Drain);
+    drop(mem::replace(call, Some(drain)));
 }
 
 impl<'r, 'l, R: AllocGlobal, Tr, K: Drop, E: Encoding, B> Settle<'r, 'l, R, Tr, K, E, B>
@@ -48,7 +55,7 @@ where
         };
         if self.call.is_none() {
             match session.begin_settle(self.left) {
-                Ok(true) => self.call = Some(PolledCall::alone(Call::Drain)),
+                Ok(true) => begin(&mut self.call),
                 Ok(false) => return Poll::Ready(Ok(())),
                 Err(fault) => return Poll::Ready(Err(fault)),
             }
@@ -97,9 +104,11 @@ where
             left: _,
             call,
         } = self;
-        if let Some(call) = call {
-            hold.drop_call(&call);
+        if let Some(made) = &call {
+            hold.drop_call(made);
         }
+        drop(call);
+        drop(hold);
     }
 }
 

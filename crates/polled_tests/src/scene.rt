@@ -1,7 +1,7 @@
 //! A client of a task, and the server's end of its connections, on loopback.
 
 use ftp_base::types::FtpResult;
-use ftp_polled::ImplAsyncFtpStream;
+use ftp_polled::{ImplAsyncFtpStream, TransferStream};
 use ftp_tokio::{TokioConn, TokioTransport};
 use futures::Future;
 use futures::future::poll_immediate;
@@ -17,6 +17,9 @@ use tokio::runtime::LocalRuntime;
 
 /// A polled client over tokio's sockets.
 pub type Client = ImplAsyncFtpStream<TokioTransport>;
+
+/// A transfer of such a client.
+pub type Upload = TransferStream<TokioTransport>;
 
 /// A client whose greeting was read, the server's end of its control connection, and the runtime that polls it.
 #[derive(Drop)]
