@@ -47,6 +47,29 @@ fn the_reply_to_a_command_that_is_dropped_stays_for_the_next(rt: HostRuntime) ->
     Ok(())
 }
 
+// `PASS` is put into a line once 331 was taken, and not before.
+#[test]
+fn a_login_that_is_dropped_sends_whole_lines_alone(rt: HostRuntime) -> Result<(), Fail> {
+    let user_waits = "USER a\r\n".len() + "331 b\r\n".len();
+    for polls in 1..=user_waits + "PASS c\r\n".len() + "230 d\r\n".len() {
+        let client = client_with(rt.alloc(), &["331 b\r\n", "230 d\r\n"])?;
+        assert!(rt; dropped_after(&rt, client.login(&rt, "a", "c"), polls)?);
+        let noop = end_of(&rt, client.noop(&rt));
+        let lines = sent(&rt, &client)?;
+        if polls <= user_waits {
+            assert_eq!(rt; noop, Came::Unexpected(331), "{polls} polls");
+            assert_eq!(rt; lines.as_slice(), b"USER a\r\nNOOP\r\n".as_slice());
+        } else {
+            assert_eq!(rt; noop, Came::Unexpected(230), "{polls} polls");
+            assert_eq!(rt;
+                lines.as_slice(),
+                b"USER a\r\nPASS c\r\nNOOP\r\n".as_slice()
+            );
+        }
+    }
+    Ok(())
+}
+
 #[test]
 fn a_read_that_is_dropped_loses_nothing(rt: HostRuntime) -> Result<(), Fail> {
     let reply = "200-on\r\n200 off\r\n";

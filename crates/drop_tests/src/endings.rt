@@ -88,3 +88,38 @@ fn an_abort_closes_its_data_connection_once_its_line_is_out(rt: HostRuntime) -> 
     assert_eq!(rt; handed_back(&rt, &client)?, Some(1));
     Ok(())
 }
+
+#[test]
+fn a_settle_that_is_dropped_may_be_made_again(rt: HostRuntime) -> Result<(), Fail> {
+    for polls in 1..=LAST.len() {
+        let client = client(rt.alloc())?;
+        let mut left = uploading(&rt, &client)?.leave();
+        assert!(rt; dropped_after(&rt, client.settle(&rt, &mut left), polls)?);
+        assert_eq!(rt;
+            end_of(&rt, client.settle(&rt, &mut left)),
+            Came::Well,
+            "{polls} polls"
+        );
+        assert_eq!(rt; end_of(&rt, client.noop(&rt)), Came::Well, "{polls} polls");
+        let lines = sent(&rt, &client)?;
+        assert_eq!(rt; lines.as_slice(), b"PASV\r\nSTOR a\r\nNOOP\r\n".as_slice());
+    }
+    Ok(())
+}
+
+#[test]
+fn a_settle_that_is_dropped_is_drained_by_the_next_command(rt: HostRuntime) -> Result<(), Fail> {
+    for polls in 1..=LAST.len() {
+        let client = client(rt.alloc())?;
+        let mut left = uploading(&rt, &client)?.leave();
+        assert!(rt; dropped_after(&rt, client.settle(&rt, &mut left), polls)?);
+        assert_eq!(rt; end_of(&rt, client.noop(&rt)), Came::Well, "{polls} polls");
+        assert_eq!(rt;
+            end_of(&rt, client.settle(&rt, &mut left)),
+            Came::Well,
+            "{polls} polls"
+        );
+        assert_eq!(rt; end_of(&rt, client.put_with_stream(&rt, "b")), Came::Well);
+    }
+    Ok(())
+}

@@ -4,10 +4,22 @@
 #![tactic(auto)]
 
 #[cfg(test)]
+mod after;
+#[cfg(test)]
 mod commands;
 #[cfg(test)]
+mod copies;
+#[cfg(test)]
 mod endings;
+#[cfg(test)]
+mod locks;
+#[cfg(test)]
+mod openings;
 #[cfg(test)]
 mod scene;
 #[cfg(test)]
 mod slow;
+#[cfg(test)]
+mod twice;
+#[cfg(test)]
+mod whole;
