@@ -4,6 +4,7 @@ use crate::scene::{
     ACCEPTED, Came, Client, PASSIVE, client_with, dropped_after, end_of, handed_back, sent,
     uploading,
 };
+use ftp_base::status::Status;
 use std::alloc::Global;
 use std::test::Fail;
 
@@ -73,6 +74,29 @@ fn an_abort_that_is_dropped_leaves_the_transfer_until_its_line_is_out(
             lines.as_slice(),
             b"PASV\r\nSTOR a\r\nABOR\r\nNOOP\r\n".as_slice()
         );
+    }
+    Ok(())
+}
+
+// The server answers both the transfer and `ABOR`, whose tail reaches it with the next command.
+#[test]
+fn the_reply_to_an_abort_stays_where_it_is_dropped_in_its_line(
+    rt: HostRuntime,
+) -> Result<(), Fail> {
+    for polls in 1..="ABOR\r\n".len() {
+        let client = client_with(
+            rt.alloc(),
+            &[PASSIVE, ACCEPTED, "426 a\r\n", "226 b\r\n", "200 c\r\n"],
+        )?;
+        let upload = uploading(&rt, &client)?;
+        assert!(rt; dropped_after(&rt, upload.abort(&rt), polls)?);
+        assert_eq!(rt;
+            end_of(&rt, client.noop(&rt)),
+            Came::Unexpected(226),
+            "{polls} polls"
+        );
+        let read = client.read_response(&rt, Status::CommandOk);
+        assert_eq!(rt; end_of(&rt, read), Came::Well, "{polls} polls");
     }
     Ok(())
 }

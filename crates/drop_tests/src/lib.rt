@@ -4,6 +4,8 @@
 #![tactic(auto)]
 
 #[cfg(test)]
+mod active;
+#[cfg(test)]
 mod after;
 #[cfg(test)]
 mod commands;

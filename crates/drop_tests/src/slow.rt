@@ -117,13 +117,17 @@ impl TaskConn for SlowConn {
     }
 }
 
-/// A transport that hands out connections, the last first, waits before each, and keeps those that are over.
+/// The port of each listener.
+const PORT: u16 = 1024;
+
+/// A transport that hands out connections, the last first, waits before each, and keeps those that are over. A listener is
+/// the address that it is bound to, and its peers have that address.
 #[derive(Drop)]
 pub struct SlowTransport {
     ready: Vec<SlowConn>,
     closed: Vec<SlowConn>,
-    // Whether the next connect was waited for.
-    connects: bool,
+    // Whether the next connect or accept was waited for.
+    waits: bool,
 }
 
 impl SlowTransport {
@@ -132,7 +136,7 @@ impl SlowTransport {
         SlowTransport {
             ready,
             closed: Vec::new(alloc),
-            connects: false,
+            waits: false,
         }
     }
 
@@ -145,7 +149,7 @@ impl SlowTransport {
 impl Network for SlowTransport {
     type Conn = SlowConn;
 
-    type Listener = ();
+    type Listener = SocketAddr;
 
     ghost asked = { λ _. [] };
 
@@ -186,8 +190,8 @@ impl<R> PollTransport<R, ()> for SlowTransport {
         _address: SocketAddr,
         _limit: Option<Duration>,
     ) -> Poll<Connected<SlowConn>> {
-        self.connects = !self.connects;
-        if self.connects {
+        self.waits = !self.waits;
+        if self.waits {
             return Poll::Pending;
         }
         match self.ready.pop() {
@@ -196,31 +200,45 @@ impl<R> PollTransport<R, ()> for SlowTransport {
         }
     }
 
-    fn poll_listen(&mut self, _rt: &R, _w: &mut (), _address: SocketAddr) -> Poll<Listening<()>> {
-        Poll::Ready(Ok(Err(ConnectionError::Io(ErrorKind::Unsupported))))
+    fn poll_listen(
+        &mut self,
+        _rt: &R,
+        _w: &mut (),
+        address: SocketAddr,
+    ) -> Poll<Listening<SocketAddr>> {
+        let mut bound = address;
+        bound.set_port(PORT);
+        Poll::Ready(Ok(Ok((bound, bound))))
     }
 
     fn poll_accept(
         &mut self,
         _rt: &R,
         _w: &mut (),
-        _listener: &mut (),
+        listener: &mut SocketAddr,
         _deadline: Duration,
     ) -> Poll<Accepted<SlowConn>> {
-        Poll::Ready(Ok(Err(ConnectionError::TimedOut)))
+        self.waits = !self.waits;
+        if self.waits {
+            return Poll::Pending;
+        }
+        match self.ready.pop() {
+            Some(conn) => Poll::Ready(Ok(Ok((conn, *listener)))),
+            None => Poll::Ready(Ok(Err(ConnectionError::TimedOut))),
+        }
     }
 }
 
 impl TaskTransport for SlowTransport {
     fn forget(&mut self) {
-        self.connects = false;
+        self.waits = false;
     }
 
     fn poll_connect_ready(&mut self, _cx: &mut Context<'_>) -> Waiting {
         Waiting::Nothing
     }
 
-    fn poll_accept_ready(_listener: &mut (), _cx: &mut Context<'_>) -> Waiting {
+    fn poll_accept_ready(_listener: &mut SocketAddr, _cx: &mut Context<'_>) -> Waiting {
         Waiting::Nothing
     }
 }
