@@ -43,17 +43,18 @@ fn an_upload_that_is_dropped_in_its_data_is_left(rt: HostRuntime) -> Result<(), 
         replies: &[],
         sent: b"PASV\r\nSTOR a\r\nNOOP\r\nPASV\r\nSTOR b\r\n",
     };
-    let mut waits = 0;
-    for polls in opening_waits("STOR a\r\n")..MOST {
+    let accepted = opening_waits("STOR a\r\n");
+    let mut last = accepted;
+    for polls in accepted.saturating_add(1)..MOST {
         let client = after_the_command(rt.alloc())?;
         let upload = client.put_file(&rt, "a", b"hello".as_slice());
-        if !check(&rt, &client, upload, polls.saturating_add(1), &due)? {
+        if !check(&rt, &client, upload, polls, &due)? {
             break;
         }
-        waits = polls;
+        last = polls;
     }
-    let least = opening_waits("STOR a\r\n").saturating_add("hello".len() + LAST.len());
-    assert!(rt; least <= waits && waits < MOST - 1);
+    assert!(rt; accepted.saturating_add("hello".len() + LAST.len()) <= last);
+    assert!(rt; last < MOST - 1);
     Ok(())
 }
 
@@ -64,16 +65,17 @@ fn a_download_that_is_dropped_in_its_data_is_left(rt: HostRuntime) -> Result<(),
         replies: &[],
         sent: b"PASV\r\nRETR a\r\nNOOP\r\nPASV\r\nSTOR b\r\n",
     };
-    let mut waits = 0;
-    for polls in opening_waits("RETR a\r\n")..MOST {
+    let accepted = opening_waits("RETR a\r\n");
+    let mut last = accepted;
+    for polls in accepted.saturating_add(1)..MOST {
         let client = after_the_command(rt.alloc())?;
         let download = client.retr(&rt, "a", Counts { count: 0 });
-        if !check(&rt, &client, download, polls.saturating_add(1), &due)? {
+        if !check(&rt, &client, download, polls, &due)? {
             break;
         }
-        waits = polls;
+        last = polls;
     }
-    let least = opening_waits("RETR a\r\n").saturating_add(DATA.len() + LAST.len());
-    assert!(rt; least <= waits && waits < MOST - 1);
+    assert!(rt; accepted.saturating_add(DATA.len() + LAST.len()) <= last);
+    assert!(rt; last < MOST - 1);
     Ok(())
 }
