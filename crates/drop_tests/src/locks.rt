@@ -1,5 +1,6 @@
 //! States that are dropped while they wait for the lock, and the lock itself.
 
+use crate::after::{after_the_command, opening_waits};
 use crate::scene::{
     ACCEPTED, Came, PASSIVE, client_with, done, dropped_after, end_of, sent, uploading, waits_after,
 };
@@ -98,6 +99,23 @@ fn an_abort_that_is_dropped_while_it_waits_for_the_lock_leaves_its_transfer(
         lines.as_slice(),
         b"PASV\r\nSTOR a\r\nNOOP\r\nNOOP\r\n".as_slice()
     );
+    Ok(())
+}
+
+#[test]
+fn a_command_that_waits_for_an_upload_drains_it_where_that_is_dropped(
+    rt: HostRuntime,
+) -> Result<(), Fail> {
+    let client = after_the_command(rt.alloc())?;
+    let mut upload = client.put_file(&rt, "a", b"hello".as_slice());
+    let polls = opening_waits("STOR a\r\n").saturating_add(3);
+    assert!(rt; waits_after(&rt, &mut upload, polls)?);
+    let mut noop = client.noop(&rt);
+    assert!(rt; waits_after(&rt, &mut noop, 1)?);
+    drop(upload);
+    assert_eq!(rt; end_of(&rt, noop), Came::Well);
+    let lines = sent(&rt, &client)?;
+    assert_eq!(rt; lines.as_slice(), b"PASV\r\nSTOR a\r\nNOOP\r\n".as_slice());
     Ok(())
 }
 
