@@ -24,7 +24,8 @@ pub struct Due<'d> {
     pub sent: &'d [u8],
 }
 
-/// Drops a state after so many polls, makes later calls, and tells whether it waited. Where it didn't nothing is checked.
+/// Drops a state after so many polls, makes later calls, and tells whether it waited. Where it didn't, nothing is
+/// checked.
 pub fn check<R, F, T>(
     rt: &R,
     client: &Client,
@@ -58,8 +59,8 @@ pub fn before_the_command(alloc: Global) -> Result<Box<Client>, Fail> {
     client_with(alloc, &[PASSIVE, "200 ok\r\n", PASSIVE, ACCEPTED])
 }
 
-/// A client whose server gets the data command whole, accepts it, and finds its data connection closed: it says that the
-/// transfer is done, and answers `NOOP` and the other upload.
+/// A client whose server gets the data command whole, accepts it, and finds its data connection closed: it says that
+/// the transfer is done, and answers `NOOP` and the other upload.
 pub fn after_the_command(alloc: Global) -> Result<Box<Client>, Fail> {
     client_with(
         alloc,

@@ -120,8 +120,8 @@ impl TaskConn for SlowConn {
 /// The port of each listener.
 const PORT: u16 = 1024;
 
-/// A transport that hands out connections, the last first, waits before each, and keeps those that are over. A listener is
-/// the address that it is bound to, and its peers have that address.
+/// A transport that hands out connections, the last first, waits before each, and keeps those that are over. A listener
+/// is the address that it is bound to, and its peers have that address.
 #[derive(Drop)]
 pub struct SlowTransport {
     ready: Vec<SlowConn>,
