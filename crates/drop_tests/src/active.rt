@@ -78,3 +78,20 @@ fn the_last_reply_stays_where_an_upload_is_dropped_while_it_accepts(
     assert!(rt; check(&rt, &client, upload, polls, &due)?);
     Ok(())
 }
+
+#[test]
+fn a_listing_that_is_dropped_while_it_accepts_is_left(rt: HostRuntime) -> Result<(), Fail> {
+    let due = Due {
+        noop: Came::Well,
+        replies: &[],
+        sent: b"PORT 0,0,0,0,4,0\r\nLIST\r\nNOOP\r\nPORT 0,0,0,0,4,0\r\nSTOR b\r\n",
+    };
+    let polls = PORT_WAITS + "LIST\r\n".len() + ACCEPTED.len() + 1;
+    let client = active(
+        &rt,
+        &[LISTENS, ACCEPTED, LAST, "200 ok\r\n", LISTENS, ACCEPTED],
+    )?;
+    let listing = client.list(&rt, None);
+    assert!(rt; check(&rt, &client, listing, polls, &due)?);
+    Ok(())
+}

@@ -72,6 +72,16 @@ fn an_end_of_a_transfer_that_is_polled_again_sends_nothing(rt: HostRuntime) -> R
 }
 
 #[test]
+fn an_opening_that_is_polled_again_sends_nothing(rt: HostRuntime) -> Result<(), Fail> {
+    let client = client_with(rt.alloc(), &[PASSIVE, ACCEPTED])?;
+    let opening = twice(&rt, client.put_with_stream(&rt, "a"));
+    assert_eq!(rt; opening, (Came::Well, NOT_OWED));
+    let lines = sent(&rt, &client)?;
+    assert_eq!(rt; lines.as_slice(), b"PASV\r\nSTOR a\r\n".as_slice());
+    Ok(())
+}
+
+#[test]
 fn an_upload_that_is_polled_again_sends_nothing(rt: HostRuntime) -> Result<(), Fail> {
     let client = client_with(rt.alloc(), &[PASSIVE, ACCEPTED, "226 a\r\n"])?;
     let upload = twice(&rt, client.put_file(&rt, "a", b"b".as_slice()));
