@@ -5,24 +5,39 @@ use Rattle.ftp_calls.specs.declared.call.Call.{Call}
 use Rattle.ftp_dialogue.specs.Dialogue.{with_aborted, with_abandoned, with_left}
 use Rattle.ftp_dialogue.specs.State.{LetsGo, SessionValue}
 use Rattle.ftp_dialogue.specs.Steps.Stages.{is_out}
+use Rattle.ftp_dialogue.specs.declared.stage.Agreeing.{Agreeing}
+use Rattle.ftp_dialogue.specs.declared.stage.Agreeing.TheVariants.{Negotiating, Locating, Binding, Asking}
+use Rattle.ftp_dialogue.specs.declared.stage.Asking.TheVariants.{PeerPort, Connection, Peer, Accepting}
 use Rattle.ftp_dialogue.specs.declared.stage.Stage.{Stage}
-use Rattle.ftp_dialogue.specs.declared.stage.Stage.TheVariants.{At, Saying, Hearing, Arming, Agreeing, Closing, Aborting, Fetching}
+use Rattle.ftp_dialogue.specs.declared.stage.Stage.TheVariants.{At, Saying, Hearing, Arming, Closing, Aborting, Fetching}
+use Rattle.ftp_dialogue.specs.declared.stage.Stage.TheVariants as stages
 use Rattle.ftp_dialogue.specs.declared.state.State.{State}
 
--- a whole file or listing is under way, and the server owes the last reply of its transfer
-abbrev pub is_fetching : Stage → Bool
-is_fetching (Fetching fetching) = true
-is_fetching (At turn) = false
-is_fetching (Saying line awaits) = false
-is_fetching (Hearing awaits) = false
-is_fetching (Arming turn offset) = false
-is_fetching (Agreeing agreeing) = false
-is_fetching Closing = false
-is_fetching (Aborting aborting) = false
+-- a data command was accepted, and its peer is waited for
+abbrev pub awaits_peer : Agreeing → Bool
+awaits_peer (Asking turn (Peer opened)) = true
+awaits_peer (Asking turn (Accepting address left opened)) = true
+awaits_peer (Asking turn (PeerPort port)) = false
+awaits_peer (Asking turn (Connection address)) = false
+awaits_peer (Negotiating offset) = false
+awaits_peer (Locating offset) = false
+awaits_peer (Binding address offset) = false
 
--- the transfer that a call was to bring to its end is left, and that of a whole file or listing is opened and left
+-- a data command was accepted, so that the server owes the last reply of its transfer, which isn't counted yet: its peer is
+-- waited for, or a whole file or listing is under way
+abbrev pub owes_last_reply : Stage → Bool
+owes_last_reply (Fetching fetching) = true
+owes_last_reply (stages.Agreeing agreeing) = awaits_peer agreeing
+owes_last_reply (At turn) = false
+owes_last_reply (Saying line awaits) = false
+owes_last_reply (Hearing awaits) = false
+owes_last_reply (Arming turn offset) = false
+owes_last_reply Closing = false
+owes_last_reply (Aborting aborting) = false
+
+-- the transfer that a call was to bring to its end is left, and that of a data command that was accepted is opened and left
 abbrev pub left_by : Call → Stage → State → State
-left_by call stage state = if is_fetching stage then with_abandoned state else if finishes call then with_left state else state
+left_by call stage state = if owes_last_reply stage then with_abandoned state else if finishes call then with_left state else state
 
 -- a transfer was aborted whose ABOR has gone out whole
 abbrev pub aborted_by : Call → Stage → State → State

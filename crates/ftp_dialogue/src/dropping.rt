@@ -4,19 +4,19 @@
 //! kept. A transfer that the call held is left, so that its last reply is read before the next command.
 
 ghost use Rattle.std.specs.Prelude.{◌≡◌};
-ghost use Rattle.ftp_dialogue.specs.Dropping.{DropsCall, aborted_by, is_fetching, left_by};
+ghost use Rattle.ftp_dialogue.specs.Dropping.{DropsCall, aborted_by, left_by, owes_last_reply};
 
 use super::Call;
 use super::aborting::is_out;
 use super::machine::Machine;
-use super::stage::Stage;
+use super::stage::{Agreeing, Asking, Stage};
 use ftp_calls::exchange::{aborts, finishes};
 use ftp_control::transport::Network;
 
 impl<Tr: Network> Machine<Tr> {
     /// A call that waits at this stage is dropped. One that brings a transfer to its end leaves it, but for an abort whose
-    /// `ABOR` has gone out whole: that transfer is over. The transfer of a whole file or listing that is under way is
-    /// left, too.
+    /// `ABOR` has gone out whole: that transfer is over. The transfer of a data command that was accepted, of a whole file
+    /// or listing that is under way too, is left.
     pub fn drop_call(&mut self, call: &Call, stage: &Stage)
         ensures drops { DropsCall Tr.Conn.tells call.now stage.now self.old self.new }
     {
@@ -29,7 +29,7 @@ impl<Tr: Network> Machine<Tr> {
     fn leave_by(&mut self, call: &Call, stage: &Stage)
         ensures { self.new ≡ record self.old { state = left_by call.now stage.now self.old.state } }
     {
-        if is_fetching(stage) {
+        if owes_last_reply(stage) {
             self.state.counts.open();
             self.state.counts.leave();
         } else if finishes(call) {
@@ -47,9 +47,16 @@ impl<Tr: Network> Machine<Tr> {
     }
 }
 
-/// Whether a whole file or listing is under way.
-fn is_fetching(stage: &Stage) -> bool
-    ensures { result ≡ is_fetching stage.now }
+/// Whether a data command was accepted whose transfer isn't counted yet: its peer is waited for, or a whole file or listing
+/// is under way.
+fn owes_last_reply(stage: &Stage) -> bool
+    ensures { result ≡ owes_last_reply stage.now }
 {
-    matches!(stage, Stage::Fetching(_))
+    match stage {
+        Stage::Fetching(_) => true,
+        Stage::Agreeing(Agreeing::Asking(_, asking)) => {
+            matches!(asking, Asking::Peer(_) | Asking::Accepting(..))
+        }
+        _ => false,
+    }
 }

@@ -126,7 +126,8 @@ where
 /// A transfer is aborted.
 ///
 /// Dropped before `ABOR` has gone out whole, it leaves the transfer, and the unsent tail of `ABOR` goes out before any
-/// other byte; dropped later, the transfer is over, and what the server says of it stays for the next call.
+/// other byte; the server may answer both the transfer and `ABOR` then, and the second answer stays for the call after the
+/// next. Dropped later, the transfer is over, and what the server says of it stays for the next call.
 #[derive(Drop)]
 pub struct Abort<'r, R, Tr: TaskTransport, K: Drop, E: Encoding, B: Drop>
 where

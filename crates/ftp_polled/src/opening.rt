@@ -204,15 +204,16 @@ where
 /// A call that opens a transfer, and gives an `A`: the transfer, or the reply of its command with it.
 ///
 /// Dropped before it has its answer it opens none; a reply to a command that went out stays for the next call, as that of
-/// a `Dialogue` does.
+/// a `Dialogue` does. Where its data command was accepted already, and the peer is waited for, the transfer is left.
 #[derive(Drop)]
 pub struct OpenTransfer<'r, R, Tr: TaskTransport, K: Drop, E: Encoding, B: Drop, A>
 where
     Tr::Conn: TaskConn,
 {
     opening: Opening<'r, R, Tr, K, E, B>,
-    // The session of the transfer; none where there was no memory to share it.
+    // The session of the transfer, until that is given; none where there was no memory to share it.
     session: Option<Shared<Tr, K, E, B>>,
+    is_shared: bool,
     gives: PhantomData<A>,
 }
 
@@ -224,9 +225,11 @@ where
         opening: Opening<'r, R, Tr, K, E, B>,
         shared: &Shared<Tr, K, E, B>,
     ) -> OpenTransfer<'r, R, Tr, K, E, B, A> {
+        let session = shared.clone().ok();
         OpenTransfer {
             opening,
-            session: shared.clone().ok(),
+            is_shared: session.is_some(),
+            session,
             gives: PhantomData,
         }
     }
@@ -243,19 +246,15 @@ where
     type Output = FtpResult<A>;
 
     fn poll(&mut self, cx: &mut Context<'_>) -> Poll<FtpResult<A>> {
-        let Some(session) = self.session.take() else {
-            self.opening.let_go();
+        if !self.is_shared {
             return Poll::Ready(Err(FtpError::OutOfMemory));
-        };
+        }
         match self.opening.poll_opened(cx) {
             Poll::Ready(opened) => {
                 self.opening.let_go();
-                Poll::Ready(stream_of(opened, session))
+                Poll::Ready(stream_of(opened, self.session.take()))
             }
-            Poll::Pending => {
-                drop(mem::replace(&mut self.session, Some(session)));
-                Poll::Pending
-            }
+            Poll::Pending => Poll::Pending,
         }
     }
 }
@@ -263,15 +262,26 @@ where
 /// The stream of a transfer that was opened.
 fn stream_of<Tr, K: Drop, E: Encoding, B: Drop, A>(
     opened: FtpResult<Opened<Tr::Conn>>,
-    session: Shared<Tr, K, E, B>,
+    session: Option<Shared<Tr, K, E, B>>,
 ) -> FtpResult<A>
 where
     Tr: TaskTransport,
     Tr::Conn: TaskConn,
     A: Opens<Tr, K, E, B>,
 {
-    match opened {
-        Ok((reply, transfer)) => A::of(reply, TransferStream::new(transfer, session)),
-        Err(fault) => Err(fault),
+    let (reply, transfer) = match opened {
+        Ok(opened) => opened,
+        Err(fault) => {
+            drop(session);
+            return Err(fault);
+        }
+    };
+    match session {
+        Some(session) => A::of(reply, TransferStream::new(transfer, session)),
+        None => {
+            drop(reply);
+            drop(transfer);
+            Err(FtpError::ConnectionError(ConnectionError::NotOwed))
+        }
     }
 }

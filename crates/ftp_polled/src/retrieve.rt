@@ -45,8 +45,9 @@ where
     Tr::Conn: TaskConn,
     F: RetrReader<Tr::Conn>,
 {
-    opening: Opening<'r, R, Tr, K, E, B>,
+    // Dropped first: the transfer has left its mark before the lock is let go.
     transfer: Option<Transfer<Tr::Conn>>,
+    opening: Opening<'r, R, Tr, K, E, B>,
     reader: F,
     read: Option<F::Out>,
     ending: Option<Ending<'r, R, Tr, K, E, B>>,
@@ -175,8 +176,8 @@ where
     ) -> Retrieve<'r, R, Tr, K, E, B, F> {
         let call = retr_stream_call(rt.alloc(), path);
         Retrieve {
-            opening: Opening::new(rt, &self.session, call, false, Direction::Download),
             transfer: None,
+            opening: Opening::new(rt, &self.session, call, false, Direction::Download),
             reader,
             read: None,
             ending: None,

@@ -31,8 +31,9 @@ pub struct Upload<'r, R, Tr: TaskTransport, K: Drop, E: Encoding, B: Drop, S: As
 where
     Tr::Conn: TaskConn,
 {
-    opening: Opening<'r, R, Tr, K, E, B>,
+    // Dropped first: the transfer has left its mark before the lock is let go.
     transfer: Option<Transfer<Tr::Conn>>,
+    opening: Opening<'r, R, Tr, K, E, B>,
     copying: Copying<S>,
     ending: Option<Ending<'r, R, Tr, K, E, B>>,
 }
@@ -156,8 +157,8 @@ where
         source: S,
     ) -> Upload<'r, R, Tr, K, E, B, S> {
         Upload {
-            opening: Opening::new(rt, &self.session, call, false, Direction::Upload),
             transfer: None,
+            opening: Opening::new(rt, &self.session, call, false, Direction::Upload),
             copying: Copying::new(source),
             ending: None,
         }
