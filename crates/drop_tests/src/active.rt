@@ -59,14 +59,11 @@ fn the_replies_to_stor_stay_where_an_active_upload_is_dropped(rt: HostRuntime) -
     Ok(())
 }
 
-// No transfer is opened, so the server's last word on it stays, too.
 #[test]
-fn the_last_reply_stays_where_an_upload_is_dropped_while_it_accepts(
-    rt: HostRuntime,
-) -> Result<(), Fail> {
+fn an_upload_that_is_dropped_while_it_accepts_is_left(rt: HostRuntime) -> Result<(), Fail> {
     let due = Due {
-        noop: Came::Unexpected(226),
-        replies: &[Status::CommandOk],
+        noop: Came::Well,
+        replies: &[],
         sent: b"PORT 0,0,0,0,4,0\r\nSTOR a\r\nNOOP\r\nPORT 0,0,0,0,4,0\r\nSTOR b\r\n",
     };
     let polls = PORT_WAITS + "STOR a\r\n".len() + ACCEPTED.len() + 1;
