@@ -39,7 +39,7 @@ pub use connect::Connect;
 pub use dialogue::{Dialogue, Lines, ReadReply};
 pub use ending::{Abort, Finish};
 pub use lock::{ControlSocket, Lock};
-pub use opening::{OpenTransfer, Opens};
+pub use opening::{OpenTransfer, OpenWithReply};
 pub use outcome::Outcome;
 pub use retrieve::{RetrReader, Retrieve};
 pub use settle::Settle;

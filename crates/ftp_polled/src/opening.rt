@@ -17,7 +17,6 @@ use ftp_transfer::{Direction, Transfer};
 use futures::Future;
 use futures::task::{Context, Poll};
 use std::alloc::{AllocError, Global};
-use std::marker::PhantomData;
 use std::mem;
 
 /// What an opening gives: the transfer, with the reply of its command where that is asked for.
@@ -167,46 +166,9 @@ where
     }
 }
 
-/// What an opening gives to its caller.
-pub trait Opens<Tr: TaskTransport, K: Drop, E: Encoding, B: Drop>: Drop
-where
-    Tr::Conn: TaskConn,
-{
-    /// The value of a transfer that was opened.
-    fn of(reply: Option<Response>, stream: TransferStream<Tr, K, E, B>) -> FtpResult<Self>
-    where
-        Self: Sized;
-}
-
-impl<Tr: TaskTransport, K: Drop, E: Encoding, B: Drop> Opens<Tr, K, E, B>
-    for TransferStream<Tr, K, E, B>
-where
-    Tr::Conn: TaskConn,
-{
-    fn of(_reply: Option<Response>, stream: TransferStream<Tr, K, E, B>) -> FtpResult<Self> {
-        Ok(stream)
-    }
-}
-
-impl<Tr: TaskTransport, K: Drop, E: Encoding, B: Drop> Opens<Tr, K, E, B>
-    for (Response, TransferStream<Tr, K, E, B>)
-where
-    Tr::Conn: TaskConn,
-{
-    fn of(reply: Option<Response>, stream: TransferStream<Tr, K, E, B>) -> FtpResult<Self> {
-        match reply {
-            Some(reply) => Ok((reply, stream)),
-            None => Err(FtpError::ConnectionError(ConnectionError::NotOwed)),
-        }
-    }
-}
-
-/// A call that opens a transfer, and gives an `A`: the transfer, or the reply of its command with it.
-///
-/// Dropped before it has its answer it opens none; a reply to a command that went out stays for the next call, as that of
-/// a `Dialogue` does. Where its data command was accepted already, and the peer is waited for, the transfer is left.
+/// An opening whose transfer is given with the session, for its end.
 #[derive(Drop)]
-pub struct OpenTransfer<'r, R, Tr: TaskTransport, K: Drop, E: Encoding, B: Drop, A>
+struct Streaming<'r, R, Tr: TaskTransport, K: Drop, E: Encoding, B: Drop>
 where
     Tr::Conn: TaskConn,
 {
@@ -214,38 +176,22 @@ where
     // The session of the transfer, until that is given; none where there was no memory to share it.
     session: Option<Shared<Tr, K, E, B>>,
     is_shared: bool,
-    gives: PhantomData<A>,
 }
 
-impl<'r, R, Tr: TaskTransport, K: Drop, E: Encoding, B: Drop, A> OpenTransfer<'r, R, Tr, K, E, B, A>
-where
-    Tr::Conn: TaskConn,
-{
-    pub(crate) fn new(
-        opening: Opening<'r, R, Tr, K, E, B>,
-        shared: &Shared<Tr, K, E, B>,
-    ) -> OpenTransfer<'r, R, Tr, K, E, B, A> {
-        let session = shared.clone().ok();
-        OpenTransfer {
-            opening,
-            is_shared: session.is_some(),
-            session,
-            gives: PhantomData,
-        }
-    }
-}
+/// What a stream's opening gives.
+type Streamed<Tr, K, E, B> = (Option<Response>, TransferStream<Tr, K, E, B>);
 
-impl<'r, R: AllocGlobal, Tr, K: Drop, E: Encoding, B, A> Future
-    for OpenTransfer<'r, R, Tr, K, E, B, A>
+impl<'r, R: AllocGlobal, Tr, K: Drop, E: Encoding, B> Streaming<'r, R, Tr, K, E, B>
 where
     Tr: PollTransport<R, ()> + TaskTransport,
     Tr::Conn: PollConn<()> + TaskConn,
     B: PassiveStreamBuilder<Tr::Conn>,
-    A: Opens<Tr, K, E, B>,
 {
-    type Output = FtpResult<A>;
-
-    fn poll(&mut self, cx: &mut Context<'_>) -> Poll<FtpResult<A>> {
+    /// Goes on with the opening, and lets the lock go once it is over.
+    fn poll_streamed(&mut self, cx: &mut Context<'_>) -> Poll<FtpResult<Streamed<Tr, K, E, B>>>
+        ensures registered { OnPending result (IsArmed cx.new) }
+        ensures kept { Keeps cx.old cx.new }
+    {
         if !self.is_shared {
             return Poll::Ready(Err(FtpError::OutOfMemory));
         }
@@ -260,14 +206,12 @@ where
 }
 
 /// The stream of a transfer that was opened.
-fn stream_of<Tr, K: Drop, E: Encoding, B: Drop, A>(
+fn stream_of<Tr: TaskTransport, K: Drop, E: Encoding, B: Drop>(
     opened: FtpResult<Opened<Tr::Conn>>,
     session: Option<Shared<Tr, K, E, B>>,
-) -> FtpResult<A>
+) -> FtpResult<Streamed<Tr, K, E, B>>
 where
-    Tr: TaskTransport,
     Tr::Conn: TaskConn,
-    A: Opens<Tr, K, E, B>,
 {
     let (reply, transfer) = match opened {
         Ok(opened) => opened,
@@ -277,10 +221,132 @@ where
         }
     };
     match session {
-        Some(session) => A::of(reply, TransferStream::new(transfer, session)),
+        Some(session) => Ok((reply, TransferStream::new(transfer, session))),
         None => {
             drop(reply);
             drop(transfer);
+            Err(FtpError::ConnectionError(ConnectionError::NotOwed))
+        }
+    }
+}
+
+/// A call that opens a transfer.
+///
+/// Dropped before it has its answer it opens none; a reply to a command that went out stays for the next call, as that of
+/// a `Dialogue` does. Where its data command was accepted already, and the peer is waited for, the transfer is left.
+#[derive(Drop)]
+pub struct OpenTransfer<'r, R, Tr: TaskTransport, K: Drop, E: Encoding, B: Drop>
+where
+    Tr::Conn: TaskConn,
+{
+    streaming: Streaming<'r, R, Tr, K, E, B>,
+}
+
+/// A call that opens a transfer, and gives the reply to its command with it. Dropped, it leaves what `OpenTransfer` does.
+#[derive(Drop)]
+pub struct OpenWithReply<'r, R, Tr: TaskTransport, K: Drop, E: Encoding, B: Drop>
+where
+    Tr::Conn: TaskConn,
+{
+    streaming: Streaming<'r, R, Tr, K, E, B>,
+}
+
+impl<'r, R, Tr: TaskTransport, K: Drop, E: Encoding, B: Drop> OpenTransfer<'r, R, Tr, K, E, B>
+where
+    Tr::Conn: TaskConn,
+{
+    pub(crate) fn new(
+        opening: Opening<'r, R, Tr, K, E, B>,
+        shared: &Shared<Tr, K, E, B>,
+    ) -> OpenTransfer<'r, R, Tr, K, E, B> {
+        OpenTransfer {
+            streaming: share(opening, shared),
+        }
+    }
+}
+
+impl<'r, R, Tr: TaskTransport, K: Drop, E: Encoding, B: Drop> OpenWithReply<'r, R, Tr, K, E, B>
+where
+    Tr::Conn: TaskConn,
+{
+    pub(crate) fn new(
+        opening: Opening<'r, R, Tr, K, E, B>,
+        shared: &Shared<Tr, K, E, B>,
+    ) -> OpenWithReply<'r, R, Tr, K, E, B> {
+        OpenWithReply {
+            streaming: share(opening, shared),
+        }
+    }
+}
+
+/// An opening, with the session that its transfer is given with.
+fn share<'r, R, Tr: TaskTransport, K: Drop, E: Encoding, B: Drop>(
+    opening: Opening<'r, R, Tr, K, E, B>,
+    shared: &Shared<Tr, K, E, B>,
+) -> Streaming<'r, R, Tr, K, E, B>
+where
+    Tr::Conn: TaskConn,
+{
+    let session = shared.clone().ok();
+    Streaming {
+        opening,
+        is_shared: session.is_some(),
+        session,
+    }
+}
+
+impl<'r, R: AllocGlobal, Tr, K: Drop, E: Encoding, B> Future for OpenTransfer<'r, R, Tr, K, E, B>
+where
+    Tr: PollTransport<R, ()> + TaskTransport,
+    Tr::Conn: PollConn<()> + TaskConn,
+    B: PassiveStreamBuilder<Tr::Conn>,
+{
+    type Output = FtpResult<TransferStream<Tr, K, E, B>>;
+
+    fn poll(&mut self, cx: &mut Context<'_>) -> Poll<FtpResult<TransferStream<Tr, K, E, B>>> {
+        match self.streaming.poll_streamed(cx) {
+            Poll::Ready(Ok((reply, stream))) => {
+                drop(reply);
+                Poll::Ready(Ok(stream))
+            }
+            Poll::Ready(Err(fault)) => Poll::Ready(Err(fault)),
+            Poll::Pending => Poll::Pending,
+        }
+    }
+}
+
+impl<'r, R: AllocGlobal, Tr, K: Drop, E: Encoding, B> Future for OpenWithReply<'r, R, Tr, K, E, B>
+where
+    Tr: PollTransport<R, ()> + TaskTransport,
+    Tr::Conn: PollConn<()> + TaskConn,
+    B: PassiveStreamBuilder<Tr::Conn>,
+{
+    type Output = FtpResult<(Response, TransferStream<Tr, K, E, B>)>;
+
+    fn poll(
+        &mut self,
+        cx: &mut Context<'_>,
+    ) -> Poll<FtpResult<(Response, TransferStream<Tr, K, E, B>)>> {
+        match self.streaming.poll_streamed(cx) {
+            Poll::Ready(Ok((reply, stream))) => Poll::Ready(with_reply(reply, stream)),
+            Poll::Ready(Err(fault)) => Poll::Ready(Err(fault)),
+            Poll::Pending => Poll::Pending,
+        }
+    }
+}
+
+/// A transfer with the reply to its command, which an opening gives that asks for it.
+fn with_reply<Tr: TaskTransport, K: Drop, E: Encoding, B: Drop>(
+    reply: Option<Response>,
+    stream: TransferStream<Tr, K, E, B>,
+) -> FtpResult<(Response, TransferStream<Tr, K, E, B>)>
+where
+    Tr::Conn: TaskConn,
+{
+    match reply {
+        Some(reply) => Ok((reply, stream)),
+        None => {
+            drop(stream);
             Err(FtpError::ConnectionError(ConnectionError::NotOwed))
         }
     }

@@ -5,11 +5,9 @@
 use crate::calling::Calling;
 use crate::client::ImplAsyncFtpStream;
 use crate::dialogue::{Dialogue, Lines};
-use crate::opening::{OpenTransfer, Opening};
-use crate::transfer_stream::TransferStream;
+use crate::opening::{OpenTransfer, OpenWithReply, Opening};
 use ftp_base::encoding::Encoding;
 use ftp_base::status::Status;
-use ftp_base::types::Response;
 use ftp_control::transport::{TaskConn, TaskTransport};
 use ftp_session::session::Call;
 use ftp_session::session::calls::{
@@ -24,14 +22,13 @@ where
     Tr::Conn: TaskConn,
 {
     /// The state of a call that opens a transfer.
-    fn open<'r, R, A>(
+    fn open<'r, R>(
         &self,
         rt: &'r R,
         call: Result<Call, AllocError>,
-        replies: bool,
         direction: Direction,
-    ) -> OpenTransfer<'r, R, Tr, K, E, B, A> {
-        let opening = Opening::new(rt, &self.session, call, replies, direction);
+    ) -> OpenTransfer<'r, R, Tr, K, E, B> {
+        let opening = Opening::new(rt, &self.session, call, false, direction);
         OpenTransfer::new(opening, &self.session)
     }
 
@@ -44,9 +41,9 @@ where
         &self,
         rt: &'r R,
         path: &str,
-    ) -> OpenTransfer<'r, R, Tr, K, E, B, TransferStream<Tr, K, E, B>> {
+    ) -> OpenTransfer<'r, R, Tr, K, E, B> {
         let call = retr_stream_call(rt.alloc(), path);
-        self.open(rt, call, false, Direction::Download)
+        self.open(rt, call, Direction::Download)
     }
 
     /// Opens an upload to this file: `STOR` (125, 150; RFC 959, section 4.1.3). The offset is taken as by
@@ -58,8 +55,8 @@ where
         &self,
         rt: &'r R,
         path: &str,
-    ) -> OpenTransfer<'r, R, Tr, K, E, B, TransferStream<Tr, K, E, B>> {
-        self.open(rt, put_call(rt.alloc(), path), false, Direction::Upload)
+    ) -> OpenTransfer<'r, R, Tr, K, E, B> {
+        self.open(rt, put_call(rt.alloc(), path), Direction::Upload)
     }
 
     /// Opens an upload to the end of this file: `APPE` (125, 150; RFC 959, section 4.1.3). The offset is taken as by
@@ -71,8 +68,8 @@ where
         &self,
         rt: &'r R,
         path: &str,
-    ) -> OpenTransfer<'r, R, Tr, K, E, B, TransferStream<Tr, K, E, B>> {
-        self.open(rt, append_call(rt.alloc(), path), false, Direction::Upload)
+    ) -> OpenTransfer<'r, R, Tr, K, E, B> {
+        self.open(rt, append_call(rt.alloc(), path), Direction::Upload)
     }
 
     /// Opens a data connection by a caller-supplied line, whose reply's status is among the expected, and gives that
@@ -85,9 +82,10 @@ where
         rt: &'r R,
         line: &str,
         expected: &[Status],
-    ) -> OpenTransfer<'r, R, Tr, K, E, B, (Response, TransferStream<Tr, K, E, B>)> {
+    ) -> OpenWithReply<'r, R, Tr, K, E, B> {
         let call = custom_data_call(rt.alloc(), line, expected);
-        self.open(rt, call, true, Direction::Download)
+        let opening = Opening::new(rt, &self.session, call, true, Direction::Download);
+        OpenWithReply::new(opening, &self.session)
     }
 
     /// Downloads this file, whole and as it is: `RETR` (150, 125; RFC 959, section 4.1.3), its bytes, and the last reply
