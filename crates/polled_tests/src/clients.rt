@@ -2,7 +2,7 @@
 
 use crate::scene::{Scene, Upload, came, greeted, waits};
 use ftp_base::status::Status;
-use ftp_base::types::FtpError;
+use ftp_base::types::{FtpError, FtpResult};
 use std::io::{Read, Write};
 use std::net::{Net, TcpListener, TcpStream};
 use std::random::RandomSource;
@@ -118,9 +118,7 @@ fn a_transfer_that_is_left_while_a_command_waits_is_drained_by_the_next_one(
     drop(upload);
     server.write_all(b"226 done\r\n")?;
     let taken = runtime.block_on(&rt, noop)?;
-    assert!(rt;
-        matches!(taken, Err(FtpError::UnexpectedResponse(reply)) if reply.status == Status::ClosingDataConnection)
-    );
+    assert!(rt; met(&taken, Status::ClosingDataConnection));
     let mut next = client.noop(&rt);
     assert!(rt; waits(&rt, &mut runtime, &mut next)?);
     server.write_all(b"200 ok\r\n200 ok\r\n")?;
@@ -146,6 +144,14 @@ fn a_transfer_that_is_left_before_a_command_is_polled_is_drained_first(
     server.write_all(b"226 done\r\n200 ok\r\n")?;
     assert!(rt; runtime.block_on(&rt, noop)?.is_ok());
     Ok(())
+}
+
+/// Whether a call was answered by this status, which it didn't expect.
+fn met(outcome: &FtpResult<()>, status: Status) -> bool {
+    match outcome {
+        Err(FtpError::UnexpectedResponse(reply)) => reply.status == status,
+        _ => false,
+    }
 }
 
 /// A client whose upload is live, on a data connection to a listener that is closed.
