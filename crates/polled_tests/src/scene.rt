@@ -56,6 +56,7 @@ where
     R: Wait + Clock + RandomSource + AllocGlobal,
     F: Future<Output = FtpResult<T>>,
     T: Drop,
+    requires { F.can_poll state.old }
 {
     let polled = runtime.block_on(rt, poll_immediate(state))?;
     Ok(polled.is_none())

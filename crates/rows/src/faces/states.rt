@@ -36,6 +36,7 @@ fn done<R, F, T>(rt: &R, state: F) -> FtpResult<T>
 where
     R: Wait + RandomSource + AllocGlobal,
     F: Future<Output = FtpResult<T>>,
+    requires { F.can_poll state }
 {
     match block_on(rt, state) {
         Ok(outcome) => outcome,
@@ -248,7 +249,10 @@ fn open<'r, R: Wait + RandomSource + AllocGlobal>(
             transfers.opened(with_runtime(rt, done(rt, client.put_with_stream(rt, path.as_str()))))
         }
         Call::AppendWithStream(path) => {
-            transfers.opened(with_runtime(rt, done(rt, client.append_with_stream(rt, path.as_str()))))
+            transfers.opened(with_runtime(
+                rt,
+                done(rt, client.append_with_stream(rt, path.as_str())),
+            ))
         }
         Call::CustomDataCommand(line, codes) => transfers.opened_with(with_runtime_and_reply(
             rt,
