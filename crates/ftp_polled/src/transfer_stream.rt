@@ -81,6 +81,10 @@ where
 
     /// Brings the transfer to its end: its data connection is closed, and its last reply is read (226, 250; RFC 959,
     /// section 3.2). Dropped before it has its answer, it leaves the transfer.
+    ///
+    /// # Errors
+    /// Those of a read of one reply; before them, of an upload, the fault of the close. `NotOwed` where the session owes no
+    /// transfer of this number.
     pub fn finish<R>(self, rt: &R) -> Finish<'_, R, Tr, K, E, B> {
         let TransferStream { transfer, session } = self;
         Finish::new(Ending::new(rt, Hold::of(session), transfer, false))
@@ -88,6 +92,10 @@ where
 
     /// Aborts the transfer: `ABOR` goes out, its data connection is closed, and what the server says of it is read (226, or
     /// 426 and then 226; RFC 959, section 4.1.3). Dropped before `ABOR` has gone out whole, it leaves the transfer.
+    ///
+    /// # Errors
+    /// Those of a command that goes out: where it can't, the transfer is left. Those of a read of one reply; `NotOwed` where
+    /// the session owes no transfer of this number.
     pub fn abort<R>(self, rt: &R) -> Abort<'_, R, Tr, K, E, B> {
         let TransferStream { transfer, session } = self;
         Abort::new(Ending::new(rt, Hold::of(session), transfer, true))

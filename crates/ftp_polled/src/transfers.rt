@@ -5,7 +5,9 @@
 use crate::calling::Calling;
 use crate::client::ImplAsyncFtpStream;
 use crate::dialogue::{Dialogue, Lines};
+use crate::ending::{Abort, Finish};
 use crate::opening::{OpenTransfer, OpenWithReply, Opening};
+use crate::transfer_stream::TransferStream;
 use ftp_base::encoding::Encoding;
 use ftp_base::status::Status;
 use ftp_control::transport::{TaskConn, TaskTransport};
@@ -137,5 +139,29 @@ where
         path: Option<&str>,
     ) -> Lines<'r, R, Tr, K, E, B> {
         self.dialogue(rt, mlsd_call(rt.alloc(), path))
+    }
+
+    /// Brings a transfer to its end, as its own `finish` does: on the control connection of the client that opened it.
+    ///
+    /// # Errors
+    /// Those of `TransferStream::finish`.
+    pub fn finish<'r, R>(
+        &self,
+        rt: &'r R,
+        stream: TransferStream<Tr, K, E, B>,
+    ) -> Finish<'r, R, Tr, K, E, B> {
+        stream.finish(rt)
+    }
+
+    /// Aborts a transfer, as its own `abort` does: `ABOR` goes out on the control connection of the client that opened it.
+    ///
+    /// # Errors
+    /// Those of `TransferStream::abort`.
+    pub fn abort<'r, R>(
+        &self,
+        rt: &'r R,
+        stream: TransferStream<Tr, K, E, B>,
+    ) -> Abort<'r, R, Tr, K, E, B> {
+        stream.abort(rt)
     }
 }
