@@ -6,6 +6,7 @@ mod ask;
 mod directory;
 mod download;
 mod listing;
+mod polled;
 mod upload;
 
 use std::process::ExitCode;
@@ -15,6 +16,9 @@ use std::{env, io};
 fn main(rt: HostRuntime) -> ExitCode {
     match words(&rt) {
         Ok(words) if words.len() == 1 => ask::print_system(&rt, words[0].as_str()),
+        Ok(words) if words.len() == 2 && words[0].as_str() == "polled" => {
+            polled::print_list(&rt, words[1].as_str())
+        }
         Ok(words) if words.len() == 2 && words[0].as_str() == "entry" => listing::print_entry(
             &rt,
             words[1].as_str(),
@@ -42,7 +46,7 @@ fn main(rt: HostRuntime) -> ExitCode {
         ),
         _ => {
             let _ = rt.eprintln(
-                "usage: examples ADDRESS | examples file ADDRESS NAME | examples get ADDRESS NAME | examples list ADDRESS DIRECTORY | examples put ADDRESS NAME TEXT | examples entry LINE",
+                "usage: examples ADDRESS | examples file ADDRESS NAME | examples get ADDRESS NAME | examples list ADDRESS DIRECTORY | examples put ADDRESS NAME TEXT | examples polled ADDRESS | examples entry LINE",
             );
             ExitCode::from(2)
         }

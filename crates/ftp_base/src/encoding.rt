@@ -41,7 +41,7 @@ impl fmt::Display for EncodeError {
 impl Error for EncodeError {}
 
 /// An encoding of text on the control connection: two functions of their argument.
-pub trait Encoding: Send + Sync + Drop {
+pub trait Encoding: Drop {
     /// The text that bytes stand for.
     ghost decoded: { Self → List ℕ → List ℕ };
 

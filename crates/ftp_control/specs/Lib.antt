@@ -13,3 +13,4 @@ pub mod Refusal
 pub mod Saying
 pub mod Sending
 pub mod Told
+pub mod Waits

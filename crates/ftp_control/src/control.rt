@@ -19,6 +19,7 @@ mod line_buffer;
 mod outbox;
 mod outcome;
 mod read_loop;
+mod readiness;
 mod reply_buffer;
 mod rule;
 mod sends;

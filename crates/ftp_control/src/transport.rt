@@ -1,9 +1,9 @@
 //! Connections, as the control channel uses them, and the transports that make them.
 //!
-//! There are three ways to wait, a trait each: `Conn` blocks, `PollConn` says through a `W` that it waits, `TaskConn`
-//! waits in a task of an event loop. Blanket impls make a `PollConn` of the other two, so whatever stands above is
-//! written once, over `PollConn`. `MemoryConn` records all its traffic, and what is proved of a client is said of such
-//! a record; `TcpConn` is a socket, of which nothing can be proved.
+//! There are two ways to wait, a trait each: `Conn` blocks, `PollConn` says through a `W` that it waits. A blanket impl
+//! makes a `PollConn` of every `Conn`, so whatever stands above is written once, over `PollConn`. A `TaskConn` can
+//! register a task of an event loop for what a poll of it waits for. `MemoryConn` records all its traffic, and what is
+//! proved of a client is said of such a record; `TcpConn` is a socket, of which nothing can be proved.
 
 mod builder;
 mod connecting;
@@ -18,6 +18,8 @@ mod socket;
 mod socket_listener;
 mod supply;
 mod task;
+mod task_memory;
+mod waiting;
 
 pub use builder::PassiveStreamBuilder;
 pub use connecting::{Tried, poll_connect_in_turn};
@@ -30,4 +32,5 @@ pub use room::Room;
 pub use socket::{TcpConn, TcpTransport};
 pub use socket_listener::TcpConnListener;
 pub use supply::Supply;
-pub use task::TaskConn;
+pub use task::{TaskConn, TaskTransport};
+pub use waiting::Waiting;

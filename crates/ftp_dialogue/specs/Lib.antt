@@ -1,6 +1,7 @@
 pub mod Coding
 pub mod Deals
 pub mod Dialogue
+pub mod Dropping
 pub mod Gathering
 pub mod Laws
 pub mod Link

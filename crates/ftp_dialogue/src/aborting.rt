@@ -156,7 +156,7 @@ impl<Tr: Network> Machine<Tr> {
 }
 
 /// Whether `ABOR` has gone out whole.
-fn is_out(stage: &Stage) -> bool
+pub(super) fn is_out(stage: &Stage) -> bool
     ensures { result ≡ is_out stage.now }
 {
     !matches!(

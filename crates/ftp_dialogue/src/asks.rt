@@ -3,7 +3,7 @@
 //! Most calls ask nothing, and take no runtime; so the machine is passed what asks for it: a runtime, by which its
 //! transport is polled, with the builder, where there is one; or nothing, of which no contract says anything.
 
-ghost use Rattle.std.specs.Prelude.{◌≡◌, ◌<◌, length, None, Ok, Result};
+ghost use Rattle.std.specs.Prelude.{◌≡◌, ◌<◌, ◌⊎◌, length, None, Ok, Result};
 ghost use Rattle.std.specs.declared.net.socket_addr.SocketAddr.{SocketAddr as Address};
 ghost use Rattle.ftp_base.specs.declared.types.fault.FtpError.{FtpError as Faults};
 ghost use Rattle.ftp_control.specs.Told.{ReadTells, ReadsAtMost, Told, WriteTells, WritesSome};
@@ -14,7 +14,7 @@ ghost use Rattle.ftp_control.specs.declared.transport.request.Request.TheVariant
 
 use ftp_base::types::{ConnectionError, FtpError, FtpResult};
 use ftp_control::transport::{
-    Accepted, Conn, Connected, Listening, Network, PassiveStreamBuilder, PollTransport,
+    Accepted, Conn, Connected, Listening, Network, PassiveStreamBuilder, PollConn, PollTransport,
 };
 use futures::task::Poll;
 use std::alloc::AllocError;
@@ -176,6 +176,75 @@ where
             Ok(count) => Ok(Poll::Ready(count)),
             Err(kind) => Err(kind),
         }
+    }
+}
+
+/// Asks as `By` does, and reads and writes data connections by polls, which may have to wait.
+#[derive(Drop)]
+pub struct InTask<'r, R, B>(pub &'r R, pub &'r Option<B>);
+
+impl<'r, R, W, Tr: PollTransport<R, W>, B: PassiveStreamBuilder<Tr::Conn>> Asks<Tr, W>
+    for InTask<'r, R, B>
+where
+    Tr::Conn: PollConn<W>,
+{
+    ghost may_ask = { Unit {0} };
+
+    ghost may_wait = { Tr.PollTransport.may_wait ⊎ Tr.Conn.PollConn.may_wait };
+
+    ghost builds = { λ by. built_by B.PassiveStreamBuilder.answers by.1.now };
+
+    fn build(&self, address: SocketAddr) -> FtpResult<Tr::Conn> {
+        match self.1 {
+            Some(builder) => builder.build(address),
+            None => Err(FtpError::ConnectionError(ConnectionError::NoAddress)),
+        }
+    }
+
+    fn connect(
+        &self,
+        transport: &mut Tr,
+        w: &mut W,
+        address: SocketAddr,
+    ) -> Poll<Connected<Tr::Conn>> {
+        transport.poll_connect(self.0, w, address, None)
+    }
+
+    fn listen(
+        &self,
+        transport: &mut Tr,
+        w: &mut W,
+        address: SocketAddr,
+    ) -> Poll<Listening<Tr::Listener>> {
+        transport.poll_listen(self.0, w, address)
+    }
+
+    fn accept(
+        &self,
+        transport: &mut Tr,
+        w: &mut W,
+        listener: &mut Tr::Listener,
+        deadline: Duration,
+    ) -> Poll<Accepted<Tr::Conn>> {
+        transport.poll_accept(self.0, w, listener, deadline)
+    }
+
+    fn read(
+        &self,
+        conn: &mut Tr::Conn,
+        w: &mut W,
+        buffer: &mut [u8],
+    ) -> Result<Poll<usize>, ErrorKind> {
+        conn.poll_read(w, buffer)
+    }
+
+    fn write(
+        &self,
+        conn: &mut Tr::Conn,
+        w: &mut W,
+        bytes: &[u8],
+    ) -> Result<Poll<usize>, ErrorKind> {
+        conn.poll_write(w, bytes)
     }
 }
 

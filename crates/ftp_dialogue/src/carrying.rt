@@ -100,13 +100,16 @@ impl<Tr: Network> Machine<Tr> {
     {
         let outcome = self.close_data();
         let told = told_of_close(self.state.uploads, &outcome);
+        drop(outcome);
         go_to(stage, Stage::At(Turn::Closed(told)));
         Step::Next
     }
 }
 
 /// What a close came to is told to nobody.
-pub(super) fn pass_over(_outcome: DealOutcome) {}
+pub(super) fn pass_over(outcome: DealOutcome) {
+    drop(outcome);
+}
 
 /// The fault of a close that is told before the reply's: that of an upload.
 pub(super) fn told_of_close(uploads: bool, outcome: &DealOutcome) -> Option<ErrorKind>

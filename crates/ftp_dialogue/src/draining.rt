@@ -120,10 +120,14 @@ impl<Tr: Network> Machine<Tr> {
         let mut stage = self.enter(&Call::Drain);
         match self.poll_call(&Nothing, alloc, encoding, &Call::Drain, &mut stage, w) {
             Poll::Ready(answer) => {
+                drop(stage);
                 self.let_go();
                 Poll::Ready(drained(answer))
             }
-            Poll::Pending => Poll::Pending,
+            Poll::Pending => {
+                drop(stage);
+                Poll::Pending
+            }
         }
     }
 

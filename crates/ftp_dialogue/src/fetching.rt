@@ -206,6 +206,7 @@ impl<Tr: Network> Machine<Tr> {
     {
         let outcome = self.close_data();
         let told = told_of_close(self.state.uploads, &outcome);
+        drop(outcome);
         go_to(
             stage,
             Stage::Fetching(Fetching::Ending(form, closed_as(told, answer))),
@@ -255,6 +256,7 @@ impl<Tr: Network> Machine<Tr> {
     {
         self.abort_dialogue(true, &fault);
         if wants_memory(&fault) {
+            drop(answer);
             return Answer::Fault(fault);
         }
         self.state.counts.open();
@@ -329,7 +331,10 @@ fn first_fault(form: Fetch, answer: Answer, fault: FtpError) -> FtpError
 {
     match form {
         Fetch::Whole => fault_or(answer, fault),
-        Fetch::Listed => fault,
+        Fetch::Listed => {
+            drop(answer);
+            fault
+        }
     }
 }
 
@@ -339,7 +344,10 @@ fn closed_as(told: Option<ErrorKind>, answer: Answer) -> Answer
 {
     match told {
         None => answer,
-        Some(kind) => Answer::Fault(FtpError::ConnectionError(ConnectionError::Io(kind))),
+        Some(kind) => {
+            drop(answer);
+            Answer::Fault(FtpError::ConnectionError(ConnectionError::Io(kind)))
+        }
     }
 }
 
@@ -348,7 +356,13 @@ fn fault_or(answer: Answer, fault: FtpError) -> FtpError
     ensures { result ≡ fault_or answer fault }
 {
     match answer {
-        Answer::Fault(first) => first,
-        _ => fault,
+        Answer::Fault(first) => {
+            drop(fault);
+            first
+        }
+        other => {
+            drop(other);
+            fault
+        }
     }
 }

@@ -51,10 +51,9 @@ pub enum DealOutcome {
 }
 
 /// Where a run stands.
+// Its largest parts come last: a clone that runs out of memory drops what it has made so far.
 #[derive(Clone, Drop)]
 pub struct Standing {
-    /// What the session keeps beside its channel.
-    pub state: State,
     /// Whether the session has failed.
     pub failed: bool,
     /// Which lines open and end a reply.
@@ -67,14 +66,16 @@ pub struct Standing {
     pub local: SocketAddr,
     /// The address of its peer.
     pub peer: SocketAddr,
-    /// What stands beside the control connection.
-    pub dealings: Dealings,
     /// The bytes that are part of no reply yet.
     pub bytes: Bytes,
     /// Whether no others come.
     pub ended: bool,
     /// The outcomes to come of the transport's requests, and of what is done on the data connection.
     pub outcomes: Items<DealOutcome>,
+    /// What stands beside the control connection.
+    pub dealings: Dealings,
+    /// What the session keeps beside its channel.
+    pub state: State,
 }
 
 /// What a call waits for.

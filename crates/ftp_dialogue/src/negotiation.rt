@@ -308,9 +308,10 @@ impl<Tr: Network> Machine<Tr> {
                 go_to(stage, Stage::Agreeing(Agreeing::Asking(turn, asking)));
                 Step::Next
             }
-            Err(kind) => Step::Done(Answer::Fault(FtpError::ConnectionError(ConnectionError::Io(
-                kind,
-            )))),
+            Err(kind) => {
+                drop(opened);
+                Step::Done(Answer::Fault(FtpError::ConnectionError(ConnectionError::Io(kind))))
+            }
         }
     }
 
@@ -339,7 +340,10 @@ impl<Tr: Network> Machine<Tr> {
     {
         match self.ask_to_accept(asker, w) {
             Poll::Ready(Ok(outcome)) => self.meet(outcome, turn, peer, left, opened, stage),
-            Poll::Ready(Err(AllocError)) => self.lack_memory(),
+            Poll::Ready(Err(AllocError)) => {
+                drop(opened);
+                self.lack_memory()
+            }
             Poll::Pending => {
                 let asking = Asking::Accepting(peer, left, opened);
                 go_to(stage, Stage::Agreeing(Agreeing::Asking(turn, asking)));
@@ -374,8 +378,14 @@ impl<Tr: Network> Machine<Tr> {
                     self.turn_away(turn, peer, left, opened, stage)
                 }
             }
-            RequestOutcome::Refused(fault) => refused(fault),
-            RequestOutcome::Done => refused(ConnectionError::NoAddress),
+            RequestOutcome::Refused(fault) => {
+                drop(opened);
+                refused(fault)
+            }
+            RequestOutcome::Done => {
+                drop(opened);
+                refused(ConnectionError::NoAddress)
+            }
         }
     }
 
@@ -409,6 +419,7 @@ impl<Tr: Network> Machine<Tr> {
         ensures turned { TurnsAway turn peer left opened stage.new self.old self.new result }
     {
         if left == 0 {
+            drop(opened);
             return refused(ConnectionError::TimedOut);
         }
         let _stranger = self.data_conn.take();

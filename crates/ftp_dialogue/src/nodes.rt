@@ -278,6 +278,7 @@ pub(crate) fn conclude_fault(ending: Ending, fault: FtpError, state: &mut State)
     ensures { FaultLeaves ending fault state.old state.new result }
 {
     if wants_memory(&fault) {
+        drop(ending);
         return Answer::Fault(fault);
     }
     match ending {
@@ -285,7 +286,10 @@ pub(crate) fn conclude_fault(ending: Ending, fault: FtpError, state: &mut State)
             state.counts.finish();
             match close {
                 None => Answer::Fault(fault),
-                Some(kind) => Answer::Fault(FtpError::ConnectionError(ConnectionError::Io(kind))),
+                Some(kind) => {
+                    drop(fault);
+                    Answer::Fault(FtpError::ConnectionError(ConnectionError::Io(kind)))
+                }
             }
         }
         Ending::Drains => {
@@ -296,7 +300,10 @@ pub(crate) fn conclude_fault(ending: Ending, fault: FtpError, state: &mut State)
             state.counts.abort();
             Answer::Fault(fault)
         }
-        _ => Answer::Fault(fault),
+        other => {
+            drop(other);
+            Answer::Fault(fault)
+        }
     }
 }
 

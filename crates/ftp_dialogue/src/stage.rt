@@ -21,6 +21,7 @@ use ftp_base::types::FtpResult;
 use ftp_calls::exchange::{Codes, Ending, Exchange, Fetch, Row, Task, Turn, next_turn, row_at};
 use ftp_control::control::WireLine;
 use std::alloc::Global;
+use std::mem;
 use std::net::SocketAddr;
 
 /// Where a call stands: the node of its dialogue that comes next.
@@ -133,7 +134,7 @@ pub(crate) enum Step {
 pub(super) fn go_to(stage: &mut Stage, next: Stage)
     ensures { stage.new ≡ next }
 {
-    *stage = next;
+    drop(mem::replace(stage, next));
 }
 
 /// The next turn begins, or the call is done.
@@ -193,7 +194,10 @@ fn first_node<E: Encoding>(
         None => Ok(Stage::Hearing(awaits)),
         Some(command) => match line_of(alloc, encoding, command) {
             Ok(line) => Ok(Stage::Saying(Some(line), awaits)),
-            Err(fault) => Err(fault),
+            Err(fault) => {
+                drop(awaits);
+                Err(fault)
+            }
         },
     }
 }
@@ -217,5 +221,7 @@ fn line_of<E: Encoding>(alloc: Global, encoding: &E, command: Command) -> FtpRes
     ensures line { IfOk result (λ line. wire (E.encoded encoding.now) (text_of command) ≡ Ok line) }
     ensures refused { IfErr result (IsRefusalOf (wire (E.encoded encoding.now) (text_of command))) }
 {
-    WireLine::of(alloc, &command, encoding)
+    let line = WireLine::of(alloc, &command, encoding);
+    drop(command);
+    line
 }

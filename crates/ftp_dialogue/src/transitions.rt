@@ -162,7 +162,10 @@ impl<Tr: Network> Machine<Tr> {
                 go_to(stage, Stage::Saying(line, awaits));
                 Step::Pending
             }
-            Step::Done(answer) => Step::Done(answer),
+            Step::Done(answer) => {
+                drop(awaits);
+                Step::Done(answer)
+            }
         }
     }
 
@@ -204,6 +207,7 @@ impl<Tr: Network> Machine<Tr> {
                 alloc, encoding, call, awaits, reply, stage,
             ),
             Poll::Ready(Err(fault)) => {
+                drop(awaits.hears);
                 Step::Done(self.end_dialogue(awaits.begun, awaits.ending, fault))
             }
             Poll::Pending => {
@@ -235,6 +239,7 @@ impl<Tr: Network> Machine<Tr> {
             Concludes coding call.now awaits reply stage.new self.old self.new result }
         ensures goes_on { result ≡ Step.Next → begun_at stage.new ≡ true }
     {
+        drop(awaits.hears);
         match accept(alloc, encoding, awaits.ending, reply, &mut self.state) {
             Ok(Accepted::Done(answer)) => Step::Done(answer),
             Ok(Accepted::GoesOn) => go_on(call, awaits.turn, stage),
@@ -341,6 +346,7 @@ impl<Tr: Network> Machine<Tr> {
         let mut stage = self.enter(call);
         match self.poll_call(asker, alloc, encoding, call, &mut stage, &mut NeverWaits) {
             Poll::Ready(answer) => {
+                drop(stage);
                 self.let_go();
                 answer
             }

@@ -6,7 +6,7 @@ use Rattle.std.specs.declared.alloc.AllocError.{AllocError}
 use Rattle.ftp_base.specs.declared.types.fault.FtpError.{FtpError}
 use Rattle.ftp_base.specs.declared.types.reply.Response.{Response}
 use Rattle.ftp_calls.specs.declared.call.Answer.{Answer}
-use Rattle.ftp_calls.specs.declared.call.Answer.TheVariants.{Fault}
+use Rattle.ftp_calls.specs.declared.call.Answer.TheVariants.{Fault, Unit as Done}
 use Rattle.ftp_calls.specs.declared.call.Call.{Call}
 use Rattle.ftp_calls.specs.declared.call.Call.TheVariants.{Drain}
 use Rattle.ftp_control.specs.Mark.{End}
@@ -14,7 +14,7 @@ use Rattle.ftp_control.specs.Told.{Told}
 use Rattle.ftp_transfer.specs.Transfer.{TransferValue}
 use Rattle.ftp_transfer.specs.declared.direction.Direction.{Direction}
 use Rattle.ftp_dialogue.specs.Coding.{Coding}
-use Rattle.ftp_session.specs.Handed.{BringsToEnd, BringsToEndIf, TakesBack, TakesBackIf, ComesTo, GivesUp, HandsOut, IsOpening, LooksIf, ReadsSeen, OpensAs, OpensEither, OpensFrom, Opens, OpensReplied, PlaysSeen, Settles, SettlesIf, SettlesUnless, as_seen, found, left_if, opened_as, watches, with_data, with_reply, without_reply}
+use Rattle.ftp_session.specs.Handed.{BeginsToSettle, BeginsToSettleIf, BeginsToSettleUnless, BringsToEnd, BringsToEndIf, TakesBack, TakesBackIf, ComesTo, GivesUp, HandsOut, IsOpening, LooksIf, ReadsSeen, OpensAs, OpensEither, OpensFrom, Opens, OpensReplied, PlaysSeen, Settles, SettlesIf, SettlesUnless, as_seen, found, left_if, opened_as, watches, with_data, with_reply, without_reply}
 use Rattle.ftp_dialogue.specs.Link.{Link}
 use Rattle.ftp_dialogue.specs.Dialogue.{Expected}
 use Rattle.ftp_dialogue.specs.Promises.{GivesFault, IsFault, Plays, PlaysAlone}
@@ -84,14 +84,40 @@ takes_live transfer mark old middle number live numbers is live_now taken =
     let held : is_live transfer.end.number old.state.counts.owed ≡ true = ap (λ n. is_live n old.state.counts.owed) (sym numbers) ∙ sym is ∙ live_now in
     subst P (sym held) (refl, taken)
 
--- a receipt's transfer is drained, where it is owed
-pub settles_owed : (link : Link) (coding : Coding) (receipt : End) (old middle new : SessionValue) (number : ℕ) (failed owed : Bool) (answer : Answer) → number ≡ receipt.number → failed ≡ old.channel.failed → failed ≡ false → owed ≡ is_owed number old.state.counts.owed → owed ≡ true → middle ≡ left_if true old → PlaysAlone link coding Drain middle new answer → Settles link coding receipt old new answer
-settles_owed link coding receipt old middle new number failed owed answer numbers fails going is owed_now left plays =
-    let P : Bool → Type 0 = λ b. SettlesIf b link coding old new answer in
-    let Q : SessionValue → Type 0 = λ v. PlaysAlone link coding Drain v new answer in
-    let R : Bool → Type 0 = λ b. SettlesUnless b link coding receipt old new answer in
+-- what follows once a receipt was looked at
+abbrev pub AfterLook : Link → Coding → SessionValue → SessionValue → Answer → Result Bool FtpError → Type 0
+AfterLook link coding middle new answer (Ok true) = PlaysAlone link coding Drain middle new answer
+AfterLook link coding middle new answer (Ok false) = (answer ≡ Done) × (new ≡ middle)
+AfterLook link coding middle new answer (Err fault) = (answer ≡ Fault fault) × (new ≡ middle)
+
+-- a receipt is settled, by what the look at it came to
+pub settles_by : (link : Link) (coding : Coding) (receipt : End) (old middle new : SessionValue) (answer : Answer) (begun : Result Bool FtpError) → BeginsToSettle receipt old middle begun → AfterLook link coding middle new answer begun → Settles link coding receipt old new answer
+settles_by link coding receipt old middle new answer begun begins after = unless old.channel.failed begins
+  where
+    After : Result Bool FtpError → Type 0
+    After b = AfterLook link coding middle new answer b
+
+    owing : (b : Bool) → BeginsToSettleIf b old middle begun → SettlesIf b link coding old new answer
+    owing true begins =
+        let Q : SessionValue → Type 0 = λ v. PlaysAlone link coding Drain v new answer in
+        subst Q begins.1 (subst After begins.0 after)
+    owing false begins =
+        let then = subst After begins.0 after in
+        (then.0, then.1 ∙ begins.1)
+
+    unless : (b : Bool) → BeginsToSettleUnless b receipt old middle begun → SettlesUnless b link coding receipt old new answer
+    unless true begins =
+        let then = subst After begins.0 after in
+        (then.0, then.1 ∙ begins.1)
+    unless false begins = owing (is_owed receipt.number old.state.counts.owed) begins
+
+-- what the look at a receipt comes to, where its transfer is owed
+pub begins_owed : (receipt : End) (old middle : SessionValue) (number : ℕ) (failed owed : Bool) → number ≡ receipt.number → failed ≡ old.channel.failed → failed ≡ false → owed ≡ is_owed number old.state.counts.owed → owed ≡ true → middle ≡ left_if true old → BeginsToSettle receipt old middle (Ok true)
+begins_owed receipt old middle number failed owed numbers fails going is owed_now left =
+    let P : Bool → Type 0 = λ b. BeginsToSettleIf b old middle (Ok true) in
+    let R : Bool → Type 0 = λ b. BeginsToSettleUnless b receipt old middle (Ok true) in
     let held : is_owed receipt.number old.state.counts.owed ≡ true = ap (λ n. is_owed n old.state.counts.owed) (sym numbers) ∙ sym is ∙ owed_now in
-    subst R (sym (sym fails ∙ going)) (subst P (sym held) (subst Q left plays))
+    subst R (sym (sym fails ∙ going)) (subst P (sym held) (refl, left))
 
 -- what an opening call returns, without its reply and with it
 pub opens_plain : (link : Link) (coding : Coding) (call : Call) (direction : Direction) (mark after former kept : Option End) (old new : SessionValue) (result : Result (Option Response × TransferValue) FtpError) → OpensAs link coding call false direction mark after former kept old new result → Opens link coding call direction mark after former kept old new (without_reply result)

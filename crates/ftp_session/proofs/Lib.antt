@@ -9,6 +9,7 @@ pub mod Handed
 pub mod HiddenCalls
 pub mod Leaving
 pub mod Parting
+pub mod PolledLemmas
 pub mod Polling
 pub mod Replay
 pub mod Running

@@ -223,3 +223,16 @@ SettlesUnless false link coding receipt old new answer = SettlesIf (is_owed rece
 
 abbrev pub Settles : Link → Coding → End → SessionValue → SessionValue → Answer → Type 0
 Settles link coding receipt old new answer = SettlesUnless old.channel.failed link coding receipt old new answer
+
+-- a receipt is looked at before its transfer's last reply is read: the transfer is left, and that reply is to be read; or
+-- none is owed; or the session has failed
+abbrev pub BeginsToSettleIf : Bool → SessionValue → SessionValue → Result Bool FtpError → Type 0
+BeginsToSettleIf true old new result = (result ≡ Ok true) × (new ≡ left_if true old)
+BeginsToSettleIf false old new result = (result ≡ Ok false) × (new ≡ old)
+
+abbrev pub BeginsToSettleUnless : Bool → End → SessionValue → SessionValue → Result Bool FtpError → Type 0
+BeginsToSettleUnless true receipt old new result = (result ≡ Err SessionFailed) × (new ≡ old)
+BeginsToSettleUnless false receipt old new result = BeginsToSettleIf (is_owed receipt.number old.state.counts.owed) old new result
+
+abbrev pub BeginsToSettle : End → SessionValue → SessionValue → Result Bool FtpError → Type 0
+BeginsToSettle receipt old new result = BeginsToSettleUnless old.channel.failed receipt old new result

@@ -4,6 +4,7 @@ pub mod Connecting
 pub mod Fetched
 pub mod Files
 pub mod Handed
+pub mod Polled
 pub mod Script
 pub mod Scripted
 pub mod Steps

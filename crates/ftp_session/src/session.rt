@@ -5,6 +5,7 @@
 //! holds a `Session`, which is that machine, the encoding of its texts, the builder of its passive data connections and
 //! its end of the mark of the transfer that it handed out.
 
+pub mod calls;
 mod chosen;
 mod client;
 mod commands;
@@ -13,10 +14,13 @@ mod copying;
 mod ending;
 mod fetching;
 mod files;
+mod handing;
 mod looking;
 mod opening;
 mod parameters;
+mod polling;
 mod questions;
+mod readiness;
 mod reading;
 mod run;
 mod run_polled;
@@ -27,4 +31,6 @@ pub use client::Session;
 pub use files::DownloadReader;
 pub use ftp_calls::call::{Answer, Call, Event, Setting};
 pub use ftp_dialogue::{Counts, Owed, Settings, State};
+pub use handing::NewMark;
 pub use parameters::{NoStreamBuilder, NoTlsConnector};
+pub use polling::PolledCall;

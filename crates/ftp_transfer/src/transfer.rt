@@ -16,6 +16,7 @@ mod blocking;
 mod held_end;
 mod polled;
 mod streams;
+mod task;
 
 /// A data connection that carries a transfer (RFC 959, section 3.2), and the transfer's end of its mark.
 ///

@@ -76,6 +76,7 @@ impl PassiveStreamBuilder<MemoryConn> for RowBuilder {
             Answer::Builds(bytes) => {
                 let mut conn = MemoryConn::new(self.alloc);
                 conn.feed(bytes)?;
+                conn.end();
                 Ok(conn)
             }
             Answer::Fails(fault) => Err(fault.clone()?),

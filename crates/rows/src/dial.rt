@@ -149,9 +149,11 @@ fn supply(
     }
 }
 
-/// A connection that these bytes came on, in pieces of so many.
+/// A connection that these bytes came on, in pieces of so many, and ended.
 fn conn_with(alloc: Global, bytes: &[u8], piece: usize) -> Result<MemoryConn, AllocError> {
-    fed(MemoryConn::new(alloc), bytes, piece)
+    let mut conn = fed(MemoryConn::new(alloc), bytes, piece)?;
+    conn.end();
+    Ok(conn)
 }
 
 /// A connection on which these bytes came besides, in pieces of so many.

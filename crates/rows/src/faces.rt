@@ -4,6 +4,7 @@ mod client;
 mod definition;
 mod methods;
 mod session;
+mod states;
 mod transfers;
 
 use crate::play::Play;
@@ -12,6 +13,7 @@ use ftp_session::session::Event;
 use row_text::RowError;
 pub use session::NamedSession;
 use std::alloc::{AllocError, Global};
+use std::random::RandomSource;
 use std::sync::Wait;
 
 /// A way in which a row is played.
@@ -27,6 +29,8 @@ pub enum Face {
     Methods,
     /// One call of the blocking client after another.
     Client,
+    /// One call of the polled client after another.
+    States,
     /// A polled run.
     Polled,
 }
@@ -79,17 +83,24 @@ impl Agreement {
 
 impl Face {
     /// The faces of a row without events.
-    pub const OF_CALLS: [Face; 6] = [
+    pub const OF_CALLS: [Face; 7] = [
         Face::Definition,
         Face::Script,
         Face::Run,
         Face::Methods,
         Face::Client,
+        Face::States,
         Face::Polled,
     ];
 
     /// Those of them that are sessions.
-    pub const SESSIONS_OF_CALLS: [Face; 4] = [Face::Run, Face::Methods, Face::Client, Face::Polled];
+    pub const SESSIONS_OF_CALLS: [Face; 5] = [
+        Face::Run,
+        Face::Methods,
+        Face::Client,
+        Face::States,
+        Face::Polled,
+    ];
 
     /// The faces of a row with events.
     pub const OF_EVENTS: [Face; 2] = [Face::Script, Face::Polled];
@@ -105,6 +116,7 @@ impl Face {
             Face::Run => "a run",
             Face::Methods => "one call after another",
             Face::Client => "the blocking client",
+            Face::States => "the polled client",
             Face::Polled => "a polled run",
         }
     }
@@ -113,7 +125,7 @@ impl Face {
     /// on a connection.
     pub fn plays(self, play: &Play) -> bool {
         match self {
-            Face::Definition | Face::Methods => true,
+            Face::Definition | Face::Methods | Face::States => true,
             Face::Client => client::has_methods(&play.calls),
             Face::Run | Face::Polled | Face::Script => play.dial.is_none(),
         }
@@ -135,7 +147,7 @@ impl Face {
     }
 
     /// What a row comes to.
-    pub fn play<R: Wait + AllocGlobal>(
+    pub fn play<R: Wait + RandomSource + AllocGlobal>(
         self,
         rt: &R,
         play: &Play,
@@ -149,7 +161,7 @@ impl Face {
     }
 
     /// How far the row has come at those of these places that are before its end.
-    fn marks<R: Wait + AllocGlobal>(
+    fn marks<R: Wait + RandomSource + AllocGlobal>(
         self,
         rt: &R,
         play: &Play,
@@ -167,7 +179,9 @@ impl Face {
     /// How many calls or events the row has.
     fn length(self, play: &Play) -> usize {
         match self {
-            Face::Definition | Face::Run | Face::Methods | Face::Client => play.calls.len(),
+            Face::Definition | Face::Run | Face::Methods | Face::Client | Face::States => {
+                play.calls.len()
+            }
             Face::Script | Face::Polled => play.events.len(),
         }
     }
@@ -175,7 +189,7 @@ impl Face {
     /// After how many calls or events the transcript has its lines: after each call, or each poll.
     fn places(self, alloc: Global, play: &Play) -> Result<Vec<usize>, AllocError> {
         match self {
-            Face::Definition | Face::Run | Face::Methods | Face::Client => ends(
+            Face::Definition | Face::Run | Face::Methods | Face::Client | Face::States => ends(
                 alloc,
                 play.calls.len(),
             ),
@@ -184,7 +198,7 @@ impl Face {
     }
 
     /// How far the row has come after so many calls or events.
-    fn mark<R: Wait + AllocGlobal>(
+    fn mark<R: Wait + RandomSource + AllocGlobal>(
         self,
         rt: &R,
         play: &Play,
@@ -194,7 +208,7 @@ impl Face {
     }
 
     /// Where the row stands after so many calls or events.
-    fn standing<R: Wait + AllocGlobal>(
+    fn standing<R: Wait + RandomSource + AllocGlobal>(
         self,
         rt: &R,
         play: &Play,
@@ -209,6 +223,7 @@ impl Face {
             Face::Run => session::ran(alloc, calls, play),
             Face::Methods => methods::called(alloc, calls, play),
             Face::Client => client::called(rt, calls, play),
+            Face::States => states::called(rt, calls, play),
             Face::Polled => session::polled(alloc, events, play),
         }
     }

@@ -4,6 +4,7 @@ use crate::row::Row;
 use crate::tally::Tally;
 use anyhow::{Context, Result};
 use row_text::RowError;
+use std::random::RandomSource;
 use std::sync::Wait;
 
 /// The row that is being read, and what was counted of its set.
@@ -25,7 +26,7 @@ impl<'a> Reader<'a> {
     }
 
     /// Reads the next line, of this number.
-    pub fn read<R: Wait + Print + AllocGlobal>(
+    pub fn read<R: Wait + Print + RandomSource + AllocGlobal>(
         &mut self,
         rt: &R,
         number: u64,
@@ -35,7 +36,11 @@ impl<'a> Reader<'a> {
         self.take(rt, line).context(format_args!("line {number}"))
     }
 
-    fn take<R: Wait + Print + AllocGlobal>(&mut self, rt: &R, line: &'a str) -> Result<()> {
+    fn take<R: Wait + Print + RandomSource + AllocGlobal>(
+        &mut self,
+        rt: &R,
+        line: &'a str,
+    ) -> Result<()> {
         if line.is_empty() {
             return self.play(rt);
         }
@@ -54,7 +59,7 @@ impl<'a> Reader<'a> {
     }
 
     /// Plays the row that was read, if any.
-    fn play<R: Wait + Print + AllocGlobal>(&mut self, rt: &R) -> Result<()> {
+    fn play<R: Wait + Print + RandomSource + AllocGlobal>(&mut self, rt: &R) -> Result<()> {
         let Some(row) = self.row.take() else {
             return Ok(());
         };
@@ -77,7 +82,7 @@ impl<'a> Reader<'a> {
     }
 
     /// The rows end.
-    pub fn end<R: Wait + Print + AllocGlobal>(mut self, rt: &R) -> Result<()> {
+    pub fn end<R: Wait + Print + RandomSource + AllocGlobal>(mut self, rt: &R) -> Result<()> {
         let number = self.number;
         self.play(rt).context(format_args!("line {number}"))?;
         if let Some(tally) = self.tally {

@@ -197,10 +197,11 @@ fn bytes_on(item: Option<&Item>) -> &[u8] {
     }
 }
 
-/// A connection on which these bytes came.
+/// A connection on which these bytes came, and ended.
 fn conn_of(alloc: Global, bytes: &[u8]) -> Result<MemoryConn, AllocError> {
     let mut conn = MemoryConn::new(alloc);
     conn.feed(bytes)?;
+    conn.end();
     Ok(conn)
 }
 

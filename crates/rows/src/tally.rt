@@ -7,6 +7,7 @@ use crate::row::Row;
 use anyhow::Result;
 use row_text::RowError;
 use std::fmt;
+use std::random::RandomSource;
 use std::sync::Wait;
 
 /// The sizes of the pieces in which the server's bytes come: as they are written, and one by one.
@@ -44,7 +45,11 @@ impl<'a> Tally<'a> {
     }
 
     /// Plays a row on all its faces, and prints what differs.
-    pub fn play<R: Wait + Print + AllocGlobal>(&mut self, rt: &R, row: &Row<'_>) -> Result<()> {
+    pub fn play<R: Wait + Print + RandomSource + AllocGlobal>(
+        &mut self,
+        rt: &R,
+        row: &Row<'_>,
+    ) -> Result<()> {
         self.rows = self.rows.saturating_add(1);
         if let Some(longest) = row.lists() {
             return self.play_lists(rt, row, longest);
@@ -56,7 +61,7 @@ impl<'a> Tally<'a> {
     }
 
     /// Plays a row whose bytes come in pieces of so many.
-    fn play_in_pieces<R: Wait + Print + AllocGlobal>(
+    fn play_in_pieces<R: Wait + Print + RandomSource + AllocGlobal>(
         &mut self,
         rt: &R,
         row: &Row<'_>,
@@ -68,7 +73,7 @@ impl<'a> Tally<'a> {
     }
 
     /// Plays a row on its faces.
-    fn play_on_all<R: Wait + Print + AllocGlobal>(
+    fn play_on_all<R: Wait + Print + RandomSource + AllocGlobal>(
         &mut self,
         rt: &R,
         row: &Row<'_>,
@@ -82,7 +87,7 @@ impl<'a> Tally<'a> {
     }
 
     /// Plays a row on a face, if it can be played there.
-    fn play_on<R: Wait + Print + AllocGlobal>(
+    fn play_on<R: Wait + Print + RandomSource + AllocGlobal>(
         &mut self,
         rt: &R,
         row: &Row<'_>,
@@ -104,7 +109,7 @@ impl<'a> Tally<'a> {
     }
 
     /// Plays each list of the row's steps, of at most so many, on both faces.
-    fn play_lists<R: Wait + Print + AllocGlobal>(
+    fn play_lists<R: Wait + Print + RandomSource + AllocGlobal>(
         &mut self,
         rt: &R,
         row: &Row<'_>,
@@ -125,7 +130,7 @@ impl<'a> Tally<'a> {
     }
 
     /// Plays the list that it stands at, on both faces.
-    fn play_next<R: Wait + Print + AllocGlobal>(
+    fn play_next<R: Wait + Print + RandomSource + AllocGlobal>(
         &mut self,
         rt: &R,
         row: &Row<'_>,
@@ -161,7 +166,7 @@ fn faces_of(row: &Row<'_>) -> &'static [Face] {
 }
 
 /// What a list comes to on a face, its bytes one by one.
-fn play_list<R: Wait + AllocGlobal>(
+fn play_list<R: Wait + RandomSource + AllocGlobal>(
     rt: &R,
     lists: &Lists<'_>,
     face: Face,

@@ -30,13 +30,21 @@ pub(crate) fn asked(
 {
     let before = mem::replace(&mut standing.dealings, no_dealings(alloc));
     let Some(outcome) = next_answer(standing.outcomes.as_slice()) else {
-        standing.dealings = dealing(request, before)?;
+        let Ok(after) = dealing(request, before) else {
+            drop(standing);
+            return Err(AllocError);
+        };
+        drop(mem::replace(&mut standing.dealings, after));
         return Ok(Came::Unknown(standing));
     };
     let outcomes = mem::replace(&mut standing.outcomes, Items::from_vec(Vec::new(alloc)));
     let (_answer, others) = part(outcomes);
     standing.outcomes = others;
-    standing.dealings = dealt(alloc, request, outcome, before)?;
+    let Ok(after) = dealt(alloc, request, outcome, before) else {
+        drop(standing);
+        return Err(AllocError);
+    };
+    drop(mem::replace(&mut standing.dealings, after));
     Ok(Came::Known(outcome, standing))
 }
 

@@ -31,14 +31,28 @@ pub(crate) fn built(
     ensures { IfOk result (λ built. BuildsAt address standing built) }
 {
     let before = mem::replace(&mut standing.dealings, no_dealings(alloc));
-    let Some(fault) = next_built(standing.outcomes.as_slice())? else {
-        standing.dealings = constructing(address, before)?;
+    let Ok(next) = next_built(standing.outcomes.as_slice()) else {
+        drop(before);
+        drop(standing);
+        return Err(AllocError);
+    };
+    let Some(fault) = next else {
+        let Ok(after) = constructing(address, before) else {
+            drop(standing);
+            return Err(AllocError);
+        };
+        drop(mem::replace(&mut standing.dealings, after));
         return Ok(Answered::Unknown(standing));
     };
     let outcomes = mem::replace(&mut standing.outcomes, Items::from_vec(Vec::new(alloc)));
     let (_answer, others) = part(outcomes);
     standing.outcomes = others;
-    standing.dealings = constructed(alloc, address, &fault, before)?;
+    let Ok(after) = constructed(alloc, address, &fault, before) else {
+        drop(fault);
+        drop(standing);
+        return Err(AllocError);
+    };
+    drop(mem::replace(&mut standing.dealings, after));
     Ok(Answered::Known(fault, standing))
 }
 

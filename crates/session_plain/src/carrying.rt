@@ -75,7 +75,9 @@ fn leaving(alloc: Global, standing: Standing) -> Result<Progress, AllocError>
 }
 
 /// What a close came to is told to nobody.
-pub(crate) fn pass_over(_outcome: DealOutcome) {}
+pub(crate) fn pass_over(outcome: DealOutcome) {
+    drop(outcome);
+}
 
 /// What is done is the answer.
 #[tactic(auto, unfolding(ftp_dialogue::specs::Play::play))]
@@ -120,7 +122,12 @@ pub(crate) fn moved_by(
     let (outcome, others) = part(outcomes);
     standing.outcomes = others;
     let before = mem::replace(&mut standing.dealings, no_dealings(alloc));
-    standing.dealings = moved(movement, &outcome, before)?;
+    let Ok(after) = moved(movement, &outcome, before) else {
+        drop(outcome);
+        drop(standing);
+        return Err(AllocError);
+    };
+    drop(mem::replace(&mut standing.dealings, after));
     Ok(Carried::Known(outcome, standing))
 }
 

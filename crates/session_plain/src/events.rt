@@ -33,7 +33,10 @@ pub fn run_polled<E: Encoding>(
     let Some((event, others)) = events.split_first() else {
         return Ok(here);
     };
-    happen(alloc, encoding, first, &mut here, event)?;
+    let Ok(()) = happen(alloc, encoding, first, &mut here, event) else {
+        drop(here);
+        return Err(AllocError);
+    };
     run_polled(alloc, encoding, first, here, others)
 }
 
@@ -87,7 +90,8 @@ fn start(here: &mut Script, call: &Call) -> Result<(), AllocError>
     ensures { OnOk result (here.new ≡ start_script call.now here.old.call here.old) }
 {
     if here.call.is_none() {
-        here.call = Some(copy_of(call)?);
+        let copy = copy_of(call)?;
+        drop(mem::replace(&mut here.call, Some(copy)));
         here.polled = false;
         here.heard = false;
     }
@@ -125,7 +129,11 @@ fn poll_drain<E: Encoding>(
     ensures { OnOk result (here.new ≡ drained_as (coding_of E.decoded E.encoded encoding.now)
         first.now call here.old (run_with (coding_of E.decoded E.encoded encoding.now) first.now Call.Drain (draining here.old))) }
 {
-    match run_with(alloc, encoding, first, here, &Call::Drain)? {
+    let Ok(ran) = run_with(alloc, encoding, first, here, &Call::Drain) else {
+        drop(call);
+        return Err(AllocError);
+    };
+    match ran {
         Ran::Finished(answers, there) => {
             end_drain(alloc, encoding, first, here, call, answers, there)
         }
@@ -145,8 +153,11 @@ fn wait_for_drain(
 {
     here.polled = false;
     here.heard = false;
-    suspend(here, Call::Drain, wait, there)?;
-    here.call = Some(call);
+    let Ok(()) = suspend(here, Call::Drain, wait, there) else {
+        drop(call);
+        return Err(AllocError);
+    };
+    drop(mem::replace(&mut here.call, Some(call)));
     here.polled = false;
     here.heard = false;
     Ok(())
@@ -169,6 +180,7 @@ fn end_drain<E: Encoding>(
         pass_over(answers);
         return go_on(alloc, encoding, first, here, call, there);
     }
+    drop(call);
     finish(alloc, here, Item::Shown(Call::Drain), answers, there)
 }
 
@@ -189,7 +201,10 @@ fn go_on<E: Encoding>(
 {
     let none = Items::from_vec(Vec::new(alloc));
     let told = mem::replace(&mut here.answers, none);
-    finish(alloc, here, Item::Hidden(Call::Drain), told, there)?;
+    let Ok(()) = finish(alloc, here, Item::Hidden(Call::Drain), told, there) else {
+        drop(call);
+        return Err(AllocError);
+    };
     poll_call(alloc, encoding, first, here, call)
 }
 
@@ -204,7 +219,11 @@ fn poll_call<E: Encoding>(
     ensures { OnOk result (here.new ≡ polled_as (run_with (coding_of E.decoded E.encoded encoding.now) first.now call here.old)
         call (record here.old { call = Some call })) }
 {
-    match run_with(alloc, encoding, first, here, &call)? {
+    let Ok(ran) = run_with(alloc, encoding, first, here, &call) else {
+        drop(call);
+        return Err(AllocError);
+    };
+    match ran {
         Ran::Finished(answers, there) => finish(alloc, here, Item::Shown(call), answers, there),
         Ran::Waiting(_answers, wait, there) => suspend(here, call, wait, there),
     }
@@ -237,8 +256,9 @@ fn begun(first: &Standing, here: &Script) -> Result<Standing, AllocError>
     ensures { IfOk result (λ begun. begun ≡
         record first.now { bytes = here.now.bytes; ended = here.now.ended }) }
 {
+    let bytes = here.bytes.clone()?;
     let mut begun = first.clone()?;
-    begun.bytes = here.bytes.clone()?;
+    begun.bytes = bytes;
     begun.ended = here.ended;
     Ok(begun)
 }
@@ -267,18 +287,25 @@ pub(crate) fn finish(
       failed = there.failed;
     }) }
 {
-    add(alloc, &mut here.items, item)?;
+    let Ok(()) = add(alloc, &mut here.items, item) else {
+        drop(there);
+        return Err(AllocError);
+    };
     here.answers = answers;
-    here.call = None;
+    drop(here.call.take());
     here.polled = false;
     here.heard = false;
-    here.said = joined(&there.said, &there.unsent)?;
+    let Ok(said) = joined(&there.said, &there.unsent) else {
+        drop(there);
+        return Err(AllocError);
+    };
+    here.said = said;
     here.sent = front(here.room, there.said);
     here.unsent = there.unsent;
     here.seen = seen_in(here, there.bytes.len());
     here.untaken = there.bytes;
-    here.dealings = there.dealings;
-    here.state = there.state;
+    drop(mem::replace(&mut here.dealings, there.dealings));
+    drop(mem::replace(&mut here.state, there.state));
     here.failed = there.failed;
     Ok(())
 }
@@ -320,13 +347,17 @@ fn suspend(here: &mut Script, call: Call, wait: Wait, there: Standing) -> Result
             here.form = form;
         }
     }
-    here.call = Some(call);
+    drop(mem::replace(&mut here.call, Some(call)));
     here.polled = true;
-    here.said = joined(&there.said, &there.unsent)?;
+    let Ok(said) = joined(&there.said, &there.unsent) else {
+        drop(there);
+        return Err(AllocError);
+    };
+    here.said = said;
     here.sent = front(here.room, there.said);
     here.untaken = there.bytes;
-    here.dealings = there.dealings;
-    here.state = there.state;
+    drop(mem::replace(&mut here.dealings, there.dealings));
+    drop(mem::replace(&mut here.state, there.state));
     here.failed = there.failed;
     Ok(())
 }

@@ -111,7 +111,11 @@ pub(crate) fn say<E: Encoding>(
     match line_of(alloc, encoding, command) {
         Ok(line) => said_then(room, line.as_slice(), standing),
         Err(FtpError::ConnectionError(cause)) => Ok(done(Answer::Fault(cause.into()), standing)),
-        Err(_) => Err(AllocError),
+        Err(fault) => {
+            drop(fault);
+            drop(standing);
+            Err(AllocError)
+        }
     }
 }
 
@@ -134,7 +138,9 @@ fn line_of<E: Encoding>(alloc: Global, encoding: &E, command: Command) -> FtpRes
     ensures line { IfOk result (λ line. wire (E.encoded encoding.now) (text_of command) ≡ Ok line) }
     ensures refused { IfErr result (IsRefusalOf (wire (E.encoded encoding.now) (text_of command))) }
 {
-    WireLine::of(alloc, &command, encoding)
+    let line = WireLine::of(alloc, &command, encoding);
+    drop(command);
+    line
 }
 
 /// The statuses that a reply may have.
@@ -166,8 +172,14 @@ fn said(line: &[u8], mut standing: Standing) -> Result<Standing, AllocError>
     ensures { IfOk result (λ here. here ≡
         record standing { said = standing.said ++ standing.unsent ++ line.now; unsent = [] }) }
 {
-    standing.said.extend_from_slice(standing.unsent.as_slice())?;
-    standing.said.extend_from_slice(line)?;
+    let Ok(()) = standing.said.extend_from_slice(standing.unsent.as_slice()) else {
+        drop(standing);
+        return Err(AllocError);
+    };
+    let Ok(()) = standing.said.extend_from_slice(line) else {
+        drop(standing);
+        return Err(AllocError);
+    };
     standing.unsent.clear();
     Ok(standing)
 }
@@ -244,15 +256,36 @@ fn accepted<E: Encoding>(
     match ending {
         Ending::Done => Ok(done(Answer::Unit, standing)),
         Ending::GivesReply => Ok(done(Answer::Reply(reply), standing)),
-        Ending::Greets => {
-            let welcome = greeting_of(alloc, encoding, reply.body)?;
-            Ok(done(Answer::Unit, greeted(welcome, standing)))
-        }
-        Ending::GivesPath => Ok(done(path_answer(alloc, encoding, reply)?, standing)),
-        Ending::GivesSecondLine => Ok(done(line_answer(alloc, encoding, &reply)?, standing)),
+        Ending::Greets => match greeting_of(alloc, encoding, reply.body) {
+            Ok(welcome) => Ok(done(Answer::Unit, greeted(welcome, standing))),
+            Err(AllocError) => {
+                drop(standing);
+                Err(AllocError)
+            }
+        },
+        Ending::GivesPath => match path_answer(alloc, encoding, reply) {
+            Ok(answer) => Ok(done(answer, standing)),
+            Err(AllocError) => {
+                drop(standing);
+                Err(AllocError)
+            }
+        },
+        Ending::GivesSecondLine => match line_answer(alloc, encoding, &reply) {
+            Ok(answer) => Ok(done(answer, standing)),
+            Err(AllocError) => {
+                drop(standing);
+                Err(AllocError)
+            }
+        },
         Ending::GivesTime => Ok(done(time_answer(&reply), standing)),
         Ending::GivesSize => Ok(done(size_answer(&reply), standing)),
-        Ending::GivesFeatures => Ok(done(features_answer(alloc, &reply)?, standing)),
+        Ending::GivesFeatures => match features_answer(alloc, &reply) {
+            Ok(answer) => Ok(done(answer, standing)),
+            Err(AllocError) => {
+                drop(standing);
+                Err(AllocError)
+            }
+        },
         Ending::SetsText(text) => Ok(done(Answer::Unit, text_set(text, standing))),
         Ending::Continues => Ok(Progress::Continues(standing)),
         Ending::GivesAddress => to_address(alloc, reply, standing),

@@ -135,8 +135,15 @@ pub(crate) fn parting(
     ensures { IfOk result (λ progress. (room : Rooms) (later : States → Tree) → ComesTo room later
         (play room (fetch_parting form answer standing.state) standing) progress) }
 {
-    match moved_by(alloc, Movement::Close, standing)? {
-        Carried::Unknown(here) => Ok(Progress::Stops(Played::Pending(Wait::Outcome, here))),
+    let Ok(came) = moved_by(alloc, Movement::Close, standing) else {
+        drop(answer);
+        return Err(AllocError);
+    };
+    match came {
+        Carried::Unknown(here) => {
+            drop(answer);
+            Ok(Progress::Stops(Played::Pending(Wait::Outcome, here)))
+        }
         Carried::Known(outcome, here) => {
             let told = told_of_close(here.state.uploads, outcome);
             last_reply(alloc, form, closed_as(told, answer), here)
@@ -150,7 +157,10 @@ fn closed_as(told: Option<ErrorKind>, answer: Answer) -> Answer
 {
     match told {
         None => answer,
-        Some(kind) => Answer::Fault(FtpError::ConnectionError(ConnectionError::Io(kind))),
+        Some(kind) => {
+            drop(answer);
+            Answer::Fault(FtpError::ConnectionError(ConnectionError::Io(kind)))
+        }
     }
 }
 
@@ -167,8 +177,15 @@ fn last_reply(
 {
     let codes = [Status::ClosingDataConnection, Status::RequestedFileActionOk];
     let reply_form = form_of(&codes);
-    match hear_reply(alloc, reply_form, &codes, standing)? {
-        Heard::Unknown(here) => Ok(Progress::Stops(Played::Pending(Wait::Bytes(reply_form), here))),
+    let Ok(heard) = hear_reply(alloc, reply_form, &codes, standing) else {
+        drop(answer);
+        return Err(AllocError);
+    };
+    match heard {
+        Heard::Unknown(here) => {
+            drop(answer);
+            Ok(Progress::Stops(Played::Pending(Wait::Bytes(reply_form), here)))
+        }
         Heard::Known(reply, here) => {
             let told = concluded(form, answer, reply);
             Ok(Progress::Stops(Played::Done(told, fetched_from(here))))
@@ -284,7 +301,10 @@ fn first_fault(form: Fetch, answer: Answer, fault: FtpError) -> FtpError
 {
     match form {
         Fetch::Whole => fault_or(answer, fault),
-        Fetch::Listed => fault,
+        Fetch::Listed => {
+            drop(answer);
+            fault
+        }
     }
 }
 
@@ -293,7 +313,13 @@ fn fault_or(answer: Answer, fault: FtpError) -> FtpError
     ensures { result ≡ fault_or answer fault }
 {
     match answer {
-        Answer::Fault(first) => first,
-        _ => fault,
+        Answer::Fault(first) => {
+            drop(fault);
+            first
+        }
+        other => {
+            drop(other);
+            fault
+        }
     }
 }

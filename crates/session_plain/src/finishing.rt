@@ -46,11 +46,15 @@ pub(crate) fn told_of_close(uploads: bool, outcome: DealOutcome) -> Option<Error
     ensures { result ≡ told_of_close uploads outcome }
 {
     if !uploads {
+        drop(outcome);
         return None;
     }
     match outcome {
         DealOutcome::Failed(kind) => Some(kind),
-        _ => None,
+        other => {
+            drop(other);
+            None
+        }
     }
 }
 
@@ -70,7 +74,10 @@ fn finish_fault(close: Option<ErrorKind>, fault: FtpError) -> FtpError
 {
     match close {
         None => fault,
-        Some(kind) => FtpError::ConnectionError(ConnectionError::Io(kind)),
+        Some(kind) => {
+            drop(fault);
+            FtpError::ConnectionError(ConnectionError::Io(kind))
+        }
     }
 }
 
@@ -103,7 +110,10 @@ pub(crate) fn after_fault(ending: Ending, standing: Standing) -> Standing
         Ending::Finishes(_) => finished(standing),
         Ending::Drains => drained(standing),
         Ending::Stops => aborted(standing),
-        _ => standing,
+        other => {
+            drop(other);
+            standing
+        }
     }
 }
 
@@ -153,6 +163,10 @@ fn leaving(alloc: Global, standing: Standing) -> Result<Standing, AllocError>
 {
     let mut here = left(standing);
     let before = mem::replace(&mut here.dealings, no_dealings(alloc));
-    here.dealings = parted(before)?;
+    let Ok(after) = parted(before) else {
+        drop(here);
+        return Err(AllocError);
+    };
+    drop(mem::replace(&mut here.dealings, after));
     Ok(here)
 }

@@ -32,7 +32,10 @@ pub(crate) fn hear_reply(
         Hears (record { form = form; statuses = codes.now }) standing heard) }
 {
     let bytes = standing.bytes.as_slice();
-    let said = outcome(alloc, standing.rule, form, bytes, standing.ended)?;
+    let Ok(said) = outcome(alloc, standing.rule, form, bytes, standing.ended) else {
+        drop(standing);
+        return Err(AllocError);
+    };
     heard_as(alloc, form, codes, said, standing)
 }
 
@@ -47,7 +50,11 @@ fn heard_as(
     ensures { IfOk result (λ heard.
         HearsAs said (record { form = form; statuses = codes.now }) standing heard) }
 {
-    let left = left_by(alloc, &said, standing.bytes.as_slice())?;
+    let Ok(left) = left_by(alloc, &said, standing.bytes.as_slice()) else {
+        drop(said);
+        drop(standing);
+        return Err(AllocError);
+    };
     match said {
         Outcome::Whole(body, code) => {
             let status = Status::from(code);

@@ -58,7 +58,7 @@ fn over<E: Encoding>(
 fn rest(here: &mut Script)
     ensures { here.new ≡ idle here.old }
 {
-    here.call = None;
+    drop(here.call.take());
     here.polled = false;
     here.heard = false;
     here.leaving = false;
@@ -111,8 +111,11 @@ fn stand_at(alloc: Global, here: &mut Script, there: Standing) -> Result<(), All
     let call = here.call.take();
     let none = Items::from_vec(Vec::new(alloc));
     let told = mem::replace(&mut here.answers, none);
-    finish(alloc, here, Item::Hidden(Call::Leave), told, there)?;
-    here.call = call;
+    let Ok(()) = finish(alloc, here, Item::Hidden(Call::Leave), told, there) else {
+        drop(call);
+        return Err(AllocError);
+    };
+    drop(mem::replace(&mut here.call, call));
     Ok(())
 }
 

@@ -42,8 +42,15 @@ pub(crate) fn opens(
         ComesTo room later (play room (opening standing.state.settings.mode
         (Leaf answer (with_transfer standing.state)) standing.state) standing) progress) }
 {
-    match opened(alloc, standing)? {
-        Progress::Stops(played) => Ok(Progress::Stops(played)),
+    let Ok(stood) = opened(alloc, standing) else {
+        drop(answer);
+        return Err(AllocError);
+    };
+    match stood {
+        Progress::Stops(played) => {
+            drop(answer);
+            Ok(Progress::Stops(played))
+        }
         Progress::Continues(here) => Ok(done(answer, with_transfer(here))),
     }
 }

@@ -38,8 +38,8 @@ pub fn play_call<E: Encoding>(
         return Ok(Played::Done(Answer::NoTransfer, standing));
     }
     if !is_local(call) && standing.failed {
-        let fault = Answer::Fault(FtpError::SessionFailed);
-        return Ok(Played::Done(fault, left_by(alloc, call, standing)?));
+        let here = left_by(alloc, call, standing)?;
+        return Ok(Played::Done(Answer::Fault(FtpError::SessionFailed), here));
     }
     finally(alloc, play_dialogue(alloc, room, encoding, call, standing)?)
 }
@@ -60,7 +60,13 @@ fn finally(alloc: Global, played: Played) -> Result<Played, AllocError>
     ensures { IfOk result (λ last. last ≡ finally played) }
 {
     match played {
-        Played::Done(answer, standing) => Ok(Played::Done(answer, ended(alloc, standing)?)),
+        Played::Done(answer, standing) => match ended(alloc, standing) {
+            Ok(here) => Ok(Played::Done(answer, here)),
+            Err(AllocError) => {
+                drop(answer);
+                Err(AllocError)
+            }
+        },
         Played::Pending(wait, standing) => Ok(Played::Pending(wait, standing)),
     }
 }
@@ -74,7 +80,11 @@ fn ended(alloc: Global, mut standing: Standing) -> Result<Standing, AllocError>
         Owed::Live(_) => {}
         Owed::Left(_) => {
             let before = mem::replace(&mut standing.dealings, no_dealings(alloc));
-            standing.dealings = parted(before)?;
+            let Ok(after) = parted(before) else {
+                drop(standing);
+                return Err(AllocError);
+            };
+            drop(mem::replace(&mut standing.dealings, after));
         }
     }
     Ok(standing)

@@ -102,10 +102,20 @@ fn before(answer: Answer, ran: Ran) -> Result<Ran, AllocError>
     ensures { IfOk result (λ all. all ≡ before answer ran) }
 {
     match ran {
-        Ran::Finished(answers, here) => Ok(Ran::Finished(prefixed(answer, answers)?, here)),
-        Ran::Waiting(answers, wait, here) => {
-            Ok(Ran::Waiting(prefixed(answer, answers)?, wait, here))
-        }
+        Ran::Finished(answers, here) => match prefixed(answer, answers) {
+            Ok(all) => Ok(Ran::Finished(all, here)),
+            Err(AllocError) => {
+                drop(here);
+                Err(AllocError)
+            }
+        },
+        Ran::Waiting(answers, wait, here) => match prefixed(answer, answers) {
+            Ok(all) => Ok(Ran::Waiting(all, wait, here)),
+            Err(AllocError) => {
+                drop(here);
+                Err(AllocError)
+            }
+        },
     }
 }
 

@@ -41,7 +41,10 @@ pub(crate) fn storing(
     ensures { IfOk result (λ progress. (room : Rooms) (later : States → Tree) → ComesTo room later
         (play room (storing bytes standing.state) standing) progress) }
 {
-    let wire = wire_data(alloc, standing.state.settings.text, bytes.as_slice())?;
+    let Ok(wire) = wire_data(alloc, standing.state.settings.text, bytes.as_slice()) else {
+        drop(standing);
+        return Err(AllocError);
+    };
     match size_to_send(wire.as_slice()) {
         Some(total) => sending(alloc, total, total, wire, standing),
         None => Ok(gave_up(ConnectionError::SourceTooLarge, standing)),

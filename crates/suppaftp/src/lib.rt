@@ -1,10 +1,12 @@
 //! An FTP client whose behaviour is proved.
 //!
-//! [`FtpStream`] is the blocking client, a session under a lock, and is where to begin; `session::Session` is the
-//! session itself, for a program of one thread. The other crates' modules are gathered here, each under its own name,
-//! so that a program needs one dependency: `list` reads the lines of listings, and `FtpError` is what calls fail with.
+//! [`FtpStream`] is the blocking client, a session under a lock, and is where to begin; [`AsyncFtpStream`] is the polled
+//! one, whose calls are futures; `session::Session` is the session itself, for a program of one thread. The other crates'
+//! modules are gathered here, each under its own name, so that a program needs one dependency: `list` reads the lines of
+//! listings, and `FtpError` is what calls fail with.
 #![tactic(auto)]
 
+pub mod polled_ftp;
 pub mod program;
 pub mod sync_ftp;
 pub mod transfer_stream;
@@ -20,5 +22,6 @@ pub use ftp_control::{control, mark, plain, transport};
 pub use ftp_list as list;
 pub use ftp_session::session::DownloadReader;
 pub use ftp_session::{laws as session_laws, model, session};
+pub use polled_ftp::{AsyncFtpStream, ImplAsyncFtpStream};
 pub use sync_ftp::{ControlSocket, FtpStream, ImplFtpStream};
 pub use transfer_stream::TransferStream;

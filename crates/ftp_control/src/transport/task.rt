@@ -1,70 +1,55 @@
-//! Connections that wait in a task of an event loop.
+//! Connections and transports whose waits wake a task of an event loop.
 //!
-//! A blanket impl can't be written for every lifetime of a task's context at once, so such a connection implements a
-//! trait of its own, in which the context is a parameter of each call.
+//! What a poll does is the same in a task as over memory, so it is polled with nothing at hand (`PollConn<()>`), and a
+//! wait is data: the answer `Pending`. What a task needs besides stands here, apart from every dialogue: after a poll
+//! that waits, the connections and the transport are asked to register the task for what they wait for. A connection
+//! knows that from its last call. Where what was waited for came between the two the task hears so, and polls again: no
+//! wake-up is lost.
 
-ghost use Rattle.std.specs.Prelude.{◌≡◌, ◌≤◌, ◌<◌, IfErr, Ok, length, true};
-ghost use Rattle.std.specs.declared.io.ErrorKind.{ErrorKind as Kind};
-ghost use Rattle.futures.specs.declared.task.Poll.TheVariants as poll;
-ghost use Rattle.ftp_control.specs.Memory.{IsGiven};
-ghost use Rattle.ftp_control.specs.Told.{Told, ReadTells, WriteTells, ReadsAtMost, WritesSome};
+ghost use Rattle.std.specs.Prelude.{◌≡◌, ℕ};
+ghost use Rattle.futures.specs.Task.{Covers, IsArmed, Keeps};
+ghost use Rattle.ftp_control.specs.declared.transport.waiting.Waiting.TheVariants as waits;
 
-use super::{PollConn, Tells};
-use futures::task::{Context, Poll};
-use std::io::ErrorKind;
+use super::{Network, Tells, Waiting};
+use futures::task::Context;
 
-/// A connection that waits in a task: where it waits it arranges that the task is polled again.
+/// A connection that can register a task for what its last read or write waits for.
 pub trait TaskConn: Tells {
-    /// Which faults a read may answer.
-    ghost task_read_faults: { Kind → Type 0 };
+    /// What it waits for: the sources of the event loop that fire once it has come.
+    ghost needs: { Self → ℕ → Type 0 };
 
-    /// Which faults a write may answer, by what the connection has recorded.
-    ghost task_write_faults: { Told → Kind → Type 0 };
-
-    /// Reads bytes into the front of the buffer. 0 bytes are the end of the input.
-    fn poll_read_in(
-        &mut self,
-        cx: &mut Context<'_>,
-        buffer: &mut [u8],
-    ) -> Result<Poll<usize>, ErrorKind>
-        requires { 0 < length buffer.old }
-        ensures bound { ReadsAtMost result (length buffer.old) }
-        ensures fault { IfErr result (λ kind. task_read_faults kind) }
-        ensures given { Self.tells → IsGiven (Self.told self.old) → IsGiven (Self.told self.new) }
-        ensures told { Self.tells → ReadTells result buffer.new (Self.told self.old)
-            (Self.told self.new) }
-        ensures end { Self.tells → result ≡ Ok (poll.Ready 0) →
-            (Self.told self.old).given.closed ≡ true };
-
-    /// Writes bytes from the front, at least one.
-    fn poll_write_in(
-        &mut self,
-        cx: &mut Context<'_>,
-        bytes: &[u8],
-    ) -> Result<Poll<usize>, ErrorKind>
-        requires { 0 < length bytes.now }
-        ensures bound { WritesSome result (length bytes.now) }
-        ensures fault { Self.tells → IfErr result (λ kind. task_write_faults (Self.told self.old) kind) }
-        ensures told { Self.tells → WriteTells result bytes.now (Self.told self.old)
-            (Self.told self.new) };
+    /// Registers the task for what the last read and the last write wait for, where they do.
+    fn poll_ready(&mut self, cx: &mut Context<'_>) -> Waiting
+        ensures told { Self.told self.new ≡ Self.told self.old }
+        ensures registered { result ≡ waits.Registered → Covers cx.new (needs self.new) }
+        ensures nothing { result ≡ waits.Nothing → (source : ℕ) → needs self.new source → ⊥ }
+        ensures kept { Keeps cx.old cx.new };
 }
 
-impl<'a, C: TaskConn> PollConn<Context<'a>> for C {
-    ghost may_wait = { Unit {0} };
+/// A transport that can register a task for the request that waits.
+pub trait TaskTransport: Network {
+    /// Gives up what was begun for a request that is not made again.
+    fn forget(&mut self)
+        ensures asked { Self.asked self.new ≡ Self.asked self.old }
+        ensures ready { Self.ready self.new ≡ Self.ready self.old }
+        ensures closed { Self.closed self.new ≡ Self.closed self.old }
+        ensures port { Self.port self.new ≡ Self.port self.old }
+        ensures room { Self.has_room self.old → Self.has_room self.new };
 
-    ghost read_faults = { λ kind. C.task_read_faults kind };
+    /// Registers the task for the connect that waits, where one does. While a deadline runs the task is polled again at
+    /// once.
+    fn poll_connect_ready(&mut self, cx: &mut Context<'_>) -> Waiting
+        ensures asked { Self.asked self.new ≡ Self.asked self.old }
+        ensures ready { Self.ready self.new ≡ Self.ready self.old }
+        ensures closed { Self.closed self.new ≡ Self.closed self.old }
+        ensures port { Self.port self.new ≡ Self.port self.old }
+        ensures room { Self.has_room self.old → Self.has_room self.new }
+        ensures registered { result ≡ waits.Registered → IsArmed cx.new }
+        ensures kept { Keeps cx.old cx.new };
 
-    ghost write_faults = { λ told kind. C.task_write_faults told kind };
-
-    fn poll_read(
-        &mut self,
-        w: &mut Context<'a>,
-        buffer: &mut [u8],
-    ) -> Result<Poll<usize>, ErrorKind> {
-        self.poll_read_in(w, buffer)
-    }
-
-    fn poll_write(&mut self, w: &mut Context<'a>, bytes: &[u8]) -> Result<Poll<usize>, ErrorKind> {
-        self.poll_write_in(w, bytes)
-    }
+    /// Registers the task for the peer that this listener waits for, where it does. While a deadline runs the task is
+    /// polled again at once.
+    fn poll_accept_ready(listener: &mut Self::Listener, cx: &mut Context<'_>) -> Waiting
+        ensures registered { result ≡ waits.Registered → IsArmed cx.new }
+        ensures kept { Keeps cx.old cx.new };
 }

@@ -93,7 +93,10 @@ impl<Tr: Network, K: Drop, E: Encoding, B: Drop> Session<Tr, K, E, B> {
         let mut session = Session::new(alloc, transport, conn)?;
         match session.greet(alloc) {
             Ok(()) => Ok(session),
-            Err(fault) => Err(fault),
+            Err(fault) => {
+                drop(session);
+                Err(fault)
+            }
         }
     }
 

@@ -107,7 +107,7 @@ where
         ensures encoding { self.new.encoding ≡ self.old.encoding }
         ensures builder { self.new.builder ≡ self.old.builder }
     {
-        unit(self.call(alloc, &Call::Eprt(address)))
+        self.perform(alloc, Ok(Call::Eprt(address)))
     }
 
     /// Sets an option of the server's, to a value or without one: `OPTS` (200; RFC 2389, section 4).
@@ -146,7 +146,7 @@ where
         ensures encoding { self.new.encoding ≡ self.old.encoding }
         ensures builder { self.new.builder ≡ self.old.builder }
     {
-        unit(self.call(alloc, &Call::TransferType(kind)))
+        self.perform(alloc, Ok(Call::TransferType(kind)))
     }
 
     /// Makes a directory: `MKD` (257, 200).
@@ -242,7 +242,7 @@ where
         ensures encoding { self.new.encoding ≡ self.old.encoding }
         ensures builder { self.new.builder ≡ self.old.builder }
     {
-        reply(self.call(alloc, &Call::ReadResponse(expected)))
+        self.perform_for_reply(alloc, Ok(Call::ReadResponse(expected)))
     }
 
     /// Reads one reply whose status is among the expected. Nothing is said.
@@ -268,7 +268,7 @@ where
         ensures encoding { self.new.encoding ≡ self.old.encoding }
         ensures builder { self.new.builder ≡ self.old.builder }
     {
-        unit(self.call(alloc, &Call::ResumeTransfer(offset)))
+        self.perform(alloc, Ok(Call::ResumeTransfer(offset)))
     }
 
     /// Makes a call.
@@ -294,7 +294,11 @@ where
             self.old.mark self.new.mark self.old.machine self.new.machine (unit_answer result) }
     {
         match call {
-            Ok(call) => unit(self.call(alloc, &call)),
+            Ok(call) => {
+                let answer = self.call(alloc, &call);
+                drop(call);
+                unit(answer)
+            }
             Err(AllocError) => Err(self.withheld_call()),
         }
     }
@@ -313,7 +317,11 @@ where
             self.old.mark self.new.mark self.old.machine self.new.machine (reply_answer result) }
     {
         match call {
-            Ok(call) => reply(self.call(alloc, &call)),
+            Ok(call) => {
+                let answer = self.call(alloc, &call);
+                drop(call);
+                reply(answer)
+            }
             Err(AllocError) => Err(self.withheld_call()),
         }
     }
@@ -329,9 +337,11 @@ where
         look(&mut self.machine, &mut self.mark);
         self.withheld()
     }
+}
 
+impl<Tr: Network, K: Drop, E: Encoding, B: Drop> Session<Tr, K, E, B> {
     /// Why a call isn't made whose arguments found no memory.
-    pub(super) fn withheld(&self) -> FtpError
+    pub fn withheld(&self) -> FtpError
         ensures { result ≡ withheld self.now.machine }
     {
         if self.machine.channel.failed() {
@@ -353,7 +363,7 @@ pub(super) fn optional_text(alloc: Global, text: Option<&str>) -> Result<Option<
 }
 
 /// `CWD` as a call.
-fn cwd_call(alloc: Global, path: &str) -> Result<Call, AllocError>
+pub fn cwd_call(alloc: Global, path: &str) -> Result<Call, AllocError>
     ensures call { IfOk result (λ call. call ≡ Call.Cwd path.now) }
     ensures kind { IfOk result GivesNothing }
 {
@@ -361,7 +371,7 @@ fn cwd_call(alloc: Global, path: &str) -> Result<Call, AllocError>
 }
 
 /// `SITE` as a call.
-fn site_call(alloc: Global, command: &str) -> Result<Call, AllocError>
+pub fn site_call(alloc: Global, command: &str) -> Result<Call, AllocError>
     ensures call { IfOk result (λ call. call ≡ Call.Site command.now) }
     ensures kind { IfOk result GivesReply }
 {
@@ -369,7 +379,7 @@ fn site_call(alloc: Global, command: &str) -> Result<Call, AllocError>
 }
 
 /// `MKD` as a call.
-fn mkdir_call(alloc: Global, path: &str) -> Result<Call, AllocError>
+pub fn mkdir_call(alloc: Global, path: &str) -> Result<Call, AllocError>
     ensures call { IfOk result (λ call. call ≡ Call.Mkdir path.now) }
     ensures kind { IfOk result GivesNothing }
 {
@@ -377,7 +387,7 @@ fn mkdir_call(alloc: Global, path: &str) -> Result<Call, AllocError>
 }
 
 /// `RMD` as a call.
-fn rmdir_call(alloc: Global, path: &str) -> Result<Call, AllocError>
+pub fn rmdir_call(alloc: Global, path: &str) -> Result<Call, AllocError>
     ensures call { IfOk result (λ call. call ≡ Call.Rmdir path.now) }
     ensures kind { IfOk result GivesNothing }
 {
@@ -385,7 +395,7 @@ fn rmdir_call(alloc: Global, path: &str) -> Result<Call, AllocError>
 }
 
 /// `DELE` as a call.
-fn rm_call(alloc: Global, path: &str) -> Result<Call, AllocError>
+pub fn rm_call(alloc: Global, path: &str) -> Result<Call, AllocError>
     ensures call { IfOk result (λ call. call ≡ Call.Rm path.now) }
     ensures kind { IfOk result GivesNothing }
 {
@@ -393,7 +403,7 @@ fn rm_call(alloc: Global, path: &str) -> Result<Call, AllocError>
 }
 
 /// A login as a call.
-fn login_call(alloc: Global, user: &str, password: &str) -> Result<Call, AllocError>
+pub fn login_call(alloc: Global, user: &str, password: &str) -> Result<Call, AllocError>
     ensures call { IfOk result (λ call. call ≡ Call.Login user.now password.now) }
     ensures kind { IfOk result GivesNothing }
 {
@@ -403,7 +413,7 @@ fn login_call(alloc: Global, user: &str, password: &str) -> Result<Call, AllocEr
 }
 
 /// A renaming as a call.
-fn rename_call(alloc: Global, from: &str, to: &str) -> Result<Call, AllocError>
+pub fn rename_call(alloc: Global, from: &str, to: &str) -> Result<Call, AllocError>
     ensures call { IfOk result (λ call. call ≡ Call.Rename from.now to.now) }
     ensures kind { IfOk result GivesNothing }
 {
@@ -413,7 +423,7 @@ fn rename_call(alloc: Global, from: &str, to: &str) -> Result<Call, AllocError>
 }
 
 /// `OPTS` as a call.
-fn opts_call(alloc: Global, option: &str, value: Option<&str>) -> Result<Call, AllocError>
+pub fn opts_call(alloc: Global, option: &str, value: Option<&str>) -> Result<Call, AllocError>
     ensures call { IfOk result (λ call. call ≡
         Call.Opts option.now (option_map (λ text. text.now) value.entry)) }
     ensures kind { IfOk result GivesNothing }
@@ -424,7 +434,7 @@ fn opts_call(alloc: Global, option: &str, value: Option<&str>) -> Result<Call, A
 }
 
 /// A caller-supplied line as a call.
-fn custom_call(alloc: Global, line: &str, expected: &[Status]) -> Result<Call, AllocError>
+pub fn custom_call(alloc: Global, line: &str, expected: &[Status]) -> Result<Call, AllocError>
     ensures call { IfOk result (λ call. call ≡ Call.CustomCommand line.now expected.now) }
     ensures kind { IfOk result GivesReply }
 {
@@ -434,7 +444,7 @@ fn custom_call(alloc: Global, line: &str, expected: &[Status]) -> Result<Call, A
 }
 
 /// A read as a call.
-fn read_call(alloc: Global, expected: &[Status]) -> Result<Call, AllocError>
+pub fn read_call(alloc: Global, expected: &[Status]) -> Result<Call, AllocError>
     ensures call { IfOk result (λ call. call ≡ Call.ReadResponseIn expected.now) }
     ensures kind { IfOk result GivesReply }
 {

@@ -7,7 +7,7 @@ ghost use Rattle.std.specs.Prelude.{◌≡◌, OnErr, OnOk, Some, true};
 ghost use Rattle.ftp_control.specs.Mark.{loaded};
 ghost use Rattle.ftp_session.specs.Calls.{unit_answer};
 ghost use Rattle.ftp_dialogue.specs.Coding.{chosen};
-ghost use Rattle.ftp_session.specs.Handed.{BringsToEnd, EndsOnly, Settles, TakesBack, left_if, with_data};
+ghost use Rattle.ftp_session.specs.Handed.{BeginsToSettle, BringsToEnd, EndsOnly, Settles, TakesBack, left_if, with_data};
 ghost use Rattle.ftp_dialogue.specs.Link.{link};
 ghost use Rattle.ftp_dialogue.specs.Sound.{is_live, is_owed};
 
@@ -72,12 +72,40 @@ where
         }
     }
 
+    /// Reads the last reply of a transfer that was left (226, 250), by its receipt. A reply of another status ends the
+    /// transfer as well. One whose last reply was read before is over, and nothing is read.
+    ///
+    /// # Errors
+    /// Those of a read of one reply, but for `UnexpectedResponse`; `SessionFailed` on a session that has failed.
+    pub fn settle(&mut self, alloc: Global, left: &mut Left) -> FtpResult<()>
+        ensures settles { Settles (link Tr.Conn.tells Tr.Conn.blocking_read_faults Tr.Conn.blocking_write_faults Tr.Conn.end_faults) (chosen E.decoded E.encoded self.old.encoding.0) left.old
+            self.old.machine self.new.machine (unit_answer result) }
+        ensures looks { left.new ≡ loaded true left.old }
+        ensures mark { self.new.mark ≡ self.old.mark }
+        ensures encoding { self.new.encoding ≡ self.old.encoding }
+        ensures builder { self.new.builder ≡ self.old.builder }
+    {
+        let owed = match self.begin_settle(left) {
+            Ok(owed) => owed,
+            Err(fault) => return Err(fault),
+        };
+        if !owed {
+            return Ok(());
+        }
+        ended(
+            self.machine
+                .call_alone(&Nothing, alloc, &self.encoding, &Call::Drain),
+        )
+    }
+}
+
+impl<Tr: Network, K: Drop, E: Encoding, B: Drop> Session<Tr, K, E, B> {
     /// Takes a transfer that is live back into the session, to be brought to its end. One of another number is left.
     ///
     /// # Errors
     /// `NotOwed` for one of another number; `OutOfMemory`, or `SessionFailed` on a session that has failed, where there is
     /// no memory for the record that a close will need, and the transfer is left.
-    pub(super) fn take_back(&mut self, transfer: Transfer<Tr::Conn>) -> FtpResult<()>
+    pub fn take_back(&mut self, transfer: Transfer<Tr::Conn>) -> FtpResult<()>
         ensures takes { TakesBack transfer self.old.mark self.new.mark self.old.machine self.new.machine result }
         ensures encoding { self.new.encoding ≡ self.old.encoding }
         ensures builder { self.new.builder ≡ self.old.builder }
@@ -97,14 +125,13 @@ where
         }
     }
 
-    /// Reads the last reply of a transfer that was left (226, 250), by its receipt. A reply of another status ends the
-    /// transfer as well. One whose last reply was read before is over, and nothing is read.
+    /// Looks at a receipt, and returns whether its transfer's last reply is still to be read, which `Call::Drain` does. The
+    /// transfer is left then.
     ///
     /// # Errors
-    /// Those of a read of one reply, but for `UnexpectedResponse`; `SessionFailed` on a session that has failed.
-    pub fn settle(&mut self, alloc: Global, left: &mut Left) -> FtpResult<()>
-        ensures settles { Settles (link Tr.Conn.tells Tr.Conn.blocking_read_faults Tr.Conn.blocking_write_faults Tr.Conn.end_faults) (chosen E.decoded E.encoded self.old.encoding.0) left.old
-            self.old.machine self.new.machine (unit_answer result) }
+    /// `SessionFailed` on a session that has failed.
+    pub fn begin_settle(&mut self, left: &mut Left) -> FtpResult<bool>
+        ensures begins { BeginsToSettle left.old self.old.machine self.new.machine result }
         ensures looks { left.new ≡ loaded true left.old }
         ensures mark { self.new.mark ≡ self.old.mark }
         ensures encoding { self.new.encoding ≡ self.old.encoding }
@@ -115,13 +142,10 @@ where
             return Err(FtpError::SessionFailed);
         }
         if !is_owed(&self.machine, left.number()) {
-            return Ok(());
+            return Ok(false);
         }
         leave_behind(&mut self.machine);
-        ended(
-            self.machine
-                .call_alone(&Nothing, alloc, &self.encoding, &Call::Drain),
-        )
+        Ok(true)
     }
 }
 

@@ -107,14 +107,18 @@ where
     {
         look(&mut self.machine, &mut self.mark);
         match call {
-            Ok(call) => make(
-                &mut self.machine,
-                alloc,
-                rt,
-                &self.builder,
-                &self.encoding,
-                &call,
-            ),
+            Ok(call) => {
+                let answer = make(
+                    &mut self.machine,
+                    alloc,
+                    rt,
+                    &self.builder,
+                    &self.encoding,
+                    &call,
+                );
+                drop(call);
+                answer
+            }
             Err(AllocError) => Answer::Fault(self.withheld()),
         }
     }
@@ -127,7 +131,10 @@ fn bytes(answer: Answer) -> FtpResult<Vec<u8>>
     match answer {
         Answer::Bytes(bytes) => Ok(bytes.into_vec()),
         Answer::Fault(fault) => Err(fault),
-        _ => Err(FtpError::ConnectionError(ConnectionError::NotOwed)),
+        other => {
+            drop(other);
+            Err(FtpError::ConnectionError(ConnectionError::NotOwed))
+        }
     }
 }
 
@@ -138,12 +145,15 @@ fn lines(answer: Answer) -> FtpResult<Vec<String>>
     match answer {
         Answer::Lines(lines) => Ok(lines.into_vec()),
         Answer::Fault(fault) => Err(fault),
-        _ => Err(FtpError::ConnectionError(ConnectionError::NotOwed)),
+        other => {
+            drop(other);
+            Err(FtpError::ConnectionError(ConnectionError::NotOwed))
+        }
     }
 }
 
 /// `RETR` of a whole file, as a call.
-fn retr_call(alloc: Global, path: &str) -> Result<Call, AllocError>
+pub fn retr_call(alloc: Global, path: &str) -> Result<Call, AllocError>
     ensures call { IfOk result (λ call. call ≡ Call.Retr path.now) }
     ensures kind { IfOk result IsOpening }
 {
@@ -151,7 +161,7 @@ fn retr_call(alloc: Global, path: &str) -> Result<Call, AllocError>
 }
 
 /// `LIST` as a call.
-fn list_call(alloc: Global, path: Option<&str>) -> Result<Call, AllocError>
+pub fn list_call(alloc: Global, path: Option<&str>) -> Result<Call, AllocError>
     ensures call { IfOk result (λ call. call ≡ Call.List (option_map (λ text. text.now) path.entry)) }
     ensures kind { IfOk result IsOpening }
 {
@@ -159,7 +169,7 @@ fn list_call(alloc: Global, path: Option<&str>) -> Result<Call, AllocError>
 }
 
 /// `NLST` as a call.
-fn nlst_call(alloc: Global, path: Option<&str>) -> Result<Call, AllocError>
+pub fn nlst_call(alloc: Global, path: Option<&str>) -> Result<Call, AllocError>
     ensures call { IfOk result (λ call. call ≡ Call.Nlst (option_map (λ text. text.now) path.entry)) }
     ensures kind { IfOk result IsOpening }
 {
@@ -167,7 +177,7 @@ fn nlst_call(alloc: Global, path: Option<&str>) -> Result<Call, AllocError>
 }
 
 /// `MLSD` as a call.
-fn mlsd_call(alloc: Global, path: Option<&str>) -> Result<Call, AllocError>
+pub fn mlsd_call(alloc: Global, path: Option<&str>) -> Result<Call, AllocError>
     ensures call { IfOk result (λ call. call ≡ Call.Mlsd (option_map (λ text. text.now) path.entry)) }
     ensures kind { IfOk result IsOpening }
 {

@@ -166,7 +166,9 @@ where
 }
 
 /// What leaving a transfer came to is told to nobody.
-fn pass_over(_answer: Answer) {}
+fn pass_over(answer: Answer) {
+    drop(answer);
+}
 
 /// A value, unless a call after it failed.
 fn unless_failed<T: Drop>(value: T, ended: FtpResult<()>) -> FtpResult<T>

@@ -154,7 +154,11 @@ where
     {
         look(&mut self.machine, &mut self.mark);
         match call {
-            Ok(call) => self.open_call(alloc, rt, &call, replies, direction),
+            Ok(call) => {
+                let opened = self.open_call(alloc, rt, &call, replies, direction);
+                drop(call);
+                opened
+            }
             Err(AllocError) => Err(self.withheld()),
         }
     }
@@ -204,7 +208,7 @@ where
 }
 
 /// Takes the data connection out of the session, where the transfer of this number is live on it.
-fn hand_out<Tr: Network>(machine: &mut Machine<Tr>, number: u64) -> Option<Tr::Conn>
+pub(super) fn hand_out<Tr: Network>(machine: &mut Machine<Tr>, number: u64) -> Option<Tr::Conn>
     ensures told { (conn : Tr.Conn) → result ≡ Some conn → machine.old.net.data_conn ≡ Some (Tr.Conn.told conn) }
     ensures live { is_none result ≡ false → is_live number machine.old.state.counts.owed ≡ true }
     ensures taken { is_none result ≡ false → machine.new ≡ with_data None machine.old }
@@ -219,7 +223,7 @@ fn hand_out<Tr: Network>(machine: &mut Machine<Tr>, number: u64) -> Option<Tr::C
 }
 
 /// The number that the next transfer has.
-fn next_number<Tr: Network>(machine: &Machine<Tr>) -> u64
+pub(super) fn next_number<Tr: Network>(machine: &Machine<Tr>) -> u64
     ensures { result ≡ next_number machine.now.state.counts }
 {
     machine.state.counts.next_number()
@@ -227,7 +231,7 @@ fn next_number<Tr: Network>(machine: &Machine<Tr>) -> u64
 
 /// Why no transfer is handed out. Where there is no fault, which no dialogue comes to, the transfer that is live is
 /// left, if there is one.
-fn give_up<Tr: Network>(machine: &mut Machine<Tr>, fault: Option<FtpError>) -> FtpError
+pub(super) fn give_up<Tr: Network>(machine: &mut Machine<Tr>, fault: Option<FtpError>) -> FtpError
     ensures { GivesUp fault result machine.old machine.new }
 {
     match fault {
@@ -240,14 +244,17 @@ fn give_up<Tr: Network>(machine: &mut Machine<Tr>, fault: Option<FtpError>) -> F
 }
 
 /// What the answer of an opening call comes to: its reply, where that is part of it; or a fault, if it is one.
-fn opened(answer: Answer, replies: bool) -> Result<Option<Response>, Option<FtpError>>
+pub(super) fn opened(answer: Answer, replies: bool) -> Result<Option<Response>, Option<FtpError>>
     ensures { ComesTo replies answer result }
 {
     match answer {
         Answer::Opened if !replies => Ok(None),
         Answer::OpenedWith(reply) if replies => Ok(Some(reply)),
         Answer::Fault(fault) => Err(Some(fault)),
-        _ => Err(None),
+        other => {
+            drop(other);
+            Err(None)
+        }
     }
 }
 
@@ -281,7 +288,7 @@ fn with_reply<C: Tells + Drop>(
 }
 
 /// `RETR` as a call.
-fn retr_call(alloc: Global, path: &str) -> Result<Call, AllocError>
+pub fn retr_call(alloc: Global, path: &str) -> Result<Call, AllocError>
     ensures call { IfOk result (λ call. call ≡ Call.RetrAsStream path.now) }
     ensures kind { IfOk result IsOpening }
 {
@@ -289,7 +296,7 @@ fn retr_call(alloc: Global, path: &str) -> Result<Call, AllocError>
 }
 
 /// `STOR` as a call.
-fn put_call(alloc: Global, path: &str) -> Result<Call, AllocError>
+pub fn put_call(alloc: Global, path: &str) -> Result<Call, AllocError>
     ensures call { IfOk result (λ call. call ≡ Call.PutWithStream path.now) }
     ensures kind { IfOk result IsOpening }
 {
@@ -297,7 +304,7 @@ fn put_call(alloc: Global, path: &str) -> Result<Call, AllocError>
 }
 
 /// `APPE` as a call.
-fn append_call(alloc: Global, path: &str) -> Result<Call, AllocError>
+pub fn append_call(alloc: Global, path: &str) -> Result<Call, AllocError>
     ensures call { IfOk result (λ call. call ≡ Call.AppendWithStream path.now) }
     ensures kind { IfOk result IsOpening }
 {
@@ -305,7 +312,7 @@ fn append_call(alloc: Global, path: &str) -> Result<Call, AllocError>
 }
 
 /// A caller-supplied line that opens a data connection, as a call.
-fn custom_data_call(alloc: Global, line: &str, expected: &[Status]) -> Result<Call, AllocError>
+pub fn custom_data_call(alloc: Global, line: &str, expected: &[Status]) -> Result<Call, AllocError>
     ensures call { IfOk result (λ call. call ≡ Call.CustomDataCommand line.now expected.now) }
     ensures kind { IfOk result IsOpening }
 {

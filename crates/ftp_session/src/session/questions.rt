@@ -51,7 +51,11 @@ where
         ensures builder { self.new.builder ≡ self.old.builder }
     {
         match mlst_call(alloc, path) {
-            Ok(call) => text(self.call(alloc, &call)),
+            Ok(call) => {
+                let answer = self.call(alloc, &call);
+                drop(call);
+                text(answer)
+            }
             Err(AllocError) => Err(self.withheld_call()),
         }
     }
@@ -68,7 +72,11 @@ where
         ensures builder { self.new.builder ≡ self.old.builder }
     {
         match mdtm_call(alloc, path) {
-            Ok(call) => time(self.call(alloc, &call)),
+            Ok(call) => {
+                let answer = self.call(alloc, &call);
+                drop(call);
+                time(answer)
+            }
             Err(AllocError) => Err(self.withheld_call()),
         }
     }
@@ -85,7 +93,11 @@ where
         ensures builder { self.new.builder ≡ self.old.builder }
     {
         match size_call(alloc, path) {
-            Ok(call) => size(self.call(alloc, &call)),
+            Ok(call) => {
+                let answer = self.call(alloc, &call);
+                drop(call);
+                size(answer)
+            }
             Err(AllocError) => Err(self.withheld_call()),
         }
     }
@@ -107,7 +119,7 @@ where
 }
 
 /// `MLST` as a call.
-fn mlst_call(alloc: Global, path: Option<&str>) -> Result<Call, AllocError>
+pub fn mlst_call(alloc: Global, path: Option<&str>) -> Result<Call, AllocError>
     ensures call { IfOk result (λ call. call ≡ Call.Mlst (option_map (λ text. text.now) path.entry)) }
     ensures kind { IfOk result GivesText }
 {
@@ -115,7 +127,7 @@ fn mlst_call(alloc: Global, path: Option<&str>) -> Result<Call, AllocError>
 }
 
 /// `MDTM` as a call.
-fn mdtm_call(alloc: Global, path: &str) -> Result<Call, AllocError>
+pub fn mdtm_call(alloc: Global, path: &str) -> Result<Call, AllocError>
     ensures call { IfOk result (λ call. call ≡ Call.Mdtm path.now) }
     ensures kind { IfOk result GivesTime }
 {
@@ -123,7 +135,7 @@ fn mdtm_call(alloc: Global, path: &str) -> Result<Call, AllocError>
 }
 
 /// `SIZE` as a call.
-fn size_call(alloc: Global, path: &str) -> Result<Call, AllocError>
+pub fn size_call(alloc: Global, path: &str) -> Result<Call, AllocError>
     ensures call { IfOk result (λ call. call ≡ Call.Size path.now) }
     ensures kind { IfOk result GivesSize }
 {

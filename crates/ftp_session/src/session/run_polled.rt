@@ -33,6 +33,7 @@ use ftp_dialogue::stage::Stage;
 use ftp_dialogue::unless_unit;
 use futures::task::Poll;
 use std::alloc::{AllocError, Global};
+use std::mem;
 
 impl<K: Drop, E: Encoding, B: PassiveStreamBuilder<MemoryConn>> Session<MemoryTransport, K, E, B> {
     /// Lets these events happen, one after another, and returns the answers of the calls that were completed, in
@@ -113,11 +114,14 @@ fn let_happen<E: Encoding, B: PassiveStreamBuilder<MemoryConn>>(
             Ok(answer) => note(&mut answers, answer),
             Err(AllocError) => {
                 drop_call(machine, alloc, &mut under_way, &stage, &mut course);
+                drop(stage);
+                drop(answers);
                 return Err(FtpError::OutOfMemory);
             }
         }
     }
     drop_call(machine, alloc, &mut under_way, &stage, &mut course);
+    drop(stage);
     Ok(answers)
 }
 
@@ -302,7 +306,9 @@ fn leave_held(machine: &mut Machine<MemoryTransport>, alloc: Global)
 }
 
 /// This answer is told to nobody.
-fn told_to_nobody(_answer: Answer) {}
+fn told_to_nobody(answer: Answer) {
+    drop(answer);
+}
 
 /// Polls a call over memory, after the last reply of a transfer that was left, where one is due. Tells whether the call
 /// itself was polled.
@@ -347,7 +353,7 @@ fn poll_drain<E: Encoding, B: PassiveStreamBuilder<MemoryConn>>(
 {
     let mut stage = Stage::At(Turn::First);
     let drained = poll_here(machine, alloc, builder, encoding, &Call::Drain, &mut stage);
-    forget(stage);
+    drop(stage);
     drained
 }
 
@@ -403,9 +409,6 @@ fn holds_memory(machine: &Machine<MemoryTransport>)
     machine.state.counts.opened();
 }
 
-/// How far a call has come isn't asked any more.
-fn forget(_stage: Stage) {}
-
 /// Adds an answer, if there is one, after those of before.
 fn note(answers: &mut Vec<Answer>, answer: Option<Answer>)
     requires { vec_len answers.old < vec_capacity answers.old }
@@ -431,7 +434,7 @@ fn start<'e>(
 {
     if under_way.is_none() {
         *under_way = Some(call);
-        *stage = Stage::At(Turn::First);
+        drop(mem::replace(stage, Stage::At(Turn::First)));
         course.polled = false;
     }
 }

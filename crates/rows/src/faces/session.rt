@@ -23,9 +23,11 @@ fn bare(alloc: Global, play: &Play) -> MemoryConn {
     MemoryConn::between(alloc, local, peer)
 }
 
-/// A connection that the server's bytes came on, in their pieces.
+/// A connection that the server's bytes came on, in their pieces, and ended.
 pub fn conn_of(alloc: Global, play: &Play) -> Result<MemoryConn, AllocError> {
-    fed(bare(alloc, play), &play.input, play.piece)
+    let mut conn = fed(bare(alloc, play), &play.input, play.piece)?;
+    conn.end();
+    Ok(conn)
 }
 
 /// A session on the server's bytes, of which nothing was read.

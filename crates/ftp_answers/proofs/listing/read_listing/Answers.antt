@@ -16,5 +16,5 @@ loop-end-preserved g c =
     ∙ ap (λ l. lines ++ l) (listing_next decode c.loop-end.rest.now piece after c.in-Some.end found.0.high (λ k low. found.0.before k (omega arith) low) found.1 c.split_at.ensures.front c.split_at.ensures.back)
     ∙ c.loop-end.invariant
 
-pub push_line-requires-2-after_bounds : goal.push_line-requires-2-after_bounds
-push_line-requires-2-after_bounds g c κs within = no_line_feed c.loop-end.rest.now (λ k low. c.in_default.ensures k (omega arith) low)
+pub push_line-requires-2 : goal.push_line-requires-2
+push_line-requires-2 g c = no_line_feed c.loop-end.rest.now (λ k low. c.in_default.ensures k (omega arith) low)

@@ -8,7 +8,7 @@ pub returns-in-Unknown : goal.returns-in-Unknown
 unfolding play
 returns-in-Unknown c = λ room later.
     let s = c.args.standing in
-    let came = rw c.in-Unknown.is at c.in_ok-here.ensures in
+    let came = rw c.in-Unknown.is at (rw c.in-Ok.is at c.hear_reply.ensures) in
     let due = rw c.form_of-reply_form.ensures at came in
     rw c.form_of-reply_form.ensures (due (λ heard t. play room (fetch_concluded c.args.form c.args.answer s.state heard) t))
 
@@ -18,7 +18,7 @@ unfolding play
 returns-in-Known c = λ room later.
     let s = c.args.standing in
     let here = c.in-Known.here in
-    let came = rw c.form_of-reply_form.ensures at (rw c.in-Known.is at c.in_ok-here.ensures) in
+    let came = rw c.form_of-reply_form.ensures at (rw c.in-Known.is at (rw c.in-Ok.is at c.hear_reply.ensures)) in
     let heard = came.1 (λ heard t. play room (fetch_concluded c.args.form c.args.answer s.state heard) t) in
     let same = ap (λ state. play room (fetch_concluded c.args.form c.args.answer state c.in-Known.reply) here) (sym came.0) in
     let ends = ap (λ tree. play room tree here) (c.concluded-told.ensures here.state) in

@@ -14,7 +14,7 @@ unfolding play
 returns-in-Known c =
     let s = c.args.standing in
     let here = c.in-Known.here in
-    let came = rw c.in-Known.is at c.in_ok-here.ensures in
+    let came = rw c.in-Known.is at (rw c.in-Ok.is at c.moved_by.ensures) in
     let told = λ (state : State) (outcome : DealOutcome). closed_as (told_of_close state.uploads outcome) c.args.answer in
     let is : told here.state c.in-Known.outcome ≡ c.closed_as.result = sym (c.closed_as.ensures ∙ ap (λ t. closed_as t c.args.answer) c.told_of_close-told.ensures) in
     let one = λ (room : Room) (later : State → Tree). play room (fetch_ending c.args.form c.closed_as.result here.state) here in

@@ -5,10 +5,10 @@ use Rattle.session_plain.proofs.opening.opens.Goals as goal
 -- no transfer is opened yet, or none at all
 pub returns-in-Stops : goal.returns-in-Stops
 returns-in-Stops c = λ room later.
-    rw c.in-Stops.is at (c.in_ok-played.ensures room (λ state. Leaf c.args.answer (with_transfer state)))
+    rw c.in-Stops.is at ((rw c.in-Ok.is at c.opened.ensures) room (λ state. Leaf c.args.answer (with_transfer state)))
 
 -- one is opened
 pub returns-in-Continues : goal.returns-in-Continues
 unfolding play
 returns-in-Continues c = λ room later.
-    rw (c.done.ensures, c.with_transfer.ensures) (rw c.in-Continues.is at (c.in_ok-played.ensures room (λ state. Leaf c.args.answer (with_transfer state))))
+    rw (c.done.ensures, c.with_transfer.ensures) (rw c.in-Continues.is at ((rw c.in-Ok.is at c.opened.ensures) room (λ state. Leaf c.args.answer (with_transfer state))))

@@ -4,7 +4,7 @@ use Rattle.ftp_session.proofs.Handed.{copied_plays, seen_plays}
 use Rattle.ftp_session.proofs.session.client.Session.fetch.Goals as goal
 
 pub returns-in-Ok-clause-plays : goal.returns-in-Ok-clause-plays
-returns-in-Ok-clause-plays g c = λ made opening is. copied_plays _ _ c.args.call c.in-Ok.call made _ _ _ _ _ c.in-Ok.is is (seen_plays _ _ _ _ _ _ _ _ _ c.look.ensures.looks c.look.ensures.seen (drained_plays _ _ _ _ _ _ c.make.ensures.made))
+returns-in-Ok-clause-plays g c = λ made opening is. copied_plays _ _ c.args.call c.in-Ok.call made _ _ _ _ _ c.in-Ok.is is (seen_plays _ _ _ _ _ _ _ _ _ c.look.ensures.looks c.look.ensures.seen (drained_plays _ _ _ _ _ _ c.make-answer.ensures.made))
 
 pub returns-in-Err-clause-plays : goal.returns-in-Err-clause-plays
 returns-in-Err-clause-plays g c = λ made opening is. rw c.withheld.ensures (seen_plays _ _ _ _ _ _ _ _ _ c.look.ensures.looks c.look.ensures.seen (withheld_plays _ _ made _ opening.1 opening.2))

@@ -4,7 +4,7 @@ use Rattle.ftp_session.proofs.Handed.{copied_plays}
 use Rattle.ftp_session.proofs.session.client.Session.mdtm.Goals as goal
 
 pub returns-in-Ok-clause-plays : goal.returns-in-Ok-clause-plays
-returns-in-Ok-clause-plays g c = rw c.time.ensures (copied_plays _ _ c.mdtm_call.result c.in-Ok.call (Mdtm c.args.path.now) _ _ _ _ _ c.in-Ok.is c.mdtm_call.ensures.call c.call.ensures.plays)
+returns-in-Ok-clause-plays g c = rw c.time.ensures (copied_plays _ _ c.mdtm_call.result c.in-Ok.call (Mdtm c.args.path.now) _ _ _ _ _ c.in-Ok.is c.mdtm_call.ensures.call c.call-answer.ensures.plays)
 
 pub returns-in-Err-clause-plays : goal.returns-in-Err-clause-plays
 returns-in-Err-clause-plays g c = c.withheld_call.ensures.plays (Mdtm c.args.path.now) (refl, refl, refl)

@@ -4,7 +4,7 @@ use Rattle.ftp_session.proofs.Handed.{copied_plays}
 use Rattle.ftp_session.proofs.session.client.Session.mlst.Goals as goal
 
 pub returns-in-Ok-clause-plays : goal.returns-in-Ok-clause-plays
-returns-in-Ok-clause-plays g c = rw c.text.ensures (copied_plays _ _ c.mlst_call.result c.in-Ok.call (Mlst (option_map (λ text. text.now) c.args.path)) _ _ _ _ _ c.in-Ok.is c.mlst_call.ensures.call c.call.ensures.plays)
+returns-in-Ok-clause-plays g c = rw c.text.ensures (copied_plays _ _ c.mlst_call.result c.in-Ok.call (Mlst (option_map (λ text. text.now) c.args.path)) _ _ _ _ _ c.in-Ok.is c.mlst_call.ensures.call c.call-answer.ensures.plays)
 
 pub returns-in-Err-clause-plays : goal.returns-in-Err-clause-plays
 returns-in-Err-clause-plays g c = c.withheld_call.ensures.plays (Mlst (option_map (λ text. text.now) c.args.path)) (refl, refl, refl)

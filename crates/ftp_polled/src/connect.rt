@@ -1,0 +1,232 @@
+//! The state of a client that connects.
+
+ghost use Rattle.futures.specs.Poll.{OnPending};
+ghost use Rattle.futures.specs.Task.{IsArmed, Keeps};
+
+use crate::client::ImplAsyncFtpStream;
+use crate::outcome::Outcome;
+use crate::waiting::wait;
+use ftp_base::encoding::Encoding;
+use ftp_base::types::{ConnectionError, FtpError, FtpResult};
+use ftp_control::transport::{
+    PassiveStreamBuilder, PollConn, PollTransport, TaskConn, TaskTransport, Tried,
+    poll_connect_in_turn,
+};
+use ftp_session::session::{Call, PolledCall, Session};
+use futures::Future;
+use futures::task::{Context, Poll};
+use std::alloc::{AllocError, Global};
+use std::mem;
+use std::net::SocketAddr;
+use std::time::Duration;
+
+/// A client connects: its addresses are tried in turn, and the greeting (220) is read on the first that connects.
+///
+/// Dropped, it closes what was made.
+#[derive(Drop)]
+pub struct Connect<'r, R, Tr: TaskTransport, K: Drop, E: Encoding, B: Drop>
+where
+    Tr::Conn: TaskConn,
+{
+    rt: &'r R,
+    // The transport, until a session has it.
+    transport: Option<Tr>,
+    // None where there was no memory for them.
+    addresses: Option<Vec<SocketAddr>>,
+    limit: Option<Duration>,
+    tried: Tried,
+    session: Option<Session<Tr, K, E, B>>,
+    greeting: PolledCall,
+}
+
+impl<'r, R: AllocGlobal, Tr: TaskTransport, K: Drop, E: Encoding, B: Drop> Connect<
+    'r,
+    R,
+    Tr,
+    K,
+    E,
+    B,
+>
+where
+    Tr::Conn: TaskConn,
+{
+    /// A state that connects to these addresses. Where none connects the last fault is given, or else this one.
+    fn new(
+        rt: &'r R,
+        transport: Tr,
+        addresses: &[SocketAddr],
+        limit: Option<Duration>,
+        fault: ConnectionError,
+    ) -> Self {
+        Connect {
+            rt,
+            transport: Some(transport),
+            addresses: Vec::from_slice(rt.alloc(), addresses).ok(),
+            limit,
+            tried: Tried { count: 0, fault },
+            session: None,
+            greeting: PolledCall::alone(Call::Greet),
+        }
+    }
+}
+
+impl<'r, R: AllocGlobal, Tr, K: Drop, E: Encoding, B> Connect<'r, R, Tr, K, E, B>
+where
+    Tr: PollTransport<R, ()> + TaskTransport,
+    Tr::Conn: PollConn<()> + TaskConn,
+    B: PassiveStreamBuilder<Tr::Conn>,
+{
+    /// Goes on to connect.
+    fn poll_conn(&mut self, cx: &mut Context<'_>) -> Poll<FtpResult<()>>
+        ensures registered { OnPending result (IsArmed cx.new) }
+        ensures kept { Keeps cx.old cx.new }
+    {
+        let (Some(transport), Some(addresses)) = (&mut self.transport, &self.addresses) else {
+            return Poll::Ready(Err(FtpError::OutOfMemory));
+        };
+        if self.tried.count > addresses.len() {
+            return Poll::Ready(Err(FtpError::OutOfMemory));
+        }
+        match poll_connect_in_turn(
+            transport,
+            self.rt,
+            &mut (),
+            addresses.as_slice(),
+            self.limit,
+            &mut self.tried,
+        ) {
+            Poll::Ready(made) => Poll::Ready(self.begin(made)),
+            Poll::Pending => transport.poll_connect_ready(cx).wait(cx),
+        }
+    }
+
+    /// A session begins on the connection that was made.
+    fn begin(
+        &mut self,
+        made: Result<Result<Tr::Conn, ConnectionError>, AllocError>,
+    ) -> FtpResult<()> {
+        let Ok(made) = made else {
+            return Err(FtpError::OutOfMemory);
+        };
+        let conn = made?;
+        let Some(transport) = self.transport.take() else {
+            return Err(FtpError::ConnectionError(ConnectionError::NotOwed));
+        };
+        let session = Session::new(self.rt.alloc(), transport, conn)?;
+        drop(mem::replace(&mut self.session, Some(session)));
+        Ok(())
+    }
+
+    /// Goes on to read the greeting.
+    fn poll_greeting(
+        &mut self,
+        cx: &mut Context<'_>,
+    ) -> Poll<FtpResult<ImplAsyncFtpStream<Tr, K, E, B>>>
+        ensures registered { OnPending result (IsArmed cx.new) }
+        ensures kept { Keeps cx.old cx.new }
+    {
+        let Some(mut session) = self.session.take() else {
+            return Poll::Ready(Err(FtpError::ConnectionError(ConnectionError::NotOwed)));
+        };
+        let alloc = self.rt.alloc();
+        match session.poll_call(alloc, self.rt, &mut self.greeting, &mut ()) {
+            Poll::Ready(answer) => Poll::Ready(client_of(alloc, Outcome::of(answer), session)),
+            Poll::Pending => {
+                let waits = wait(&mut session, cx);
+                drop(mem::replace(&mut self.session, Some(session)));
+                waits
+            }
+        }
+    }
+}
+
+/// The client over a session whose greeting was read.
+fn client_of<Tr: TaskTransport, K: Drop, E: Encoding, B: Drop>(
+    alloc: Global,
+    greeted: FtpResult<()>,
+    session: Session<Tr, K, E, B>,
+) -> FtpResult<ImplAsyncFtpStream<Tr, K, E, B>>
+where
+    Tr::Conn: TaskConn,
+{
+    match greeted {
+        Ok(()) => ImplAsyncFtpStream::new(alloc, session),
+        Err(fault) => Err(fault),
+    }
+}
+
+impl<'r, R: AllocGlobal, Tr, K: Drop, E: Encoding, B> Future for Connect<'r, R, Tr, K, E, B>
+where
+    Tr: PollTransport<R, ()> + TaskTransport,
+    Tr::Conn: PollConn<()> + TaskConn,
+    B: PassiveStreamBuilder<Tr::Conn>,
+{
+    type Output = FtpResult<ImplAsyncFtpStream<Tr, K, E, B>>;
+
+    fn poll(&mut self, cx: &mut Context<'_>) -> Poll<FtpResult<ImplAsyncFtpStream<Tr, K, E, B>>> {
+        if self.transport.is_some() {
+            match self.poll_conn(cx) {
+                Poll::Ready(Ok(())) => {}
+                Poll::Ready(Err(fault)) => return Poll::Ready(Err(fault)),
+                Poll::Pending => return Poll::Pending,
+            }
+        }
+        self.poll_greeting(cx)
+    }
+}
+
+impl<Tr: TaskTransport, K: Drop, E: Encoding, B: Drop> ImplAsyncFtpStream<Tr, K, E, B>
+where
+    Tr::Conn: TaskConn,
+{
+    /// Connects to the first of these addresses that connects, and reads the server's greeting (220).
+    ///
+    /// # Errors
+    /// The last fault where none connects; `NoAddress` where there is none. Those of a read of one reply.
+    pub fn connect<'r, R: AllocGlobal>(
+        rt: &'r R,
+        transport: Tr,
+        addresses: &[SocketAddr],
+    ) -> Connect<'r, R, Tr, K, E, B> {
+        Connect::new(rt, transport, addresses, None, ConnectionError::NoAddress)
+    }
+
+    /// Connects to this address within this time, and reads the server's greeting (220).
+    ///
+    /// # Errors
+    /// `TimedOut` where the time has passed, or is zero; the fault of the connect. Those of a read of one reply.
+    pub fn connect_timeout<'r, R: AllocGlobal>(
+        rt: &'r R,
+        transport: Tr,
+        address: SocketAddr,
+        limit: Duration,
+    ) -> Connect<'r, R, Tr, K, E, B> {
+        let addresses = [address];
+        let count = if limit.is_zero() { 0 } else { 1 };
+        let tried = &addresses[..count];
+        Connect::new(rt, transport, tried, Some(limit), ConnectionError::TimedOut)
+    }
+
+    /// Reads the server's greeting (220) on a connection that was made.
+    ///
+    /// # Errors
+    /// Those of a read of one reply. The connection is closed then.
+    pub fn connect_with_stream<'r, R: AllocGlobal>(
+        rt: &'r R,
+        transport: Tr,
+        conn: Tr::Conn,
+    ) -> Connect<'r, R, Tr, K, E, B> {
+        Connect {
+            rt,
+            transport: None,
+            addresses: None,
+            limit: None,
+            tried: Tried {
+                count: 0,
+                fault: ConnectionError::NoAddress,
+            },
+            session: Session::new(rt.alloc(), transport, conn).ok(),
+            greeting: PolledCall::alone(Call::Greet),
+        }
+    }
+}

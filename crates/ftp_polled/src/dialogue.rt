@@ -1,0 +1,64 @@
+//! The states of calls that give a value: commands and their replies, reads of one reply, whole files and listings.
+
+ghost use Rattle.futures.specs.Poll.{OnPending};
+
+use crate::calling::Calling;
+use crate::outcome::Outcome;
+use ftp_base::encoding::Encoding;
+use ftp_base::types::{FtpResult, Response};
+use ftp_control::transport::{
+    PassiveStreamBuilder, PollConn, PollTransport, TaskConn, TaskTransport,
+};
+use futures::Future;
+use futures::task::{Context, Poll};
+use std::marker::PhantomData;
+
+/// A call that gives an `A`.
+///
+/// Dropped, it lets the lock go. The last reply of a transfer that was left, where it was waited for, stays for the next
+/// call. Once a line of the call itself went out its reply does, too, which the next call takes as its own: drop it only
+/// where the connection is given up. A whole file or listing that is dropped once its command was accepted leaves its
+/// transfer.
+#[derive(Drop)]
+pub struct Dialogue<'r, R, Tr: TaskTransport, K: Drop, E: Encoding, B: Drop, A>
+where
+    Tr::Conn: TaskConn,
+{
+    calling: Calling<'r, R, Tr, K, E, B>,
+    gives: PhantomData<A>,
+}
+
+/// A read of one reply, which may be dropped and begun again: what was read of the reply is kept.
+pub type ReadReply<'r, R, Tr, K, E, B> = Dialogue<'r, R, Tr, K, E, B, Response>;
+
+/// The lines of a listing.
+pub type Lines<'r, R, Tr, K, E, B> = Dialogue<'r, R, Tr, K, E, B, Vec<String>>;
+
+impl<'r, R, Tr: TaskTransport, K: Drop, E: Encoding, B: Drop, A> Dialogue<'r, R, Tr, K, E, B, A>
+where
+    Tr::Conn: TaskConn,
+{
+    pub(crate) fn new(calling: Calling<'r, R, Tr, K, E, B>) -> Self {
+        Dialogue {
+            calling,
+            gives: PhantomData,
+        }
+    }
+}
+
+impl<'r, R: AllocGlobal, Tr, K: Drop, E: Encoding, B, A: Outcome> Future
+    for Dialogue<'r, R, Tr, K, E, B, A>
+where
+    Tr: PollTransport<R, ()> + TaskTransport,
+    Tr::Conn: PollConn<()> + TaskConn,
+    B: PassiveStreamBuilder<Tr::Conn>,
+{
+    type Output = FtpResult<A>;
+
+    fn poll(&mut self, cx: &mut Context<'_>) -> Poll<FtpResult<A>> {
+        match self.calling.poll_answer(cx) {
+            Poll::Ready(answer) => Poll::Ready(A::of(answer)),
+            Poll::Pending => Poll::Pending,
+        }
+    }
+}

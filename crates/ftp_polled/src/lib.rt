@@ -1,0 +1,48 @@
+//! The polled client: each call is a future.
+//!
+//! A client is a session under a lock of `tokio`, which tasks may share. A method makes a state: a future that waits for
+//! the lock, polls the session's call under it, and lets the lock go once it has the answer. A state holds nothing of a
+//! dialogue but how far its call has come; what goes over the connections is the session's, which the blocking client
+//! makes, too.
+//!
+//! A state that waits may be dropped at any time, which cancels it and lets the lock go. What was read of a reply is kept,
+//! the unsent tail of a line goes out before any other byte, and a transfer that the state held is left: its last reply is
+//! read before the next command. The reply to a command that went out stays for the next call.
+//!
+//! A poll that waits has registered its task for what it waits for, or asks to be polled again at once: no wake-up is
+//! lost. While a deadline runs a state asks to be polled again at once, since no timer is used.
+#![tactic(auto)]
+
+mod adjusting;
+mod calling;
+mod client;
+mod commands;
+mod connect;
+mod copying;
+mod dialogue;
+mod ending;
+mod hold;
+mod lock;
+mod opening;
+mod outcome;
+mod retrieve;
+mod settle;
+mod tls;
+mod transfer_stream;
+mod transfers;
+mod upload;
+mod waiting;
+
+pub use adjusting::Adjust;
+pub use client::ImplAsyncFtpStream;
+pub use connect::Connect;
+pub use dialogue::{Dialogue, Lines, ReadReply};
+pub use ending::{Abort, Finish};
+pub use lock::{ControlSocket, Lock};
+pub use opening::{OpenTransfer, OpenWithReply};
+pub use outcome::Outcome;
+pub use retrieve::{RetrReader, Retrieve};
+pub use settle::Settle;
+pub use tls::{AsyncNoTlsStream, AsyncTlsConnector, AsyncTlsStream};
+pub use transfer_stream::TransferStream;
+pub use upload::Upload;

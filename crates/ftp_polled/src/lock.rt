@@ -1,0 +1,114 @@
+//! The lock of a client, lent to a caller.
+
+use crate::client::ImplAsyncFtpStream;
+use crate::hold::Hold;
+use ftp_base::encoding::{Encoding, Utf8Encoding};
+use ftp_base::types::{ConnectionError, FtpError, FtpResult};
+use ftp_control::transport::{TaskConn, TaskTransport};
+use ftp_session::session::{NoStreamBuilder, NoTlsConnector, Session};
+use futures::Future;
+use futures::task::{Context, Poll};
+use std::alloc::AllocError;
+use tokio::sync::OwnedMutexGuard;
+
+/// A hold of a client's lock, which lends the control connection. Dropping it lets the lock go.
+///
+/// While it is kept every state of the client waits.
+pub struct ControlSocket<
+    Tr: TaskTransport,
+    K: Drop = NoTlsConnector,
+    E: Encoding = Utf8Encoding,
+    B: Drop = NoStreamBuilder,
+>
+where
+    Tr::Conn: TaskConn,
+{
+    session: OwnedMutexGuard<Session<Tr, K, E, B>>,
+}
+
+impl<Tr: TaskTransport, K: Drop, E: Encoding, B: Drop> Drop for ControlSocket<Tr, K, E, B>
+where
+    Tr::Conn: TaskConn,
+{
+    fn drop(self) {
+        let Self { session } = self;
+        drop(session);
+    }
+}
+
+impl<Tr: TaskTransport, K: Drop, E: Encoding, B: Drop> ControlSocket<Tr, K, E, B>
+where
+    Tr::Conn: TaskConn,
+{
+    /// The control connection.
+    pub fn socket(&self) -> &Tr::Conn {
+        self.session.get_ref()
+    }
+
+    /// The transport.
+    pub fn transport(&self) -> &Tr {
+        self.session.transport()
+    }
+
+    /// How many received bytes are part of no reply yet.
+    pub fn untaken(&self) -> usize {
+        self.session.untaken()
+    }
+
+    /// The text that the server greeted with, once the greeting was taken.
+    pub fn get_welcome_msg(&self) -> Option<&str> {
+        self.session.get_welcome_msg()
+    }
+}
+
+/// The lock of a client is waited for.
+///
+/// # Errors
+/// `OutOfMemory` where there is no memory to wait; `NotOwed` once it was given.
+#[derive(Drop)]
+pub struct Lock<Tr: TaskTransport, K: Drop, E: Encoding, B: Drop>
+where
+    Tr::Conn: TaskConn,
+{
+    hold: Hold<Session<Tr, K, E, B>>,
+}
+
+impl<Tr: TaskTransport, K: Drop, E: Encoding, B: Drop> Future for Lock<Tr, K, E, B>
+where
+    Tr::Conn: TaskConn,
+{
+    type Output = FtpResult<ControlSocket<Tr, K, E, B>>;
+
+    fn poll(&mut self, cx: &mut Context<'_>) -> Poll<FtpResult<ControlSocket<Tr, K, E, B>>> {
+        match self.hold.poll_lock(cx) {
+            Poll::Ready(Ok(())) => Poll::Ready(lend(self.hold.take())),
+            Poll::Ready(Err(AllocError)) => Poll::Ready(Err(FtpError::OutOfMemory)),
+            Poll::Pending => Poll::Pending,
+        }
+    }
+}
+
+/// The control connection under this hold.
+fn lend<Tr: TaskTransport, K: Drop, E: Encoding, B: Drop>(
+    hold: Hold<Session<Tr, K, E, B>>,
+) -> FtpResult<ControlSocket<Tr, K, E, B>>
+where
+    Tr::Conn: TaskConn,
+{
+    match hold {
+        Hold::Has(session) => Ok(ControlSocket { session }),
+        _ => Err(FtpError::ConnectionError(ConnectionError::NotOwed)),
+    }
+}
+
+impl<Tr: TaskTransport, K: Drop, E: Encoding, B: Drop> ImplAsyncFtpStream<Tr, K, E, B>
+where
+    Tr::Conn: TaskConn,
+{
+    /// The control connection, once the lock is held.
+    pub fn get_ref(&self) -> Lock<Tr, K, E, B> {
+        Lock {
+            hold: Hold::on(&self.session),
+        }
+    }
+}

@@ -1,0 +1,96 @@
+//! What a call's answer is to its caller.
+
+use ftp_base::types::{ConnectionError, Features, FtpError, FtpResult, Response};
+use ftp_session::session::Answer;
+use jiff::civil::DateTime;
+
+/// A value that a call gives.
+pub trait Outcome: Drop {
+    /// The value of an answer.
+    ///
+    /// # Errors
+    /// The answer's fault; `NotOwed` where the answer has no such value, which no call comes to that gives one.
+    fn of(answer: Answer) -> FtpResult<Self>
+    where
+        Self: Sized;
+}
+
+/// The fault of an answer without the value that is looked for.
+fn other<T>(answer: Answer) -> FtpResult<T> {
+    match answer {
+        Answer::Fault(fault) => Err(fault),
+        _ => Err(FtpError::ConnectionError(ConnectionError::NotOwed)),
+    }
+}
+
+impl Outcome for () {
+    fn of(answer: Answer) -> FtpResult<()> {
+        match answer {
+            Answer::Unit => Ok(()),
+            answer => other(answer),
+        }
+    }
+}
+
+impl Outcome for Response {
+    fn of(answer: Answer) -> FtpResult<Response> {
+        match answer {
+            Answer::Reply(reply) => Ok(reply),
+            answer => other(answer),
+        }
+    }
+}
+
+impl Outcome for String {
+    fn of(answer: Answer) -> FtpResult<String> {
+        match answer {
+            Answer::Text(text) => Ok(text.into_string()),
+            answer => other(answer),
+        }
+    }
+}
+
+impl Outcome for DateTime {
+    fn of(answer: Answer) -> FtpResult<DateTime> {
+        match answer {
+            Answer::Time(time) => Ok(time),
+            answer => other(answer),
+        }
+    }
+}
+
+impl Outcome for usize {
+    fn of(answer: Answer) -> FtpResult<usize> {
+        match answer {
+            Answer::Size(size) => Ok(size),
+            answer => other(answer),
+        }
+    }
+}
+
+impl Outcome for Features {
+    fn of(answer: Answer) -> FtpResult<Features> {
+        match answer {
+            Answer::Features(features) => Ok(features),
+            answer => other(answer),
+        }
+    }
+}
+
+impl Outcome for Vec<u8> {
+    fn of(answer: Answer) -> FtpResult<Vec<u8>> {
+        match answer {
+            Answer::Bytes(bytes) => Ok(bytes.into_vec()),
+            answer => other(answer),
+        }
+    }
+}
+
+impl Outcome for Vec<String> {
+    fn of(answer: Answer) -> FtpResult<Vec<String>> {
+        match answer {
+            Answer::Lines(lines) => Ok(lines.into_vec()),
+            answer => other(answer),
+        }
+    }
+}

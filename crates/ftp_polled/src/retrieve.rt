@@ -1,0 +1,186 @@
+//! The state of a download that is read by its caller.
+
+ghost use Rattle.futures.specs.Poll.{OnPending};
+ghost use Rattle.futures.specs.Task.{IsArmed, Keeps};
+
+use crate::client::ImplAsyncFtpStream;
+use crate::ending::Ending;
+use crate::opening::Opening;
+use ftp_base::encoding::Encoding;
+use ftp_base::types::{ConnectionError, FtpError, FtpResult};
+use ftp_control::transport::{
+    PassiveStreamBuilder, PollConn, PollTransport, TaskConn, TaskTransport,
+};
+use ftp_session::session::calls::retr_stream_call;
+use ftp_transfer::{Direction, Transfer};
+use futures::Future;
+use futures::task::{Context, Poll};
+use std::mem;
+
+/// What reads a download.
+pub trait RetrReader<C: TaskConn + Drop>: Drop {
+    /// What it makes of the data.
+    type Out: Drop;
+
+    /// Goes on to read. Where it waits it has registered the task, as a poll of the transfer does that waits.
+    ///
+    /// # Errors
+    /// What the download is answered with; its transfer is left then.
+    fn poll(
+        &mut self,
+        transfer: &mut Transfer<C>,
+        cx: &mut Context<'_>,
+    ) -> Poll<FtpResult<Self::Out>>
+        ensures registered { OnPending result (IsArmed cx.new) }
+        ensures kept { Keeps cx.old cx.new };
+}
+
+/// A download, which a reader reads: `RETR`, the data, and the last reply, in one hold of the lock.
+///
+/// Dropped while its data is read or its last reply is waited for, it leaves its transfer. The reader's fault leaves it,
+/// too.
+#[derive(Drop)]
+pub struct Retrieve<'r, R, Tr: TaskTransport, K: Drop, E: Encoding, B: Drop, F>
+where
+    Tr::Conn: TaskConn,
+    F: RetrReader<Tr::Conn>,
+{
+    // Dropped first: the transfer has left its mark before the lock is let go.
+    transfer: Option<Transfer<Tr::Conn>>,
+    opening: Opening<'r, R, Tr, K, E, B>,
+    reader: F,
+    read: Option<F::Out>,
+    ending: Option<Ending<'r, R, Tr, K, E, B>>,
+}
+
+impl<'r, R: AllocGlobal, Tr, K: Drop, E: Encoding, B, F> Retrieve<'r, R, Tr, K, E, B, F>
+where
+    Tr: PollTransport<R, ()> + TaskTransport,
+    Tr::Conn: PollConn<()> + TaskConn,
+    B: PassiveStreamBuilder<Tr::Conn>,
+    F: RetrReader<Tr::Conn>,
+{
+    /// Goes on to open the transfer.
+    fn poll_opened(&mut self, cx: &mut Context<'_>) -> Poll<FtpResult<()>>
+        ensures registered { OnPending result (IsArmed cx.new) }
+        ensures kept { Keeps cx.old cx.new }
+    {
+        match self.opening.poll_opened(cx) {
+            Poll::Ready(Ok((_reply, transfer))) => {
+                drop(mem::replace(&mut self.transfer, Some(transfer)));
+                Poll::Ready(Ok(()))
+            }
+            Poll::Ready(Err(fault)) => {
+                self.opening.let_go();
+                Poll::Ready(Err(fault))
+            }
+            Poll::Pending => Poll::Pending,
+        }
+    }
+
+    /// Goes on to read the data. Once it is read the end of the transfer begins.
+    fn poll_read(
+        &mut self,
+        mut transfer: Transfer<Tr::Conn>,
+        cx: &mut Context<'_>,
+    ) -> Poll<FtpResult<()>>
+        ensures registered { OnPending result (IsArmed cx.new) }
+        ensures kept { Keeps cx.old cx.new }
+    {
+        match self.reader.poll(&mut transfer, cx) {
+            Poll::Ready(Ok(read)) => {
+                drop(mem::replace(&mut self.read, Some(read)));
+                let hold = self.opening.take_hold();
+                let ending = Ending::new(self.opening.runtime(), hold, transfer, false);
+                drop(mem::replace(&mut self.ending, Some(ending)));
+                Poll::Ready(Ok(()))
+            }
+            Poll::Ready(Err(fault)) => {
+                drop(transfer);
+                self.opening.let_go();
+                Poll::Ready(Err(fault))
+            }
+            Poll::Pending => {
+                drop(mem::replace(&mut self.transfer, Some(transfer)));
+                Poll::Pending
+            }
+        }
+    }
+
+    /// Goes on with the end of the transfer.
+    fn poll_ended(&mut self, cx: &mut Context<'_>) -> Poll<FtpResult<F::Out>>
+        ensures registered { OnPending result (IsArmed cx.new) }
+        ensures kept { Keeps cx.old cx.new }
+    {
+        let Some(ending) = &mut self.ending else {
+            return Poll::Ready(Err(FtpError::ConnectionError(ConnectionError::NotOwed)));
+        };
+        match ending.poll_ended(cx) {
+            Poll::Ready(Ok(())) => Poll::Ready(read_value(self.read.take())),
+            Poll::Ready(Err(fault)) => Poll::Ready(Err(fault)),
+            Poll::Pending => Poll::Pending,
+        }
+    }
+}
+
+/// What was read, unless it was given before.
+fn read_value<T: Drop>(read: Option<T>) -> FtpResult<T> {
+    match read {
+        Some(read) => Ok(read),
+        None => Err(FtpError::ConnectionError(ConnectionError::NotOwed)),
+    }
+}
+
+impl<'r, R: AllocGlobal, Tr, K: Drop, E: Encoding, B, F> Future for Retrieve<'r, R, Tr, K, E, B, F>
+where
+    Tr: PollTransport<R, ()> + TaskTransport,
+    Tr::Conn: PollConn<()> + TaskConn,
+    B: PassiveStreamBuilder<Tr::Conn>,
+    F: RetrReader<Tr::Conn>,
+{
+    type Output = FtpResult<F::Out>;
+
+    fn poll(&mut self, cx: &mut Context<'_>) -> Poll<FtpResult<F::Out>> {
+        if self.ending.is_none() && self.transfer.is_none() {
+            match self.poll_opened(cx) {
+                Poll::Ready(Ok(())) => {}
+                Poll::Ready(Err(fault)) => return Poll::Ready(Err(fault)),
+                Poll::Pending => return Poll::Pending,
+            }
+        }
+        if let Some(transfer) = self.transfer.take() {
+            match self.poll_read(transfer, cx) {
+                Poll::Ready(Ok(())) => {}
+                Poll::Ready(Err(fault)) => return Poll::Ready(Err(fault)),
+                Poll::Pending => return Poll::Pending,
+            }
+        }
+        self.poll_ended(cx)
+    }
+}
+
+impl<Tr: TaskTransport, K: Drop, E: Encoding, B: Drop> ImplAsyncFtpStream<Tr, K, E, B>
+where
+    Tr::Conn: TaskConn,
+{
+    /// Downloads this file by a reader: `RETR` (150, 125; RFC 959, section 4.1.3), the data as it is, and the last reply
+    /// (226, 250). The offset is taken as by `retr_as_stream`.
+    ///
+    /// # Errors
+    /// Those of a data command; the reader's fault; those of the last reply.
+    pub fn retr<'r, R: AllocGlobal, F: RetrReader<Tr::Conn>>(
+        &self,
+        rt: &'r R,
+        path: &str,
+        reader: F,
+    ) -> Retrieve<'r, R, Tr, K, E, B, F> {
+        let call = retr_stream_call(rt.alloc(), path);
+        Retrieve {
+            transfer: None,
+            opening: Opening::new(rt, &self.session, call, false, Direction::Download),
+            reader,
+            read: None,
+            ending: None,
+        }
+    }
+}

@@ -1,0 +1,195 @@
+//! The state of an upload from its caller's source.
+
+ghost use Rattle.futures.specs.Poll.{OnPending};
+ghost use Rattle.futures.specs.Task.{IsArmed, Keeps};
+
+use crate::client::ImplAsyncFtpStream;
+use crate::copying::Copying;
+use crate::ending::Ending;
+use crate::opening::Opening;
+use ftp_base::encoding::Encoding;
+use ftp_base::types::{ConnectionError, FtpError, FtpResult};
+use ftp_control::transport::{
+    PassiveStreamBuilder, PollConn, PollTransport, TaskConn, TaskTransport,
+};
+use ftp_session::session::Call;
+use ftp_session::session::calls::{append_call, put_call};
+use ftp_transfer::{Direction, Transfer};
+use futures::Future;
+use futures::task::{Context, Poll};
+use std::alloc::AllocError;
+use std::mem;
+use tokio::io::AsyncRead;
+
+/// A source is uploaded: the command, the data, and the last reply, in one hold of the lock. It gives the number of bytes
+/// that were written.
+///
+/// Dropped while its data is written or its last reply is waited for, it leaves its transfer. A fault of the source or of
+/// the data connection leaves it, too.
+#[derive(Drop)]
+pub struct Upload<'r, R, Tr: TaskTransport, K: Drop, E: Encoding, B: Drop, S: AsyncRead>
+where
+    Tr::Conn: TaskConn,
+{
+    // Dropped first: the transfer has left its mark before the lock is let go.
+    transfer: Option<Transfer<Tr::Conn>>,
+    opening: Opening<'r, R, Tr, K, E, B>,
+    copying: Copying<S>,
+    ending: Option<Ending<'r, R, Tr, K, E, B>>,
+}
+
+impl<'r, R: AllocGlobal, Tr, K: Drop, E: Encoding, B, S: AsyncRead> Upload<'r, R, Tr, K, E, B, S>
+where
+    Tr: PollTransport<R, ()> + TaskTransport,
+    Tr::Conn: PollConn<()> + TaskConn,
+    B: PassiveStreamBuilder<Tr::Conn>,
+{
+    /// Goes on to open the transfer.
+    fn poll_opened(&mut self, cx: &mut Context<'_>) -> Poll<FtpResult<()>>
+        ensures registered { OnPending result (IsArmed cx.new) }
+        ensures kept { Keeps cx.old cx.new }
+    {
+        match self.opening.poll_opened(cx) {
+            Poll::Ready(Ok((_reply, transfer))) => Poll::Ready(self.begin(transfer)),
+            Poll::Ready(Err(fault)) => {
+                self.opening.let_go();
+                Poll::Ready(Err(fault))
+            }
+            Poll::Pending => Poll::Pending,
+        }
+    }
+
+    /// The transfer is open: the copy begins.
+    fn begin(&mut self, transfer: Transfer<Tr::Conn>) -> FtpResult<()> {
+        let alloc = self.opening.runtime().alloc();
+        match self.copying.begin(alloc, self.opening.sends_text()) {
+            Ok(()) => {
+                drop(mem::replace(&mut self.transfer, Some(transfer)));
+                Ok(())
+            }
+            Err(fault) => {
+                self.opening.abandon(transfer);
+                Err(fault)
+            }
+        }
+    }
+
+    /// Goes on to copy the source. Once it has ended the end of the transfer begins.
+    fn poll_copied(
+        &mut self,
+        mut transfer: Transfer<Tr::Conn>,
+        cx: &mut Context<'_>,
+    ) -> Poll<FtpResult<()>>
+        ensures registered { OnPending result (IsArmed cx.new) }
+        ensures kept { Keeps cx.old cx.new }
+    {
+        match self.copying.poll_copy(&mut transfer, cx) {
+            Poll::Ready(Ok(())) => {
+                let hold = self.opening.take_hold();
+                let ending = Ending::new(self.opening.runtime(), hold, transfer, false);
+                drop(mem::replace(&mut self.ending, Some(ending)));
+                Poll::Ready(Ok(()))
+            }
+            Poll::Ready(Err(fault)) => {
+                self.opening.abandon(transfer);
+                Poll::Ready(Err(fault))
+            }
+            Poll::Pending => {
+                drop(mem::replace(&mut self.transfer, Some(transfer)));
+                Poll::Pending
+            }
+        }
+    }
+
+    /// Goes on with the end of the transfer.
+    fn poll_ended(&mut self, cx: &mut Context<'_>) -> Poll<FtpResult<u64>>
+        ensures registered { OnPending result (IsArmed cx.new) }
+        ensures kept { Keeps cx.old cx.new }
+    {
+        let Some(ending) = &mut self.ending else {
+            return Poll::Ready(Err(FtpError::ConnectionError(ConnectionError::NotOwed)));
+        };
+        match ending.poll_ended(cx) {
+            Poll::Ready(Ok(())) => Poll::Ready(Ok(self.copying.count())),
+            Poll::Ready(Err(fault)) => Poll::Ready(Err(fault)),
+            Poll::Pending => Poll::Pending,
+        }
+    }
+}
+
+impl<'r, R: AllocGlobal, Tr, K: Drop, E: Encoding, B, S: AsyncRead> Future
+    for Upload<'r, R, Tr, K, E, B, S>
+where
+    Tr: PollTransport<R, ()> + TaskTransport,
+    Tr::Conn: PollConn<()> + TaskConn,
+    B: PassiveStreamBuilder<Tr::Conn>,
+{
+    type Output = FtpResult<u64>;
+
+    fn poll(&mut self, cx: &mut Context<'_>) -> Poll<FtpResult<u64>> {
+        if self.ending.is_none() && self.transfer.is_none() {
+            match self.poll_opened(cx) {
+                Poll::Ready(Ok(())) => {}
+                Poll::Ready(Err(fault)) => return Poll::Ready(Err(fault)),
+                Poll::Pending => return Poll::Pending,
+            }
+        }
+        if let Some(transfer) = self.transfer.take() {
+            match self.poll_copied(transfer, cx) {
+                Poll::Ready(Ok(())) => {}
+                Poll::Ready(Err(fault)) => return Poll::Ready(Err(fault)),
+                Poll::Pending => return Poll::Pending,
+            }
+        }
+        self.poll_ended(cx)
+    }
+}
+
+impl<Tr: TaskTransport, K: Drop, E: Encoding, B: Drop> ImplAsyncFtpStream<Tr, K, E, B>
+where
+    Tr::Conn: TaskConn,
+{
+    /// The state of an upload.
+    fn upload<'r, R, S: AsyncRead>(
+        &self,
+        rt: &'r R,
+        call: Result<Call, AllocError>,
+        source: S,
+    ) -> Upload<'r, R, Tr, K, E, B, S> {
+        Upload {
+            transfer: None,
+            opening: Opening::new(rt, &self.session, call, false, Direction::Upload),
+            copying: Copying::new(source),
+            ending: None,
+        }
+    }
+
+    /// Uploads a source to this file: `STOR` (125, 150; RFC 959, section 4.1.3), the data, a text's lines ended by CR LF,
+    /// and the last reply (226, 250). It gives the number of bytes that were written. The offset is taken as by
+    /// `retr_as_stream`.
+    ///
+    /// # Errors
+    /// Those of a data command; the source's fault and the data connection's, which leave the transfer; `SourceTooLarge`
+    /// past 2^63 - 1 bytes, which does, too; those of the last reply.
+    pub fn put_file<'r, R: AllocGlobal, S: AsyncRead>(
+        &self,
+        rt: &'r R,
+        path: &str,
+        source: S,
+    ) -> Upload<'r, R, Tr, K, E, B, S> {
+        self.upload(rt, put_call(rt.alloc(), path), source)
+    }
+
+    /// Uploads a source to the end of this file: `APPE` (125, 150; RFC 959, section 4.1.3), as `put_file` does.
+    ///
+    /// # Errors
+    /// Those of `put_file`.
+    pub fn append_file<'r, R: AllocGlobal, S: AsyncRead>(
+        &self,
+        rt: &'r R,
+        path: &str,
+        source: S,
+    ) -> Upload<'r, R, Tr, K, E, B, S> {
+        self.upload(rt, append_call(rt.alloc(), path), source)
+    }
+}

@@ -1,0 +1,108 @@
+-- A call that is polled: the look at its first poll, the last reply of a transfer that was left, and the call itself. RFC
+-- 959, sections 3.2 and 5.4.
+use Rattle.std.specs.Prelude.{◌≡◌, ◌⊎◌, Bool, true, false, Option, Some, None, Result, Ok, Err, is_none, not}
+use Rattle.futures.specs.declared.task.Poll.{Poll}
+use Rattle.futures.specs.declared.task.Poll.TheVariants.{Ready, Pending}
+use Rattle.ftp_base.specs.declared.types.reply.Response.{Response}
+use Rattle.ftp_base.specs.declared.types.fault.FtpError.{FtpError}
+use Rattle.ftp_base.specs.declared.types.fault.FtpError.TheVariants.{ConnectionError}
+use Rattle.ftp_base.specs.declared.types.fault.ConnectionError.TheVariants.{NotOwed}
+use Rattle.ftp_calls.specs.declared.call.Answer.{Answer}
+use Rattle.ftp_calls.specs.declared.call.Answer.TheVariants.{Fault}
+use Rattle.ftp_calls.specs.declared.call.Call.{Call}
+use Rattle.ftp_calls.specs.declared.call.Call.TheVariants.{Drain}
+use Rattle.ftp_calls.specs.declared.exchange.Turn.TheVariants.{First}
+use Rattle.ftp_control.specs.Mark.{End}
+use Rattle.ftp_dialogue.specs.Coding.{Coding}
+use Rattle.ftp_dialogue.specs.Dropping.{DropsCall}
+use Rattle.ftp_dialogue.specs.Link.{Link}
+use Rattle.ftp_dialogue.specs.Play.{is_unit}
+use Rattle.ftp_dialogue.specs.Promises.{due_of}
+use Rattle.ftp_dialogue.specs.State.{SessionValue}
+use Rattle.ftp_dialogue.specs.Steps.Polls.{StartsTo}
+use Rattle.ftp_dialogue.specs.declared.stage.Stage.{Stage}
+use Rattle.ftp_dialogue.specs.declared.stage.Stage.TheVariants.{At}
+use Rattle.ftp_session.specs.Handed.{HandsOut, LooksIf, Strays, as_seen, opened_as, watches}
+use Rattle.ftp_transfer.specs.Transfer.{TransferValue}
+use Rattle.ftp_transfer.specs.declared.direction.Direction.{Direction}
+
+-- a call under way: whether it looks at the mark at its next poll, whether it has its answer, and where it stands
+pub record UnderWay : Type 0 where
+  pub call : Call
+  pub looks : Bool
+  pub over : Bool
+  pub stage : Stage
+
+-- after a poll: it has its answer, or stands at this stage
+abbrev pub after_poll : Poll Answer → Stage → UnderWay → UnderWay
+after_poll (Ready answer) stage p = record p { looks = false; over = true; stage = At First }
+after_poll Pending stage p = record p { looks = false; stage = stage }
+
+-- one look at the mark, at the first poll
+abbrev pub LooksFirst : Bool → Option End → Option End → SessionValue → SessionValue → Type 0
+LooksFirst true mark after old seen = LooksIf (watches mark old) mark after × (seen ≡ as_seen after old)
+LooksFirst false mark after old seen = (after ≡ mark) × (seen ≡ old)
+
+-- the last reply of a transfer that was left was polled: while it is waited for the call waits, too; a fault of it is the
+-- answer; once it is over the call is polled
+abbrev pub ThenStartsIf : Bool → Link → Type 0 → Coding → Call → Stage → Stage → Answer → SessionValue → SessionValue → Poll Answer → Type 0
+ThenStartsIf true link may_wait coding call stage stage' first middle new result = StartsTo link may_wait coding call stage stage' middle new result
+ThenStartsIf false link may_wait coding call stage stage' first middle new result = (result ≡ Ready first) × (new ≡ middle)
+
+abbrev pub ThenStarts : Link → Type 0 → Coding → Call → Stage → Stage → Poll Answer → SessionValue → SessionValue → Poll Answer → Type 0
+ThenStarts link may_wait coding call stage stage' (Ready first) middle new result = ThenStartsIf (is_unit first) link may_wait coding call stage stage' first middle new result
+ThenStarts link may_wait coding call stage stage' Pending middle new result = (result ≡ Pending) × (new ≡ middle) × (stage' ≡ stage)
+
+pub record DrainsFirst (link : Link) (may_wait : Type 0) (coding : Coding) (call : Call) (stage stage' : Stage) (old new : SessionValue) (result : Poll Answer) : Type 0 where
+  pub middle : SessionValue
+  pub first : Poll Answer
+  pub at : Stage
+  pub drains : StartsTo link may_wait coding Drain (At First) at old middle first
+  pub then_starts : ThenStarts link may_wait coding call stage stage' first middle new result
+
+abbrev pub PollsNextIf : Bool → Link → Type 0 → Coding → Call → Stage → Stage → SessionValue → SessionValue → Poll Answer → Type 0
+PollsNextIf true link may_wait coding call stage stage' old new result = DrainsFirst link may_wait coding call stage stage' old new result
+PollsNextIf false link may_wait coding call stage stage' old new result = StartsTo link may_wait coding call stage stage' old new result
+
+-- a poll of a call, after that reply, where it is due
+pub record PollsNext (link : Link) (may_wait : Type 0) (coding : Coding) (call : Call) (stage stage' : Stage) (old new : SessionValue) (result : Poll Answer) : Type 0 where
+  pub polls : PollsNextIf (due_of call old) link may_wait coding call stage stage' old new result
+
+-- a poll of a call that has no answer yet
+pub record PollsSeen (link : Link) (may_wait : Type 0) (coding : Coding) (p q : UnderWay) (mark after : Option End) (old new : SessionValue) (result : Poll Answer) : Type 0 where
+  pub seen : SessionValue
+  pub stage : Stage
+  pub looks : LooksFirst p.looks mark after old seen
+  pub polls : PollsNext link may_wait coding p.call p.stage stage seen new result
+  pub next : q ≡ after_poll result stage p
+
+-- a call that has its answer gives none a second time, and nothing happens
+pub record IsOver (p q : UnderWay) (mark after : Option End) (old new : SessionValue) (result : Poll Answer) : Type 0 where
+  pub is : result ≡ Ready (Fault (ConnectionError NotOwed))
+  pub call_stays : q ≡ p
+  pub mark_stays : after ≡ mark
+  pub unchanged : new ≡ old
+
+abbrev pub PollsUnless : Bool → Link → Type 0 → Coding → UnderWay → UnderWay → Option End → Option End → SessionValue → SessionValue → Poll Answer → Type 0
+PollsUnless true link may_wait coding p q mark after old new result = IsOver p q mark after old new result
+PollsUnless false link may_wait coding p q mark after old new result = PollsSeen link may_wait coding p q mark after old new result
+
+-- a poll of a call
+abbrev pub PollsCall : Link → Type 0 → Coding → UnderWay → UnderWay → Option End → Option End → SessionValue → SessionValue → Poll Answer → Type 0
+PollsCall link may_wait coding p q mark after old new result = PollsUnless p.over link may_wait coding p q mark after old new result
+
+-- a call that is dropped, unless it has its answer
+abbrev pub DropsUnless : Bool → Type 0 → UnderWay → SessionValue → SessionValue → Type 0
+DropsUnless true tells p old new = new ≡ old
+DropsUnless false tells p old new = DropsCall tells p.call p.stage old new
+
+abbrev pub Drops : Type 0 → UnderWay → SessionValue → SessionValue → Type 0
+Drops tells p old new = DropsUnless p.over tells p old new
+
+-- What an answer comes to
+
+-- an answer opens a transfer under this mark, which is handed out, and the mark of before is kept; or it is a fault, or
+-- none that opens one, and the marks stay
+abbrev pub HandsOver : Bool → Direction → End → Answer → Option End → Option End → Option End → Option End → SessionValue → SessionValue → Result (Option Response × TransferValue) FtpError → Type 0
+HandsOver replies direction end answer mark after former kept old new (Ok opened) = (answer ≡ opened_as opened.0) × (is_none opened.0 ≡ not replies) × (opened.1.end ≡ end) × (kept ≡ mark) × HandsOut direction old opened.1 after new
+HandsOver replies direction end answer mark after former kept old new (Err fault) = (after ≡ mark) × (kept ≡ former) × (((answer ≡ Fault fault) × (new ≡ old)) ⊎ Strays replies end.number answer fault old new)

@@ -1,0 +1,238 @@
+//! Calls that are polled, as the polled client makes them.
+//!
+//! A call under way is a value. Its first poll looks at the mark of the transfer that was handed out: one that was left by
+//! then has its last reply read before the call says or hears anything of its own, however many polls that takes. A call
+//! that waits may be polled again or dropped; a transfer that it holds is left then.
+
+ghost use Rattle.std.specs.Prelude.{◌≡◌, ◌⊎◌, Some, true, false};
+ghost use Rattle.futures.specs.declared.task.Poll.TheVariants as poll;
+ghost use Rattle.ftp_dialogue.specs.Coding.{chosen, coding_of};
+ghost use Rattle.ftp_dialogue.specs.Link.{building, built_by};
+ghost use Rattle.ftp_dialogue.specs.Steps.Polls.{StageIn, StartsTo};
+ghost use Rattle.ftp_dialogue.specs.Steps.Stages.{StageOf};
+ghost use Rattle.ftp_calls.specs.Exchanges.{is_local};
+ghost use Rattle.ftp_session.specs.Polled.{Drops, LooksFirst, PollsCall, PollsNext};
+
+use super::client::Session;
+use super::looking::look;
+use super::{Answer, Call};
+use ftp_base::encoding::Encoding;
+use ftp_base::types::{ConnectionError, FtpError};
+use ftp_calls::exchange::{Turn, is_local};
+use ftp_control::mark::SessionEnd;
+use ftp_control::transport::{Network, PassiveStreamBuilder, PollConn, PollTransport};
+use ftp_dialogue::asks::InTask;
+use ftp_dialogue::machine::Machine;
+use ftp_dialogue::stage::Stage;
+use ftp_dialogue::unless_unit;
+use futures::task::Poll;
+use std::alloc::Global;
+use std::marker::Model;
+
+/// A call under way, and where it stands.
+#[derive(Drop)]
+pub struct PolledCall {
+    call: Call,
+    looks: bool,
+    over: bool,
+    stage: Stage,
+}
+
+impl Model for PolledCall {
+    ghost use Rattle.std.specs.Prelude.{◌≡◌, Some, false};
+    ghost use Rattle.ftp_calls.specs.Exchanges.{is_local};
+    ghost use Rattle.ftp_dialogue.specs.Steps.Polls.{StageIn};
+    ghost use Rattle.ftp_session.specs.Polled.{UnderWay};
+
+    ghost Value = { UnderWay };
+
+    ghost view = { λ p. record {
+      call = p.call;
+      looks = p.looks;
+      over = p.over;
+      stage = p.stage;
+    } };
+
+    ghost invariant = { λ p. StageIn (Some p.call) p.stage × (p.over ≡ false → is_local p.call ≡ false) };
+}
+
+impl PolledCall {
+    ghost use Rattle.std.specs.Prelude.{◌≡◌, true};
+    ghost use Rattle.ftp_calls.specs.Exchanges.{is_local};
+    ghost use Rattle.ftp_calls.specs.declared.exchange.Turn.TheVariants.{First};
+    ghost use Rattle.ftp_dialogue.specs.declared.stage.Stage.TheVariants.{At};
+
+    /// A call that begins. Its first poll looks whether the transfer that was handed out was left. A call that is none of
+    /// the control connection is never polled: it has its answer from the start.
+    pub fn new(call: Call) -> PolledCall
+        ensures { result ≡ record { call = call; looks = true; over = is_local call; stage = At First } }
+    {
+        PolledCall {
+            over: is_local(&call),
+            call,
+            looks: true,
+            stage: Stage::At(Turn::First),
+        }
+    }
+
+    /// A call that begins without a look: the greeting, the end of a transfer that was taken back, and the last reply of
+    /// one that is known to be left.
+    pub fn alone(call: Call) -> PolledCall
+        ensures { result ≡ record { call = call; looks = false; over = is_local call; stage = At First } }
+    {
+        PolledCall {
+            over: is_local(&call),
+            call,
+            looks: false,
+            stage: Stage::At(Turn::First),
+        }
+    }
+
+    /// The call.
+    pub fn call(&self) -> &Call
+        ensures { result.now ≡ self.now.call }
+    {
+        &self.call
+    }
+}
+
+impl<Tr: Network, K: Drop, E: Encoding, B: PassiveStreamBuilder<Tr::Conn>> Session<Tr, K, E, B> {
+    /// Polls a call. The first poll looks at the mark; the last reply of a transfer that was left is polled before the
+    /// call. A call that waits may be polled again, or dropped by `drop_call`; between its polls no other call may be made.
+    ///
+    /// The answer is that of the call; `NotOwed` of a call that has its answer, and nothing happens.
+    pub fn poll_call<R, W>(
+        &mut self,
+        alloc: Global,
+        rt: &R,
+        polled: &mut PolledCall,
+        w: &mut W,
+    ) -> Poll<Answer>
+    where
+        Tr: PollTransport<R, W>,
+        Tr::Conn: PollConn<W>,
+        ensures polls { PollsCall (building (built_by B.answers self.old.builder) Tr.Conn.Tells.tells Tr.Conn.PollConn.read_faults Tr.Conn.PollConn.write_faults Tr.Conn.Tells.end_faults (Tr.PollTransport.may_wait ⊎ Tr.Conn.PollConn.may_wait)) Tr.Conn.PollConn.may_wait (chosen E.decoded E.encoded self.old.encoding.0)
+            polled.old polled.new self.old.mark self.new.mark self.old.machine self.new.machine result }
+        ensures encoding { self.new.encoding ≡ self.old.encoding }
+        ensures builder { self.new.builder ≡ self.old.builder }
+    {
+        if polled.over {
+            return Poll::Ready(Answer::Fault(FtpError::ConnectionError(ConnectionError::NotOwed)));
+        }
+        look_first(&mut self.machine, &mut self.mark, polled.looks);
+        polled.looks = false;
+        match poll_next(
+            &mut self.machine,
+            alloc,
+            rt,
+            &self.builder,
+            &self.encoding,
+            &polled.call,
+            &mut polled.stage,
+            w,
+        ) {
+            Poll::Ready(answer) => {
+                rest(&mut polled.stage);
+                polled.over = true;
+                Poll::Ready(answer)
+            }
+            Poll::Pending => Poll::Pending,
+        }
+    }
+}
+
+impl<Tr: Network, K: Drop, E: Encoding, B: Drop> Session<Tr, K, E, B> {
+    /// Drops a call that waits. Nothing is sent or read: the unsent tail of a line goes out before any other byte, and
+    /// what came of a reply is kept. A transfer that the call was to bring to its end is left, but for an abort whose
+    /// `ABOR` has gone out whole; that of a whole file or listing is left, too. A call that has its answer leaves nothing.
+    pub fn drop_call(&mut self, polled: &PolledCall)
+        ensures drops { Drops Tr.Conn.tells polled.now self.old.machine self.new.machine }
+        ensures encoding { self.new.encoding ≡ self.old.encoding }
+        ensures builder { self.new.builder ≡ self.old.builder }
+        ensures mark { self.new.mark ≡ self.old.mark }
+    {
+        if !polled.over {
+            self.machine.drop_call(&polled.call, &polled.stage);
+        }
+    }
+}
+
+/// Looks once at the mark, at the first poll of a call that looks.
+fn look_first<Tr: Network>(machine: &mut Machine<Tr>, mark: &mut Option<SessionEnd>, looks: bool)
+    ensures { LooksFirst looks mark.old mark.new machine.old machine.new }
+{
+    if looks {
+        look(machine, mark);
+    }
+}
+
+/// Polls a call, after the last reply of a transfer that was left, where one is due.
+fn poll_next<Tr: Network, R, W, E: Encoding, B: PassiveStreamBuilder<Tr::Conn>>(
+    machine: &mut Machine<Tr>,
+    alloc: Global,
+    rt: &R,
+    builder: &Option<B>,
+    encoding: &E,
+    call: &Call,
+    stage: &mut Stage,
+    w: &mut W,
+) -> Poll<Answer>
+where
+    Tr: PollTransport<R, W>,
+    Tr::Conn: PollConn<W>,
+    requires stage { StageIn (Some call.now) stage.old }
+    requires channel { is_local call.now ≡ false }
+    ensures stage { result ≡ poll.Pending → StageIn (Some call.now) stage.new }
+    ensures polls { PollsNext (building (built_by B.answers builder.now) Tr.Conn.Tells.tells Tr.Conn.PollConn.read_faults Tr.Conn.PollConn.write_faults Tr.Conn.Tells.end_faults (Tr.PollTransport.may_wait ⊎ Tr.Conn.PollConn.may_wait)) Tr.Conn.PollConn.may_wait (coding_of E.decoded E.encoded encoding.now) call.now stage.old
+        stage.new machine.old machine.new result }
+{
+    if machine.is_due(call) {
+        match poll_drain(machine, alloc, rt, builder, encoding, w) {
+            Poll::Pending => return Poll::Pending,
+            Poll::Ready(first) => {
+                if let Some(answer) = unless_unit(first) {
+                    return Poll::Ready(answer);
+                }
+            }
+        }
+    }
+    machine.poll_started(&InTask(rt, builder), alloc, encoding, call, stage, w)
+}
+
+/// Polls the last reply of a transfer that was left. Where it waits, what came of it stays, and the next poll resumes there.
+fn poll_drain<Tr: Network, R, W, E: Encoding, B: PassiveStreamBuilder<Tr::Conn>>(
+    machine: &mut Machine<Tr>,
+    alloc: Global,
+    rt: &R,
+    builder: &Option<B>,
+    encoding: &E,
+    w: &mut W,
+) -> Poll<Answer>
+where
+    Tr: PollTransport<R, W>,
+    Tr::Conn: PollConn<W>,
+    ensures polls { (at : Stage) × StartsTo (building (built_by B.answers builder.now) Tr.Conn.Tells.tells Tr.Conn.PollConn.read_faults Tr.Conn.PollConn.write_faults Tr.Conn.Tells.end_faults (Tr.PollTransport.may_wait ⊎ Tr.Conn.PollConn.may_wait)) Tr.Conn.PollConn.may_wait (coding_of E.decoded E.encoded encoding.now) Call.Drain
+        (Stage.At Turn.First) at machine.old machine.new result }
+{
+    let mut stage = Stage::At(Turn::First);
+    let drained = machine.poll_started(
+        &InTask(rt, builder),
+        alloc,
+        encoding,
+        &Call::Drain,
+        &mut stage,
+        w,
+    );
+    forget(stage);
+    drained
+}
+
+/// A call that has its answer stands nowhere: as one that wasn't begun.
+fn rest(stage: &mut Stage)
+    ensures { stage.new ≡ Stage.At Turn.First }
+{
+    *stage = Stage::At(Turn::First);
+}
+
+/// How far a call has come isn't asked any more.
+fn forget(_stage: Stage) {}

@@ -1,0 +1,37 @@
+//! A task that waits for what a session's call waits for.
+
+ghost use Rattle.std.specs.Prelude.{◌≡◌};
+ghost use Rattle.futures.specs.Task.{IsArmed, Keeps};
+ghost use Rattle.ftp_control.specs.declared.transport.waiting.Waiting.TheVariants as waits;
+
+use super::client::Session;
+use ftp_base::encoding::Encoding;
+use ftp_control::transport::{TaskConn, TaskTransport, Waiting};
+use futures::task::Context;
+
+impl<Tr: TaskTransport, K: Drop, E: Encoding, B: Drop> Session<Tr, K, E, B>
+where
+    Tr::Conn: TaskConn,
+{
+    /// Registers the task for what the last poll of a call waits for. Nothing of the session changes.
+    pub fn poll_ready(&mut self, cx: &mut Context<'_>) -> Waiting
+        ensures same { self.new.machine ≡ self.old.machine }
+        ensures mark { self.new.mark ≡ self.old.mark }
+        ensures encoding { self.new.encoding ≡ self.old.encoding }
+        ensures builder { self.new.builder ≡ self.old.builder }
+        ensures registered { result ≡ waits.Registered → IsArmed cx.new }
+        ensures kept { Keeps cx.old cx.new }
+    {
+        self.machine.poll_ready(cx)
+    }
+
+    /// Gives up what the transport has begun for a call that was dropped.
+    pub fn forget_request(&mut self)
+        ensures same { self.new.machine ≡ self.old.machine }
+        ensures mark { self.new.mark ≡ self.old.mark }
+        ensures encoding { self.new.encoding ≡ self.old.encoding }
+        ensures builder { self.new.builder ≡ self.old.builder }
+    {
+        self.machine.forget_request();
+    }
+}

@@ -1,0 +1,41 @@
+-- What a connection, a connect and a listener wait for.
+use Rattle.std.specs.Prelude.{◌≡◌, ◌⊎◌, ℕ, Bool, true, false, Option, Some, None, Result, Ok, Err, IsSomeAnd}
+use Rattle.std.specs.declared.io.ErrorKind.{ErrorKind}
+use Rattle.futures.specs.declared.task.Poll.{Poll}
+use Rattle.futures.specs.declared.task.Poll.TheVariants.{Ready, Pending}
+use Rattle.tokio.specs.declared.net.listener.TcpListener.{TcpListener}
+use Rattle.tokio.specs.declared.net.stream.ConnectFuture.{ConnectFuture}
+use Rattle.tokio.specs.declared.net.stream.TcpStream.{TcpStream}
+use Rattle.ftp_tokio.specs.declared.conn.TokioConn.{TokioConn}
+use Rattle.tokio.specs.Net.{ConnectNeeds, connect_state, listener_readable, stream_readable, stream_writable}
+
+-- a flag says whether the call that gave this result waits
+abbrev pub Remembers : {A : Type 0} → Result (Poll A) ErrorKind → Bool → Type 0
+Remembers (Ok Pending) flag = flag ≡ true
+Remembers (Ok (Ready value)) flag = flag ≡ false
+Remembers (Err kind) flag = flag ≡ false
+
+-- a read that waits, of this socket, waits until it can be read
+abbrev pub ReadNeeds : Option TcpStream → Bool → ℕ → Type 0
+ReadNeeds stream waits source = (waits ≡ true) × IsSomeAnd stream (λ socket. source ≡ stream_readable socket)
+
+-- a write that waits, of this socket, waits until it can be written
+abbrev pub WriteNeeds : Option TcpStream → Bool → ℕ → Type 0
+WriteNeeds stream waits source = (waits ≡ true) × IsSomeAnd stream (λ socket. source ≡ stream_writable socket)
+
+-- a connection waits for what its last read needs, and for what its last write does
+abbrev pub ConnNeeds : TokioConn → ℕ → Type 0
+ConnNeeds conn source = ReadNeeds conn.stream conn.read_waits source ⊎ WriteNeeds conn.stream conn.write_waits source
+
+-- the wait of the last read is over, or that of the last write
+abbrev pub IsOverOn : TokioConn → TokioConn → Type 0
+IsOverOn old new = ((old.read_waits ≡ true) × (new.read_waits ≡ false)) ⊎ ((old.write_waits ≡ true) × (new.write_waits ≡ false))
+
+-- a connect waits for what its future does, until it has its outcome
+abbrev pub ConnectWaits : {A : Type 0} → ConnectFuture → Option A → ℕ → Type 0
+ConnectWaits future (Some outcome) source = ⊥
+ConnectWaits future None source = ConnectNeeds (connect_state future) source
+
+-- an accept that waits, of this socket, waits for a peer
+abbrev pub AcceptNeeds : TcpListener → Bool → ℕ → Type 0
+AcceptNeeds socket waits source = (waits ≡ true) × (source ≡ listener_readable socket)

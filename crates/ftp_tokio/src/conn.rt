@@ -1,0 +1,237 @@
+//! A connection over a socket of tokio.
+//!
+//! Reads and writes try the socket and leave no waker. Whether the last read and the last write wait is kept, so that
+//! the task can be registered afterwards for just that: `Remembers` in their contracts. What a socket carries is not
+//! covered by any proof: its record is never true.
+
+ghost use Rattle.std.specs.Prelude.{◌≡◌, ◌≢◌, ℕ, Err, None, Ok, false, length, true};
+ghost use Rattle.std.specs.Option.{option_copied};
+ghost use Rattle.std.specs.declared.io.ErrorKind.TheVariants.{NotConnected, WouldBlock};
+ghost use Rattle.futures.specs.Task.{Covers, Keeps};
+ghost use Rattle.ftp_control.specs.Memory.{fresh_memory};
+ghost use Rattle.ftp_control.specs.Told.{ReadsAtMost, WritesSome};
+ghost use Rattle.ftp_control.specs.declared.transport.waiting.Waiting.TheVariants as waits;
+ghost use Rattle.ftp_tokio.specs.Needs.{ConnNeeds, IsOverOn, ReadNeeds, Remembers, WriteNeeds};
+ghost use Rattle.ftp_tokio.specs.Outcomes.{conn_over};
+
+use ftp_base::retry::{read_retrying, write_retrying};
+use ftp_control::transport::{PollConn, TaskConn, Tells, Waiting};
+use futures::task::{Context, Poll};
+use std::io::ErrorKind;
+use std::net::SocketAddr;
+use tokio::net::TcpStream;
+
+/// A connection over a socket of tokio.
+///
+/// tokio's sockets have no shutdown of both directions outside of a task, so a close drops the socket. From then on
+/// reads, writes and questions for addresses fail with `NotConnected`.
+#[derive(Drop)]
+pub struct TokioConn {
+    stream: Option<TcpStream>,
+    // Whether the last read waits, and whether the last write does.
+    read_waits: bool,
+    write_waits: bool,
+}
+
+impl TokioConn {
+    /// A connection over a socket that is connected.
+    pub fn new(stream: TcpStream) -> TokioConn
+        ensures { result ≡ conn_over stream }
+    {
+        TokioConn {
+            stream: Some(stream),
+            read_waits: false,
+            write_waits: false,
+        }
+    }
+
+    /// The socket; none once the connection was closed here.
+    pub fn get_ref(&self) -> Option<&TcpStream>
+        ensures { option_copied result ≡ self.now.stream }
+    {
+        self.stream.as_ref()
+    }
+
+    /// Reads what is there. An interrupted read is tried again, at most 64 times.
+    fn try_read(&mut self, buffer: &mut [u8]) -> Result<Poll<usize>, ErrorKind>
+        ensures bound { ReadsAtMost result (length buffer.old) }
+        ensures closed { self.old.stream ≡ None → result ≡ Err NotConnected }
+        ensures other { self.new.write_waits ≡ self.old.write_waits }
+    {
+        let Some(stream) = &mut self.stream else {
+            return Err(ErrorKind::NotConnected);
+        };
+        match read_retrying(stream, buffer) {
+            Ok(count) => Ok(Poll::Ready(count)),
+            Err(error) => waits_or_fails(error.kind()),
+        }
+    }
+
+    /// Writes what there is room for. An interrupted write is tried again, at most 64 times.
+    fn try_write(&mut self, bytes: &[u8]) -> Result<Poll<usize>, ErrorKind>
+        ensures bound { WritesSome result (length bytes.now) }
+        ensures closed { self.old.stream ≡ None → result ≡ Err NotConnected }
+        ensures other { self.new.read_waits ≡ self.old.read_waits }
+    {
+        let Some(stream) = &mut self.stream else {
+            return Err(ErrorKind::NotConnected);
+        };
+        match write_retrying(stream, bytes) {
+            Ok(0) => Err(ErrorKind::WriteZero),
+            Ok(count) => Ok(Poll::Ready(count)),
+            Err(error) => waits_or_fails(error.kind()),
+        }
+    }
+
+    /// Registers the task for the bytes that the last read waits for, where it does.
+    fn poll_reads(&mut self, cx: &mut Context<'_>) -> Waiting
+        ensures registered { result ≡ waits.Registered →
+            Covers cx.new (ReadNeeds self.new.stream self.new.read_waits) }
+        ensures nothing { result ≡ waits.Nothing →
+            (source : ℕ) → ReadNeeds self.new.stream self.new.read_waits source → ⊥ }
+        ensures over { result ≡ waits.Over →
+            (self.old.read_waits ≡ true) × (self.new.read_waits ≡ false) }
+        ensures stream { self.new.stream ≡ self.old.stream }
+        ensures other { self.new.write_waits ≡ self.old.write_waits }
+        ensures kept { Keeps cx.old cx.new }
+    {
+        if !self.read_waits {
+            return Waiting::Nothing;
+        }
+        let Some(stream) = &mut self.stream else {
+            return Waiting::Nothing;
+        };
+        match stream.poll_read_ready(cx) {
+            Poll::Ready(_) => {
+                self.read_waits = false;
+                Waiting::Over
+            }
+            Poll::Pending => Waiting::Registered,
+        }
+    }
+
+    /// Registers the task for the room that the last write waits for, where it does.
+    fn poll_writes(&mut self, cx: &mut Context<'_>) -> Waiting
+        ensures registered { result ≡ waits.Registered →
+            Covers cx.new (WriteNeeds self.new.stream self.new.write_waits) }
+        ensures nothing { result ≡ waits.Nothing →
+            (source : ℕ) → WriteNeeds self.new.stream self.new.write_waits source → ⊥ }
+        ensures over { result ≡ waits.Over →
+            (self.old.write_waits ≡ true) × (self.new.write_waits ≡ false) }
+        ensures stream { self.new.stream ≡ self.old.stream }
+        ensures other { self.new.read_waits ≡ self.old.read_waits }
+        ensures kept { Keeps cx.old cx.new }
+    {
+        if !self.write_waits {
+            return Waiting::Nothing;
+        }
+        let Some(stream) = &mut self.stream else {
+            return Waiting::Nothing;
+        };
+        match stream.poll_write_ready(cx) {
+            Poll::Ready(_) => {
+                self.write_waits = false;
+                Waiting::Over
+            }
+            Poll::Pending => Waiting::Registered,
+        }
+    }
+}
+
+/// What a call of a socket that doesn't block results in where it fails: that it waits, or a fault.
+fn waits_or_fails(kind: ErrorKind) -> Result<Poll<usize>, ErrorKind>
+    ensures blocks { kind ≡ WouldBlock → result ≡ Ok Poll.Pending }
+    ensures fails { kind ≢ WouldBlock → result ≡ Err kind }
+{
+    match kind {
+        ErrorKind::WouldBlock => Ok(Poll::Pending),
+        other => Err(other),
+    }
+}
+
+impl Tells for TokioConn {
+    ghost tells = { ⊥ };
+
+    ghost told = { λ _. fresh_memory };
+
+    fn begin(&mut self) {}
+
+    ghost end_faults = { λ _. Unit {0} };
+
+    fn local_addr(&mut self) -> Result<SocketAddr, ErrorKind> {
+        let Some(stream) = &self.stream else {
+            return Err(ErrorKind::NotConnected);
+        };
+        match stream.local_addr() {
+            Ok(address) => Ok(address),
+            Err(error) => Err(error.kind()),
+        }
+    }
+
+    fn peer_addr(&mut self) -> Result<SocketAddr, ErrorKind> {
+        let Some(stream) = &self.stream else {
+            return Err(ErrorKind::NotConnected);
+        };
+        match stream.peer_addr() {
+            Ok(address) => Ok(address),
+            Err(error) => Err(error.kind()),
+        }
+    }
+
+    /// Drops the socket, and nothing is waited for any more. It never fails.
+    fn close(&mut self) -> Result<(), ErrorKind>
+        ensures ok { result ≡ Ok tt }
+        ensures dropped { self.new ≡
+            record { stream = None; read_waits = false; write_waits = false } }
+    {
+        self.stream = None;
+        self.read_waits = false;
+        self.write_waits = false;
+        Ok(())
+    }
+}
+
+impl PollConn<()> for TokioConn {
+    ghost may_wait = { Unit {0} };
+
+    ghost read_faults = { λ _. Unit {0} };
+
+    ghost write_faults = { λ _ _. Unit {0} };
+
+    fn poll_read(&mut self, _w: &mut (), buffer: &mut [u8]) -> Result<Poll<usize>, ErrorKind>
+        ensures bound { ReadsAtMost result (length buffer.old) }
+        ensures remembered { Remembers result self.new.read_waits }
+        ensures closed { self.old.stream ≡ None → result ≡ Err NotConnected }
+        ensures other { self.new.write_waits ≡ self.old.write_waits }
+    {
+        let read = self.try_read(buffer);
+        self.read_waits = matches!(read, Ok(Poll::Pending));
+        read
+    }
+
+    fn poll_write(&mut self, _w: &mut (), bytes: &[u8]) -> Result<Poll<usize>, ErrorKind>
+        ensures bound { WritesSome result (length bytes.now) }
+        ensures remembered { Remembers result self.new.write_waits }
+        ensures closed { self.old.stream ≡ None → result ≡ Err NotConnected }
+        ensures other { self.new.read_waits ≡ self.old.read_waits }
+    {
+        let written = self.try_write(bytes);
+        self.write_waits = matches!(written, Ok(Poll::Pending));
+        written
+    }
+}
+
+impl TaskConn for TokioConn {
+    ghost needs = { λ conn source. ConnNeeds conn source };
+
+    fn poll_ready(&mut self, cx: &mut Context<'_>) -> Waiting
+        ensures registered { result ≡ waits.Registered → Covers cx.new (ConnNeeds self.new) }
+        ensures nothing { result ≡ waits.Nothing → (source : ℕ) → ConnNeeds self.new source → ⊥ }
+        ensures over { result ≡ waits.Over → IsOverOn self.old self.new }
+        ensures kept { Keeps cx.old cx.new }
+    {
+        let reads = self.poll_reads(cx);
+        let writes = self.poll_writes(cx);
+        reads.or(writes)
+    }
+}

@@ -1,0 +1,133 @@
+//! A listener over a socket of tokio, with a deadline.
+//!
+//! The deadline is counted from the listener's first accept: whoever drops a stranger and accepts again gains no time.
+//! No timer is used: a task that waits for a peer is polled again at once, until the deadline has passed.
+
+ghost use Rattle.std.specs.Prelude.{◌≡◌, ℕ, true, false, IsSome, IfSome, None};
+ghost use Rattle.futures.specs.Poll.{IfReady, OnPending};
+ghost use Rattle.futures.specs.Task.{Covers, Keeps};
+ghost use Rattle.ftp_control.specs.declared.transport.waiting.Waiting.TheVariants as waits;
+ghost use Rattle.ftp_tokio.specs.Needs.{AcceptNeeds};
+ghost use Rattle.ftp_tokio.specs.Outcomes.{with_fault};
+
+use crate::attempt::fault;
+use ftp_base::types::ConnectionError;
+use ftp_control::transport::Waiting;
+use futures::task::{Context, Poll};
+use std::io;
+use std::io::ErrorKind;
+use std::net::{Net, SocketAddr};
+use std::time::{Clock, Duration, Instant};
+use tokio::net::{TcpListener, TcpStream};
+use tokio::reactor::Handle;
+
+/// What an accept results in: the socket and the peer's address.
+type Peer = (TcpStream, SocketAddr);
+
+/// What waits on a socket of tokio for a peer's connection.
+#[derive(Drop)]
+pub struct TokioListener {
+    socket: TcpListener,
+    // When it was first asked for a connection.
+    since: Option<Instant>,
+    // Whether the last accept waits.
+    waits: bool,
+    // What the socket was found to have while the task waited, until an accept returns it.
+    accepted: Option<io::Result<Peer>>,
+}
+
+impl TokioListener {
+    /// A listener on this address, and the address that it is bound to.
+    ///
+    /// # Errors
+    /// The system's fault; out of memory.
+    pub fn bind(
+        net: &impl Net,
+        address: SocketAddr,
+        handle: &Handle,
+    ) -> io::Result<(TokioListener, SocketAddr)> {
+        let socket = TcpListener::bind(net, address, handle)?;
+        let bound = socket.local_addr()?;
+        let listener = TokioListener {
+            socket,
+            since: None,
+            waits: false,
+            accepted: None,
+        };
+        Ok((listener, bound))
+    }
+
+    /// Returns the connection that came, or waits for one within this time, counted from the first call.
+    ///
+    /// # Errors
+    /// `TimedOut` where the time has passed and no connection came; the system's fault.
+    pub(crate) fn poll_peer<R: Clock>(
+        &mut self,
+        rt: &R,
+        deadline: Duration,
+    ) -> Poll<Result<Peer, ConnectionError>>
+        ensures waits { OnPending result (self.new.waits ≡ true) }
+        ensures done { IfReady result (λ _. self.new.waits ≡ false) }
+        ensures kept { IfSome self.old.accepted
+            (λ accepted. result ≡ Poll.Ready (with_fault accepted)) }
+        ensures empty { self.new.accepted ≡ None }
+    {
+        self.waits = false;
+        if let Some(accepted) = self.accepted.take() {
+            return Poll::Ready(accepted.map_err(fault));
+        }
+        match self.has_passed(rt, deadline) {
+            Ok(false) => {
+                self.waits = true;
+                Poll::Pending
+            }
+            Ok(true) => Poll::Ready(Err(ConnectionError::TimedOut)),
+            Err(error) => Poll::Ready(Err(fault(error))),
+        }
+    }
+
+    /// Whether this time has passed since the first call.
+    fn has_passed<R: Clock>(&mut self, rt: &R, deadline: Duration) -> io::Result<bool>
+        ensures waits { self.new.waits ≡ self.old.waits }
+        ensures accepted { self.new.accepted ≡ self.old.accepted }
+    {
+        let since = match self.since {
+            Some(since) => since,
+            None => Instant::now(rt)?,
+        };
+        self.since = Some(since);
+        Ok(since.elapsed(rt)? >= deadline)
+    }
+
+    /// Registers the task for the peer that the last accept waits for, where it does, and asks for another poll, since
+    /// a deadline runs. An interrupted accept is made again at the next poll.
+    pub(crate) fn poll_ready(&mut self, cx: &mut Context<'_>) -> Waiting
+        ensures registered { result ≡ waits.Registered →
+            Covers cx.new (AcceptNeeds self.new.socket self.new.waits) }
+        ensures nothing { result ≡ waits.Nothing →
+            (source : ℕ) → AcceptNeeds self.new.socket self.new.waits source → ⊥ }
+        ensures over { result ≡ waits.Over → self.old.waits ≡ true }
+        ensures again { result ≡ waits.Registered → cx.new.is_woken ≡ true }
+        ensures waits { self.new.waits ≡ self.old.waits }
+        ensures first { IsSome self.old.accepted → self.new.accepted ≡ self.old.accepted }
+        ensures kept { Keeps cx.old cx.new }
+    {
+        if !self.waits {
+            return Waiting::Nothing;
+        }
+        if self.accepted.is_some() {
+            return Waiting::Over;
+        }
+        match self.socket.poll_accept(cx) {
+            Poll::Ready(Err(error)) if error.kind() == ErrorKind::Interrupted => Waiting::Over,
+            Poll::Ready(accepted) => {
+                self.accepted = Some(accepted);
+                Waiting::Over
+            }
+            Poll::Pending => {
+                let _: Poll<()> = cx.yield_now();
+                Waiting::Registered
+            }
+        }
+    }
+}

@@ -1,0 +1,208 @@
+//! The transport over tokio's sockets.
+//!
+//! A connect is begun by the poll that first asks for its address, and goes on while the task is registered; it is
+//! finished by `poll_connect_ready`, and its outcome is returned by the next poll for that address. No timer is used:
+//! while a limit runs the task is polled again at once.
+
+ghost use Rattle.std.specs.Prelude.{◌≡◌, [], ℕ, IfSome, None, Ok, false, true};
+ghost use Rattle.futures.specs.Poll.{IfReady, OnPending};
+ghost use Rattle.futures.specs.Task.{Covers, Keeps};
+ghost use Rattle.ftp_control.specs.declared.transport.waiting.Waiting.TheVariants as waits;
+ghost use Rattle.ftp_tokio.specs.Attempts.{AttemptNeeds, CameTo, IsDone, IsUnderWay};
+ghost use Rattle.ftp_tokio.specs.Needs.{AcceptNeeds};
+ghost use Rattle.ftp_tokio.specs.Outcomes.{accepted_as, connected_as, with_fault};
+
+use crate::attempt::{Attempt, fault};
+use crate::{TokioConn, TokioListener};
+use ftp_base::types::ConnectionError;
+use ftp_control::transport::{
+    Accepted, Connected, Listening, Network, PollTransport, TaskTransport, Waiting,
+};
+use futures::task::{Context, Poll};
+use std::alloc::AllocError;
+use std::net::{Net, SocketAddr};
+use std::time::{Clock, Duration};
+use tokio::net::TcpStream;
+use tokio::reactor::Handle;
+
+/// The transport over tokio's sockets. Its runtime is one that has the network (`Net`) and the time (`Clock`).
+#[derive(Drop)]
+pub struct TokioTransport {
+    handle: Handle,
+    // The connect that is under way, or whose outcome no poll has returned.
+    attempt: Option<Attempt>,
+}
+
+impl TokioTransport {
+    /// A transport whose sockets are registered with this reactor: `runtime.handle().reactor().clone()?`.
+    pub fn new(handle: Handle) -> TokioTransport
+        ensures { result.attempt ≡ None }
+    {
+        TokioTransport {
+            handle,
+            attempt: None,
+        }
+    }
+
+    /// Connects to this address, or waits for the connect to it that is under way.
+    fn poll_stream<R: Net + Clock>(
+        &mut self,
+        rt: &R,
+        address: SocketAddr,
+        limit: Option<Duration>,
+    ) -> Poll<Result<TcpStream, ConnectionError>>
+        ensures waits { OnPending result (IsUnderWay self.new.attempt address) }
+        ensures kept { (outcome : _) → CameTo self.old.attempt address outcome →
+            result ≡ Poll.Ready (with_fault outcome) }
+        ensures done { IfReady result (λ _. self.new.attempt ≡ None) }
+    {
+        let mut attempt = self.take_attempt(rt, address);
+        if let Some(outcome) = attempt.take_outcome() {
+            return Poll::Ready(outcome.map_err(fault));
+        }
+        match attempt.has_passed(rt, limit) {
+            Ok(false) => {
+                self.attempt = Some(attempt);
+                Poll::Pending
+            }
+            Ok(true) => Poll::Ready(Err(ConnectionError::TimedOut)),
+            Err(error) => Poll::Ready(Err(fault(error))),
+        }
+    }
+
+    /// The connect to this address that is under way, or a new one. One to another address is dropped.
+    fn take_attempt(&mut self, net: &impl Net, address: SocketAddr) -> Attempt
+        ensures address { result.address ≡ address }
+        ensures kept { (outcome : _) → CameTo self.old.attempt address outcome →
+            result.outcome ≡ Some outcome }
+        ensures taken { self.new.attempt ≡ None }
+    {
+        match self.attempt.take() {
+            Some(attempt) if attempt.is_to(address) => attempt,
+            _ => Attempt::begin(net, address, &self.handle),
+        }
+    }
+}
+
+impl Network for TokioTransport {
+    type Conn = TokioConn;
+
+    type Listener = TokioListener;
+
+    ghost asked = { λ _. [] };
+
+    ghost ready = { λ _. [] };
+
+    ghost refuses = { λ _ _. Unit {0} };
+
+    ghost accept_refuses = { λ _ _. Unit {0} };
+
+    ghost port = { λ _. 0 };
+
+    ghost binds = { λ _ _ _. Unit {0} };
+
+    ghost closed = { λ _. [] };
+
+    ghost has_room = { λ _. Unit {0} };
+
+    fn make_room(&mut self) -> Result<(), AllocError> {
+        Ok(())
+    }
+
+    fn note_build(&mut self, _address: SocketAddr) -> Result<(), AllocError> {
+        Ok(())
+    }
+
+    fn closed(&mut self, _conn: TokioConn) {}
+}
+
+impl<R: Net + Clock> PollTransport<R, ()> for TokioTransport {
+    ghost may_wait = { Unit {0} };
+
+    fn poll_connect(
+        &mut self,
+        rt: &R,
+        _w: &mut (),
+        address: SocketAddr,
+        limit: Option<Duration>,
+    ) -> Poll<Connected<TokioConn>>
+        ensures waits { OnPending result (IsUnderWay self.new.attempt address) }
+        ensures done { IfReady result (λ _. self.new.attempt ≡ None) }
+        ensures kept { (outcome : _) → CameTo self.old.attempt address outcome →
+            result ≡ Poll.Ready (Ok (connected_as outcome)) }
+    {
+        match self.poll_stream(rt, address, limit) {
+            Poll::Ready(Ok(stream)) => Poll::Ready(Ok(Ok(TokioConn::new(stream)))),
+            Poll::Ready(Err(fault)) => Poll::Ready(Ok(Err(fault))),
+            Poll::Pending => Poll::Pending,
+        }
+    }
+
+    fn poll_listen(
+        &mut self,
+        rt: &R,
+        _w: &mut (),
+        address: SocketAddr,
+    ) -> Poll<Listening<TokioListener>>
+        ensures at_once { OnPending result ⊥ }
+        ensures same { self.new ≡ self.old }
+    {
+        match TokioListener::bind(rt, address, &self.handle) {
+            Ok(made) => Poll::Ready(Ok(Ok(made))),
+            Err(error) => Poll::Ready(Ok(Err(fault(error)))),
+        }
+    }
+
+    fn poll_accept(
+        &mut self,
+        rt: &R,
+        _w: &mut (),
+        listener: &mut TokioListener,
+        deadline: Duration,
+    ) -> Poll<Accepted<TokioConn>>
+        ensures waits { OnPending result (listener.new.waits ≡ true) }
+        ensures done { IfReady result (λ _. listener.new.waits ≡ false) }
+        ensures kept { IfSome listener.old.accepted
+            (λ accepted. result ≡ Poll.Ready (Ok (accepted_as accepted))) }
+        ensures same { self.new ≡ self.old }
+    {
+        match listener.poll_peer(rt, deadline) {
+            Poll::Ready(Ok((stream, peer))) => Poll::Ready(Ok(Ok((TokioConn::new(stream), peer)))),
+            Poll::Ready(Err(fault)) => Poll::Ready(Ok(Err(fault))),
+            Poll::Pending => Poll::Pending,
+        }
+    }
+}
+
+impl TaskTransport for TokioTransport {
+    /// Drops the connect that is under way.
+    fn forget(&mut self)
+        ensures { self.new ≡ record self.old { attempt = None } }
+    {
+        self.attempt = None;
+    }
+
+    fn poll_connect_ready(&mut self, cx: &mut Context<'_>) -> Waiting
+        ensures registered { result ≡ waits.Registered →
+            Covers cx.new (AttemptNeeds self.new.attempt) }
+        ensures nothing { result ≡ waits.Nothing → self.new.attempt ≡ None }
+        ensures over { result ≡ waits.Over → IsDone self.new.attempt }
+        ensures kept { Keeps cx.old cx.new }
+    {
+        match &mut self.attempt {
+            Some(attempt) => attempt.poll_ready(cx),
+            None => Waiting::Nothing,
+        }
+    }
+
+    fn poll_accept_ready(listener: &mut TokioListener, cx: &mut Context<'_>) -> Waiting
+        ensures registered { result ≡ waits.Registered →
+            Covers cx.new (AcceptNeeds listener.new.socket listener.new.waits) }
+        ensures nothing { result ≡ waits.Nothing →
+            (source : ℕ) → AcceptNeeds listener.new.socket listener.new.waits source → ⊥ }
+        ensures over { result ≡ waits.Over → listener.old.waits ≡ true }
+        ensures kept { Keeps cx.old cx.new }
+    {
+        listener.poll_ready(cx)
+    }
+}

@@ -1,0 +1,106 @@
+//! Reads and writes of a connection as futures, the way the polled client waits for them.
+
+use ftp_control::transport::{PollConn, TaskConn, Waiting};
+use ftp_tokio::TokioConn;
+use futures::Future;
+use futures::task::{Context, Poll};
+use std::io;
+use std::io::{ErrorKind, Read, Write};
+use std::net::TcpStream;
+
+/// How many writes and reads are made at most until one waits.
+const MOST_CALLS: usize = 1 << 20;
+
+/// A read of one byte. Its peer writes once the task is registered, and not before.
+#[derive(Drop)]
+pub struct ReadByte {
+    pub conn: TokioConn,
+    pub peer: TcpStream,
+    pub registered: bool,
+}
+
+impl Future for ReadByte {
+    type Output = Result<(usize, u8), ErrorKind>;
+
+    fn poll(&mut self, cx: &mut Context<'_>) -> Poll<Result<(usize, u8), ErrorKind>> {
+        let mut byte = [0u8; 1];
+        match self.conn.poll_read(&mut (), &mut byte) {
+            Ok(Poll::Ready(count)) => return Poll::Ready(Ok((count, byte[0]))),
+            Err(kind) => return Poll::Ready(Err(kind)),
+            Ok(Poll::Pending) => {}
+        }
+        if self.conn.poll_ready(cx) != Waiting::Registered {
+            return cx.yield_now();
+        }
+        if !self.registered {
+            self.registered = true;
+            if let Err(error) = self.peer.write_all(b"x") {
+                return Poll::Ready(Err(error.kind()));
+            }
+        }
+        Poll::Pending
+    }
+}
+
+/// Writes until one has waited, and one byte after that. Its peer reads once the task is registered, and not before.
+#[derive(Drop)]
+pub struct WriteOn {
+    pub conn: TokioConn,
+    pub peer: TcpStream,
+    pub registered: bool,
+}
+
+impl Future for WriteOn {
+    type Output = Result<usize, ErrorKind>;
+
+    fn poll(&mut self, cx: &mut Context<'_>) -> Poll<Result<usize, ErrorKind>> {
+        match self.write() {
+            Ok(Poll::Ready(count)) => return Poll::Ready(Ok(count)),
+            Err(kind) => return Poll::Ready(Err(kind)),
+            Ok(Poll::Pending) => {}
+        }
+        if self.conn.poll_ready(cx) != Waiting::Registered {
+            return cx.yield_now();
+        }
+        if !self.registered {
+            self.registered = true;
+            if let Err(error) = empty(&mut self.peer) {
+                return Poll::Ready(Err(error.kind()));
+            }
+        }
+        Poll::Pending
+    }
+}
+
+impl WriteOn {
+    fn write(&mut self) -> Result<Poll<usize>, ErrorKind> {
+        if self.registered {
+            self.conn.poll_write(&mut (), b"x")
+        } else {
+            fill(&mut self.conn)
+        }
+    }
+}
+
+/// Writes until one waits.
+fn fill(conn: &mut TokioConn) -> Result<Poll<usize>, ErrorKind> {
+    for _ in 0..MOST_CALLS {
+        if conn.poll_write(&mut (), &[0u8; 4096])? == Poll::Pending {
+            return Ok(Poll::Pending);
+        }
+    }
+    Ok(Poll::Ready(0))
+}
+
+/// Reads all that has come.
+fn empty(peer: &mut TcpStream) -> io::Result<()> {
+    peer.set_nonblocking(true)?;
+    for _ in 0..MOST_CALLS {
+        match peer.read(&mut [0u8; 4096]) {
+            Ok(_) => {}
+            Err(error) if error.kind() == ErrorKind::WouldBlock => return Ok(()),
+            Err(error) => return Err(error),
+        }
+    }
+    Ok(())
+}

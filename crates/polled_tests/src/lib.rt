@@ -1,0 +1,17 @@
+//! Tests of connections over tokio's sockets, and of the polled client over them, on loopback.
+#![tactic(auto)]
+
+#[cfg(test)]
+mod accepts;
+#[cfg(test)]
+mod calls;
+#[cfg(test)]
+mod clients;
+#[cfg(test)]
+mod connects;
+#[cfg(test)]
+mod requests;
+#[cfg(test)]
+mod scene;
+#[cfg(test)]
+mod traffic;

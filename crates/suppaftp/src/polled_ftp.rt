@@ -1,0 +1,14 @@
+//! The polled client: each call is a future, which a runtime of `tokio` polls.
+//!
+//! Its calls are those of the blocking client, under the same names; each returns a state at once, and nothing is sent
+//! before that is polled. A state that waits may be dropped.
+
+pub use ftp_polled::{
+    Abort, Adjust, AsyncNoTlsStream, AsyncTlsConnector, AsyncTlsStream, Connect, ControlSocket,
+    Dialogue, Finish, ImplAsyncFtpStream, Lines, Lock, OpenTransfer, OpenWithReply, Outcome,
+    ReadReply, RetrReader, Retrieve, Settle, TransferStream, Upload,
+};
+pub use ftp_tokio::{TokioConn, TokioListener, TokioTransport};
+
+/// The polled client over tokio's sockets, without TLS: the one that most programs name.
+pub type AsyncFtpStream = ImplAsyncFtpStream<TokioTransport>;
