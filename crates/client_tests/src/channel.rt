@@ -4,7 +4,7 @@ use crate::scene::{boxed, conn_with, fault_text, number, poll_text};
 use ftp_base::status::Status;
 use ftp_base::types::{Bytes, FtpResult};
 use ftp_control::control::ControlChannel;
-use ftp_control::transport::MemoryConn;
+use ftp_transport::MemoryConn;
 use futures::task::Poll;
 use row_text::shown;
 use std::alloc::{AllocError, Global};

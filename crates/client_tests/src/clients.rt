@@ -5,7 +5,7 @@ ghost use Rattle.std.specs.Prelude.{Ok, encode_utf8_all};
 use crate::scene::{conn_with, greeted, number};
 use ftp_base::encoding::{EncodeError, Encoding, Utf8Encoding};
 use ftp_base::types::FtpResult;
-use ftp_control::transport::MemoryTransport;
+use ftp_transport::MemoryTransport;
 use ftp_session::session::{NoTlsConnector, Session};
 use std::alloc::{AllocError, Global};
 use std::io::Write;

@@ -4,7 +4,7 @@ ghost use Rattle.std.specs.Prelude.{[]};
 
 use crate::scene::{asked_text, boxed, conn_with, number};
 use ftp_base::types::{ConnectionError, FtpError, FtpResult};
-use ftp_control::transport::{
+use ftp_transport::{
     Accepted, Connected, Listening, MemoryTransport, Network, Supply, TcpConn, TcpConnListener,
     Transport,
 };

@@ -1,7 +1,7 @@
 //! Data connections over loopback sockets: listening, accepting by a deadline, and closing.
 
 use ftp_base::types::ConnectionError;
-use ftp_control::transport::{
+use ftp_transport::{
     Conn, Network, TcpConn, TcpConnListener, TcpTransport, Tells, Transport,
 };
 use std::io::{ErrorKind, Write};

@@ -5,7 +5,7 @@ use ftp_base::status::Status;
 use ftp_base::types::{Bytes, FtpError, FtpResult, Response};
 use ftp_control::control::{ControlChannel, Outcome, ReplyForm, ReplyRule};
 use ftp_control::plain;
-use ftp_control::transport::NeverWaits;
+use ftp_transport::NeverWaits;
 use futures::task::Poll;
 use std::alloc::Global;
 use std::test::Fail;

@@ -1,6 +1,6 @@
 //! Marks of transfers, whose ends are used on one thread or on two.
 
-use ftp_control::mark::mark;
+use ftp_transfer::mark::mark;
 use std::test::Fail;
 use std::thread;
 

@@ -2,7 +2,7 @@
 
 use crate::scene::{asked_text, conn_with};
 use ftp_base::types::ConnectionError;
-use ftp_control::transport::{
+use ftp_transport::{
     Conn, MemoryConn, MemoryTransport, Network, NeverWaits, PollTransport, Supply, Tells, Transport,
 };
 use futures::task::Poll;

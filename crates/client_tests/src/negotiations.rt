@@ -2,7 +2,7 @@
 
 use crate::scene::{boxed, fault_text};
 use ftp_base::types::{ActivePeerCheck, FtpResult, Mode, Text};
-use ftp_control::transport::{TcpConn, TcpTransport};
+use ftp_transport::{TcpConn, TcpTransport};
 use ftp_session::session::{Answer, Call, Session};
 use std::alloc::Global;
 use std::io::{BufRead, BufReader, Write};

@@ -3,7 +3,7 @@
 use crate::scene::{boxed, conn_with, poll_text};
 use ftp_base::status::Status;
 use ftp_base::types::{Bytes, FtpResult};
-use ftp_control::transport::{MemoryConn, MemoryTransport, Supply};
+use ftp_transport::{MemoryConn, MemoryTransport, Supply};
 use ftp_session::session::{Event, Owed, Session};
 use futures::task::Poll;
 use std::alloc::{AllocError, Global};

@@ -5,7 +5,7 @@ use ftp_base::command::Command;
 use ftp_base::encoding::Utf8Encoding;
 use ftp_base::types::{ConnectionError, FtpError, FtpResult};
 use ftp_control::control::{ControlChannel, WireLine};
-use ftp_control::transport::{MemoryConn, MemoryTransport};
+use ftp_transport::{MemoryConn, MemoryTransport};
 use ftp_session::session::Session;
 use futures::task::Poll;
 use row_text::shown;

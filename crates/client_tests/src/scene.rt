@@ -1,7 +1,7 @@
 //! What the tests share: a connection over memory, a session that was greeted, and answers as text.
 
 use ftp_base::types::{FtpError, FtpResult, Response};
-use ftp_control::transport::{Asked, MemoryConn, MemoryTransport, Request, RequestOutcome};
+use ftp_transport::{Asked, MemoryConn, MemoryTransport, Request, RequestOutcome};
 use ftp_session::session::Session;
 use futures::task::Poll;
 use row_text::shown;

@@ -2,7 +2,7 @@
 
 use crate::scene::number;
 use ftp_base::types::{FtpError, FtpResult};
-use ftp_control::transport::{TcpConn, TcpTransport};
+use ftp_transport::{TcpConn, TcpTransport};
 use ftp_session::session::Session;
 use std::io::Write;
 use std::net::{Net, TcpListener, TcpStream};

@@ -2,7 +2,7 @@
 
 use crate::scene::{boxed, greeted};
 use ftp_base::types::{ActivePeerCheck, FtpResult, Mode};
-use ftp_control::transport::{MemoryConn, MemoryTransport};
+use ftp_transport::{MemoryConn, MemoryTransport};
 use ftp_session::session::{Counts, Session, Settings};
 use std::alloc::{AllocError, Global};
 use std::test::Fail;

@@ -2,7 +2,7 @@
 
 use crate::scene::{asked_text, boxed, fault_text};
 use ftp_base::types::{FtpResult, Mode, Text};
-use ftp_control::transport::{MemoryConn, MemoryTransport, Supply};
+use ftp_transport::{MemoryConn, MemoryTransport, Supply};
 use ftp_session::session::{Answer, Call, Session};
 use std::alloc::{AllocError, Global};
 use std::net::SocketAddr;

@@ -3,7 +3,7 @@
 use crate::negotiations::{connected, next_line, port_of};
 use crate::scene::fault_text;
 use ftp_base::types::{ActivePeerCheck, Items, Mode, Text};
-use ftp_control::transport::TcpTransport;
+use ftp_transport::TcpTransport;
 use ftp_session::session::{Answer, Call, Session};
 use row_text::shown;
 use std::alloc::{AllocError, Global};

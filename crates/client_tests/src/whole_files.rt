@@ -2,7 +2,7 @@
 
 use crate::negotiations::connected;
 use ftp_base::types::{FtpResult, Mode};
-use ftp_control::transport::{TcpConn, TcpTransport};
+use ftp_transport::{TcpConn, TcpTransport};
 use std::alloc::{AllocError, Global};
 use std::io::{Read, Write};
 use std::net::{Net, TcpListener, TcpStream};

@@ -1,10 +1,10 @@
 //! Connections over memory that wait before each byte, and a transport that hands them out.
 
 ghost use Rattle.std.specs.Prelude.{[]};
-ghost use Rattle.ftp_control.specs.Memory.{fresh_memory};
+ghost use Rattle.ftp_transport.specs.Memory.{fresh_memory};
 
 use ftp_base::types::ConnectionError;
-use ftp_control::transport::{
+use ftp_transport::{
     Accepted, Connected, Listening, MemoryConn, Network, PollConn, PollTransport, TaskConn,
     TaskTransport, Tells, Waiting,
 };

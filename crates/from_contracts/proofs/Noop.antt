@@ -9,13 +9,13 @@ use Rattle.ftp_base.specs.declared.types.fault.ConnectionError.TheVariants.{Io}
 use Rattle.ftp_base.specs.Command.{text_of, words_of}
 use Rattle.ftp_control.specs.declared.control.rule.ReplyRule.{ReplyRule}
 use Rattle.ftp_control.specs.declared.control.rule.ReplyRule.TheVariants.{Lenient}
-use Rattle.ftp_control.specs.declared.transport.room.Room.TheVariants.{Any}
+use Rattle.ftp_transport.specs.declared.room.Room.TheVariants.{Any}
 use Rattle.ftp_dialogue.specs.Deals.{first_net, outcomes_of}
 use Rattle.ftp_dialogue.specs.declared.model.Dealings.{Dealings}
 use Rattle.ftp_dialogue.specs.declared.model.DealOutcome.{DealOutcome}
-use Rattle.ftp_control.specs.Told.{IsFull, HasNoRoom}
-use Rattle.ftp_control.specs.declared.transport.room.Room.{Room}
-use Rattle.ftp_control.specs.Memory.{IsGiven, fresh_memory, fed}
+use Rattle.ftp_transport.specs.Told.{IsFull, HasNoRoom}
+use Rattle.ftp_transport.specs.declared.room.Room.{Room}
+use Rattle.ftp_transport.specs.Memory.{IsGiven, fresh_memory, fed}
 use Rattle.ftp_control.specs.Channel.{IsSound, untaken}
 use Rattle.ftp_control.specs.Reading.{GoesOn}
 use Rattle.ftp_control.specs.Grammar.{outcome}

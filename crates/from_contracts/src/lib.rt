@@ -5,7 +5,7 @@ ghost use Rattle.std.specs.Prelude.{◌≡◌, ◌⊎◌, ◌∷◌, [], IfOk};
 ghost use Rattle.from_contracts.specs.Aborted.{WasAborted};
 
 use ftp_base::types::FtpResult;
-use ftp_control::transport::{MemoryConn, MemoryTransport};
+use ftp_transport::{MemoryConn, MemoryTransport};
 use ftp_session::session::{Answer, Call, Session};
 use std::alloc::Global;
 

@@ -5,13 +5,13 @@ use Rattle.ftp_control.specs.declared.control.form.ReplyForm.TheVariants.{Featur
 use Rattle.ftp_control.specs.declared.control.grammar.Phase.{Phase}
 use Rattle.ftp_control.specs.declared.control.grammar.Phase.TheVariants.{InReply}
 use Rattle.ftp_control.specs.Inside.Verdict.{waiting_form}
-use Rattle.ftp_control.specs.declared.transport.room.Room.{Room}
-use Rattle.ftp_control.specs.declared.transport.room.Room.TheVariants.{Any, UpTo}
+use Rattle.ftp_transport.specs.declared.room.Room.{Room}
+use Rattle.ftp_transport.specs.declared.room.Room.TheVariants.{Any, UpTo}
 use Rattle.ftp_control.specs.declared.control.broken.Broken.{Broken}
 use Rattle.ftp_control.specs.declared.control.broken.Broken.TheVariants.{Connection, OutOfMemory}
 use Rattle.ftp_control.specs.declared.control.outcome.Outcome.{Outcome}
 use Rattle.ftp_control.specs.declared.control.outcome.Outcome.TheVariants.{Whole, Bad, TooLarge, Ended, Waits}
-use Rattle.ftp_control.specs.Told.{Told, HasRoomFor}
+use Rattle.ftp_transport.specs.Told.{Told, HasRoomFor}
 use Rattle.ftp_control.proofs.Outcomes.{nothing_under_way}
 use Rattle.ftp_control.proofs.WireLines.{line_behind}
 use Rattle.ftp_control.specs.Inside.UnderWay.{IsUnderWay}

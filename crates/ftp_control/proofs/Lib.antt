@@ -1,9 +1,6 @@
-pub mod Asking
 pub mod Channels
 pub mod Law
 pub mod Lines
-pub mod Marks
-pub mod Memory
 pub mod Outcomes
 pub mod Reading
 pub mod ReadLoop

@@ -4,7 +4,7 @@ use Rattle.std.specs.declared.io.ErrorKind.{ErrorKind}
 use Rattle.ftp_control.specs.declared.control.broken.Broken.TheVariants.{Connection, OutOfMemory}
 use Rattle.ftp_control.specs.declared.control.outcome.Outcome.{Outcome}
 use Rattle.ftp_control.specs.declared.control.outcome.Outcome.TheVariants.{Whole, Bad, TooLarge, Ended, Waits}
-use Rattle.ftp_control.specs.Told.{Told, IsDry, HasFailed, after_read, after_end}
+use Rattle.ftp_transport.specs.Told.{Told, IsDry, HasFailed, after_read, after_end}
 use Rattle.ftp_control.specs.Reading.{after_input, GoesOn, HearTells}
 use Rattle.ftp_control.specs.Inside.ReadLoop.{TakesAll, Hears}
 

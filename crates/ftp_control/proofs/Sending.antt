@@ -3,7 +3,7 @@ use Rattle.std.proofs.Common.{◌≡◌, ℕ, List, [], ◌++◌, take, drop, Ok
 use Rattle.std.specs.declared.io.ErrorKind.{ErrorKind}
 use Rattle.futures.specs.declared.task.Poll.TheVariants.{Ready, Pending}
 use Rattle.std.proofs.lemmas.List.{take-append-drop}
-use Rattle.ftp_control.specs.Told.{Told, Fits, IsFull, HasFailed, after_write, before_fault}
+use Rattle.ftp_transport.specs.Told.{Told, Fits, IsFull, HasFailed, after_write, before_fault}
 use Rattle.ftp_control.specs.Sending.{Flushes}
 
 -- bytes went out

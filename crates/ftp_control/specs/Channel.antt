@@ -9,7 +9,7 @@ use Rattle.ftp_control.specs.declared.control.broken.Broken.TheVariants.{Connect
 use Rattle.ftp_control.specs.declared.control.outcome.Outcome.{Outcome}
 use Rattle.ftp_control.specs.declared.control.outcome.Outcome.TheVariants.{Whole, Bad, TooLarge, Ended, Waits}
 use Rattle.ftp_control.specs.Grammar.{outcome, line_outcome, left_by}
-use Rattle.ftp_control.specs.Told.{Told, Fits}
+use Rattle.ftp_transport.specs.Told.{Told, Fits}
 use Rattle.ftp_control.specs.Reading.{AnswersOutcome, HearTells, GoesOn}
 use Rattle.ftp_control.specs.Sending.{IsLines, Flushes}
 

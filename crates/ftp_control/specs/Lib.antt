@@ -1,16 +1,11 @@
 pub mod Answer
-pub mod Asking
 pub mod Channel
 pub mod Grammar
 pub mod Inside
 pub mod Law
 pub mod LineAnswer
-pub mod Mark
-pub mod Memory
 pub mod Performing
 pub mod Reading
 pub mod Refusal
 pub mod Saying
 pub mod Sending
-pub mod Told
-pub mod Waits

@@ -10,7 +10,7 @@ use Rattle.ftp_control.specs.declared.control.broken.Broken.TheVariants.{Connect
 use Rattle.ftp_control.specs.declared.control.outcome.Outcome.{Outcome}
 use Rattle.ftp_control.specs.declared.control.outcome.Outcome.TheVariants.{Whole, Bad, TooLarge, Ended, Waits}
 use Rattle.std.specs.declared.io.ErrorKind.{ErrorKind}
-use Rattle.ftp_control.specs.Memory.{IsGiven}
+use Rattle.ftp_transport.specs.Memory.{IsGiven}
 use Rattle.ftp_control.specs.Reading.{MayBreak}
 use Rattle.ftp_control.specs.Channel.{Channel, ReadsLine}
 

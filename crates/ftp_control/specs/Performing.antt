@@ -4,7 +4,7 @@ use Rattle.std.specs.declared.io.ErrorKind.{ErrorKind}
 use Rattle.futures.specs.declared.task.Poll.TheVariants.{Ready}
 use Rattle.ftp_base.specs.declared.types.fault.FtpError.{FtpError}
 use Rattle.ftp_base.specs.declared.types.fault.ConnectionError.{ConnectionError as Cause}
-use Rattle.ftp_control.specs.Told.{Told}
+use Rattle.ftp_transport.specs.Told.{Told}
 use Rattle.ftp_control.specs.Channel.{Channel}
 use Rattle.ftp_control.specs.Refusal.{IsRefusalOf}
 use Rattle.ftp_control.specs.Saying.{SaysLine}

@@ -5,7 +5,7 @@ use Rattle.ftp_control.specs.declared.control.broken.Broken.TheVariants.{Connect
 use Rattle.ftp_control.specs.declared.control.outcome.Outcome.{Outcome}
 use Rattle.ftp_control.specs.declared.control.outcome.Outcome.TheVariants.{Waits}
 use Rattle.std.specs.declared.io.ErrorKind.{ErrorKind}
-use Rattle.ftp_control.specs.Told.{Told, IsDry, HasFailed}
+use Rattle.ftp_transport.specs.Told.{Told, IsDry, HasFailed}
 
 -- bytes came, and the end or not
 abbrev pub after_input : List ℕ → Bool → Told → Told

@@ -6,7 +6,7 @@ use Rattle.futures.specs.declared.task.Poll.TheVariants.{Ready, Pending}
 use Rattle.ftp_base.specs.declared.types.fault.FtpError.{FtpError}
 use Rattle.ftp_base.specs.declared.types.fault.FtpError.TheVariants.{ConnectionError}
 use Rattle.ftp_base.specs.declared.types.fault.ConnectionError.TheVariants.{Io}
-use Rattle.ftp_control.specs.Told.{Told, IsFull, HasCounted, NoneFailed, before_fault}
+use Rattle.ftp_transport.specs.Told.{Told, IsFull, HasCounted, NoneFailed, before_fault}
 use Rattle.ftp_control.specs.Channel.{Channel}
 
 -- a line that hasn't begun to go out

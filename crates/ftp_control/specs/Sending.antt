@@ -5,7 +5,7 @@ use Rattle.futures.specs.declared.task.Poll.{Poll}
 use Rattle.futures.specs.declared.task.Poll.TheVariants.{Ready, Pending}
 use Rattle.ftp_base.specs.Line.{ends_in_crlf, before_crlf, has_line_break}
 use Rattle.ftp_control.specs.Grammar.{whole_lines, rest}
-use Rattle.ftp_control.specs.Told.{Told, Fits, IsFull, HasFailed, after_write}
+use Rattle.ftp_transport.specs.Told.{Told, Fits, IsFull, HasFailed, after_write}
 
 -- a wire line: CR and LF stand only at its end
 abbrev pub is_wire_line : List ℕ → Bool

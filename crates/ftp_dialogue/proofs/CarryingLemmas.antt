@@ -26,7 +26,7 @@ use Rattle.ftp_dialogue.specs.declared.stage.Step.TheVariants.{Next, Pending}
 use Rattle.ftp_dialogue.specs.declared.state.State.{State}
 use Rattle.ftp_dialogue.specs.Coding.{Coding}
 use Rattle.ftp_control.specs.Channel.{Channel}
-use Rattle.ftp_control.specs.declared.transport.room.Room.{Room}
+use Rattle.ftp_transport.specs.declared.room.Room.{Room}
 use Rattle.ftp_dialogue.specs.declared.model.Played.TheVariants.{Done}
 use Rattle.ftp_dialogue.specs.declared.model.Standing.{Standing}
 use Rattle.ftp_dialogue.proofs.Deals.{dealings_parted, letting_beside}

@@ -1,15 +1,15 @@
 -- Lemmas on what stands beside the control connection.
 use Rattle.std.proofs.lemmas.Bool.{eqb-true}
 use Rattle.std.proofs.Common.{◌≡◌, ℕ, true, false, cond, eqb, arith, length, List, [], ◌∷◌, ◌++◌, map, Option, Some, None, option_map, refl, ap, sym, ◌∙◌, append-nil, subst, inl, inr}
-use Rattle.ftp_control.proofs.Asking.{requests-append}
-use Rattle.ftp_control.specs.Asking.{requests_of}
-use Rattle.ftp_control.specs.Told.{Told, after_end, after_read, begun}
-use Rattle.ftp_control.specs.declared.transport.request.Asked.{Asked}
-use Rattle.ftp_control.specs.declared.transport.supply.Supply.{Supply}
-use Rattle.ftp_control.specs.declared.transport.request.Request.{Request}
-use Rattle.ftp_control.specs.declared.transport.request.Request.TheVariants.{Connect, Listen, Accept, Build}
-use Rattle.ftp_control.specs.declared.transport.request.RequestOutcome.{RequestOutcome}
-use Rattle.ftp_control.specs.declared.transport.request.RequestOutcome.TheVariants.{Done, Address, Refused}
+use Rattle.ftp_transport.proofs.Asking.{requests-append}
+use Rattle.ftp_transport.specs.Asking.{requests_of}
+use Rattle.ftp_transport.specs.Told.{Told, after_end, after_read, begun}
+use Rattle.ftp_transport.specs.declared.request.Asked.{Asked}
+use Rattle.ftp_transport.specs.declared.supply.Supply.{Supply}
+use Rattle.ftp_transport.specs.declared.request.Request.{Request}
+use Rattle.ftp_transport.specs.declared.request.Request.TheVariants.{Connect, Listen, Accept, Build}
+use Rattle.ftp_transport.specs.declared.request.RequestOutcome.{RequestOutcome}
+use Rattle.ftp_transport.specs.declared.request.RequestOutcome.TheVariants.{Done, Address, Refused}
 use Rattle.std.specs.declared.net.socket_addr.SocketAddr.{SocketAddr}
 use Rattle.ftp_base.specs.declared.types.fault.FtpError.{FtpError}
 use Rattle.ftp_calls.specs.declared.exchange.Movement.{Movement}

@@ -3,7 +3,7 @@ use Rattle.std.proofs.Common.{◌≡◌, ◌<◌, ◌≤◌, ◌+◌, ◌-◌, �
 use Rattle.std.proofs.Math.Seq.{take-add}
 use Rattle.std.proofs.lemmas.Bool.{ne_eqb}
 use Rattle.std.proofs.lemmas.List.{length-drop, length-take-le}
-use Rattle.ftp_control.specs.Told.{Told, after_end, after_read}
+use Rattle.ftp_transport.specs.Told.{Told, after_end, after_read}
 use Rattle.ftp_dialogue.specs.Dialogue.{chunk}
 
 positive : (n l : ℕ) → (n ≡ 0 → ⊥) → l ≡ n → 0 < l

@@ -9,7 +9,7 @@ use Rattle.ftp_base.specs.declared.types.reply.Response.{Response}
 use Rattle.ftp_base.specs.declared.types.fault.FtpError.{FtpError}
 use Rattle.ftp_base.specs.declared.types.fault.FtpError.TheVariants as fault
 use Rattle.ftp_base.specs.declared.types.fault.ConnectionError.TheVariants as connection
-use Rattle.ftp_control.specs.declared.transport.room.Room.{Room}
+use Rattle.ftp_transport.specs.declared.room.Room.{Room}
 use Rattle.ftp_dialogue.specs.declared.model.DealOutcome.{DealOutcome}
 use Rattle.ftp_control.specs.declared.control.rule.ReplyRule.{ReplyRule}
 use Rattle.ftp_control.specs.declared.control.broken.Broken.{Broken}
@@ -17,8 +17,8 @@ use Rattle.ftp_control.specs.declared.control.broken.Broken.TheVariants.{Connect
 use Rattle.ftp_control.specs.declared.control.outcome.Outcome.{Outcome}
 use Rattle.ftp_control.specs.declared.control.outcome.Outcome.TheVariants.{Whole, Bad, TooLarge, Ended, Waits}
 use Rattle.ftp_control.specs.Grammar.{outcome, left_by}
-use Rattle.ftp_control.specs.Memory.{IsGiven}
-use Rattle.ftp_control.specs.Told.{Told, IsDry, HasFailed, NoneFailed}
+use Rattle.ftp_transport.specs.Memory.{IsGiven}
+use Rattle.ftp_transport.specs.Told.{Told, IsDry, HasFailed, NoneFailed}
 use Rattle.ftp_control.specs.Reading.{GoesOn, HearTells, MayBreak, after_input}
 use Rattle.ftp_control.specs.Channel.{Channel, ReadsReply, fails_by}
 use Rattle.ftp_control.specs.Answer.{AnswersRead, answer_of, expected_reply, is_among}

@@ -5,15 +5,15 @@ use Rattle.std.proofs.lemmas.List.{append_cancel_right}
 use Rattle.ftp_base.specs.declared.types.fault.FtpError.{FtpError}
 use Rattle.ftp_base.specs.declared.types.fault.FtpError.TheVariants.{ConnectionError, OutOfMemory}
 use Rattle.ftp_base.specs.declared.types.fault.ConnectionError.{ConnectionError as Cause}
-use Rattle.ftp_control.specs.declared.transport.room.Room.{Room}
-use Rattle.ftp_control.specs.declared.transport.room.Room.TheVariants.{Any, UpTo}
+use Rattle.ftp_transport.specs.declared.room.Room.{Room}
+use Rattle.ftp_transport.specs.declared.room.Room.TheVariants.{Any, UpTo}
 use Rattle.ftp_dialogue.specs.declared.model.DealOutcome.{DealOutcome}
 use Rattle.ftp_dialogue.specs.Deals.{Deal, Net, outcomes_of}
 use Rattle.ftp_dialogue.proofs.Deals.{deals-append, drops, drops_none, outcomes-append, letting_beside, letting_deals, letting_settles}
 use Rattle.futures.specs.declared.task.Poll.{Poll}
 use Rattle.futures.specs.declared.task.Poll.TheVariants as poll
-use Rattle.ftp_control.specs.Memory.{IsGiven}
-use Rattle.ftp_control.specs.Told.{Told, HasRoomFor, NoneFailed}
+use Rattle.ftp_transport.specs.Memory.{IsGiven}
+use Rattle.ftp_transport.specs.Told.{Told, HasRoomFor, NoneFailed}
 use Rattle.ftp_control.specs.Reading.{GoesOn}
 use Rattle.ftp_control.specs.Channel.{Channel, untaken}
 use Rattle.ftp_control.specs.Saying.{SaysLine, SayLeaves, due, said}

@@ -8,14 +8,14 @@ use Rattle.ftp_base.specs.declared.types.fault.FtpError.TheVariants.{ConnectionE
 use Rattle.ftp_base.specs.declared.types.fault.ConnectionError.TheVariants.{Io, NoAddress, TimedOut}
 use Rattle.std.specs.declared.time.Duration.{Duration}
 use Rattle.ftp_control.specs.Channel.{Channel, untaken}
-use Rattle.ftp_control.specs.Memory.{IsGiven}
-use Rattle.ftp_control.specs.Told.{Told, AddressTells, HasFailed}
-use Rattle.ftp_control.specs.declared.transport.request.Request.{Request}
-use Rattle.ftp_control.specs.declared.transport.request.RequestOutcome.{RequestOutcome}
+use Rattle.ftp_transport.specs.Memory.{IsGiven}
+use Rattle.ftp_transport.specs.Told.{Told, AddressTells, HasFailed}
+use Rattle.ftp_transport.specs.declared.request.Request.{Request}
+use Rattle.ftp_transport.specs.declared.request.RequestOutcome.{RequestOutcome}
 use Rattle.ftp_dialogue.specs.declared.model.DealOutcome.{DealOutcome}
 use Rattle.ftp_dialogue.specs.declared.model.DealOutcome.TheVariants.{Answered, Built}
 use Rattle.ftp_dialogue.specs.declared.model.DealOutcome.TheVariants as came
-use Rattle.ftp_control.specs.declared.transport.room.Room.{Room}
+use Rattle.ftp_transport.specs.declared.room.Room.{Room}
 use Rattle.ftp_calls.proofs.Openings.{read_opens_none}
 use Rattle.ftp_dialogue.proofs.Sorts.{opens_no_local}
 use Rattle.ftp_calls.specs.declared.call.Answer.{Answer}
@@ -44,8 +44,8 @@ use Rattle.ftp_dialogue.specs.declared.stage.Agreeing.TheVariants.{Negotiating, 
 use Rattle.ftp_dialogue.specs.declared.stage.Asking.TheVariants.{Accepting, Connection}
 use Rattle.ftp_dialogue.specs.declared.state.State.{State}
 use Rattle.ftp_calls.specs.declared.exchange.Turn.{Turn}
-use Rattle.ftp_control.specs.declared.transport.request.Request.TheVariants.{Accept, Connect}
-use Rattle.ftp_control.specs.declared.transport.request.RequestOutcome.TheVariants.{Done as Made, Address, Refused}
+use Rattle.ftp_transport.specs.declared.request.Request.TheVariants.{Accept, Connect}
+use Rattle.ftp_transport.specs.declared.request.RequestOutcome.TheVariants.{Done as Made, Address, Refused}
 use Rattle.ftp_dialogue.specs.Dialogue.{End, Here, There, Tree, Say, Look, Ask, Build, Move, Leaf, accepting, admitting, agreeing, connecting_to, doing, from_turn, last_turn, later, lets_in, most_reads, negotiating, negotiating_unless, on_address, on_built, on_connection, restart_turn, strangers, with_transfer}
 use Rattle.ftp_dialogue.specs.Link.{Link}
 use Rattle.ftp_calls.specs.declared.exchange.Movement.{Movement}
@@ -220,7 +220,7 @@ module _ (link : Link) (old : SessionValue) (net' : Net) where
     untouched = nothing_said;
   }
     where
-      same : link.tells → (room : Room) (more : List ℕ) (ended : Bool) (outcomes : List DealOutcome) → Rattle.ftp_control.specs.Told.HasRoomFor room (length after.channel.told.sent) → Rattle.ftp_control.specs.Reading.GoesOn after.channel.ended more ended → play room tree (standing old more ended outcomes) ≡ play room tree (standing after more ended outcomes)
+      same : link.tells → (room : Room) (more : List ℕ) (ended : Bool) (outcomes : List DealOutcome) → Rattle.ftp_transport.specs.Told.HasRoomFor room (length after.channel.told.sent) → Rattle.ftp_control.specs.Reading.GoesOn after.channel.ended more ended → play room tree (standing old more ended outcomes) ≡ play room tree (standing after more ended outcomes)
       same h room more ended outcomes fit on =
           let s : Standing = standing old more ended outcomes in
           ap (λ d. play room tree (record s { dealings = d })) (ap dealings_of (sym (tie h)))

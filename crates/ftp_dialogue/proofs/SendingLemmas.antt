@@ -8,7 +8,7 @@ use Rattle.futures.specs.declared.task.Poll.TheVariants as poll
 use Rattle.ftp_base.specs.declared.types.fault.FtpError.{FtpError}
 use Rattle.ftp_base.specs.declared.types.fault.FtpError.TheVariants.{ConnectionError}
 use Rattle.ftp_base.specs.declared.types.fault.ConnectionError.TheVariants.{Io, SourceTooLarge}
-use Rattle.ftp_control.specs.Told.{HasFailed, Told}
+use Rattle.ftp_transport.specs.Told.{HasFailed, Told}
 use Rattle.ftp_calls.specs.declared.call.Answer.{Answer}
 use Rattle.ftp_calls.specs.declared.call.Answer.TheVariants.{Count, Fault}
 use Rattle.ftp_calls.specs.declared.call.Call.{Call}

@@ -10,7 +10,7 @@ use Rattle.ftp_base.specs.declared.types.fault.ConnectionError.{ConnectionError 
 use Rattle.ftp_base.specs.declared.types.fault.ConnectionError.TheVariants.{Io}
 use Rattle.ftp_calls.specs.declared.exchange.Ending.{Ending}
 use Rattle.ftp_control.specs.Refusal.{IsRefusalOf}
-use Rattle.ftp_control.specs.Told.{Told, EndsAsTold, HasFailed}
+use Rattle.ftp_transport.specs.Told.{Told, EndsAsTold, HasFailed}
 use Rattle.ftp_dialogue.specs.declared.state.State.{State}
 use Rattle.ftp_calls.specs.declared.call.Answer.{Answer}
 use Rattle.ftp_calls.specs.declared.call.Answer.TheVariants.{Unit, Fault}

@@ -9,7 +9,7 @@ use Rattle.ftp_base.specs.declared.types.fault.FtpError.{FtpError}
 use Rattle.ftp_base.specs.declared.types.fault.FtpError.TheVariants as fault
 use Rattle.ftp_base.specs.declared.types.fault.ConnectionError.{ConnectionError as Cause}
 use Rattle.ftp_base.specs.declared.types.fault.ConnectionError.TheVariants as connection
-use Rattle.ftp_control.specs.declared.transport.room.Room.TheVariants.{Any}
+use Rattle.ftp_transport.specs.declared.room.Room.TheVariants.{Any}
 use Rattle.ftp_dialogue.specs.Deals.{outcomes_of}
 use Rattle.ftp_dialogue.specs.declared.model.DealOutcome.{DealOutcome}
 use Rattle.ftp_control.specs.declared.control.outcome.Outcome.{Outcome}

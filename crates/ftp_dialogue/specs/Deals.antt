@@ -5,15 +5,15 @@ use Rattle.std.specs.declared.net.socket_addr.SocketAddr.{SocketAddr}
 use Rattle.ftp_calls.specs.declared.exchange.Movement.{Movement}
 use Rattle.ftp_calls.specs.declared.exchange.Movement.TheVariants as movement
 use Rattle.ftp_base.specs.declared.types.fault.FtpError.{FtpError}
-use Rattle.ftp_control.specs.Asking.{recorded, requests_of}
-use Rattle.ftp_control.specs.Told.{Told, HasFailed, after_close, after_end, after_read, after_write, begun}
-use Rattle.ftp_control.specs.declared.transport.request.Asked.{Asked}
-use Rattle.ftp_control.specs.declared.transport.request.Request.{Request}
-use Rattle.ftp_control.specs.declared.transport.request.Request.TheVariants.{Connect, Listen, Accept, Build}
-use Rattle.ftp_control.specs.declared.transport.request.RequestOutcome.{RequestOutcome}
-use Rattle.ftp_control.specs.declared.transport.request.RequestOutcome.TheVariants.{Done, Address, Refused}
-use Rattle.ftp_control.specs.declared.transport.supply.Supply.{Supply}
-use Rattle.ftp_control.specs.declared.transport.supply.Supply.TheVariants.{Connects, Peer}
+use Rattle.ftp_transport.specs.Asking.{recorded, requests_of}
+use Rattle.ftp_transport.specs.Told.{Told, HasFailed, after_close, after_end, after_read, after_write, begun}
+use Rattle.ftp_transport.specs.declared.request.Asked.{Asked}
+use Rattle.ftp_transport.specs.declared.request.Request.{Request}
+use Rattle.ftp_transport.specs.declared.request.Request.TheVariants.{Connect, Listen, Accept, Build}
+use Rattle.ftp_transport.specs.declared.request.RequestOutcome.{RequestOutcome}
+use Rattle.ftp_transport.specs.declared.request.RequestOutcome.TheVariants.{Done, Address, Refused}
+use Rattle.ftp_transport.specs.declared.supply.Supply.{Supply}
+use Rattle.ftp_transport.specs.declared.supply.Supply.TheVariants.{Connects, Peer}
 use Rattle.ftp_dialogue.specs.declared.model.DealOutcome.{DealOutcome}
 use Rattle.ftp_dialogue.specs.declared.model.DealOutcome.TheVariants.{Answered, Built, Read, Wrote, Closed, Failed, NoMemory}
 use Rattle.ftp_dialogue.specs.declared.model.Dealings.{Dealings}

@@ -21,10 +21,10 @@ use Rattle.ftp_base.specs.Welcome.{Welcome, welcome_text}
 use Rattle.ftp_control.specs.declared.control.form.ReplyForm.{ReplyForm}
 use Rattle.ftp_control.specs.declared.control.form.ReplyForm.TheVariants as form
 use Rattle.ftp_control.specs.Answer.{form_of}
-use Rattle.ftp_control.specs.declared.transport.request.Request.{Request}
-use Rattle.ftp_control.specs.declared.transport.request.Request.TheVariants.{Connect, Listen, Accept}
-use Rattle.ftp_control.specs.declared.transport.request.RequestOutcome.{RequestOutcome}
-use Rattle.ftp_control.specs.declared.transport.request.RequestOutcome.TheVariants.{Done as Made, Address, Refused}
+use Rattle.ftp_transport.specs.declared.request.Request.{Request}
+use Rattle.ftp_transport.specs.declared.request.Request.TheVariants.{Connect, Listen, Accept}
+use Rattle.ftp_transport.specs.declared.request.RequestOutcome.{RequestOutcome}
+use Rattle.ftp_transport.specs.declared.request.RequestOutcome.TheVariants.{Done as Made, Address, Refused}
 use Rattle.ftp_dialogue.specs.declared.state.State.{State}
 use Rattle.ftp_calls.specs.declared.call.Answer.{Answer}
 use Rattle.ftp_calls.specs.declared.call.Answer.TheVariants.{Unit, Reply, Text, Time, Size, Opened, OpenedWith, Lines, Fault}

@@ -2,7 +2,7 @@
 use Rattle.std.specs.Prelude.{◌≡◌, ◌<◌, ◌≤◌, ℕ, List, ◌++◌, length}
 use Rattle.futures.specs.declared.task.Poll.{Poll}
 use Rattle.futures.specs.declared.task.Poll.TheVariants as poll
-use Rattle.ftp_control.specs.Told.{HasFailed, Told, after_end, after_read}
+use Rattle.ftp_transport.specs.Told.{HasFailed, Told, after_end, after_read}
 use Rattle.ftp_dialogue.specs.Dialogue.{chunk}
 use Rattle.ftp_dialogue.specs.declared.gathered.More.{More}
 use Rattle.ftp_dialogue.specs.declared.gathered.More.TheVariants as more

@@ -5,8 +5,8 @@ use Rattle.std.specs.List.{All}
 use Rattle.std.specs.Net.Socket.{socket_ip}
 use Rattle.std.specs.declared.net.socket_addr.SocketAddr.{SocketAddr}
 use Rattle.ftp_base.specs.declared.types.mode.Mode.TheVariants.{Passive, ExtendedPassive}
-use Rattle.ftp_control.specs.declared.transport.request.Request.{Request}
-use Rattle.ftp_control.specs.declared.transport.request.Request.TheVariants.{Connect, Listen, Accept, Build}
+use Rattle.ftp_transport.specs.declared.request.Request.{Request}
+use Rattle.ftp_transport.specs.declared.request.Request.TheVariants.{Connect, Listen, Accept, Build}
 use Rattle.ftp_dialogue.specs.declared.model.Played.{Played}
 use Rattle.ftp_dialogue.specs.declared.model.Played.TheVariants.{Done, Pending}
 use Rattle.ftp_dialogue.specs.declared.model.Standing.{Standing}

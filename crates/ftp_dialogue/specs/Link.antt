@@ -6,7 +6,7 @@ use Rattle.std.specs.declared.net.socket_addr.SocketAddr.{SocketAddr}
 use Rattle.ftp_base.specs.declared.types.fault.FtpError.{FtpError}
 use Rattle.ftp_base.specs.declared.types.fault.FtpError.TheVariants.{ConnectionError}
 use Rattle.ftp_base.specs.declared.types.fault.ConnectionError.TheVariants.{NoAddress}
-use Rattle.ftp_control.specs.Told.{Told}
+use Rattle.ftp_transport.specs.Told.{Told}
 
 -- what a builder of passive data connections may answer for an address
 abbrev pub Builds : Type 1

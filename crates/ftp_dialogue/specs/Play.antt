@@ -6,14 +6,14 @@ use Rattle.ftp_base.specs.declared.types.reply.Response.{Response}
 use Rattle.ftp_base.specs.declared.types.fault.FtpError.{FtpError}
 use Rattle.ftp_base.specs.declared.types.fault.FtpError.TheVariants as fault
 use Rattle.ftp_base.specs.declared.types.fault.ConnectionError.TheVariants as connection
-use Rattle.ftp_control.specs.declared.transport.room.Room.{Room as Rooms}
-use Rattle.ftp_control.specs.declared.transport.room.Room.TheVariants.{Any, UpTo}
+use Rattle.ftp_transport.specs.declared.room.Room.{Room as Rooms}
+use Rattle.ftp_transport.specs.declared.room.Room.TheVariants.{Any, UpTo}
 use Rattle.ftp_control.specs.declared.control.outcome.Outcome.{Outcome}
 use Rattle.ftp_control.specs.declared.control.outcome.Outcome.TheVariants.{Whole, Bad, TooLarge, Ended, Waits}
 use Rattle.ftp_control.specs.Grammar.{outcome, left_by}
 use Rattle.ftp_control.specs.Answer.{expected_reply}
-use Rattle.ftp_control.specs.declared.transport.request.Request.{Request}
-use Rattle.ftp_control.specs.declared.transport.request.RequestOutcome.{RequestOutcome}
+use Rattle.ftp_transport.specs.declared.request.Request.{Request}
+use Rattle.ftp_transport.specs.declared.request.RequestOutcome.{RequestOutcome}
 use Rattle.ftp_dialogue.specs.declared.model.DealOutcome.{DealOutcome}
 use Rattle.std.specs.declared.net.socket_addr.SocketAddr.{SocketAddr}
 use Rattle.ftp_calls.specs.declared.call.Answer.{Answer}

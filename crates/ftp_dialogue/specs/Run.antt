@@ -3,10 +3,10 @@ use Rattle.std.specs.Prelude.{◌≡◌, ◌⊎◌, Bool, true, false, ℕ, List
 use Rattle.std.specs.declared.net.socket_addr.SocketAddr.{SocketAddr}
 use Rattle.ftp_control.specs.declared.control.rule.ReplyRule.{ReplyRule}
 use Rattle.ftp_control.specs.declared.control.outcome.Outcome.TheVariants.{Waits}
-use Rattle.ftp_control.specs.declared.transport.room.Room.{Room}
+use Rattle.ftp_transport.specs.declared.room.Room.{Room}
 use Rattle.ftp_control.specs.Grammar.{outcome}
 use Rattle.ftp_base.specs.declared.types.fault.FtpError.{FtpError}
-use Rattle.ftp_control.specs.declared.transport.request.RequestOutcome.{RequestOutcome}
+use Rattle.ftp_transport.specs.declared.request.RequestOutcome.{RequestOutcome}
 use Rattle.ftp_dialogue.specs.declared.model.DealOutcome.{DealOutcome}
 use Rattle.ftp_dialogue.specs.declared.state.State.{State}
 use Rattle.ftp_calls.specs.declared.call.Answer.{Answer}

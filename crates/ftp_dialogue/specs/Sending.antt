@@ -4,7 +4,7 @@ use Rattle.std.specs.declared.io.ErrorKind.{ErrorKind}
 use Rattle.futures.specs.declared.task.Poll.{Poll}
 use Rattle.futures.specs.declared.task.Poll.TheVariants as poll
 use Rattle.ftp_base.specs.Ascii.{converted}
-use Rattle.ftp_control.specs.Told.{HasFailed, Told}
+use Rattle.ftp_transport.specs.Told.{HasFailed, Told}
 use Rattle.ftp_dialogue.specs.Deals.{WriteIs}
 use Rattle.ftp_dialogue.specs.declared.model.DealOutcome.TheVariants as came
 

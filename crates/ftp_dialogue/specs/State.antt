@@ -5,7 +5,7 @@ use Rattle.std.specs.Duration.{as_nanos}
 use Rattle.ftp_base.specs.declared.types.mode.Mode.TheVariants.{Passive}
 use Rattle.ftp_base.specs.declared.types.mode.ActivePeerCheck.TheVariants.{ControlPeer}
 use Rattle.ftp_control.specs.Channel.{Channel, IsIdle}
-use Rattle.ftp_control.specs.Told.{Told, begun}
+use Rattle.ftp_transport.specs.Told.{Told, begun}
 use Rattle.ftp_dialogue.specs.Sound.{no_transfers}
 use Rattle.ftp_dialogue.specs.declared.state.Owed.{Owed}
 use Rattle.ftp_dialogue.specs.declared.state.Owed.TheVariants.{Nothing, Live, Left}

@@ -10,7 +10,7 @@ ghost use Rattle.ftp_base.specs.Wire.{wire};
 ghost use Rattle.ftp_base.specs.declared.command.Command.TheVariants.{Abor};
 ghost use Rattle.ftp_calls.specs.Exchanges.{aborts};
 ghost use Rattle.ftp_control.specs.Refusal.{IsRefusalOf};
-ghost use Rattle.ftp_control.specs.Told.{EndsAsTold};
+ghost use Rattle.ftp_transport.specs.Told.{EndsAsTold};
 ghost use Rattle.ftp_dialogue.specs.Coding.{Coding, coding_of};
 ghost use Rattle.ftp_dialogue.specs.Link.{building};
 ghost use Rattle.ftp_dialogue.specs.Steps.Moving.{BreaksOff, DropsAbort};
@@ -26,7 +26,7 @@ use ftp_base::encoding::Encoding;
 use ftp_base::types::FtpResult;
 use ftp_calls::exchange::Turn;
 use ftp_control::control::WireLine;
-use ftp_control::transport::{Network, PollConn};
+use ftp_transport::{Network, PollConn};
 use std::alloc::Global;
 
 impl<Tr: Network> Machine<Tr> {

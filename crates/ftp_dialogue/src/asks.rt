@@ -6,14 +6,14 @@
 ghost use Rattle.std.specs.Prelude.{◌≡◌, ◌<◌, ◌⊎◌, length, None, Ok, Result};
 ghost use Rattle.std.specs.declared.net.socket_addr.SocketAddr.{SocketAddr as Address};
 ghost use Rattle.ftp_base.specs.declared.types.fault.FtpError.{FtpError as Faults};
-ghost use Rattle.ftp_control.specs.Told.{ReadTells, ReadsAtMost, Told, WriteTells, WritesSome};
+ghost use Rattle.ftp_transport.specs.Told.{ReadTells, ReadsAtMost, Told, WriteTells, WritesSome};
 ghost use Rattle.ftp_dialogue.specs.Link.{built_by};
 ghost use Rattle.futures.specs.declared.task.Poll.TheVariants as poll;
-ghost use Rattle.ftp_control.specs.Asking.{Asks as Records, Supplies, built_as, comes_as, connects_as, done, done_at};
-ghost use Rattle.ftp_control.specs.declared.transport.request.Request.TheVariants.{Accept, Connect, Listen};
+ghost use Rattle.ftp_transport.specs.Asking.{Asks as Records, Supplies, built_as, comes_as, connects_as, done, done_at};
+ghost use Rattle.ftp_transport.specs.declared.request.Request.TheVariants.{Accept, Connect, Listen};
 
 use ftp_base::types::{ConnectionError, FtpError, FtpResult};
-use ftp_control::transport::{
+use ftp_transport::{
     Accepted, Conn, Connected, Listening, Network, PassiveStreamBuilder, PollConn, PollTransport,
 };
 use futures::task::Poll;

@@ -20,7 +20,7 @@ use super::{Answer, Call, Owed, Setting};
 use crate::model::DealOutcome;
 use ftp_base::types::{Bytes, ConnectionError, FtpError};
 use ftp_calls::exchange::{Turn, drains, finishes, is_local, of_transfer};
-use ftp_control::transport::{Conn, Network, PollConn, Tells};
+use ftp_transport::{Conn, Network, PollConn, Tells};
 use std::alloc::Global;
 use std::io::ErrorKind;
 

@@ -23,7 +23,7 @@ use ftp_base::encoding::Encoding;
 use ftp_base::status::Status;
 use ftp_base::types::{FtpError, FtpResult, Response};
 use ftp_calls::exchange::drains_first;
-use ftp_control::transport::{Conn, Network, NeverWaits, PollConn};
+use ftp_transport::{Conn, Network, NeverWaits, PollConn};
 use futures::task::Poll;
 use std::alloc::Global;
 

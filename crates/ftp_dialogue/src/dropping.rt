@@ -11,7 +11,7 @@ use super::aborting::is_out;
 use super::machine::Machine;
 use super::stage::{Agreeing, Asking, Stage};
 use ftp_calls::exchange::{aborts, finishes};
-use ftp_control::transport::Network;
+use ftp_transport::Network;
 
 impl<Tr: Network> Machine<Tr> {
     /// A call that waits at this stage is dropped. One that brings a transfer to its end leaves it, but for an abort whose

@@ -7,7 +7,7 @@
 
 ghost use Rattle.std.specs.Prelude.{◌≡◌, ◌⊎◌, is_none, true, false};
 ghost use Rattle.ftp_calls.specs.Exchanges.{negotiates};
-ghost use Rattle.ftp_control.specs.Told.{EndsAsTold};
+ghost use Rattle.ftp_transport.specs.Told.{EndsAsTold};
 ghost use Rattle.ftp_dialogue.specs.Coding.{Coding, coding_of};
 ghost use Rattle.ftp_calls.specs.declared.exchange.Task.TheVariants as tasks;
 ghost use Rattle.ftp_dialogue.specs.Dialogue.{closed_as, fault_or, fetched, first_fault, too_long, unfetched};
@@ -28,7 +28,7 @@ use ftp_base::status::Status;
 use ftp_base::types::{ConnectionError, FtpError};
 use ftp_calls::exchange::{Fetch, Task};
 use ftp_calls::lines::Lines;
-use ftp_control::transport::{Network, PollConn};
+use ftp_transport::{Network, PollConn};
 use futures::task::Poll;
 use std::alloc::{AllocError, Global};
 use std::io::ErrorKind;

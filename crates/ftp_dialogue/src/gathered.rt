@@ -2,12 +2,12 @@
 
 ghost use Rattle.std.specs.Prelude.{◌≡◌, ◌≤◌, ◌-◌, drop, take, vec_len, IfOk, Ok, OnErr};
 ghost use Rattle.futures.specs.declared.task.Poll.TheVariants as poll;
-ghost use Rattle.ftp_control.specs.Told.{ReadTells, ReadsAtMost};
+ghost use Rattle.ftp_transport.specs.Told.{ReadTells, ReadsAtMost};
 ghost use Rattle.ftp_dialogue.specs.Dialogue.{chunk};
 
 use super::asks::Asks;
 use ftp_base::types::Bytes;
-use ftp_control::transport::{Network, Tells};
+use ftp_transport::{Network, Tells};
 use futures::task::Poll;
 use std::alloc::{AllocError, Global};
 use std::io::ErrorKind;

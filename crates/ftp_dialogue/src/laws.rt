@@ -9,7 +9,7 @@ ghost use Rattle.std.specs.Prelude.{◌≡◌, ℕ, true, false};
 ghost use Rattle.ftp_base.specs.declared.types.fault.FtpError.TheVariants.{DataConnectionAlreadyOpen};
 ghost use Rattle.ftp_calls.specs.declared.call.Answer.TheVariants.{Fault};
 ghost use Rattle.ftp_calls.specs.Exchanges.{negotiates};
-ghost use Rattle.ftp_control.specs.declared.transport.room.Room.{Room};
+ghost use Rattle.ftp_transport.specs.declared.room.Room.{Room};
 ghost use Rattle.ftp_dialogue.specs.Coding.{Coding};
 ghost use Rattle.ftp_dialogue.specs.Dialogue.{opened_from};
 ghost use Rattle.ftp_dialogue.specs.Laws.{AsksPeerAlone, UsesPeerHost, offset_after};

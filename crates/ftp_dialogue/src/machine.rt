@@ -6,7 +6,7 @@
 use super::carrying::pass_over;
 use super::state::{Owed, State};
 use ftp_control::control::ControlChannel;
-use ftp_control::transport::Network;
+use ftp_transport::Network;
 use std::alloc::Global;
 use std::marker::Model;
 

@@ -7,7 +7,7 @@
 use crate::{Answer, Call, State};
 use ftp_base::types::{Bytes, FtpError, Items};
 use ftp_control::control::{ReplyForm, ReplyRule};
-use ftp_control::transport::{Request, RequestOutcome, Room};
+use ftp_transport::{Request, RequestOutcome, Room};
 use std::io::ErrorKind;
 use std::net::SocketAddr;
 

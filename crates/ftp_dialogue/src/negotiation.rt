@@ -19,7 +19,7 @@ use super::stage::{Agreeing, Asking, Fetching, Opened, Stage, Step, go_on, go_to
 use super::{Answer, Call};
 use ftp_base::types::{ConnectionError, FtpError, Mode};
 use ftp_calls::exchange::Turn;
-use ftp_control::transport::{Network, PollConn, RequestOutcome};
+use ftp_transport::{Network, PollConn, RequestOutcome};
 use futures::task::Poll;
 use std::alloc::AllocError;
 use std::io::ErrorKind;

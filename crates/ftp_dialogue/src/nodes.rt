@@ -7,7 +7,7 @@ ghost use Rattle.std.specs.Prelude.{◌≡◌, IfOk, IfErr, OnErr, Result, false
 ghost use Rattle.futures.specs.declared.task.Poll.TheVariants as poll;
 ghost use Rattle.ftp_base.specs.declared.types.reply.Response.{Response as Heard};
 ghost use Rattle.ftp_base.specs.declared.types.fault.FtpError.{FtpError as Faults};
-ghost use Rattle.ftp_control.specs.Told.{EndsAsTold};
+ghost use Rattle.ftp_transport.specs.Told.{EndsAsTold};
 ghost use Rattle.ftp_dialogue.specs.Coding.{Coding, coding_of};
 ghost use Rattle.ftp_dialogue.specs.Dialogue.{Tree, drain_answer, expected_of, expecting, finish_answer, opened_answer};
 ghost use Rattle.ftp_dialogue.specs.declared.state.State.{State as States};
@@ -25,7 +25,7 @@ use ftp_base::status::Status;
 use ftp_base::types::{ConnectionError, FtpError, FtpResult, Mode, Response};
 use ftp_calls::exchange::{Codes, Ending, Task};
 use ftp_control::control::{ReplyForm, WireLine, form_of};
-use ftp_control::transport::{Network, PollConn};
+use ftp_transport::{Network, PollConn};
 use futures::task::Poll;
 use std::alloc::{AllocError, Global};
 use std::io::ErrorKind;

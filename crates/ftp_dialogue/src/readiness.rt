@@ -2,10 +2,10 @@
 
 ghost use Rattle.std.specs.Prelude.{◌≡◌, option_map};
 ghost use Rattle.futures.specs.Task.{IsArmed, Keeps};
-ghost use Rattle.ftp_control.specs.declared.transport.waiting.Waiting.TheVariants as waits;
+ghost use Rattle.ftp_transport.specs.declared.waiting.Waiting.TheVariants as waits;
 
 use super::machine::Machine;
-use ftp_control::transport::{TaskConn, TaskTransport, Waiting};
+use ftp_transport::{TaskConn, TaskTransport, Waiting};
 use futures::task::Context;
 
 impl<Tr: TaskTransport> Machine<Tr>

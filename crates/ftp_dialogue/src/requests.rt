@@ -3,14 +3,14 @@
 //! Each function is one question. What comes of it is kept in the machine, and is on the transport's record.
 
 ghost use Rattle.std.specs.Prelude.{◌≡◌, None};
-ghost use Rattle.ftp_control.specs.declared.transport.request.Request.TheVariants.{Accept, Connect, Listen};
+ghost use Rattle.ftp_transport.specs.declared.request.Request.TheVariants.{Accept, Connect, Listen};
 ghost use Rattle.ftp_dialogue.specs.Link.{building};
 ghost use Rattle.ftp_dialogue.specs.Steps.Moving.{AsksFor, BuildsFor};
 
 use super::asks::Asks;
 use super::machine::Machine;
 use ftp_base::types::FtpError;
-use ftp_control::transport::{Network, PollConn, RequestOutcome, Tells};
+use ftp_transport::{Network, PollConn, RequestOutcome, Tells};
 use futures::task::Poll;
 use std::alloc::AllocError;
 use std::net::SocketAddr;

@@ -18,7 +18,7 @@ use super::unsent::{Unsent, size_to_send};
 use super::{Answer, Call};
 use ftp_base::types::{ConnectionError, FtpError, Items};
 use ftp_calls::exchange::Fetch;
-use ftp_control::transport::{Network, PollConn};
+use ftp_transport::{Network, PollConn};
 use futures::task::Poll;
 use std::io::ErrorKind;
 

@@ -5,7 +5,7 @@
 
 ghost use Rattle.std.specs.Prelude.{◌≡◌, ◌<◌, ◌⊎◌, None, Some, true, false};
 ghost use Rattle.futures.specs.declared.task.Poll.TheVariants as poll;
-ghost use Rattle.ftp_control.specs.Told.{EndsAsTold};
+ghost use Rattle.ftp_transport.specs.Told.{EndsAsTold};
 ghost use Rattle.ftp_dialogue.specs.Coding.{Coding, coding_of};
 ghost use Rattle.ftp_dialogue.specs.Dialogue.{Tree, armed, dialogue};
 ghost use Rattle.ftp_calls.specs.Exchanges.{finishes, is_local, is_read, negotiates};
@@ -27,7 +27,7 @@ use ftp_base::encoding::Encoding;
 use ftp_base::types::{FtpError, Response};
 use ftp_calls::exchange::{Ending, Turn, aborts, finishes, negotiates, uploads};
 use ftp_control::control::WireLine;
-use ftp_control::transport::{Conn, Network, NeverWaits, PollConn};
+use ftp_transport::{Conn, Network, NeverWaits, PollConn};
 use futures::task::Poll;
 use std::alloc::Global;
 use std::mem;

@@ -10,7 +10,7 @@ ghost use Rattle.ftp_dialogue.specs.Sending.{IsPlain, MayEnd};
 
 use super::asks::Asks;
 use ftp_base::types::Items;
-use ftp_control::transport::{Network, Tells};
+use ftp_transport::{Network, Tells};
 use futures::task::Poll;
 use memchr::memchr;
 use std::io::ErrorKind;

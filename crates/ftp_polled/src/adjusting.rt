@@ -4,7 +4,7 @@ use crate::client::ImplAsyncFtpStream;
 use crate::hold::Hold;
 use ftp_base::encoding::Encoding;
 use ftp_base::types::{ActivePeerCheck, ConnectionError, FtpError, FtpResult, Mode};
-use ftp_control::transport::{TaskConn, TaskTransport};
+use ftp_transport::{TaskConn, TaskTransport};
 use ftp_session::session::Session;
 use futures::Future;
 use futures::task::{Context, Poll};

@@ -8,7 +8,7 @@ use crate::hold::Hold;
 use crate::waiting::wait;
 use ftp_base::encoding::Encoding;
 use ftp_base::types::{ConnectionError, FtpError};
-use ftp_control::transport::{
+use ftp_transport::{
     Network, PassiveStreamBuilder, PollConn, PollTransport, TaskConn, TaskTransport,
 };
 use ftp_session::session::{Answer, Call, PolledCall, Session};

@@ -2,7 +2,7 @@
 
 use ftp_base::encoding::{Encoding, Utf8Encoding};
 use ftp_base::types::{FtpError, FtpResult};
-use ftp_control::transport::Network;
+use ftp_transport::Network;
 use ftp_session::session::{NoStreamBuilder, NoTlsConnector, Session};
 use std::alloc::{AllocError, Global};
 use std::sync::Arc;

@@ -7,7 +7,7 @@ ghost use Rattle.futures.specs.Task.{IsArmed, Keeps};
 use ftp_base::ascii::{CrlfEncoder, upload_size};
 use ftp_base::retry::RETRIES;
 use ftp_base::types::{ConnectionError, FtpError, FtpResult};
-use ftp_control::transport::{PollConn, TaskConn};
+use ftp_transport::{PollConn, TaskConn};
 use ftp_transfer::Transfer;
 use futures::task::{Context, Poll};
 use std::alloc::Global;

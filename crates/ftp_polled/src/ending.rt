@@ -8,7 +8,7 @@ use crate::outcome::Outcome;
 use crate::waiting::wait;
 use ftp_base::encoding::Encoding;
 use ftp_base::types::{ConnectionError, FtpError, FtpResult};
-use ftp_control::transport::{
+use ftp_transport::{
     PassiveStreamBuilder, PollConn, PollTransport, TaskConn, TaskTransport,
 };
 use ftp_session::session::{Call, PolledCall, Session};

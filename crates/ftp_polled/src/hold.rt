@@ -5,7 +5,7 @@ ghost use Rattle.futures.specs.Task.{IsArmed, Keeps};
 ghost use Rattle.tokio.specs.Locks.{CanLock};
 
 use ftp_base::encoding::Encoding;
-use ftp_control::transport::{TaskConn, TaskTransport};
+use ftp_transport::{TaskConn, TaskTransport};
 use ftp_session::session::{PolledCall, Session};
 use futures::Future;
 use futures::task::{Context, Poll};

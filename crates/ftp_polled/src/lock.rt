@@ -4,7 +4,7 @@ use crate::client::ImplAsyncFtpStream;
 use crate::hold::Hold;
 use ftp_base::encoding::{Encoding, Utf8Encoding};
 use ftp_base::types::{ConnectionError, FtpError, FtpResult};
-use ftp_control::transport::{TaskConn, TaskTransport};
+use ftp_transport::{TaskConn, TaskTransport};
 use ftp_session::session::{NoStreamBuilder, NoTlsConnector, Session};
 use futures::Future;
 use futures::task::{Context, Poll};

@@ -9,7 +9,7 @@ use crate::transfer_stream::TransferStream;
 use crate::waiting::wait;
 use ftp_base::encoding::Encoding;
 use ftp_base::types::{ConnectionError, FtpError, FtpResult, Response};
-use ftp_control::transport::{
+use ftp_transport::{
     PassiveStreamBuilder, PollConn, PollTransport, TaskConn, TaskTransport,
 };
 use ftp_session::session::{Call, NewMark, PolledCall, Session};

@@ -3,7 +3,7 @@
 //! The types stand for programs that name them; no call takes one yet.
 
 use ftp_base::types::FtpResult;
-use ftp_control::transport::{PollConn, TaskConn};
+use ftp_transport::{PollConn, TaskConn};
 use futures::task::{Context, Poll};
 
 /// A connection under TLS, over a connection of this type.

@@ -10,7 +10,7 @@ use crate::opening::{OpenTransfer, OpenWithReply, Opening};
 use crate::transfer_stream::TransferStream;
 use ftp_base::encoding::Encoding;
 use ftp_base::status::Status;
-use ftp_control::transport::{TaskConn, TaskTransport};
+use ftp_transport::{TaskConn, TaskTransport};
 use ftp_session::session::Call;
 use ftp_session::session::calls::{
     append_call, custom_data_call, list_call, mlsd_call, nlst_call, put_call, retr_call,

@@ -1,6 +1,6 @@
 -- Lemmas on calls that are made one after another.
 use Rattle.std.proofs.Common.{Result, Ok, Err, OnOk, drop, ◌≡◌, ℕ, List, [], ◌∷◌, ◌++◌, refl, sym, ap, subst, ◌∙◌, append_assoc, append-nil, length, get_or, arith}
-use Rattle.ftp_control.specs.declared.transport.request.Asked.{Asked}
+use Rattle.ftp_transport.specs.declared.request.Asked.{Asked}
 use Rattle.ftp_calls.specs.declared.call.Answer.{Answer}
 use Rattle.ftp_calls.specs.declared.call.Call.{Call}
 use Rattle.ftp_dialogue.specs.Promises.{Runs}

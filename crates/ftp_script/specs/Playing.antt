@@ -6,10 +6,10 @@ use Rattle.ftp_base.specs.declared.types.fault.FtpError.TheVariants.{ConnectionE
 use Rattle.ftp_base.specs.declared.types.fault.ConnectionError.TheVariants.{NoAddress}
 use Rattle.std.specs.declared.net.socket_addr.SocketAddr.{SocketAddr}
 use Rattle.std.specs.declared.net.socket_addr.SocketAddr.TheVariants.{V4}
-use Rattle.ftp_control.specs.Told.{Told, IsFull}
-use Rattle.ftp_control.specs.Memory.{closed_memory, fed, fresh_between, fresh_memory, unspecified}
-use Rattle.ftp_control.specs.declared.transport.supply.Supply.{Supply}
-use Rattle.ftp_control.specs.declared.transport.supply.Supply.TheVariants.{Connects, Refuses}
+use Rattle.ftp_transport.specs.Told.{Told, IsFull}
+use Rattle.ftp_transport.specs.Memory.{closed_memory, fed, fresh_between, fresh_memory, unspecified}
+use Rattle.ftp_transport.specs.declared.supply.Supply.{Supply}
+use Rattle.ftp_transport.specs.declared.supply.Supply.TheVariants.{Connects, Refuses}
 use Rattle.ftp_control.specs.Channel.{untaken}
 use Rattle.ftp_calls.specs.declared.call.Answer.{Answer}
 use Rattle.ftp_calls.specs.declared.call.Call.{Call}

@@ -8,9 +8,9 @@ use Rattle.ftp_base.specs.Status.{code_of}
 use Rattle.ftp_base.specs.Features.{Entries, Feature}
 use Rattle.ftp_base.specs.declared.types.fault.FtpError.{FtpError}
 use Rattle.ftp_base.specs.declared.types.fault.FtpError.TheVariants.{ConnectionError as OfConnection, SecureError, UnexpectedResponse, BadResponse, DataConnectionAlreadyOpen, OutOfMemory, SessionFailed, InvalidAddress}
-use Rattle.ftp_control.specs.declared.transport.request.Asked.{Asked}
-use Rattle.ftp_control.specs.declared.transport.request.Request.{Request}
-use Rattle.ftp_control.specs.declared.transport.request.Request.TheVariants.{Connect, Listen, Accept, Build}
+use Rattle.ftp_transport.specs.declared.request.Asked.{Asked}
+use Rattle.ftp_transport.specs.declared.request.Request.{Request}
+use Rattle.ftp_transport.specs.declared.request.Request.TheVariants.{Connect, Listen, Accept, Build}
 use Rattle.ftp_calls.specs.declared.call.Answer.{Answer}
 use Rattle.ftp_calls.specs.declared.call.Answer.TheVariants.{Unit as Done, Reply, Text, Time, Size, Features, Opened, OpenedWith, Bytes, Lines, Count, NoTransfer, Fault}
 

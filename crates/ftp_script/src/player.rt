@@ -5,7 +5,7 @@
 //! memory.
 
 ghost use Rattle.std.specs.Prelude.{◌≡◌, ◌++◌, OnOk, None, IfOk, ℕ, List, [], drop, map};
-ghost use Rattle.ftp_control.specs.Memory.{fresh_between, unspecified};
+ghost use Rattle.ftp_transport.specs.Memory.{fresh_between, unspecified};
 ghost use Rattle.ftp_dialogue.specs.State.{Begins};
 ghost use Rattle.ftp_dialogue.specs.Deals.{first_net};
 ghost use Rattle.ftp_script.specs.Playing.{IsTranscript, MakesOne, giving, server_address, supply_of};
@@ -14,7 +14,7 @@ use crate::script::Script;
 use crate::shown::{push_call, push_end};
 use crate::supplies::transport_of;
 use ftp_calls::call::Call;
-use ftp_control::transport::{Asked, MemoryConn, MemoryTransport};
+use ftp_transport::{Asked, MemoryConn, MemoryTransport};
 use ftp_session::session::Session;
 use std::alloc::{AllocError, Global};
 use std::net::{Ipv4Addr, SocketAddr, SocketAddrV4};

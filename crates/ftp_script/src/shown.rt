@@ -10,7 +10,7 @@ ghost use Rattle.ftp_script.specs.Shown.{addresses_after, after_number, answer_t
 use crate::compare::is;
 use ftp_base::types::{Features, FtpError};
 use ftp_calls::call::Answer;
-use ftp_control::transport::{Asked, Request};
+use ftp_transport::{Asked, Request};
 use memchr::memchr;
 use std::alloc::{AllocError, Global};
 use std::collections::btree_map::Iter;

@@ -1,11 +1,11 @@
 //! The data connections of a script.
 
 ghost use Rattle.std.specs.Prelude.{◌≡◌, IfOk, map};
-ghost use Rattle.ftp_control.specs.Memory.{nothing_asked};
+ghost use Rattle.ftp_transport.specs.Memory.{nothing_asked};
 ghost use Rattle.ftp_script.specs.Playing.{supply_of};
 
 use ftp_base::types::Bytes;
-use ftp_control::transport::{MemoryConn, MemoryTransport, Supply};
+use ftp_transport::{MemoryConn, MemoryTransport, Supply};
 use std::alloc::{AllocError, Global};
 use std::io::ErrorKind;
 

@@ -3,13 +3,13 @@ use Rattle.std.proofs.Common.{◌≡◌, ℕ, ◌+◌, ◌<◌, ◌≤◌, Bool,
 use Rattle.std.proofs.lemmas.Bool.{lt-leb, eqb-true}
 use Rattle.std.proofs.lemmas.List.{take_all}
 use Rattle.std.proofs.Math.Seq.{drop-append_seam, take-append_seam}
-use Rattle.ftp_control.specs.declared.transport.room.Room.{Room}
-use Rattle.ftp_control.specs.declared.transport.room.Room.TheVariants.{Any, UpTo}
+use Rattle.ftp_transport.specs.declared.room.Room.{Room}
+use Rattle.ftp_transport.specs.declared.room.Room.TheVariants.{Any, UpTo}
 use Rattle.ftp_dialogue.specs.Deals.{Deal, Deals, outcomes_of}
 use Rattle.ftp_dialogue.proofs.Deals.{outcomes-append}
 use Rattle.ftp_dialogue.specs.declared.model.DealOutcome.{DealOutcome}
-use Rattle.ftp_control.specs.Told.{Told, HasRoomFor, HasNoRoom, EndsAsTold}
-use Rattle.ftp_control.specs.Memory.{IsGiven}
+use Rattle.ftp_transport.specs.Told.{Told, HasRoomFor, HasNoRoom, EndsAsTold}
+use Rattle.ftp_transport.specs.Memory.{IsGiven}
 use Rattle.ftp_control.specs.Reading.{GoesOn}
 use Rattle.ftp_control.specs.Channel.{Channel, IsSound, untaken}
 use Rattle.ftp_control.specs.Saying.{said}

@@ -2,15 +2,15 @@
 use Rattle.std.proofs.Common.{◌≡◌, List, [], ◌∷◌, ◌++◌, refl, sym, ap, subst, ◌∙◌, append_assoc}
 use Rattle.ftp_base.specs.declared.types.fault.ConnectionError.{ConnectionError}
 use Rattle.ftp_base.specs.declared.types.fault.FtpError.TheVariants.{ConnectionError as Connection}
-use Rattle.ftp_control.specs.Asking.{requests_of, AreRefused, RefusedInTurn, ConnectsInTurn}
-use Rattle.ftp_control.specs.Told.{Told}
-use Rattle.ftp_control.specs.declared.transport.room.Room.{Room}
-use Rattle.ftp_control.specs.declared.transport.request.Asked.{Asked}
-use Rattle.ftp_control.specs.declared.transport.request.Request.{Request}
+use Rattle.ftp_transport.specs.Asking.{requests_of, AreRefused, RefusedInTurn, ConnectsInTurn}
+use Rattle.ftp_transport.specs.Told.{Told}
+use Rattle.ftp_transport.specs.declared.room.Room.{Room}
+use Rattle.ftp_transport.specs.declared.request.Asked.{Asked}
+use Rattle.ftp_transport.specs.declared.request.Request.{Request}
 use Rattle.ftp_dialogue.specs.declared.model.DealOutcome.{DealOutcome}
 use Rattle.ftp_dialogue.specs.declared.model.DealOutcome.TheVariants.{Answered}
-use Rattle.ftp_control.specs.declared.transport.request.RequestOutcome.TheVariants.{Done}
-use Rattle.ftp_control.specs.declared.transport.supply.Supply.{Supply}
+use Rattle.ftp_transport.specs.declared.request.RequestOutcome.TheVariants.{Done}
+use Rattle.ftp_transport.specs.declared.supply.Supply.{Supply}
 use Rattle.ftp_calls.specs.declared.call.Answer.TheVariants.{Fault}
 use Rattle.ftp_calls.specs.declared.call.Call.TheVariants.{Greet}
 use Rattle.ftp_dialogue.specs.declared.state.State.{State}

@@ -9,7 +9,7 @@ use Rattle.ftp_base.proofs.AsciiLemmas.{crlf-append}
 use Rattle.ftp_base.proofs.CopyLemmas.{added-all, added-length, length-converted}
 use Rattle.ftp_base.specs.declared.types.fault.FtpError.{FtpError}
 use Rattle.ftp_base.specs.declared.types.fault.FtpError.TheVariants.{OutOfMemory}
-use Rattle.ftp_control.specs.Told.{Told}
+use Rattle.ftp_transport.specs.Told.{Told}
 use Rattle.ftp_dialogue.specs.Dialogue.{wire_data}
 use Rattle.ftp_session.specs.Copying.{Adds, Copied, Copies, GaveUp, Hinders, HinderedPiece, SendsAll, SendsPiece, SentPiece, Wrote, WroteFront}
 use Rattle.ftp_transfer.specs.Transfer.{TransferValue, with_told}

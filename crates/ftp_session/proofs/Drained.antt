@@ -6,8 +6,8 @@ use Rattle.ftp_base.specs.declared.types.reply.Response.{Response}
 use Rattle.ftp_base.specs.declared.types.fault.FtpError.{FtpError}
 use Rattle.ftp_control.specs.declared.control.outcome.Outcome.{Outcome}
 use Rattle.ftp_control.specs.declared.control.outcome.Outcome.TheVariants.{Whole, Bad, TooLarge, Ended, Waits}
-use Rattle.ftp_control.specs.declared.transport.room.Room.{Room}
-use Rattle.ftp_control.specs.declared.transport.room.Room.TheVariants.{Any}
+use Rattle.ftp_transport.specs.declared.room.Room.{Room}
+use Rattle.ftp_transport.specs.declared.room.Room.TheVariants.{Any}
 use Rattle.ftp_control.specs.Grammar.{left_by, outcome}
 use Rattle.ftp_control.specs.Answer.{expected_reply}
 use Rattle.ftp_base.specs.Status.{status_of}

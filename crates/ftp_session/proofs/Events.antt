@@ -2,8 +2,8 @@
 use Rattle.ftp_control.specs.declared.control.form.ReplyForm.{ReplyForm}
 use Rattle.std.proofs.Common.{◌≡◌, ℕ, Bool, true, false, cond, ◌||◌, Option, Some, None, List, [], ◌∷◌, ◌++◌, length, drop, inl, inr, ◌⊎◌, refl, ap, sym, ◌∙◌, subst, append_assoc, append-nil}
 use Rattle.std.proofs.Math.Seq.{drop-append_seam}
-use Rattle.ftp_control.specs.Told.{Told, Given}
-use Rattle.ftp_control.specs.Memory.{IsGiven, fed, closed_memory, widened, more_room}
+use Rattle.ftp_transport.specs.Told.{Told, Given}
+use Rattle.ftp_transport.specs.Memory.{IsGiven, fed, closed_memory, widened, more_room}
 use Rattle.ftp_control.specs.declared.control.outcome.Outcome.TheVariants.{Waits}
 use Rattle.ftp_control.specs.Grammar.{outcome}
 use Rattle.ftp_control.specs.Channel.{Channel, IsSound, untaken}

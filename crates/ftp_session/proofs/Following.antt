@@ -12,17 +12,17 @@ use Rattle.ftp_base.specs.declared.command.Command.{Command}
 use Rattle.ftp_base.specs.Command.{text_of}
 use Rattle.ftp_base.specs.Wire.{wire}
 use Rattle.ftp_control.specs.declared.control.rule.ReplyRule.{ReplyRule}
-use Rattle.ftp_control.specs.declared.transport.room.Room.{Room}
-use Rattle.ftp_control.specs.declared.transport.room.Room.TheVariants.{Any, UpTo}
-use Rattle.ftp_control.specs.declared.transport.request.RequestOutcome.{RequestOutcome}
+use Rattle.ftp_transport.specs.declared.room.Room.{Room}
+use Rattle.ftp_transport.specs.declared.room.Room.TheVariants.{Any, UpTo}
+use Rattle.ftp_transport.specs.declared.request.RequestOutcome.{RequestOutcome}
 use Rattle.ftp_dialogue.specs.declared.model.DealOutcome.{DealOutcome}
-use Rattle.ftp_control.specs.declared.transport.request.RequestOutcome.TheVariants as asked
+use Rattle.ftp_transport.specs.declared.request.RequestOutcome.TheVariants as asked
 use Rattle.ftp_control.specs.declared.control.form.ReplyForm.TheVariants.{Plain}
 use Rattle.ftp_dialogue.specs.Deals.{Deal, Deals, Net, dealings_of, outcomes_of}
 use Rattle.ftp_base.specs.declared.types.mode.Mode.{Mode}
 use Rattle.ftp_base.specs.declared.types.mode.Mode.TheVariants as mode
 use Rattle.std.specs.declared.net.socket_addr.SocketAddr.{SocketAddr}
-use Rattle.ftp_control.specs.Told.{HasRoomFor, HasNoRoom, IsDry, IsFull}
+use Rattle.ftp_transport.specs.Told.{HasRoomFor, HasNoRoom, IsDry, IsFull}
 use Rattle.ftp_control.specs.Reading.{GoesOn}
 use Rattle.ftp_control.specs.Channel.{IsSound, untaken}
 use Rattle.ftp_control.specs.Saying.{said}

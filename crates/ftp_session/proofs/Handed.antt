@@ -9,8 +9,8 @@ use Rattle.ftp_calls.specs.declared.call.Answer.{Answer}
 use Rattle.ftp_calls.specs.declared.call.Answer.TheVariants.{Fault, Unit as Done}
 use Rattle.ftp_calls.specs.declared.call.Call.{Call}
 use Rattle.ftp_calls.specs.declared.call.Call.TheVariants.{Drain}
-use Rattle.ftp_control.specs.Mark.{End}
-use Rattle.ftp_control.specs.Told.{Told}
+use Rattle.ftp_transfer.specs.Mark.{End}
+use Rattle.ftp_transport.specs.Told.{Told}
 use Rattle.ftp_transfer.specs.Transfer.{TransferValue}
 use Rattle.ftp_transfer.specs.declared.direction.Direction.{Direction}
 use Rattle.ftp_dialogue.specs.Coding.{Coding}

@@ -30,7 +30,7 @@ use Rattle.ftp_dialogue.specs.declared.state.Owed.TheVariants as owed
 use Rattle.ftp_dialogue.specs.Steps.Moving.{Carries, CarriesOut, PollsTo}
 use Rattle.ftp_calls.specs.declared.exchange.Movement.TheVariants as movement
 use Rattle.ftp_control.specs.Channel.{IsSound}
-use Rattle.ftp_control.specs.Memory.{IsGiven}
+use Rattle.ftp_transport.specs.Memory.{IsGiven}
 use Rattle.ftp_dialogue.specs.Steps.Stages.{remaining}
 use Rattle.ftp_dialogue.proofs.CarryingLemmas.{close_left, lacks_alike, local_resumes}
 use Rattle.ftp_dialogue.proofs.Deals.{dealings_moved, deals-append, drops as drops_of, letting_beside, letting_deals, letting_settles}

@@ -6,7 +6,7 @@ use Rattle.ftp_calls.specs.declared.call.Answer.{Answer}
 use Rattle.ftp_calls.specs.declared.call.Call.{Call}
 use Rattle.ftp_calls.specs.declared.call.Call.TheVariants.{Drain}
 use Rattle.ftp_calls.specs.declared.exchange.Turn.TheVariants.{First}
-use Rattle.ftp_control.specs.Mark.{End}
+use Rattle.ftp_transfer.specs.Mark.{End}
 use Rattle.ftp_dialogue.specs.Coding.{Coding}
 use Rattle.ftp_dialogue.specs.Link.{Link}
 use Rattle.ftp_dialogue.specs.Play.{is_unit}

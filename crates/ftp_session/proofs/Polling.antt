@@ -3,8 +3,8 @@ use Rattle.std.proofs.Common.{◌≡◌, [], ◌∷◌, Bool, true, false, Some,
 use Rattle.futures.specs.declared.task.Poll.{Poll}
 use Rattle.futures.specs.declared.task.Poll.TheVariants.{Ready, Pending}
 use Rattle.ftp_control.specs.Channel.{IsSound}
-use Rattle.ftp_control.specs.Memory.{IsGiven}
-use Rattle.ftp_control.specs.Told.{EndsAsTold}
+use Rattle.ftp_transport.specs.Memory.{IsGiven}
+use Rattle.ftp_transport.specs.Told.{EndsAsTold}
 use Rattle.ftp_calls.specs.declared.call.Answer.{Answer}
 use Rattle.ftp_calls.specs.declared.call.Call.{Call}
 use Rattle.ftp_calls.specs.Exchanges.{is_local, row_of}

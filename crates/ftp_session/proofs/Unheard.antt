@@ -15,8 +15,8 @@ use Rattle.ftp_base.specs.declared.types.fault.ConnectionError.{ConnectionError 
 use Rattle.ftp_base.specs.declared.types.fault.ConnectionError.TheVariants as connection
 use Rattle.ftp_control.specs.declared.control.rule.ReplyRule.{ReplyRule}
 use Rattle.ftp_control.specs.declared.control.rule.ReplyRule.TheVariants.{Lenient}
-use Rattle.ftp_control.specs.declared.transport.room.Room.{Room}
-use Rattle.ftp_control.specs.declared.transport.request.RequestOutcome.{RequestOutcome}
+use Rattle.ftp_transport.specs.declared.room.Room.{Room}
+use Rattle.ftp_transport.specs.declared.request.RequestOutcome.{RequestOutcome}
 use Rattle.ftp_control.specs.declared.plain.Found.{Found}
 use Rattle.ftp_control.specs.declared.plain.Found.TheVariants.{Reply, NoReply, Unfinished}
 use Rattle.ftp_control.specs.declared.control.outcome.Outcome.{Outcome}

@@ -7,7 +7,7 @@ use Rattle.jiff_core.specs.declared.civil.datetime.DateTime.{DateTime}
 use Rattle.ftp_base.specs.Features.{Entries}
 use Rattle.ftp_base.specs.declared.types.reply.Response.{Response}
 use Rattle.ftp_base.specs.declared.types.fault.FtpError.{FtpError}
-use Rattle.ftp_control.specs.Told.{Told}
+use Rattle.ftp_transport.specs.Told.{Told}
 use Rattle.ftp_dialogue.specs.Deals.{Net}
 use Rattle.ftp_calls.specs.declared.call.Answer.{Answer}
 use Rattle.ftp_calls.specs.declared.call.Answer.TheVariants.{Unit as Done, Reply, Fault}

@@ -6,14 +6,14 @@ use Rattle.std.specs.declared.time.Duration.{Duration}
 use Rattle.ftp_base.specs.declared.types.fault.FtpError.{FtpError}
 use Rattle.ftp_base.specs.declared.types.fault.FtpError.TheVariants.{ConnectionError as Connection, OutOfMemory}
 use Rattle.ftp_base.specs.declared.types.fault.ConnectionError.{ConnectionError}
-use Rattle.ftp_control.specs.Asking.{connects_to, RefusedInTurn, ConnectsInTurn}
-use Rattle.ftp_control.specs.Told.{Told}
-use Rattle.ftp_control.specs.declared.transport.room.Room.{Room}
-use Rattle.ftp_control.specs.declared.transport.request.Asked.{Asked}
-use Rattle.ftp_control.specs.declared.transport.request.Request.{Request}
-use Rattle.ftp_control.specs.declared.transport.request.RequestOutcome.{RequestOutcome}
-use Rattle.ftp_control.specs.declared.transport.request.RequestOutcome.TheVariants.{Done, Address, Refused}
-use Rattle.ftp_control.specs.declared.transport.supply.Supply.{Supply}
+use Rattle.ftp_transport.specs.Asking.{connects_to, RefusedInTurn, ConnectsInTurn}
+use Rattle.ftp_transport.specs.Told.{Told}
+use Rattle.ftp_transport.specs.declared.room.Room.{Room}
+use Rattle.ftp_transport.specs.declared.request.Asked.{Asked}
+use Rattle.ftp_transport.specs.declared.request.Request.{Request}
+use Rattle.ftp_transport.specs.declared.request.RequestOutcome.{RequestOutcome}
+use Rattle.ftp_transport.specs.declared.request.RequestOutcome.TheVariants.{Done, Address, Refused}
+use Rattle.ftp_transport.specs.declared.supply.Supply.{Supply}
 use Rattle.ftp_calls.specs.declared.call.Answer.TheVariants.{Fault}
 use Rattle.ftp_calls.specs.declared.call.Call.TheVariants.{Greet}
 use Rattle.ftp_dialogue.specs.declared.state.State.{State}

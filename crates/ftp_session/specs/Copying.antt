@@ -6,7 +6,7 @@ use Rattle.ftp_base.specs.Ascii.{IsCopyFault, ends_in_return}
 use Rattle.ftp_base.specs.declared.types.fault.FtpError.{FtpError}
 use Rattle.ftp_base.specs.declared.types.fault.FtpError.TheVariants.{ConnectionError, OutOfMemory}
 use Rattle.ftp_base.specs.declared.types.fault.ConnectionError.TheVariants.{Io, SourceTooLarge}
-use Rattle.ftp_control.specs.Told.{HasCounted}
+use Rattle.ftp_transport.specs.Told.{HasCounted}
 use Rattle.ftp_dialogue.specs.Dialogue.{most_bytes, wire_data}
 use Rattle.ftp_transfer.specs.Transfer.{TransferValue, with_told}
 

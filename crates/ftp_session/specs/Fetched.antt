@@ -7,7 +7,7 @@ use Rattle.ftp_calls.specs.declared.call.Answer.{Answer}
 use Rattle.ftp_calls.specs.declared.call.Answer.TheVariants.{Bytes, Lines, Fault}
 use Rattle.ftp_calls.specs.declared.exchange.Fetch.{Fetch}
 use Rattle.ftp_calls.specs.declared.exchange.Fetch.TheVariants.{Whole, Listed}
-use Rattle.ftp_control.specs.Mark.{End}
+use Rattle.ftp_transfer.specs.Mark.{End}
 use Rattle.ftp_dialogue.specs.Coding.{Coding}
 use Rattle.ftp_dialogue.specs.Link.{Link}
 use Rattle.ftp_dialogue.specs.State.{SessionValue}

@@ -1,10 +1,10 @@
 -- Polled runs: what a list of events makes of a session. Each Poll plays all calls anew, on all bytes that came by
 -- then; no buffer and no state of a call under way occurs here.
 use Rattle.std.specs.Prelude.{◌≡◌, ◌⊎◌, ℕ, Bool, true, false, ◌||◌, ◌==◌, Option, Some, None, is_none, List, [], ◌∷◌, ◌++◌, length, take, drop, if◌then◌else◌}
-use Rattle.ftp_control.specs.declared.transport.room.Room.{Room}
-use Rattle.ftp_control.specs.declared.transport.room.Room.TheVariants.{Any, UpTo}
-use Rattle.ftp_control.specs.Told.{Told}
-use Rattle.ftp_control.specs.Memory.{more_room}
+use Rattle.ftp_transport.specs.declared.room.Room.{Room}
+use Rattle.ftp_transport.specs.declared.room.Room.TheVariants.{Any, UpTo}
+use Rattle.ftp_transport.specs.Told.{Told}
+use Rattle.ftp_transport.specs.Memory.{more_room}
 use Rattle.ftp_calls.specs.declared.call.Call.{Call}
 use Rattle.ftp_calls.specs.declared.call.Call.TheVariants.{Drain, Finish, Leave}
 use Rattle.ftp_calls.specs.declared.call.Event.{Event}

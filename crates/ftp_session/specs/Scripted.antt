@@ -2,10 +2,10 @@
 use Rattle.std.specs.Prelude.{◌≡◌, ◌⊎◌, ◌<◌, ◌+◌, ◌||◌, ℕ, zero, suc, Bool, true, false, Option, Some, None, is_none, List, [], ◌∷◌, ◌++◌, length, if◌then◌else◌}
 use Rattle.ftp_base.specs.declared.types.fault.FtpError.{FtpError}
 use Rattle.ftp_control.specs.declared.control.form.ReplyForm.{ReplyForm}
-use Rattle.ftp_control.specs.declared.transport.room.Room.{Room}
+use Rattle.ftp_transport.specs.declared.room.Room.{Room}
 use Rattle.ftp_control.specs.declared.control.outcome.Outcome.TheVariants.{Waits}
 use Rattle.ftp_control.specs.Grammar.{outcome}
-use Rattle.ftp_control.specs.Told.{HasRoomFor}
+use Rattle.ftp_transport.specs.Told.{HasRoomFor}
 use Rattle.ftp_dialogue.specs.Deals.{Deal, Deals, dealings_of, outcomes_of, parted}
 use Rattle.ftp_dialogue.specs.declared.model.DealOutcome.{DealOutcome}
 use Rattle.ftp_control.specs.Reading.{GoesOn}

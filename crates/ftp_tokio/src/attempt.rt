@@ -4,11 +4,11 @@ ghost use Rattle.std.specs.Prelude.{◌≡◌, ◌↔◌, None, IsSome, IsTrue, 
 ghost use Rattle.std.specs.IoError.{error_kind};
 ghost use Rattle.futures.specs.Task.{Covers, Keeps};
 ghost use Rattle.ftp_base.specs.declared.types.fault.ConnectionError.TheVariants.{Io};
-ghost use Rattle.ftp_control.specs.declared.transport.waiting.Waiting.TheVariants as waits;
+ghost use Rattle.ftp_transport.specs.declared.waiting.Waiting.TheVariants as waits;
 ghost use Rattle.ftp_tokio.specs.Needs.{ConnectWaits};
 
 use ftp_base::types::ConnectionError;
-use ftp_control::transport::Waiting;
+use ftp_transport::Waiting;
 use futures::Future;
 use futures::task::{Context, Poll};
 use std::io;

@@ -8,14 +8,14 @@ ghost use Rattle.std.specs.Prelude.{◌≡◌, ◌≢◌, ℕ, Err, None, Ok, fa
 ghost use Rattle.std.specs.Option.{option_copied};
 ghost use Rattle.std.specs.declared.io.ErrorKind.TheVariants.{NotConnected, WouldBlock};
 ghost use Rattle.futures.specs.Task.{Covers, Keeps};
-ghost use Rattle.ftp_control.specs.Memory.{fresh_memory};
-ghost use Rattle.ftp_control.specs.Told.{ReadsAtMost, WritesSome};
-ghost use Rattle.ftp_control.specs.declared.transport.waiting.Waiting.TheVariants as waits;
+ghost use Rattle.ftp_transport.specs.Memory.{fresh_memory};
+ghost use Rattle.ftp_transport.specs.Told.{ReadsAtMost, WritesSome};
+ghost use Rattle.ftp_transport.specs.declared.waiting.Waiting.TheVariants as waits;
 ghost use Rattle.ftp_tokio.specs.Needs.{ConnNeeds, IsOverOn, ReadNeeds, Remembers, WriteNeeds};
 ghost use Rattle.ftp_tokio.specs.Outcomes.{conn_over};
 
 use ftp_base::retry::{read_retrying, write_retrying};
-use ftp_control::transport::{PollConn, TaskConn, Tells, Waiting};
+use ftp_transport::{PollConn, TaskConn, Tells, Waiting};
 use futures::task::{Context, Poll};
 use std::io::ErrorKind;
 use std::net::SocketAddr;

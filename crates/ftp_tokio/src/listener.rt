@@ -6,13 +6,13 @@
 ghost use Rattle.std.specs.Prelude.{◌≡◌, ℕ, true, false, IsSome, IfSome, None};
 ghost use Rattle.futures.specs.Poll.{IfReady, OnPending};
 ghost use Rattle.futures.specs.Task.{Covers, Keeps};
-ghost use Rattle.ftp_control.specs.declared.transport.waiting.Waiting.TheVariants as waits;
+ghost use Rattle.ftp_transport.specs.declared.waiting.Waiting.TheVariants as waits;
 ghost use Rattle.ftp_tokio.specs.Needs.{AcceptNeeds};
 ghost use Rattle.ftp_tokio.specs.Outcomes.{with_fault};
 
 use crate::attempt::fault;
 use ftp_base::types::ConnectionError;
-use ftp_control::transport::Waiting;
+use ftp_transport::Waiting;
 use futures::task::{Context, Poll};
 use std::io;
 use std::io::ErrorKind;

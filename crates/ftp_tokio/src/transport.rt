@@ -7,7 +7,7 @@
 ghost use Rattle.std.specs.Prelude.{◌≡◌, [], ℕ, IfSome, None, Ok, false, true};
 ghost use Rattle.futures.specs.Poll.{IfReady, OnPending};
 ghost use Rattle.futures.specs.Task.{Covers, Keeps};
-ghost use Rattle.ftp_control.specs.declared.transport.waiting.Waiting.TheVariants as waits;
+ghost use Rattle.ftp_transport.specs.declared.waiting.Waiting.TheVariants as waits;
 ghost use Rattle.ftp_tokio.specs.Attempts.{AttemptNeeds, CameTo, IsDone, IsUnderWay};
 ghost use Rattle.ftp_tokio.specs.Needs.{AcceptNeeds};
 ghost use Rattle.ftp_tokio.specs.Outcomes.{accepted_as, connected_as, with_fault};
@@ -15,7 +15,7 @@ ghost use Rattle.ftp_tokio.specs.Outcomes.{accepted_as, connected_as, with_fault
 use crate::attempt::{Attempt, fault};
 use crate::{TokioConn, TokioListener};
 use ftp_base::types::ConnectionError;
-use ftp_control::transport::{
+use ftp_transport::{
     Accepted, Connected, Listening, Network, PollTransport, TaskTransport, Waiting,
 };
 use futures::task::{Context, Poll};

@@ -1,1 +1,2 @@
+pub mod Mark
 pub mod Transfer

@@ -3,8 +3,8 @@ use Rattle.std.specs.Prelude.{ℕ, Bool, Result, Ok, Err}
 use Rattle.std.specs.IoError.{error_kind}
 use Rattle.std.specs.declared.io.Error.{Error}
 use Rattle.std.specs.declared.io.ErrorKind.{ErrorKind}
-use Rattle.ftp_control.specs.Mark.{End, loaded}
-use Rattle.ftp_control.specs.Told.{Told}
+use Rattle.ftp_transfer.specs.Mark.{End, loaded}
+use Rattle.ftp_transport.specs.Told.{Told}
 use Rattle.ftp_transfer.specs.declared.direction.Direction.{Direction}
 
 -- a transfer as its holder sees it: what its data connection has recorded, which way the bytes go, and its end of its

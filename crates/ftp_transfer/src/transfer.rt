@@ -4,11 +4,11 @@
 //! mark knows that the connection is gone. A drop does the same, and keeps no receipt.
 
 ghost use Rattle.std.specs.Prelude.{◌≡◌, false, true};
-ghost use Rattle.ftp_control.specs.Told.{after_close, before_fault};
+ghost use Rattle.ftp_transport.specs.Told.{after_close, before_fault};
 
 use crate::Direction;
-use ftp_control::mark::{Left, TransferEnd};
-use ftp_control::transport::Tells;
+use ftp_transfer::mark::{Left, TransferEnd};
+use ftp_transport::Tells;
 use held_end::HeldEnd;
 use std::marker::Model;
 

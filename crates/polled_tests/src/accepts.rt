@@ -2,7 +2,7 @@
 
 use crate::requests::Accept;
 use ftp_base::types::ConnectionError;
-use ftp_control::transport::PollTransport;
+use ftp_transport::PollTransport;
 use ftp_tokio::{TokioListener, TokioTransport};
 use futures::task::Poll;
 use std::alloc::AllocGlobal;

@@ -1,6 +1,6 @@
 //! Reads and writes of a connection as futures, the way the polled client waits for them.
 
-use ftp_control::transport::{PollConn, TaskConn, Waiting};
+use ftp_transport::{PollConn, TaskConn, Waiting};
 use ftp_tokio::TokioConn;
 use futures::Future;
 use futures::task::{Context, Poll};

@@ -2,7 +2,7 @@
 
 use crate::requests::Connect;
 use ftp_base::types::ConnectionError;
-use ftp_control::transport::Tells;
+use ftp_transport::Tells;
 use ftp_tokio::TokioTransport;
 use std::alloc::AllocGlobal;
 use std::io;

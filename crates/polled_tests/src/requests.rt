@@ -1,7 +1,7 @@
 //! Requests for connections as futures, the way the polled client waits for them.
 
 use ftp_base::types::ConnectionError;
-use ftp_control::transport::{PollTransport, TaskTransport, Waiting};
+use ftp_transport::{PollTransport, TaskTransport, Waiting};
 use ftp_tokio::{TokioConn, TokioListener, TokioTransport};
 use futures::Future;
 use futures::task::{Context, Poll};

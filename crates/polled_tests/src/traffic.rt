@@ -1,7 +1,7 @@
 //! Reads and writes of connections over tokio's sockets.
 
 use crate::calls::{ReadByte, WriteOn};
-use ftp_control::transport::{PollConn, Tells};
+use ftp_transport::{PollConn, Tells};
 use ftp_tokio::TokioConn;
 use futures::task::Poll;
 use std::io;

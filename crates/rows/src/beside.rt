@@ -3,7 +3,7 @@
 
 use crate::setup::Setup;
 use ftp_base::types::Bytes;
-use ftp_control::transport::{Request, RequestOutcome};
+use ftp_transport::{Request, RequestOutcome};
 use ftp_session::model::{DealOutcome, Dealings, Script};
 use ftp_session::session::Call;
 use row_text::RowError;

@@ -1,7 +1,7 @@
 //! A row's builder of passive data connections.
 
 use ftp_base::types::{ConnectionError, FtpError, FtpResult};
-use ftp_control::transport::{MemoryConn, PassiveStreamBuilder};
+use ftp_transport::{MemoryConn, PassiveStreamBuilder};
 use row_text::{RowError, bytes_of};
 use std::alloc::{AllocError, Global};
 use std::io::ErrorKind;

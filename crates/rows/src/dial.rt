@@ -1,7 +1,7 @@
 //! How a row's session comes to its connection, where the row says so.
 
 use ftp_base::types::ConnectionError;
-use ftp_control::transport::{MemoryConn, MemoryTransport, Request, RequestOutcome, Supply};
+use ftp_transport::{MemoryConn, MemoryTransport, Request, RequestOutcome, Supply};
 use row_text::{RowError, bytes_of, pair, value};
 use std::alloc::{AllocError, Global};
 use std::io::ErrorKind;

@@ -1,6 +1,6 @@
 //! What a transport was asked, as lines of a transcript.
 
-use ftp_control::transport::{Asked, Request, RequestOutcome};
+use ftp_transport::{Asked, Request, RequestOutcome};
 use std::alloc::{AllocError, Global};
 use std::net::SocketAddr;
 

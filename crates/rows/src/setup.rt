@@ -5,7 +5,7 @@ use crate::builder::RowBuilder;
 use crate::faces::NamedSession;
 use crate::settings::setting;
 use ftp_base::types::{ConnectionError, FtpError};
-use ftp_control::transport::{MemoryConn, MemoryTransport, Request, RequestOutcome, Supply};
+use ftp_transport::{MemoryConn, MemoryTransport, Request, RequestOutcome, Supply};
 use ftp_session::session::{Setting, Settings, State};
 use row_text::{RowError, bytes_of, value};
 use std::alloc::{AllocError, Global};

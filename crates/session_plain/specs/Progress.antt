@@ -3,7 +3,7 @@ use Rattle.std.specs.Prelude.{◌≡◌, ℕ, Bool, false, List, [], ◌∷◌, 
 use Rattle.ftp_base.specs.declared.types.reply.Response.{Response}
 use Rattle.ftp_control.specs.Grammar.{outcome}
 use Rattle.ftp_control.specs.declared.control.outcome.Outcome.{Outcome}
-use Rattle.ftp_control.specs.declared.transport.room.Room.{Room}
+use Rattle.ftp_transport.specs.declared.room.Room.{Room}
 use Rattle.ftp_dialogue.specs.declared.state.State.{State}
 use Rattle.ftp_dialogue.specs.declared.model.Played.{Played}
 use Rattle.ftp_dialogue.specs.Coding.{Coding}
@@ -23,8 +23,8 @@ use Rattle.session_plain.specs.declared.building.Answered.{Answered as FromBuild
 use Rattle.session_plain.specs.declared.building.Answered.TheVariants as built
 use Rattle.session_plain.specs.declared.carrying.Carried.{Carried}
 use Rattle.session_plain.specs.declared.carrying.Carried.TheVariants as carried
-use Rattle.ftp_control.specs.declared.transport.request.Request.{Request}
-use Rattle.ftp_control.specs.declared.transport.request.RequestOutcome.{RequestOutcome}
+use Rattle.ftp_transport.specs.declared.request.Request.{Request}
+use Rattle.ftp_transport.specs.declared.request.RequestOutcome.{RequestOutcome}
 use Rattle.ftp_dialogue.specs.declared.model.Played.TheVariants.{Pending}
 use Rattle.ftp_dialogue.specs.declared.model.Standing.{Standing}
 use Rattle.ftp_dialogue.specs.declared.model.Wait.TheVariants.{Bytes, Outcome as Asking}

@@ -3,8 +3,8 @@
 
 ghost use Rattle.std.specs.Prelude.{◌≡◌, IfOk, None};
 ghost use Rattle.ftp_answers.specs.Addresses.{extended_port_of, passive_address_of};
-ghost use Rattle.ftp_control.specs.declared.transport.request.Request.TheVariants.{Connect};
-ghost use Rattle.ftp_control.specs.declared.transport.room.Room.{Room as Rooms};
+ghost use Rattle.ftp_transport.specs.declared.request.Request.TheVariants.{Connect};
+ghost use Rattle.ftp_transport.specs.declared.room.Room.{Room as Rooms};
 ghost use Rattle.ftp_dialogue.specs.Dialogue.{Ask, Build, Tree, at_port, connecting_to, connecting_to_peer, no_address, on_built, on_connection, to_address, to_port};
 ghost use Rattle.ftp_dialogue.specs.Play.{play};
 ghost use Rattle.ftp_dialogue.specs.declared.state.State.{State as States};
@@ -15,7 +15,7 @@ use crate::building::{Answered, built};
 use crate::exchange::{Progress, done};
 use ftp_answers::{NoAddress, read_extended_port, read_passive_address};
 use ftp_base::types::{ConnectionError, FtpError, Response};
-use ftp_control::transport::{Request, RequestOutcome};
+use ftp_transport::{Request, RequestOutcome};
 use ftp_session::model::{Played, Standing, Wait};
 use ftp_session::session::Answer;
 use std::alloc::{AllocError, Global};

@@ -7,7 +7,7 @@ ghost use Rattle.session_plain.specs.Progress.{BuildsAt};
 use crate::asking::{no_dealings, no_traffic};
 use crate::outcomes::{next_built, part};
 use ftp_base::types::{FtpError, Items};
-use ftp_control::transport::Request;
+use ftp_transport::Request;
 use ftp_session::model::{Dealings, Standing, Traffic};
 use std::alloc::{AllocError, Global};
 use std::mem;

@@ -1,7 +1,7 @@
 //! What is done on the data connection, on all outcomes at once: bytes are read or written, or it is closed.
 
 ghost use Rattle.std.specs.Prelude.{◌≡◌, IfOk, option_map};
-ghost use Rattle.ftp_control.specs.declared.transport.room.Room.{Room};
+ghost use Rattle.ftp_transport.specs.declared.room.Room.{Room};
 ghost use Rattle.ftp_calls.specs.declared.exchange.Movement.TheVariants as movement;
 ghost use Rattle.ftp_dialogue.specs.Deals.{moved, parted, read_more, written_more};
 ghost use Rattle.ftp_dialogue.specs.Dialogue.{Leaf, Move, Tree, carrying, moved_answer};

@@ -9,7 +9,7 @@ use crate::asking::{Came, asked};
 use crate::play::play_dialogue;
 use ftp_base::encoding::Encoding;
 use ftp_base::types::{ConnectionError, FtpError};
-use ftp_control::transport::{Request, RequestOutcome, Room};
+use ftp_transport::{Request, RequestOutcome, Room};
 use ftp_session::model::{Played, Standing, Wait};
 use ftp_session::session::{Answer, Call};
 use std::alloc::{AllocError, Global};

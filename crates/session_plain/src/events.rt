@@ -1,7 +1,7 @@
 //! Polled runs: each Poll plays all calls anew, on all bytes that came.
 
 ghost use Rattle.std.specs.Prelude.{◌≡◌, ℕ, List, [], ◌∷◌, ◌++◌, IfOk, OnOk, None, Some, length, true, false};
-ghost use Rattle.ftp_control.specs.Memory.{more_room};
+ghost use Rattle.ftp_transport.specs.Memory.{more_room};
 ghost use Rattle.ftp_dialogue.specs.Coding.{coding_of};
 ghost use Rattle.ftp_session.specs.Script.{after_event, drained_as, drained_to, draining, fed, front, heard_at, heard_in, poll_next, poll_script, polled_as, run_with, script, seen_at, seen_in, start_script, form_at, with_call};
 ghost use Rattle.ftp_dialogue.specs.declared.model.Ran.TheVariants.{Finished, Waiting};
@@ -13,7 +13,7 @@ use crate::leaving::{drop_call, leave_now, poll_event};
 use crate::runs::replay_then;
 use ftp_base::encoding::Encoding;
 use ftp_base::types::{Bytes, Items};
-use ftp_control::transport::Room;
+use ftp_transport::Room;
 use ftp_session::model::{Item, Ran, Script, Standing, Wait};
 use ftp_session::session::{Answer, Call, Event};
 use std::alloc::{AllocError, Global};

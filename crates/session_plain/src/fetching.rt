@@ -1,7 +1,7 @@
 //! A whole file or listing goes over a data connection, on all outcomes at once, and its transfer is brought to its end.
 
 ghost use Rattle.std.specs.Prelude.{◌≡◌, ◌++◌, IfOk, length};
-ghost use Rattle.ftp_control.specs.declared.transport.room.Room.{Room as Rooms};
+ghost use Rattle.ftp_transport.specs.declared.room.Room.{Room as Rooms};
 ghost use Rattle.ftp_calls.specs.declared.exchange.Ending.TheVariants as ending;
 ghost use Rattle.ftp_dialogue.specs.Coding.{Coding, coding_of};
 ghost use Rattle.ftp_dialogue.specs.Dialogue.{Leaf, Tree, closed_as, fault_or, fetch_concluded, fetch_ending, fetch_parting, fetched, fetching, first_fault, gathering, opening, performing, too_long, unfetched, with_fetched};

@@ -13,7 +13,7 @@ use crate::turns::from_turn;
 use ftp_base::encoding::Encoding;
 use ftp_base::types::{ConnectionError, FtpError};
 use ftp_calls::exchange::{Ending, Movement, Turn, finishes};
-use ftp_control::transport::Room;
+use ftp_transport::Room;
 use ftp_session::model::{DealOutcome, Played, Standing, Wait};
 use ftp_session::session::{Answer, Call};
 use std::alloc::{AllocError, Global};

@@ -13,7 +13,7 @@ use crate::turns::from_turn;
 use ftp_base::encoding::Encoding;
 use ftp_base::types::{ConnectionError, Mode};
 use ftp_calls::exchange::Turn;
-use ftp_control::transport::{Request, RequestOutcome, Room};
+use ftp_transport::{Request, RequestOutcome, Room};
 use ftp_session::model::{Played, Standing, Wait};
 use ftp_session::session::{Answer, Call};
 use std::alloc::{AllocError, Global};

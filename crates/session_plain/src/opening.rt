@@ -2,7 +2,7 @@
 //! are accepted until one is let in.
 
 ghost use Rattle.std.specs.Prelude.{◌≡◌, IfOk};
-ghost use Rattle.ftp_control.specs.declared.transport.room.Room.{Room as Rooms};
+ghost use Rattle.ftp_transport.specs.declared.room.Room.{Room as Rooms};
 ghost use Rattle.ftp_dialogue.specs.Dialogue.{Leaf, Tree, accepting, lets_in, opened_answer, opening, with_transfer};
 ghost use Rattle.ftp_dialogue.specs.Play.{play};
 ghost use Rattle.ftp_dialogue.specs.declared.state.State.{State as States};
@@ -11,7 +11,7 @@ ghost use Rattle.session_plain.specs.Progress.{ComesTo};
 use crate::asking::{Came, asked};
 use crate::exchange::{Progress, done};
 use ftp_base::types::{ConnectionError, FtpError, Mode, Response};
-use ftp_control::transport::{Request, RequestOutcome};
+use ftp_transport::{Request, RequestOutcome};
 use ftp_session::model::{Played, Standing, Wait};
 use ftp_session::session::Answer;
 use std::alloc::{AllocError, Global};

@@ -6,7 +6,7 @@ ghost use Rattle.session_plain.specs.Progress.{is_next, next_answer, next_built}
 
 use ftp_base::types::{FtpError, Items};
 use ftp_calls::exchange::Movement;
-use ftp_control::transport::RequestOutcome;
+use ftp_transport::RequestOutcome;
 use ftp_session::model::DealOutcome;
 use std::alloc::AllocError;
 

@@ -1,7 +1,7 @@
 //! A whole upload, on all outcomes at once: a file's bytes are sent, and its transfer is brought to its end.
 
 ghost use Rattle.std.specs.Prelude.{◌≡◌, IfOk, drop};
-ghost use Rattle.ftp_control.specs.declared.transport.room.Room.{Room as Rooms};
+ghost use Rattle.ftp_transport.specs.declared.room.Room.{Room as Rooms};
 ghost use Rattle.ftp_dialogue.specs.Dialogue.{Tree, giving_up, sending, size_to_send, storing, wire_data, with_abandoned};
 ghost use Rattle.ftp_dialogue.specs.Play.{play};
 ghost use Rattle.ftp_dialogue.specs.declared.state.State.{State as States};

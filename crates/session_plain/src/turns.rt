@@ -9,7 +9,7 @@ ghost use Rattle.ftp_dialogue.specs.Play.{play};
 use crate::exchange::{Progress, row};
 use ftp_base::encoding::Encoding;
 use ftp_calls::exchange::Turn;
-use ftp_control::transport::Room;
+use ftp_transport::Room;
 use ftp_session::model::{Played, Standing};
 use ftp_session::session::{Answer, Call};
 use std::alloc::{AllocError, Global};

@@ -1,11 +1,11 @@
 //! Whole data connections whose reads fail.
 
 ghost use Rattle.std.specs.Prelude.{[]};
-ghost use Rattle.ftp_control.specs.Memory.{fresh_memory};
+ghost use Rattle.ftp_transport.specs.Memory.{fresh_memory};
 
 use crate::scene::{conn_with, number};
 use ftp_base::types::{ConnectionError, FtpError, FtpResult};
-use ftp_control::transport::{
+use ftp_transport::{
     Accepted, Conn, Connected, Listening, MemoryConn, Network, Tells, Transport,
 };
 use ftp_session::session::Session;

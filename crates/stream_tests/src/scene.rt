@@ -1,7 +1,7 @@
 //! What the tests share: sessions over memory, and what their calls return.
 
 use ftp_base::types::FtpResult;
-use ftp_control::transport::{MemoryConn, MemoryTransport, Supply};
+use ftp_transport::{MemoryConn, MemoryTransport, Supply};
 use ftp_session::session::Session;
 use ftp_transfer::Transfer;
 use std::alloc::{AllocError, Global};

@@ -2,7 +2,7 @@
 
 use crate::scene::{MemorySession, greeted, number};
 use ftp_base::types::{FileType, FtpError, FtpResult};
-use ftp_control::transport::MemoryConn;
+use ftp_transport::MemoryConn;
 use ftp_session::session::DownloadReader;
 use ftp_transfer::Transfer;
 use std::io;

@@ -2,7 +2,7 @@
 
 use crate::scene::{MemorySession, conn_with};
 use ftp_base::types::FtpResult;
-use ftp_control::transport::{MemoryConn, MemoryTransport, Supply};
+use ftp_transport::{MemoryConn, MemoryTransport, Supply};
 use ftp_session::session::Session;
 use std::alloc::{AllocError, Global};
 use std::test::Fail;

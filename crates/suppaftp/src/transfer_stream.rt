@@ -5,8 +5,8 @@
 
 use ftp_base::encoding::{Encoding, Utf8Encoding};
 use ftp_base::types::FtpResult;
-use ftp_control::mark::Left;
-use ftp_control::transport::{Conn, Network};
+use ftp_transfer::mark::Left;
+use ftp_transport::{Conn, Network};
 use ftp_session::session::{NoStreamBuilder, NoTlsConnector, Session};
 pub use ftp_transfer::{Direction, Transfer};
 use std::alloc::Global;

@@ -1,9 +1,9 @@
 //! Transfers over memory: their bytes, and their leaving, on one thread or on two.
 
-ghost use Rattle.ftp_control.specs.Memory.{fresh_memory};
+ghost use Rattle.ftp_transport.specs.Memory.{fresh_memory};
 
-use ftp_control::mark::{SessionEnd, mark};
-use ftp_control::transport::{MemoryConn, PollConn, Tells};
+use ftp_transfer::mark::{SessionEnd, mark};
+use ftp_transport::{MemoryConn, PollConn, Tells};
 use ftp_transfer::{Direction, Transfer};
 use futures::task::Poll;
 use std::alloc::Global;

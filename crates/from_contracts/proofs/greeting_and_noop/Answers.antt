@@ -1,6 +1,6 @@
 use Rattle.std.proofs.Common.{[], ap, ◌∙◌, subst}
-use Rattle.ftp_control.specs.Told.{Told}
-use Rattle.ftp_control.specs.Memory.{Asking, IsGiven, fed}
+use Rattle.ftp_transport.specs.Told.{Told}
+use Rattle.ftp_transport.specs.Memory.{Asking, IsGiven, fed}
 use Rattle.ftp_dialogue.specs.State.{Begins}
 use Rattle.ftp_dialogue.specs.Deals.{first_net}
 use Rattle.ftp_session.proofs.Handed.{unmarked}

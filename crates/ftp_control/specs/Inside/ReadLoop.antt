@@ -10,7 +10,7 @@ use Rattle.ftp_control.specs.declared.control.rule.ReplyRule.{ReplyRule}
 use Rattle.ftp_control.specs.declared.control.sought.Sought.{Sought}
 use Rattle.ftp_control.specs.declared.control.sought.Sought.TheVariants.{Reply, Line}
 use Rattle.ftp_control.specs.Grammar.{outcome, line_outcome, whole_lines, reply_limit}
-use Rattle.ftp_control.specs.Told.{Told, IsDry, HasFailed, after_read, after_end}
+use Rattle.ftp_transport.specs.Told.{Told, IsDry, HasFailed, after_read, after_end}
 use Rattle.ftp_control.specs.Reading.{GoesOn, HearTells, AnswersOutcome}
 
 -- what the connection records of a read of one byte

@@ -20,7 +20,7 @@ use super::read_loop::hear;
 use super::reply_buffer::ReplyBuffer;
 use super::sought::Sought;
 use super::{Broken, Outcome, ReplyForm, ReplyRule, WireLine};
-use crate::transport::{PollConn, Tells};
+use ftp_transport::{PollConn, Tells};
 use futures::task::Poll;
 use std::alloc::Global;
 use std::io::ErrorKind;
@@ -64,9 +64,9 @@ impl<C: Tells + Drop> Model for ControlChannel<C> {
 
 impl<C: Tells + Drop> ControlChannel<C> {
     ghost use Rattle.std.specs.Prelude.{◌<◌, IfErr, length};
-    ghost use Rattle.ftp_control.specs.Memory.{IsGiven};
+    ghost use Rattle.ftp_transport.specs.Memory.{IsGiven};
     ghost use Rattle.ftp_control.specs.Reading.{MayBreak};
-    ghost use Rattle.ftp_control.specs.Told.{EndsAsTold, before_fault, begun};
+    ghost use Rattle.ftp_transport.specs.Told.{EndsAsTold, before_fault, begun};
     ghost use Rattle.ftp_control.specs.Channel.{Channel, IsIdle, IsSound, ReadsReply, FlushesTail, untaken};
 
     /// Reads a reply of this form as far as it has come, and consumes exactly its bytes. Returns `Waits` where the connection

@@ -4,10 +4,10 @@
 //! with the server. To ask for them reads and sends nothing, and never waits.
 
 ghost use Rattle.std.specs.Prelude.{◌≡◌, IfErr};
-ghost use Rattle.ftp_control.specs.Told.{AddressTells};
+ghost use Rattle.ftp_transport.specs.Told.{AddressTells};
 
 use super::ControlChannel;
-use crate::transport::Tells;
+use ftp_transport::Tells;
 use std::io::ErrorKind;
 use std::net::SocketAddr;
 

@@ -6,15 +6,15 @@
 
 ghost use Rattle.std.specs.Prelude.{◌≡◌, Err, true, false, ◌∷◌, []};
 ghost use Rattle.futures.specs.declared.task.Poll.TheVariants as poll;
-ghost use Rattle.ftp_control.specs.Told.{EndsAsTold};
+ghost use Rattle.ftp_transport.specs.Told.{EndsAsTold};
 ghost use Rattle.ftp_control.specs.Answer.{AnswersRead, answer_of, form_of, expected_reply};
 
 use super::expected_statuses::expected_reply;
 use super::form::form_of;
 use super::{Broken, ControlChannel, Outcome, ReplyForm};
-use crate::transport::{Conn, NeverWaits, PollConn, Tells};
 use ftp_base::status::Status;
 use ftp_base::types::{ConnectionError, FtpError, FtpResult, ReplyTooLarge, Response};
+use ftp_transport::{Conn, NeverWaits, PollConn, Tells};
 use futures::task::Poll;
 use std::alloc::Global;
 

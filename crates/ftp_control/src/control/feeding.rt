@@ -4,11 +4,11 @@
 //! from what happens to a socket: none of them reads or sends.
 
 ghost use Rattle.std.specs.Prelude.{◌≡◌, ◌+◌, OnOk, OnErr, length};
-ghost use Rattle.ftp_control.specs.Memory.{fed, closed_memory, widened, IsGiven};
+ghost use Rattle.ftp_transport.specs.Memory.{fed, closed_memory, widened, IsGiven};
 ghost use Rattle.ftp_control.specs.Channel.{IsSound};
 
 use super::ControlChannel;
-use crate::transport::MemoryConn;
+use ftp_transport::MemoryConn;
 use std::alloc::AllocError;
 
 impl ControlChannel<MemoryConn> {

@@ -6,9 +6,9 @@
 ghost use Rattle.std.specs.Prelude.{◌≡◌, ◌≤◌, IfErr, Ok, length, drop};
 ghost use Rattle.futures.specs.declared.task.Poll.TheVariants as poll;
 ghost use Rattle.ftp_control.specs.Sending.{Flushes};
-ghost use Rattle.ftp_control.specs.Told.{before_fault};
+ghost use Rattle.ftp_transport.specs.Told.{before_fault};
 
-use crate::transport::PollConn;
+use ftp_transport::PollConn;
 use futures::task::Poll;
 use std::io::ErrorKind;
 

@@ -8,14 +8,14 @@ ghost use Rattle.futures.specs.declared.task.Poll.TheVariants as poll;
 ghost use Rattle.ftp_control.specs.declared.control.outcome.Outcome.TheVariants as outcomes;
 ghost use Rattle.ftp_control.specs.Inside.UnderWay.{IsUnderWay};
 ghost use Rattle.ftp_control.specs.Inside.ReadLoop.{ByteTells, CanSeek, Hears, says_of};
-ghost use Rattle.ftp_control.specs.Told.{EndsAsTold};
-ghost use Rattle.ftp_control.specs.Memory.{IsGiven};
+ghost use Rattle.ftp_transport.specs.Told.{EndsAsTold};
+ghost use Rattle.ftp_transport.specs.Memory.{IsGiven};
 ghost use Rattle.ftp_control.specs.Reading.{MayBreak};
 
 use super::reply_buffer::ReplyBuffer;
 use super::sought::Sought;
 use super::{Broken, Outcome, ReplyRule};
-use crate::transport::PollConn;
+use ftp_transport::PollConn;
 use futures::task::Poll;
 use std::alloc::Global;
 use std::io::ErrorKind;

@@ -2,10 +2,10 @@
 
 ghost use Rattle.std.specs.Prelude.{◌≡◌};
 ghost use Rattle.futures.specs.Task.{IsArmed, Keeps};
-ghost use Rattle.ftp_control.specs.declared.transport.waiting.Waiting.TheVariants as waits;
+ghost use Rattle.ftp_transport.specs.declared.waiting.Waiting.TheVariants as waits;
 
 use super::channel::ControlChannel;
-use crate::transport::{TaskConn, Waiting};
+use ftp_transport::{TaskConn, Waiting};
 use futures::task::Context;
 
 impl<C: TaskConn + Drop> ControlChannel<C> {

@@ -11,10 +11,10 @@ ghost use Rattle.ftp_control.specs.Saying.{SaysLine, said};
 ghost use Rattle.ftp_control.specs.Performing.{Performs};
 
 use super::{ControlChannel, WireLine};
-use crate::transport::{Conn, NeverWaits, PollConn, Tells};
 use ftp_base::command::Command;
 use ftp_base::encoding::Encoding;
 use ftp_base::types::{ConnectionError, FtpError, FtpResult};
+use ftp_transport::{Conn, NeverWaits, PollConn, Tells};
 use futures::task::Poll;
 use std::alloc::Global;
 

@@ -12,8 +12,8 @@ use super::channel::fails;
 use super::read_loop::hear;
 use super::sought::Sought;
 use super::{Broken, ControlChannel, Outcome};
-use crate::transport::{Conn, NeverWaits, PollConn, Tells};
 use ftp_base::types::{Bytes, ConnectionError, FtpError, FtpResult, ReplyTooLarge};
+use ftp_transport::{Conn, NeverWaits, PollConn, Tells};
 use futures::task::Poll;
 use std::alloc::Global;
 

@@ -5,12 +5,12 @@ use Rattle.futures.specs.declared.task.Poll.{Poll}
 use Rattle.futures.specs.declared.task.Poll.TheVariants.{Ready, Pending}
 use Rattle.ftp_base.specs.declared.types.fault.FtpError.{FtpError}
 use Rattle.ftp_base.specs.declared.types.fault.FtpError.TheVariants.{SessionFailed}
-use Rattle.ftp_control.specs.Told.{EndsAsTold}
+use Rattle.ftp_transport.specs.Told.{EndsAsTold}
 use Rattle.ftp_dialogue.specs.Deals.{Deal, Deals, dealings_of, outcomes_of}
 use Rattle.ftp_dialogue.specs.declared.model.DealOutcome.{DealOutcome}
 use Rattle.ftp_control.specs.declared.control.outcome.Outcome.TheVariants.{Waits}
 use Rattle.ftp_control.specs.Grammar.{outcome}
-use Rattle.ftp_control.specs.Memory.{IsGiven}
+use Rattle.ftp_transport.specs.Memory.{IsGiven}
 use Rattle.ftp_control.specs.Reading.{GoesOn}
 use Rattle.ftp_control.specs.Channel.{IsSound, untaken}
 use Rattle.ftp_calls.specs.declared.call.Answer.{Answer}

@@ -18,8 +18,8 @@ use super::parameters::{NoStreamBuilder, NoTlsConnector};
 use super::{Call, Counts, State};
 use ftp_base::encoding::{Encoding, Utf8Encoding};
 use ftp_base::types::{FtpError, FtpResult};
-use ftp_control::mark::SessionEnd;
-use ftp_control::transport::{Conn, Network};
+use ftp_transfer::mark::SessionEnd;
+use ftp_transport::{Conn, Network};
 use ftp_dialogue::machine::Machine;
 use std::alloc::Global;
 

@@ -21,7 +21,7 @@ use super::{Answer, Call};
 use ftp_base::encoding::Encoding;
 use ftp_base::status::Status;
 use ftp_base::types::{FileType, FtpError, FtpResult, Items, Response, Text};
-use ftp_control::transport::{Conn, Network};
+use ftp_transport::{Conn, Network};
 use ftp_dialogue::asks::Nothing;
 use std::alloc::{AllocError, Global};
 use std::net::SocketAddr;

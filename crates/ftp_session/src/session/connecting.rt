@@ -6,7 +6,7 @@
 ghost use Rattle.std.specs.Prelude.{◌≡◌, IfOk, MatchResult, Ok, Err, Some, None, length};
 ghost use Rattle.std.specs.Duration.{as_nanos};
 ghost use Rattle.ftp_base.specs.declared.types.fault.ConnectionError.TheVariants as faults;
-ghost use Rattle.ftp_control.specs.Asking.{connects_to};
+ghost use Rattle.ftp_transport.specs.Asking.{connects_to};
 ghost use Rattle.ftp_dialogue.specs.Coding.{chosen};
 ghost use Rattle.ftp_session.specs.Connecting.{ConnectsBy, FailsToConnectBy, connects_within};
 ghost use Rattle.ftp_dialogue.specs.Link.{link};
@@ -14,7 +14,7 @@ ghost use Rattle.ftp_dialogue.specs.Link.{link};
 use super::client::Session;
 use ftp_base::encoding::Encoding;
 use ftp_base::types::{ConnectionError, FtpError, FtpResult};
-use ftp_control::transport::{Conn, Network, NeverWaits, Transport, Tried, poll_connect_in_turn};
+use ftp_transport::{Conn, Network, NeverWaits, Transport, Tried, poll_connect_in_turn};
 use futures::task::Poll;
 use std::alloc::{AllocError, Global};
 use std::net::SocketAddr;

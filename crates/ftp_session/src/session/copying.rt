@@ -10,7 +10,7 @@ ghost use Rattle.ftp_session.specs.Copying.{Copies, SendsAll, SendsPiece, Writes
 use ftp_base::ascii::{CrlfEncoder, upload_size};
 use ftp_base::retry::read_retrying;
 use ftp_base::types::{ConnectionError, FtpError, FtpResult};
-use ftp_control::transport::Conn;
+use ftp_transport::Conn;
 use ftp_transfer::Transfer;
 use std::alloc::Global;
 use std::io::{ErrorKind, Read};

@@ -4,7 +4,7 @@
 //! another number is left, and nothing of the session changes.
 
 ghost use Rattle.std.specs.Prelude.{◌≡◌, OnErr, OnOk, Some, true};
-ghost use Rattle.ftp_control.specs.Mark.{loaded};
+ghost use Rattle.ftp_transfer.specs.Mark.{loaded};
 ghost use Rattle.ftp_session.specs.Calls.{unit_answer};
 ghost use Rattle.ftp_dialogue.specs.Coding.{chosen};
 ghost use Rattle.ftp_session.specs.Handed.{BeginsToSettle, BringsToEnd, EndsOnly, Settles, TakesBack, left_if, with_data};
@@ -15,8 +15,8 @@ use super::client::Session;
 use super::{Answer, Call};
 use ftp_base::encoding::Encoding;
 use ftp_base::types::{ConnectionError, FtpError, FtpResult};
-use ftp_control::mark::Left;
-use ftp_control::transport::{Conn, Network};
+use ftp_transfer::mark::Left;
+use ftp_transport::{Conn, Network};
 use ftp_dialogue::asks::Nothing;
 use ftp_dialogue::machine::Machine;
 use ftp_transfer::Transfer;

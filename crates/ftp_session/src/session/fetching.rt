@@ -20,7 +20,7 @@ use super::run::make;
 use super::{Answer, Call};
 use ftp_base::encoding::Encoding;
 use ftp_base::types::{ConnectionError, FtpError, FtpResult, Text};
-use ftp_control::transport::{Conn, Network, PassiveStreamBuilder, Transport};
+use ftp_transport::{Conn, Network, PassiveStreamBuilder, Transport};
 use std::alloc::{AllocError, Global};
 
 impl<Tr: Network, K: Drop, E: Encoding, B: PassiveStreamBuilder<Tr::Conn>> Session<Tr, K, E, B>

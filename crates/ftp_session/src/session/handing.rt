@@ -13,8 +13,8 @@ use super::client::Session;
 use super::opening::{give_up, hand_out, next_number, opened};
 use ftp_base::encoding::Encoding;
 use ftp_base::types::{FtpResult, Response};
-use ftp_control::mark::{SessionEnd, TransferEnd, mark};
-use ftp_control::transport::Network;
+use ftp_transfer::mark::{SessionEnd, TransferEnd, mark};
+use ftp_transport::Network;
 use ftp_transfer::{Direction, Transfer};
 use std::alloc::Global;
 use std::marker::Model;
@@ -29,7 +29,7 @@ pub struct NewMark {
 
 impl Model for NewMark {
     ghost use Rattle.std.specs.Prelude.{◌≡◌, []};
-    ghost use Rattle.ftp_control.specs.Mark.{End};
+    ghost use Rattle.ftp_transfer.specs.Mark.{End};
 
     ghost Value = { End };
 

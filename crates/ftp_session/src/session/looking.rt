@@ -7,8 +7,8 @@
 ghost use Rattle.std.specs.Prelude.{◌≡◌};
 ghost use Rattle.ftp_session.specs.Handed.{LooksIf, as_seen, watches};
 
-use ftp_control::mark::SessionEnd;
-use ftp_control::transport::Network;
+use ftp_transfer::mark::SessionEnd;
+use ftp_transport::Network;
 use ftp_dialogue::machine::Machine;
 
 /// Looks once at the mark of the transfer that is live, where it was handed out: one that was left is owed.

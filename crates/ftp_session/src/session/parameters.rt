@@ -8,7 +8,7 @@ ghost use Rattle.ftp_base.specs.declared.types.fault.FtpError.TheVariants.{Conne
 ghost use Rattle.ftp_base.specs.declared.types.fault.ConnectionError.TheVariants as faults;
 
 use ftp_base::types::{ConnectionError, FtpError, FtpResult};
-use ftp_control::transport::{PassiveStreamBuilder, Tells};
+use ftp_transport::{PassiveStreamBuilder, Tells};
 use std::net::SocketAddr;
 
 /// No TLS connector: a session without TLS. There is no value of it.

@@ -17,7 +17,7 @@ use super::commands::optional_text;
 use super::{Answer, Call};
 use ftp_base::encoding::Encoding;
 use ftp_base::types::{Features, FtpResult, Text};
-use ftp_control::transport::{Conn, Network};
+use ftp_transport::{Conn, Network};
 use jiff::civil::DateTime;
 use std::alloc::{AllocError, Global};
 

@@ -2,11 +2,11 @@
 
 ghost use Rattle.std.specs.Prelude.{◌≡◌};
 ghost use Rattle.futures.specs.Task.{IsArmed, Keeps};
-ghost use Rattle.ftp_control.specs.declared.transport.waiting.Waiting.TheVariants as waits;
+ghost use Rattle.ftp_transport.specs.declared.waiting.Waiting.TheVariants as waits;
 
 use super::client::Session;
 use ftp_base::encoding::Encoding;
-use ftp_control::transport::{TaskConn, TaskTransport, Waiting};
+use ftp_transport::{TaskConn, TaskTransport, Waiting};
 use futures::task::Context;
 
 impl<Tr: TaskTransport, K: Drop, E: Encoding, B: Drop> Session<Tr, K, E, B>

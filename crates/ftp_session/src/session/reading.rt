@@ -16,7 +16,7 @@ use super::looking::look;
 use ftp_base::encoding::Encoding;
 use ftp_base::status::Status;
 use ftp_base::types::{FtpResult, Response};
-use ftp_control::transport::{Network, PollConn};
+use ftp_transport::{Network, PollConn};
 use futures::task::Poll;
 use std::alloc::Global;
 

@@ -17,7 +17,7 @@ use super::{Answer, Call};
 use ftp_base::encoding::Encoding;
 use ftp_base::types::{FtpError, FtpResult};
 use ftp_calls::exchange::is_local;
-use ftp_control::transport::{Conn, Network, PassiveStreamBuilder, Transport};
+use ftp_transport::{Conn, Network, PassiveStreamBuilder, Transport};
 use ftp_dialogue::asks::By;
 use ftp_dialogue::machine::Machine;
 use std::alloc::Global;

@@ -10,7 +10,7 @@ ghost use Rattle.ftp_dialogue.specs.State.{with_settings};
 use super::client::Session;
 use ftp_base::encoding::Encoding;
 use ftp_base::types::{ActivePeerCheck, Mode};
-use ftp_control::transport::Network;
+use ftp_transport::Network;
 use std::time::Duration;
 
 impl<Tr: Network, K: Drop, E: Encoding, B: Drop> Session<Tr, K, E, B> {

@@ -1,11 +1,11 @@
 //! Reads and writes that return only when they are done.
 
 ghost use Rattle.std.specs.Prelude.{◌≡◌, ◌<◌, IfErr, Ok, length};
-ghost use Rattle.ftp_control.specs.Memory.{IsGiven};
-ghost use Rattle.ftp_control.specs.Told.{ReadTells, ReadsAtMost, WriteTells, WritesSome, as_poll};
+ghost use Rattle.ftp_transport.specs.Memory.{IsGiven};
+ghost use Rattle.ftp_transport.specs.Told.{ReadTells, ReadsAtMost, WriteTells, WritesSome, as_poll};
 
 use super::Transfer;
-use ftp_control::transport::Conn;
+use ftp_transport::Conn;
 use std::io::ErrorKind;
 
 impl<C: Conn + Drop> Transfer<C> {

@@ -5,10 +5,10 @@
 //! that brings the transfer to its end.
 
 ghost use Rattle.std.specs.Prelude.{◌≡◌, false, true};
-ghost use Rattle.ftp_control.specs.Mark.{loaded};
+ghost use Rattle.ftp_transfer.specs.Mark.{loaded};
 
-use ftp_control::mark::{Left, TransferEnd};
-use ftp_control::transport::Tells;
+use ftp_transfer::mark::{Left, TransferEnd};
+use ftp_transport::Tells;
 use std::marker::Model;
 
 /// The end of a transfer's mark, which can be left and not dropped.
@@ -17,7 +17,7 @@ pub(super) struct HeldEnd {
 }
 
 impl Model for HeldEnd {
-    ghost use Rattle.ftp_control.specs.Mark.{End};
+    ghost use Rattle.ftp_transfer.specs.Mark.{End};
 
     ghost Value = { End };
 

@@ -2,11 +2,11 @@
 
 ghost use Rattle.std.specs.Prelude.{◌≡◌, ◌<◌, IfErr, Ok, length, true};
 ghost use Rattle.futures.specs.declared.task.Poll.TheVariants as poll;
-ghost use Rattle.ftp_control.specs.Memory.{IsGiven};
-ghost use Rattle.ftp_control.specs.Told.{ReadTells, ReadsAtMost, WriteTells, WritesSome};
+ghost use Rattle.ftp_transport.specs.Memory.{IsGiven};
+ghost use Rattle.ftp_transport.specs.Told.{ReadTells, ReadsAtMost, WriteTells, WritesSome};
 
 use super::Transfer;
-use ftp_control::transport::{PollConn, Tells};
+use ftp_transport::{PollConn, Tells};
 use futures::task::Poll;
 use std::io::ErrorKind;
 

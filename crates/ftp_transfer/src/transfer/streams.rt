@@ -5,10 +5,10 @@
 ghost use Rattle.std.specs.Prelude.{◌≡◌, ◌<◌, IfOk, None, Ok, length};
 ghost use Rattle.std.specs.Io.{ReadsAtMost, WritesAtMost};
 ghost use Rattle.std.specs.Io.KnownBytes.{ReadConsumes, WriteAppends};
-ghost use Rattle.ftp_control.specs.Told.{ReadTells, WriteTells, as_poll};
+ghost use Rattle.ftp_transport.specs.Told.{ReadTells, WriteTells, as_poll};
 
 use super::Transfer;
-use ftp_control::transport::Conn;
+use ftp_transport::Conn;
 use std::io;
 use std::io::{Read, Write};
 

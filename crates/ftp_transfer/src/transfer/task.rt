@@ -3,10 +3,10 @@
 ghost use Rattle.std.specs.Prelude.{◌≡◌, ◌<◌, IfErr, Ok, length};
 ghost use Rattle.futures.specs.Task.{IsArmed, Keeps};
 ghost use Rattle.futures.specs.declared.task.Poll.TheVariants as poll;
-ghost use Rattle.ftp_control.specs.Told.{ReadTells, ReadsAtMost, WriteTells, WritesSome};
+ghost use Rattle.ftp_transport.specs.Told.{ReadTells, ReadsAtMost, WriteTells, WritesSome};
 
 use super::Transfer;
-use ftp_control::transport::{PollConn, TaskConn, Tells};
+use ftp_transport::{PollConn, TaskConn, Tells};
 use futures::task::{Context, Poll};
 use std::io::ErrorKind;
 

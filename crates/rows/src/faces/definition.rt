@@ -12,7 +12,7 @@ use crate::requests::lines_of;
 use crate::transcript::Standing;
 use ftp_base::types::{Bytes, Items};
 use ftp_control::control::{ReplyForm, ReplyRule};
-use ftp_control::transport::{RequestOutcome, Room};
+use ftp_transport::{RequestOutcome, Room};
 use ftp_session::model::{self, DealOutcome, Dealings, Played, Ran, Script, Wait};
 use ftp_session::session::{Answer, Call, Event, State};
 use row_text::RowError;

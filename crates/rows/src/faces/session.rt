@@ -9,7 +9,7 @@ use crate::memory::{boxed, had};
 use crate::play::Play;
 use crate::requests::recorded;
 use crate::transcript::Standing;
-use ftp_control::transport::{MemoryConn, MemoryTransport};
+use ftp_transport::{MemoryConn, MemoryTransport};
 use ftp_session::session::{Answer, Call, Event, NoTlsConnector, Session};
 use row_text::RowError;
 use std::alloc::{AllocError, Global};

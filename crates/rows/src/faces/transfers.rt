@@ -3,7 +3,7 @@
 
 use ftp_base::types::{Bytes, ConnectionError, FtpError, FtpResult, Response};
 use ftp_calls::exchange::drains_first;
-use ftp_control::mark::Left;
+use ftp_transfer::mark::Left;
 use ftp_session::session::{Answer, Call};
 use std::alloc::{AllocError, Global};
 use std::{io, mem};

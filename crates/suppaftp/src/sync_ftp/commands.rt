@@ -9,7 +9,7 @@ use super::ImplFtpStream;
 use ftp_base::encoding::Encoding;
 use ftp_base::status::Status;
 use ftp_base::types::{FileType, FtpResult, Response};
-use ftp_control::transport::{Conn, Network};
+use ftp_transport::{Conn, Network};
 use std::net::SocketAddr;
 use std::sync::Wait;
 

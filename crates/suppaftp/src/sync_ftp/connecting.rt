@@ -3,7 +3,7 @@
 use super::ImplFtpStream;
 use ftp_base::encoding::Encoding;
 use ftp_base::types::FtpResult;
-use ftp_control::transport::{TcpConn, TcpTransport};
+use ftp_transport::{TcpConn, TcpTransport};
 use ftp_session::session::Session;
 use std::net::{Net, SocketAddr, TcpListener, TcpStream};
 use std::time::{Clock, Duration};

@@ -2,7 +2,7 @@
 
 use super::ImplFtpStream;
 use ftp_base::encoding::{Encoding, Utf8Encoding};
-use ftp_control::transport::Network;
+use ftp_transport::Network;
 use ftp_session::session::{NoStreamBuilder, NoTlsConnector, Session};
 use std::sync::{MutexGuard, Wait};
 

@@ -3,7 +3,7 @@
 use super::ImplFtpStream;
 use ftp_base::encoding::Encoding;
 use ftp_base::types::FtpResult;
-use ftp_control::transport::{Conn, Network, PassiveStreamBuilder, Transport};
+use ftp_transport::{Conn, Network, PassiveStreamBuilder, Transport};
 use ftp_session::session::DownloadReader;
 use std::io::Read;
 use std::sync::Wait;

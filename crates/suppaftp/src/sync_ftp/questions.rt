@@ -5,7 +5,7 @@
 use super::ImplFtpStream;
 use ftp_base::encoding::Encoding;
 use ftp_base::types::{Features, FtpResult};
-use ftp_control::transport::{Conn, Network};
+use ftp_transport::{Conn, Network};
 use jiff::civil::DateTime;
 use std::sync::Wait;
 

@@ -3,7 +3,7 @@
 use super::ImplFtpStream;
 use ftp_base::encoding::Encoding;
 use ftp_base::types::{ActivePeerCheck, Mode};
-use ftp_control::transport::Network;
+use ftp_transport::Network;
 use std::sync::Wait;
 use std::time::Duration;
 

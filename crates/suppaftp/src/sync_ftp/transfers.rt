@@ -9,8 +9,8 @@ use crate::transfer_stream::TransferStream;
 use ftp_base::encoding::Encoding;
 use ftp_base::status::Status;
 use ftp_base::types::{FtpResult, Response};
-use ftp_control::mark::Left;
-use ftp_control::transport::{Conn, Network, PassiveStreamBuilder, Transport};
+use ftp_transfer::mark::Left;
+use ftp_transport::{Conn, Network, PassiveStreamBuilder, Transport};
 use std::sync::Wait;
 
 impl<Tr: Network, K: Drop, E: Encoding, B: PassiveStreamBuilder<Tr::Conn>> ImplFtpStream<

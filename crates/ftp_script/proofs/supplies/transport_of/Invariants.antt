@@ -1,5 +1,5 @@
 use Rattle.std.proofs.Common.{◌≡◌, map, take}
-use Rattle.ftp_control.specs.Memory.{nothing_asked}
+use Rattle.ftp_transport.specs.Memory.{nothing_asked}
 use Rattle.ftp_script.specs.Playing.{supply_of}
 use Rattle.ftp_script.proofs.supplies.transport_of.Given as goal
 

@@ -1,6 +1,6 @@
 use Rattle.ftp_dialogue.specs.declared.state.State.{State}
 use Rattle.ftp_dialogue.specs.Dialogue.{Tree, Ask, Build, connecting_to, on_built, on_connection}
-use Rattle.ftp_control.specs.declared.transport.request.Request.TheVariants.{Connect}
+use Rattle.ftp_transport.specs.declared.request.Request.TheVariants.{Connect}
 use Rattle.std.proofs.Common.{None}
 use Rattle.session_plain.proofs.Parts.{comes, built_here, dialled_here}
 use Rattle.session_plain.proofs.addresses.connecting_to.Goals as goal

@@ -1,6 +1,6 @@
 use Rattle.std.proofs.Common.{◌≡◌, Result, Ok, Err, IfOk}
 use Rattle.std.specs.declared.alloc.AllocError.{AllocError}
-use Rattle.ftp_control.specs.declared.transport.room.Room.{Room}
+use Rattle.ftp_transport.specs.declared.room.Room.{Room}
 use Rattle.ftp_dialogue.specs.declared.state.State.{State}
 use Rattle.ftp_dialogue.specs.declared.model.Played.{Played}
 use Rattle.ftp_dialogue.specs.Coding.{coding_of}

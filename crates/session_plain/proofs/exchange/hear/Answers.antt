@@ -1,5 +1,5 @@
 use Rattle.std.proofs.Common.{◌≡◌, ap, sym, refl, ◌∙◌}
-use Rattle.ftp_control.specs.declared.transport.room.Room.{Room}
+use Rattle.ftp_transport.specs.declared.room.Room.{Room}
 use Rattle.ftp_dialogue.specs.declared.state.State.{State}
 use Rattle.ftp_dialogue.specs.Coding.{coding_of}
 use Rattle.ftp_dialogue.specs.Dialogue.{Expected, Tree, awaiting, concluded, expected_of}

@@ -1,7 +1,7 @@
 use Rattle.std.proofs.Common.{ap, sym, ◌∙◌}
 use Rattle.std.specs.Net.Socket.{socket_port}
 use Rattle.std.specs.declared.net.socket_addr.SocketAddr.{SocketAddr}
-use Rattle.ftp_control.specs.declared.transport.request.Request.TheVariants.{Listen}
+use Rattle.ftp_transport.specs.declared.request.Request.TheVariants.{Listen}
 use Rattle.ftp_calls.specs.declared.exchange.Turn.TheVariants.{Active}
 use Rattle.ftp_dialogue.specs.Coding.{coding_of}
 use Rattle.ftp_dialogue.specs.Dialogue.{at_port, from_turn, on_address}

@@ -5,7 +5,7 @@ use Rattle.ftp_base.specs.declared.types.fault.ConnectionError.TheVariants.{Io}
 use Rattle.ftp_calls.specs.declared.call.Answer.TheVariants.{Count}
 use Rattle.ftp_calls.specs.declared.exchange.Fetch.TheVariants.{Whole}
 use Rattle.ftp_calls.specs.declared.exchange.Movement.TheVariants as movement
-use Rattle.ftp_control.specs.declared.transport.room.Room.{Room}
+use Rattle.ftp_transport.specs.declared.room.Room.{Room}
 use Rattle.ftp_dialogue.specs.declared.state.State.{State}
 use Rattle.ftp_dialogue.specs.Dialogue.{Tree, Move, fetch_parting, giving_up, sending}
 use Rattle.ftp_dialogue.specs.Play.{play}

@@ -1,5 +1,5 @@
 use Rattle.std.proofs.Common.{length-drop, arith, sym, subst}
-use Rattle.ftp_control.specs.Told.{Told}
+use Rattle.ftp_transport.specs.Told.{Told}
 use Rattle.std.proofs.lemmas.List.{drop-drop}
 use Rattle.ftp_control.proofs.Sending.{more_sent, before_failure}
 use Rattle.ftp_control.proofs.control.outbox.flush.Goals as goal

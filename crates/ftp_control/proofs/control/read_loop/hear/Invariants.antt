@@ -1,8 +1,8 @@
 use Rattle.std.proofs.Common.{◌≡◌, ◌-◌, length, cond}
 use Rattle.ftp_control.specs.Inside.ReadLoop.{says_of, CanSeek}
 use Rattle.ftp_control.specs.Inside.UnderWay.{IsUnderWay}
-use Rattle.ftp_control.specs.Memory.{IsGiven}
-use Rattle.ftp_control.specs.Told.{EndsAsTold}
+use Rattle.ftp_transport.specs.Memory.{IsGiven}
+use Rattle.ftp_transport.specs.Told.{EndsAsTold}
 use Rattle.ftp_control.proofs.ReadLoop.{SoFar}
 use Rattle.ftp_control.proofs.control.read_loop.hear.Given as goal
 

@@ -1,5 +1,5 @@
-use Rattle.ftp_control.specs.declared.transport.request.Request.TheVariants.{Listen}
-use Rattle.ftp_control.specs.declared.transport.request.RequestOutcome.TheVariants.{Address, Refused}
+use Rattle.ftp_transport.specs.declared.request.Request.TheVariants.{Listen}
+use Rattle.ftp_transport.specs.declared.request.RequestOutcome.TheVariants.{Address, Refused}
 use Rattle.std.proofs.Common.{refl}
 use Rattle.ftp_dialogue.proofs.Deals.{same_net}
 use Rattle.ftp_dialogue.proofs.NegotiationLemmas.{asked_through, unasked_through}

@@ -2,7 +2,7 @@ use Rattle.std.proofs.Common.{arith, refl, inl, inr}
 use Rattle.std.specs.Net.Socket.{socket_port}
 use Rattle.ftp_base.specs.declared.types.fault.FtpError.TheVariants.{ConnectionError}
 use Rattle.ftp_base.specs.declared.types.fault.ConnectionError.TheVariants.{NoAddress}
-use Rattle.ftp_control.specs.declared.transport.request.Request.TheVariants.{Listen}
+use Rattle.ftp_transport.specs.declared.request.Request.TheVariants.{Listen}
 use Rattle.ftp_calls.specs.declared.exchange.Turn.TheVariants.{First, Active}
 use Rattle.ftp_dialogue.specs.Dialogue.{at_port, from_turn, listening_at, on_address}
 use Rattle.ftp_dialogue.specs.declared.stage.Agreeing.TheVariants.{Binding}

@@ -1,4 +1,4 @@
-use Rattle.ftp_control.specs.Told.{EndsAsTold}
+use Rattle.ftp_transport.specs.Told.{EndsAsTold}
 use Rattle.ftp_dialogue.specs.Coding.{coding_of}
 use Rattle.ftp_dialogue.specs.Link.{building}
 use Rattle.ftp_dialogue.specs.Steps.Stages.{nodes_left}

@@ -1,5 +1,5 @@
 use Rattle.std.proofs.Common.{[], inl, ap, refl, subst, option_map, Option, None, sym, ◌∙◌}
-use Rattle.ftp_control.specs.Memory.{fed, closed_memory, widened}
+use Rattle.ftp_transport.specs.Memory.{fed, closed_memory, widened}
 use Rattle.ftp_control.specs.Channel.{Channel}
 use Rattle.ftp_calls.specs.declared.call.Call.{Call}
 use Rattle.ftp_calls.specs.declared.call.Event.{Event}

@@ -1,5 +1,5 @@
 use Rattle.std.proofs.Common.{List, None, Ok, Err, inl, inr, subst}
-use Rattle.ftp_control.specs.Told.{Told}
+use Rattle.ftp_transport.specs.Told.{Told}
 use Rattle.ftp_session.specs.Calls.{Connects}
 use Rattle.ftp_dialogue.specs.Coding.{chosen}
 use Rattle.ftp_dialogue.specs.Deals.{first_net}

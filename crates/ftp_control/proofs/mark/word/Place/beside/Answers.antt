@@ -1,6 +1,0 @@
-use Rattle.std.proofs.Common.{rules}
-use Rattle.ftp_control.proofs.Marks.{splits}
-use Rattle.ftp_control.proofs.mark.word.Place.beside.Goals as goal
-
-pub split_seat-seat-requires : goal.split_seat-seat-requires
-split_seat-seat-requires c = (search rules, search rules, splits _ _)

@@ -1,5 +1,0 @@
-use Rattle.ftp_control.proofs.Marks.{begins}
-use Rattle.ftp_control.proofs.mark.word.Place.new.Goals as goal
-
-pub of_words-requires : goal.of_words-requires
-of_words-requires c = begins

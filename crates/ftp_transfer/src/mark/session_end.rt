@@ -1,0 +1,43 @@
+//! The session's end of a mark.
+
+ghost use Rattle.std.specs.Prelude.{◌≡◌, true, Contains};
+ghost use Rattle.ftp_transfer.specs.Mark.{loaded};
+
+use super::word::Place;
+use std::marker::Model;
+
+/// The end that a session holds of the transfer that it owes.
+#[derive(Drop)]
+pub struct SessionEnd {
+    pub(super) number: u64,
+    pub(super) place: Place,
+}
+
+impl Model for SessionEnd {
+    ghost use Rattle.ftp_transfer.specs.Mark.{End};
+
+    ghost Value = { End };
+
+    ghost view = { λ e. record {
+      mark = e.place.seat.table_id;
+      number = e.number;
+      loads = e.place.seat.me.0.seen;
+    } };
+}
+
+impl SessionEnd {
+    /// The number of the transfer.
+    pub fn number(&self) -> u64
+        ensures { result ≡ self.now.number }
+    {
+        self.number
+    }
+
+    /// Whether the transfer was left, by one load. After an answer true every later one is true.
+    pub fn look(&mut self) -> bool
+        ensures loaded { self.new ≡ loaded result self.old }
+        ensures stays { Contains self.old.loads true → result ≡ true }
+    {
+        self.place.load()
+    }
+}

@@ -1,0 +1,4 @@
+pub mod Asking
+pub mod Memory
+pub mod Told
+pub mod Waits

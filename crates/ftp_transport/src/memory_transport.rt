@@ -1,0 +1,231 @@
+//! The transport over memory, which is handed what its requests come to, and records them.
+//!
+//! A test, or a program that replays a dialogue, supplies connections, peers and faults, and looks at what was asked
+//! and at the data connections that are over.
+
+ghost use Rattle.std.specs.Prelude.{◌≡◌, ◌<◌, OnErr, OnOk, [], ◌∷◌, ◌++◌, length};
+ghost use Rattle.futures.specs.declared.task.Poll.TheVariants as poll;
+ghost use Rattle.ftp_transport.specs.Asking.{Asks, Supplies, comes_as, connects_as, done, done_at};
+ghost use Rattle.ftp_transport.specs.Memory.{accepts_over_memory, binds_over_memory, nothing_asked, over_memory};
+
+use super::{
+    Accepted, Asked, Connected, Listening, MemoryConn, Network, Request, RequestOutcome, Supply,
+    Transport,
+};
+use ftp_base::types::ConnectionError;
+use std::alloc::{AllocError, Global};
+use std::collections::VecDeque;
+use std::io::ErrorKind;
+use std::marker::Model;
+use std::net::SocketAddr;
+use std::time::Duration;
+
+/// A transport over memory. A connect comes to the next item that it was supplied with where that is a connection or a
+/// fault, and is refused else; an accept to the next item where that is a peer or a fault, and else its deadline passes
+/// at once. A listen takes no item.
+#[derive(Drop)]
+pub struct MemoryTransport {
+    ready: VecDeque<Supply>,
+    asked: Vec<Asked>,
+    closed: Vec<MemoryConn>,
+    port: u16,
+}
+
+/// A listener over memory, to which the peers come that its transport was supplied with.
+#[derive(Drop)]
+pub struct MemoryListener;
+
+impl Model for MemoryTransport {
+    ghost use Rattle.std.specs.Prelude.{vec_capacity};
+    ghost use Rattle.ftp_transport.specs.Memory.{Asking};
+
+    ghost Value = { Asking };
+
+    ghost view = { λ t. record {
+      answered = t.asked.items;
+      ready = t.ready.items;
+      closed = t.closed.items;
+      room = vec_capacity t.closed;
+      port = t.port;
+    } };
+}
+
+impl MemoryTransport {
+    /// A transport that refuses each connection, and whose listeners get port 0. Nothing is allocated.
+    pub fn new(alloc: Global) -> MemoryTransport
+        ensures { result ≡ nothing_asked }
+    {
+        MemoryTransport {
+            ready: VecDeque::new(alloc),
+            asked: Vec::new(alloc),
+            closed: Vec::new(alloc),
+            port: 0,
+        }
+    }
+
+    /// Adds what a request comes to, after those that were supplied before.
+    ///
+    /// # Errors
+    /// Where an allocation fails, and nothing changes.
+    pub fn supply(&mut self, supply: Supply) -> Result<(), AllocError>
+        ensures ok { OnOk result
+            (self.new ≡ record self.old { ready = self.old.ready ++ supply ∷ [] }) }
+        ensures err { OnErr result (self.new ≡ self.old) }
+    {
+        match self.ready.push_back(supply) {
+            Ok(()) => Ok(()),
+            Err(_) => Err(AllocError),
+        }
+    }
+
+    /// From now on listeners get this port.
+    pub fn listens_on(&mut self, port: u16)
+        ensures { self.new ≡ record self.old { port = port } }
+    {
+        self.port = port;
+    }
+
+    /// What was asked, with its outcome, in order.
+    pub fn asked(&self) -> &[Asked]
+        ensures { result.now ≡ self.now.answered }
+    {
+        self.asked.as_slice()
+    }
+
+    /// The data connections that are over, in order; `sent` of each is what was uploaded on it.
+    pub fn uploaded(&self) -> &[MemoryConn]
+        ensures { result.now ≡ self.now.closed }
+    {
+        self.closed.as_slice()
+    }
+
+    /// What a connect comes to. Where an allocation fails nothing was asked.
+    fn answer_connect(&mut self, request: Request) -> Connected<MemoryConn>
+        ensures asks { Asks request done (poll.Ready result) self.old.answered self.new.answered }
+        ensures supplies { Supplies (connects_as (λ c. c)) over_memory (poll.Ready result)
+            self.old.ready self.new.ready }
+        ensures others { self.new ≡
+            record self.old { answered = self.new.answered; ready = self.new.ready } }
+    {
+        self.asked.reserve(1)?;
+        let made = next_connection(&mut self.ready);
+        let outcome = match &made {
+            Ok(_) => RequestOutcome::Done,
+            Err(fault) => RequestOutcome::Refused(*fault),
+        };
+        self.asked.push(Asked { request, outcome }).unwrap();
+        Ok(made)
+    }
+}
+
+/// The next connection, or its fault; a refusal where none is next, and then nothing is taken.
+fn next_connection(ready: &mut VecDeque<Supply>) -> Result<MemoryConn, ConnectionError>
+    ensures { Supplies (connects_as (λ c. c)) over_memory (poll.Ready (Ok result)) ready.old.items
+        ready.new.items }
+{
+    if let Some(Supply::Peer(..)) = ready.front() {
+        return Err(ConnectionError::Io(ErrorKind::ConnectionRefused));
+    }
+    match ready.pop_front() {
+        Some(Supply::Connects(conn)) => Ok(conn),
+        Some(Supply::Refuses(kind)) => Err(ConnectionError::Io(kind)),
+        Some(Supply::Peer(..)) => unreachable!(),
+        None => Err(ConnectionError::Io(ErrorKind::ConnectionRefused)),
+    }
+}
+
+/// The next peer with its address, or its fault; where none is next the deadline passes, and nothing is taken.
+fn next_peer(ready: &mut VecDeque<Supply>) -> Result<(MemoryConn, SocketAddr), ConnectionError>
+    ensures { Supplies (comes_as (λ c. c)) accepts_over_memory (poll.Ready (Ok result))
+        ready.old.items ready.new.items }
+{
+    if let Some(Supply::Connects(_)) = ready.front() {
+        return Err(ConnectionError::TimedOut);
+    }
+    match ready.pop_front() {
+        Some(Supply::Peer(address, conn)) => Ok((conn, address)),
+        Some(Supply::Refuses(kind)) => Err(ConnectionError::Io(kind)),
+        Some(Supply::Connects(_)) => unreachable!(),
+        None => Err(ConnectionError::TimedOut),
+    }
+}
+
+impl Network for MemoryTransport {
+    type Conn = MemoryConn;
+
+    type Listener = MemoryListener;
+
+    ghost asked = { λ t. t.answered };
+
+    ghost ready = { λ t. t.ready };
+
+    ghost refuses = { over_memory };
+
+    ghost accept_refuses = { accepts_over_memory };
+
+    ghost port = { λ t. t.port };
+
+    ghost binds = { binds_over_memory };
+
+    ghost closed = { λ t. t.closed };
+
+    ghost has_room = { λ t. length t.closed < t.room };
+
+    fn make_room(&mut self) -> Result<(), AllocError> {
+        self.closed.reserve(1)
+    }
+
+    fn note_build(&mut self, address: SocketAddr) -> Result<(), AllocError> {
+        self.asked.reserve(1)?;
+        let request = Request::Build(address);
+        let outcome = RequestOutcome::Done;
+        self.asked.push(Asked { request, outcome }).unwrap();
+        Ok(())
+    }
+
+    fn closed(&mut self, conn: MemoryConn) {
+        let _ = self.closed.push(conn);
+    }
+}
+
+impl<R> Transport<R> for MemoryTransport {
+    fn connect(&mut self, _rt: &R, address: SocketAddr) -> Connected<MemoryConn> {
+        self.answer_connect(Request::Connect(address, None))
+    }
+
+    fn connect_timeout(
+        &mut self,
+        _rt: &R,
+        address: SocketAddr,
+        limit: Duration,
+    ) -> Connected<MemoryConn> {
+        self.answer_connect(Request::Connect(address, Some(limit)))
+    }
+
+    fn listen(&mut self, _rt: &R, address: SocketAddr) -> Listening<MemoryListener> {
+        self.asked.reserve(1)?;
+        let mut bound = address;
+        bound.set_port(self.port);
+        let outcome = RequestOutcome::Address(bound);
+        let request = Request::Listen(address);
+        self.asked.push(Asked { request, outcome }).unwrap();
+        Ok(Ok((MemoryListener, bound)))
+    }
+
+    fn accept(
+        &mut self,
+        _rt: &R,
+        _listener: &mut MemoryListener,
+        deadline: Duration,
+    ) -> Accepted<MemoryConn> {
+        self.asked.reserve(1)?;
+        let made = next_peer(&mut self.ready);
+        let outcome = match &made {
+            Ok((_, address)) => RequestOutcome::Address(*address),
+            Err(fault) => RequestOutcome::Refused(*fault),
+        };
+        let request = Request::Accept(deadline);
+        self.asked.push(Asked { request, outcome }).unwrap();
+        Ok(made)
+    }
+}
