@@ -4,11 +4,11 @@ ghost use Rattle.std.specs.Prelude.{[]};
 
 use crate::scene::{asked_text, boxed, conn_with, number};
 use ftp_base::types::{ConnectionError, FtpError, FtpResult};
+use ftp_session::session::Session;
 use ftp_transport::{
     Accepted, Connected, Listening, MemoryTransport, Network, Supply, TcpConn, TcpConnListener,
     Transport,
 };
-use ftp_session::session::Session;
 use std::alloc::{AllocError, Global};
 use std::io::{ErrorKind, Write};
 use std::net::{Net, SocketAddr, TcpListener, TcpStream};

@@ -1,9 +1,7 @@
 //! Data connections over loopback sockets: listening, accepting by a deadline, and closing.
 
 use ftp_base::types::ConnectionError;
-use ftp_transport::{
-    Conn, Network, TcpConn, TcpConnListener, TcpTransport, Tells, Transport,
-};
+use ftp_transport::{Conn, Network, TcpConn, TcpConnListener, TcpTransport, Tells, Transport};
 use std::io::{ErrorKind, Write};
 use std::net::{Net, SocketAddr, TcpListener, TcpStream};
 use std::test::Fail;

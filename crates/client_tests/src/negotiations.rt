@@ -2,8 +2,8 @@
 
 use crate::scene::{boxed, fault_text};
 use ftp_base::types::{ActivePeerCheck, FtpResult, Mode, Text};
-use ftp_transport::{TcpConn, TcpTransport};
 use ftp_session::session::{Answer, Call, Session};
+use ftp_transport::{TcpConn, TcpTransport};
 use std::alloc::Global;
 use std::io::{BufRead, BufReader, Write};
 use std::net::{Net, SocketAddr, TcpListener, TcpStream};

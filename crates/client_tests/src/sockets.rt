@@ -2,8 +2,8 @@
 
 use crate::scene::number;
 use ftp_base::types::{FtpError, FtpResult};
-use ftp_transport::{TcpConn, TcpTransport};
 use ftp_session::session::Session;
+use ftp_transport::{TcpConn, TcpTransport};
 use std::io::Write;
 use std::net::{Net, TcpListener, TcpStream};
 use std::test::Fail;

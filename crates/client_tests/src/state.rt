@@ -2,8 +2,8 @@
 
 use crate::scene::{boxed, greeted};
 use ftp_base::types::{ActivePeerCheck, FtpResult, Mode};
-use ftp_transport::{MemoryConn, MemoryTransport};
 use ftp_session::session::{Counts, Session, Settings};
+use ftp_transport::{MemoryConn, MemoryTransport};
 use std::alloc::{AllocError, Global};
 use std::test::Fail;
 use std::time::Duration;

@@ -2,8 +2,8 @@
 
 use crate::scene::{asked_text, boxed, fault_text};
 use ftp_base::types::{FtpResult, Mode, Text};
-use ftp_transport::{MemoryConn, MemoryTransport, Supply};
 use ftp_session::session::{Answer, Call, Session};
+use ftp_transport::{MemoryConn, MemoryTransport, Supply};
 use std::alloc::{AllocError, Global};
 use std::net::SocketAddr;
 use std::test::Fail;

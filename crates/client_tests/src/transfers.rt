@@ -3,8 +3,8 @@
 use crate::negotiations::{connected, next_line, port_of};
 use crate::scene::fault_text;
 use ftp_base::types::{ActivePeerCheck, Items, Mode, Text};
-use ftp_transport::TcpTransport;
 use ftp_session::session::{Answer, Call, Session};
+use ftp_transport::TcpTransport;
 use row_text::shown;
 use std::alloc::{AllocError, Global};
 use std::io::{BufReader, Read, Write};

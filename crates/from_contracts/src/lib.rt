@@ -5,8 +5,8 @@ ghost use Rattle.std.specs.Prelude.{◌≡◌, ◌⊎◌, ◌∷◌, [], IfOk};
 ghost use Rattle.from_contracts.specs.Aborted.{WasAborted};
 
 use ftp_base::types::FtpResult;
-use ftp_transport::{MemoryConn, MemoryTransport};
 use ftp_session::session::{Answer, Call, Session};
+use ftp_transport::{MemoryConn, MemoryTransport};
 use std::alloc::Global;
 
 /// A server's bytes are fed, a session is made on their connection, and it reads the greeting and says `NOOP`: both

@@ -8,10 +8,10 @@ use crate::hold::Hold;
 use crate::waiting::wait;
 use ftp_base::encoding::Encoding;
 use ftp_base::types::{ConnectionError, FtpError};
+use ftp_session::session::{Answer, Call, PolledCall, Session};
 use ftp_transport::{
     Network, PassiveStreamBuilder, PollConn, PollTransport, TaskConn, TaskTransport,
 };
-use ftp_session::session::{Answer, Call, PolledCall, Session};
 use futures::task::{Context, Poll};
 use std::alloc::{AllocError, Global};
 

@@ -2,8 +2,8 @@
 
 use ftp_base::encoding::{Encoding, Utf8Encoding};
 use ftp_base::types::{FtpError, FtpResult};
-use ftp_transport::Network;
 use ftp_session::session::{NoStreamBuilder, NoTlsConnector, Session};
+use ftp_transport::Network;
 use std::alloc::{AllocError, Global};
 use std::sync::Arc;
 use tokio::sync::Mutex;

@@ -8,11 +8,11 @@ use crate::outcome::Outcome;
 use crate::waiting::wait;
 use ftp_base::encoding::Encoding;
 use ftp_base::types::{ConnectionError, FtpError, FtpResult};
+use ftp_session::session::{Call, PolledCall, Session};
 use ftp_transport::{
     PassiveStreamBuilder, PollConn, PollTransport, TaskConn, TaskTransport, Tried,
     poll_connect_in_turn,
 };
-use ftp_session::session::{Call, PolledCall, Session};
 use futures::Future;
 use futures::task::{Context, Poll};
 use std::alloc::{AllocError, Global};

@@ -6,9 +6,7 @@ use crate::calling::Calling;
 use crate::outcome::Outcome;
 use ftp_base::encoding::Encoding;
 use ftp_base::types::{FtpResult, Response};
-use ftp_transport::{
-    PassiveStreamBuilder, PollConn, PollTransport, TaskConn, TaskTransport,
-};
+use ftp_transport::{PassiveStreamBuilder, PollConn, PollTransport, TaskConn, TaskTransport};
 use futures::Future;
 use futures::task::{Context, Poll};
 use std::marker::PhantomData;

@@ -8,11 +8,9 @@ use crate::outcome::Outcome;
 use crate::waiting::wait;
 use ftp_base::encoding::Encoding;
 use ftp_base::types::{ConnectionError, FtpError, FtpResult};
-use ftp_transport::{
-    PassiveStreamBuilder, PollConn, PollTransport, TaskConn, TaskTransport,
-};
 use ftp_session::session::{Call, PolledCall, Session};
 use ftp_transfer::Transfer;
+use ftp_transport::{PassiveStreamBuilder, PollConn, PollTransport, TaskConn, TaskTransport};
 use futures::Future;
 use futures::task::{Context, Poll};
 use std::alloc::AllocError;

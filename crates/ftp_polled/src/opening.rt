@@ -9,11 +9,9 @@ use crate::transfer_stream::TransferStream;
 use crate::waiting::wait;
 use ftp_base::encoding::Encoding;
 use ftp_base::types::{ConnectionError, FtpError, FtpResult, Response};
-use ftp_transport::{
-    PassiveStreamBuilder, PollConn, PollTransport, TaskConn, TaskTransport,
-};
 use ftp_session::session::{Call, NewMark, PolledCall, Session};
 use ftp_transfer::{Direction, Transfer};
+use ftp_transport::{PassiveStreamBuilder, PollConn, PollTransport, TaskConn, TaskTransport};
 use futures::Future;
 use futures::task::{Context, Poll};
 use std::alloc::{AllocError, Global};

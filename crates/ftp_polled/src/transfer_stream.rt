@@ -11,10 +11,10 @@ use crate::client::Shared;
 use crate::ending::{Abort, Ending, Finish};
 use crate::hold::Hold;
 use ftp_base::encoding::{Encoding, Utf8Encoding};
-use ftp_transfer::mark::Left;
-use ftp_transport::{PollConn, TaskConn, TaskTransport};
 use ftp_session::session::{NoStreamBuilder, NoTlsConnector};
+use ftp_transfer::mark::Left;
 use ftp_transfer::{Direction, Transfer};
+use ftp_transport::{PollConn, TaskConn, TaskTransport};
 use futures::task::{Context, Poll};
 use std::io::ErrorKind;
 

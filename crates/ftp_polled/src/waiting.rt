@@ -5,8 +5,8 @@ ghost use Rattle.futures.specs.Task.{IsArmed, Keeps};
 ghost use Rattle.futures.specs.declared.task.Poll.TheVariants as poll;
 
 use ftp_base::encoding::Encoding;
-use ftp_transport::{TaskConn, TaskTransport};
 use ftp_session::session::Session;
+use ftp_transport::{TaskConn, TaskTransport};
 use futures::task::{Context, Poll};
 
 /// After a poll of a session's call that waits: the task is registered for what that waits for, or asks to be polled

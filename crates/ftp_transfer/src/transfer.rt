@@ -7,7 +7,7 @@ ghost use Rattle.std.specs.Prelude.{◌≡◌, false, true};
 ghost use Rattle.ftp_transport.specs.Told.{after_close, before_fault};
 
 use crate::Direction;
-use ftp_transfer::mark::{Left, TransferEnd};
+use crate::mark::{Left, TransferEnd};
 use ftp_transport::Tells;
 use held_end::HeldEnd;
 use std::marker::Model;

@@ -2,8 +2,8 @@
 
 use crate::requests::Accept;
 use ftp_base::types::ConnectionError;
-use ftp_transport::PollTransport;
 use ftp_tokio::{TokioListener, TokioTransport};
+use ftp_transport::PollTransport;
 use futures::task::Poll;
 use std::alloc::AllocGlobal;
 use std::io;

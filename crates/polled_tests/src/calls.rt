@@ -1,7 +1,7 @@
 //! Reads and writes of a connection as futures, the way the polled client waits for them.
 
-use ftp_transport::{PollConn, TaskConn, Waiting};
 use ftp_tokio::TokioConn;
+use ftp_transport::{PollConn, TaskConn, Waiting};
 use futures::Future;
 use futures::task::{Context, Poll};
 use std::io;

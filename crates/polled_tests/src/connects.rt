@@ -2,8 +2,8 @@
 
 use crate::requests::Connect;
 use ftp_base::types::ConnectionError;
-use ftp_transport::Tells;
 use ftp_tokio::TokioTransport;
+use ftp_transport::Tells;
 use std::alloc::AllocGlobal;
 use std::io;
 use std::io::ErrorKind;

@@ -1,8 +1,8 @@
 //! Requests for connections as futures, the way the polled client waits for them.
 
 use ftp_base::types::ConnectionError;
-use ftp_transport::{PollTransport, TaskTransport, Waiting};
 use ftp_tokio::{TokioConn, TokioListener, TokioTransport};
+use ftp_transport::{PollTransport, TaskTransport, Waiting};
 use futures::Future;
 use futures::task::{Context, Poll};
 use std::io::ErrorKind;

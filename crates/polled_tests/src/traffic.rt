@@ -1,8 +1,8 @@
 //! Reads and writes of connections over tokio's sockets.
 
 use crate::calls::{ReadByte, WriteOn};
-use ftp_transport::{PollConn, Tells};
 use ftp_tokio::TokioConn;
+use ftp_transport::{PollConn, Tells};
 use futures::task::Poll;
 use std::io;
 use std::io::{ErrorKind, Read};

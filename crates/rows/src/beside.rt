@@ -3,9 +3,9 @@
 
 use crate::setup::Setup;
 use ftp_base::types::Bytes;
-use ftp_transport::{Request, RequestOutcome};
 use ftp_session::model::{DealOutcome, Dealings, Script};
 use ftp_session::session::Call;
+use ftp_transport::{Request, RequestOutcome};
 use row_text::RowError;
 use std::alloc::{AllocError, Global};
 

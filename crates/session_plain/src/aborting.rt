@@ -12,9 +12,9 @@ use crate::turns::from_turn;
 use ftp_base::command::Command;
 use ftp_base::encoding::Encoding;
 use ftp_calls::exchange::{Movement, Turn, aborts};
-use ftp_transport::Room;
 use ftp_session::model::{Played, Standing, Wait};
 use ftp_session::session::Call;
+use ftp_transport::Room;
 use std::alloc::{AllocError, Global};
 
 /// How a transfer is brought to its end.

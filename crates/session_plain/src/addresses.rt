@@ -15,9 +15,9 @@ use crate::building::{Answered, built};
 use crate::exchange::{Progress, done};
 use ftp_answers::{NoAddress, read_extended_port, read_passive_address};
 use ftp_base::types::{ConnectionError, FtpError, Response};
-use ftp_transport::{Request, RequestOutcome};
 use ftp_session::model::{Played, Standing, Wait};
 use ftp_session::session::Answer;
+use ftp_transport::{Request, RequestOutcome};
 use std::alloc::{AllocError, Global};
 use std::net::{SocketAddr, SocketAddrV4, SocketAddrV6};
 

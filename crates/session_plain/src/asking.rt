@@ -6,8 +6,8 @@ ghost use Rattle.session_plain.specs.Progress.{AsksFor};
 
 use crate::outcomes::{next_answer, part};
 use ftp_base::types::{Bytes, Items};
-use ftp_transport::{Request, RequestOutcome};
 use ftp_session::model::{Dealings, Standing, Traffic};
+use ftp_transport::{Request, RequestOutcome};
 use std::alloc::{AllocError, Global};
 use std::mem;
 

@@ -9,9 +9,9 @@ use crate::asking::{Came, asked};
 use crate::play::play_dialogue;
 use ftp_base::encoding::Encoding;
 use ftp_base::types::{ConnectionError, FtpError};
-use ftp_transport::{Request, RequestOutcome, Room};
 use ftp_session::model::{Played, Standing, Wait};
 use ftp_session::session::{Answer, Call};
+use ftp_transport::{Request, RequestOutcome, Room};
 use std::alloc::{AllocError, Global};
 
 /// What connecting comes to, where these are the requests, and this the fault where there is none.

@@ -8,9 +8,9 @@ ghost use Rattle.ftp_session.specs.Script.{last_of, succeeded};
 use crate::play::play_call;
 use ftp_base::encoding::Encoding;
 use ftp_calls::exchange::drains_first;
-use ftp_transport::Room;
 use ftp_session::model::{Played, Standing};
 use ftp_session::session::{Answer, Call, Owed};
+use ftp_transport::Room;
 use std::alloc::{AllocError, Global};
 
 /// Whether that reply is due before a call.

@@ -13,9 +13,9 @@ use crate::leaving::{drop_call, leave_now, poll_event};
 use crate::runs::replay_then;
 use ftp_base::encoding::Encoding;
 use ftp_base::types::{Bytes, Items};
-use ftp_transport::Room;
 use ftp_session::model::{Item, Ran, Script, Standing, Wait};
 use ftp_session::session::{Answer, Call, Event};
+use ftp_transport::Room;
 use std::alloc::{AllocError, Global};
 use std::mem;
 

@@ -25,10 +25,10 @@ use ftp_base::status::Status;
 use ftp_base::types::{Bytes, FtpError, FtpResult, Items, Response};
 use ftp_calls::exchange::{Codes, Ending, Exchange, Row, Turn, row_at};
 use ftp_control::control::{ReplyForm, WireLine, form_of};
-use ftp_transport::Room;
 use ftp_dialogue::answers::{features_answer, line_answer, path_answer, size_answer, time_answer};
 use ftp_session::model::{Played, Standing, Wait};
 use ftp_session::session::{Answer, Call, State};
+use ftp_transport::Room;
 use std::alloc::{AllocError, Global};
 
 /// How far a part of a dialogue gets.

@@ -13,9 +13,9 @@ use crate::turns::from_turn;
 use ftp_base::encoding::Encoding;
 use ftp_base::types::{ConnectionError, Mode};
 use ftp_calls::exchange::Turn;
-use ftp_transport::{Request, RequestOutcome, Room};
 use ftp_session::model::{Played, Standing, Wait};
 use ftp_session::session::{Answer, Call};
+use ftp_transport::{Request, RequestOutcome, Room};
 use std::alloc::{AllocError, Global};
 
 /// A data connection is negotiated, for a transfer that begins at this offset, where it can be opened.

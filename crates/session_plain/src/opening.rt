@@ -11,9 +11,9 @@ ghost use Rattle.session_plain.specs.Progress.{ComesTo};
 use crate::asking::{Came, asked};
 use crate::exchange::{Progress, done};
 use ftp_base::types::{ConnectionError, FtpError, Mode, Response};
-use ftp_transport::{Request, RequestOutcome};
 use ftp_session::model::{Played, Standing, Wait};
 use ftp_session::session::Answer;
+use ftp_transport::{Request, RequestOutcome};
 use std::alloc::{AllocError, Global};
 use std::net::SocketAddr;
 

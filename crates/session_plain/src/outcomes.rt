@@ -6,8 +6,8 @@ ghost use Rattle.session_plain.specs.Progress.{is_next, next_answer, next_built}
 
 use ftp_base::types::{FtpError, Items};
 use ftp_calls::exchange::Movement;
-use ftp_transport::RequestOutcome;
 use ftp_session::model::DealOutcome;
+use ftp_transport::RequestOutcome;
 use std::alloc::AllocError;
 
 /// The next outcome, if it is one of a request.

@@ -16,9 +16,9 @@ use crate::turns::from_turn;
 use ftp_base::encoding::Encoding;
 use ftp_base::types::FtpError;
 use ftp_calls::exchange::{Turn, drains, finishes, is_local, negotiates, of_transfer, uploads};
-use ftp_transport::Room;
 use ftp_session::model::{Played, Standing};
 use ftp_session::session::{Answer, Call, Owed};
+use ftp_transport::Room;
 use std::alloc::{AllocError, Global};
 use std::mem;
 

@@ -9,9 +9,9 @@ use crate::draining::play_drained;
 use crate::play::play_call;
 use ftp_base::encoding::Encoding;
 use ftp_base::types::Items;
-use ftp_transport::Room;
 use ftp_session::model::{Item, Played, Ran, Standing, Wait};
 use ftp_session::session::{Answer, Call};
+use ftp_transport::Room;
 use std::alloc::{AllocError, Global};
 
 /// The calls in turn.

@@ -9,9 +9,9 @@ ghost use Rattle.ftp_dialogue.specs.Play.{play};
 use crate::exchange::{Progress, row};
 use ftp_base::encoding::Encoding;
 use ftp_calls::exchange::Turn;
-use ftp_transport::Room;
 use ftp_session::model::{Played, Standing};
 use ftp_session::session::{Answer, Call};
+use ftp_transport::Room;
 use std::alloc::{AllocError, Global};
 
 /// What a call comes to from this turn on.

@@ -5,10 +5,8 @@ ghost use Rattle.ftp_transport.specs.Memory.{fresh_memory};
 
 use crate::scene::{conn_with, number};
 use ftp_base::types::{ConnectionError, FtpError, FtpResult};
-use ftp_transport::{
-    Accepted, Conn, Connected, Listening, MemoryConn, Network, Tells, Transport,
-};
 use ftp_session::session::Session;
+use ftp_transport::{Accepted, Conn, Connected, Listening, MemoryConn, Network, Tells, Transport};
 use std::alloc::{AllocError, Global};
 use std::io::ErrorKind;
 use std::net::SocketAddr;

@@ -1,9 +1,9 @@
 //! What the tests share: sessions over memory, and what their calls return.
 
 use ftp_base::types::FtpResult;
-use ftp_transport::{MemoryConn, MemoryTransport, Supply};
 use ftp_session::session::Session;
 use ftp_transfer::Transfer;
+use ftp_transport::{MemoryConn, MemoryTransport, Supply};
 use std::alloc::{AllocError, Global};
 use std::test::Fail;
 

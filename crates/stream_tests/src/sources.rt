@@ -2,9 +2,9 @@
 
 use crate::scene::{MemorySession, greeted, number};
 use ftp_base::types::{FileType, FtpError, FtpResult};
-use ftp_transport::MemoryConn;
 use ftp_session::session::DownloadReader;
 use ftp_transfer::Transfer;
+use ftp_transport::MemoryConn;
 use std::io;
 use std::io::{ErrorKind, Read};
 use std::test::Fail;

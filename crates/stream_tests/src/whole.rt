@@ -2,8 +2,8 @@
 
 use crate::scene::{MemorySession, conn_with};
 use ftp_base::types::FtpResult;
-use ftp_transport::{MemoryConn, MemoryTransport, Supply};
 use ftp_session::session::Session;
+use ftp_transport::{MemoryConn, MemoryTransport, Supply};
 use std::alloc::{AllocError, Global};
 use std::test::Fail;
 

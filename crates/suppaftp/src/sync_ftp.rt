@@ -20,8 +20,8 @@ mod transfers;
 pub use control_socket::ControlSocket;
 use ftp_base::encoding::{Encoding, Utf8Encoding};
 use ftp_base::types::{FtpError, FtpResult};
-use ftp_transport::{Network, TcpTransport};
 use ftp_session::session::{NoStreamBuilder, NoTlsConnector, Session};
+use ftp_transport::{Network, TcpTransport};
 use std::alloc::Global;
 use std::sync::{Arc, Mutex};
 

@@ -5,10 +5,10 @@
 
 use ftp_base::encoding::{Encoding, Utf8Encoding};
 use ftp_base::types::FtpResult;
-use ftp_transfer::mark::Left;
-use ftp_transport::{Conn, Network};
 use ftp_session::session::{NoStreamBuilder, NoTlsConnector, Session};
+use ftp_transfer::mark::Left;
 pub use ftp_transfer::{Direction, Transfer};
+use ftp_transport::{Conn, Network};
 use std::alloc::Global;
 use std::io;
 use std::io::{Read, Write};

@@ -18,9 +18,9 @@ use super::parameters::{NoStreamBuilder, NoTlsConnector};
 use super::{Call, Counts, State};
 use ftp_base::encoding::{Encoding, Utf8Encoding};
 use ftp_base::types::{FtpError, FtpResult};
+use ftp_dialogue::machine::Machine;
 use ftp_transfer::mark::SessionEnd;
 use ftp_transport::{Conn, Network};
-use ftp_dialogue::machine::Machine;
 use std::alloc::Global;
 
 /// A session over the connections of a transport.

@@ -21,8 +21,8 @@ use super::{Answer, Call};
 use ftp_base::encoding::Encoding;
 use ftp_base::status::Status;
 use ftp_base::types::{FileType, FtpError, FtpResult, Items, Response, Text};
-use ftp_transport::{Conn, Network};
 use ftp_dialogue::asks::Nothing;
+use ftp_transport::{Conn, Network};
 use std::alloc::{AllocError, Global};
 use std::net::SocketAddr;
 

@@ -10,8 +10,8 @@ ghost use Rattle.ftp_session.specs.Copying.{Copies, SendsAll, SendsPiece, Writes
 use ftp_base::ascii::{CrlfEncoder, upload_size};
 use ftp_base::retry::read_retrying;
 use ftp_base::types::{ConnectionError, FtpError, FtpResult};
-use ftp_transport::Conn;
 use ftp_transfer::Transfer;
+use ftp_transport::Conn;
 use std::alloc::Global;
 use std::io::{ErrorKind, Read};
 

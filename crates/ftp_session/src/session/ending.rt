@@ -15,11 +15,11 @@ use super::client::Session;
 use super::{Answer, Call};
 use ftp_base::encoding::Encoding;
 use ftp_base::types::{ConnectionError, FtpError, FtpResult};
-use ftp_transfer::mark::Left;
-use ftp_transport::{Conn, Network};
 use ftp_dialogue::asks::Nothing;
 use ftp_dialogue::machine::Machine;
 use ftp_transfer::Transfer;
+use ftp_transfer::mark::Left;
+use ftp_transport::{Conn, Network};
 use std::alloc::Global;
 
 impl<Tr: Network, K: Drop, E: Encoding, B: Drop> Session<Tr, K, E, B>

@@ -14,8 +14,8 @@ use super::copying::copy;
 use super::{Answer, Call};
 use ftp_base::encoding::Encoding;
 use ftp_base::types::FtpResult;
-use ftp_transport::{Conn, Network, PassiveStreamBuilder, Transport};
 use ftp_transfer::Transfer;
+use ftp_transport::{Conn, Network, PassiveStreamBuilder, Transport};
 use std::alloc::Global;
 use std::io::Read;
 

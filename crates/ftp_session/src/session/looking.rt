@@ -7,9 +7,9 @@
 ghost use Rattle.std.specs.Prelude.{◌≡◌};
 ghost use Rattle.ftp_session.specs.Handed.{LooksIf, as_seen, watches};
 
+use ftp_dialogue::machine::Machine;
 use ftp_transfer::mark::SessionEnd;
 use ftp_transport::Network;
-use ftp_dialogue::machine::Machine;
 
 /// Looks once at the mark of the transfer that is live, where it was handed out: one that was left is owed.
 pub(super) fn look<Tr: Network>(machine: &mut Machine<Tr>, mark: &mut Option<SessionEnd>)

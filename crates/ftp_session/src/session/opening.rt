@@ -19,10 +19,10 @@ use super::{Answer, Call};
 use ftp_base::encoding::Encoding;
 use ftp_base::status::Status;
 use ftp_base::types::{ConnectionError, FtpError, FtpResult, Items, Response, Text};
-use ftp_transfer::mark::mark;
-use ftp_transport::{Conn, Network, PassiveStreamBuilder, Tells, Transport};
 use ftp_dialogue::machine::Machine;
+use ftp_transfer::mark::mark;
 use ftp_transfer::{Direction, Transfer};
+use ftp_transport::{Conn, Network, PassiveStreamBuilder, Tells, Transport};
 use std::alloc::{AllocError, Global};
 use std::mem;
 

@@ -17,9 +17,9 @@ use super::{Answer, Call};
 use ftp_base::encoding::Encoding;
 use ftp_base::types::{FtpError, FtpResult};
 use ftp_calls::exchange::is_local;
-use ftp_transport::{Conn, Network, PassiveStreamBuilder, Transport};
 use ftp_dialogue::asks::By;
 use ftp_dialogue::machine::Machine;
+use ftp_transport::{Conn, Network, PassiveStreamBuilder, Transport};
 use std::alloc::Global;
 
 impl<Tr: Network, K: Drop, E: Encoding, B: PassiveStreamBuilder<Tr::Conn>> Session<Tr, K, E, B>

@@ -7,7 +7,7 @@
 ghost use Rattle.std.specs.Prelude.{◌≡◌, false, true};
 ghost use Rattle.ftp_transfer.specs.Mark.{loaded};
 
-use ftp_transfer::mark::{Left, TransferEnd};
+use crate::mark::{Left, TransferEnd};
 use ftp_transport::Tells;
 use std::marker::Model;
 

@@ -9,8 +9,8 @@ use crate::memory::{boxed, had};
 use crate::play::Play;
 use crate::requests::recorded;
 use crate::transcript::Standing;
-use ftp_transport::{MemoryConn, MemoryTransport};
 use ftp_session::session::{Answer, Call, Event, NoTlsConnector, Session};
+use ftp_transport::{MemoryConn, MemoryTransport};
 use row_text::RowError;
 use std::alloc::{AllocError, Global};
 

@@ -3,8 +3,8 @@
 
 use ftp_base::types::{Bytes, ConnectionError, FtpError, FtpResult, Response};
 use ftp_calls::exchange::drains_first;
-use ftp_transfer::mark::Left;
 use ftp_session::session::{Answer, Call};
+use ftp_transfer::mark::Left;
 use std::alloc::{AllocError, Global};
 use std::{io, mem};
 

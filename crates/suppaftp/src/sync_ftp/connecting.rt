@@ -3,8 +3,8 @@
 use super::ImplFtpStream;
 use ftp_base::encoding::Encoding;
 use ftp_base::types::FtpResult;
-use ftp_transport::{TcpConn, TcpTransport};
 use ftp_session::session::Session;
+use ftp_transport::{TcpConn, TcpTransport};
 use std::net::{Net, SocketAddr, TcpListener, TcpStream};
 use std::time::{Clock, Duration};
 

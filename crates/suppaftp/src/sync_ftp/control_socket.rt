@@ -2,8 +2,8 @@
 
 use super::ImplFtpStream;
 use ftp_base::encoding::{Encoding, Utf8Encoding};
-use ftp_transport::Network;
 use ftp_session::session::{NoStreamBuilder, NoTlsConnector, Session};
+use ftp_transport::Network;
 use std::sync::{MutexGuard, Wait};
 
 /// A hold of a client's lock, which lends the control connection. Dropping it lets the lock go.

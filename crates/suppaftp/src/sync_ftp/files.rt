@@ -3,8 +3,8 @@
 use super::ImplFtpStream;
 use ftp_base::encoding::Encoding;
 use ftp_base::types::FtpResult;
-use ftp_transport::{Conn, Network, PassiveStreamBuilder, Transport};
 use ftp_session::session::DownloadReader;
+use ftp_transport::{Conn, Network, PassiveStreamBuilder, Transport};
 use std::io::Read;
 use std::sync::Wait;
 
