@@ -5,6 +5,7 @@ ghost use Rattle.std.specs.Prelude.{Ok, encode_utf8_all};
 use crate::scene::{conn_with, greeted, number};
 use ftp_base::encoding::{EncodeError, Encoding, Utf8Encoding};
 use ftp_base::types::FtpResult;
+use ftp_blocking::{FtpStream, ImplFtpStream};
 use ftp_session::session::{NoTlsConnector, Session};
 use ftp_transport::MemoryTransport;
 use std::alloc::{AllocError, Global};
@@ -13,7 +14,6 @@ use std::net::{Net, TcpListener, TcpStream};
 use std::sync::Wait;
 use std::test::Fail;
 use std::{io, thread};
-use suppaftp::{FtpStream, ImplFtpStream};
 
 /// A client over memory.
 type MemoryClient = ImplFtpStream<MemoryTransport>;

@@ -4,6 +4,7 @@ ghost use Rattle.std.specs.Prelude.{[]};
 
 use crate::scene::{asked_text, boxed, conn_with, number};
 use ftp_base::types::{ConnectionError, FtpError, FtpResult};
+use ftp_blocking::FtpStream;
 use ftp_session::session::Session;
 use ftp_transport::{
     Accepted, Connected, Listening, MemoryTransport, Network, Supply, TcpConn, TcpConnListener,
@@ -16,7 +17,6 @@ use std::sync::{Arc, Mutex, Wait};
 use std::test::Fail;
 use std::time::{Clock, Duration};
 use std::{io, thread};
-use suppaftp::FtpStream;
 
 /// An address of the documentation's network.
 fn address(last: u8) -> SocketAddr {

@@ -1,7 +1,7 @@
 //! Servers on loopback sockets that break off, and the program's fault.
 
 use crate::scene::number;
-use ftp_base::types::{FtpError, FtpResult};
+use ftp_base::types::FtpResult;
 use ftp_session::session::Session;
 use ftp_transport::{TcpConn, TcpTransport};
 use std::io::Write;
@@ -31,13 +31,5 @@ fn greetings_of_servers_that_close(rt: HostRuntime) -> Result<(), Fail> {
     for (greeting, due) in [(b"220-re".as_slice(), 2), (b"hello\r\n", 11)] {
         assert_eq!(rt; greet(&rt, greeting)?, due);
     }
-    Ok(())
-}
-
-#[test]
-fn a_fault_of_the_program_is_told(rt: HostRuntime) -> Result<(), Fail> {
-    let fault = suppaftp::program::DemoError::from(FtpError::BadResponse);
-    let text = format!(in rt.alloc(); "{fault}")?;
-    assert_eq!(rt; text.as_str(), "Response contains an invalid syntax");
     Ok(())
 }

@@ -2,6 +2,8 @@
 
 use crate::negotiations::connected;
 use ftp_base::types::{FtpResult, Mode};
+use ftp_blocking::{ImplFtpStream, Transfer};
+use ftp_session::session::DownloadReader;
 use ftp_transport::{TcpConn, TcpTransport};
 use std::alloc::{AllocError, Global};
 use std::io::{Read, Write};
@@ -10,8 +12,6 @@ use std::sync::Wait;
 use std::test::Fail;
 use std::time::Clock;
 use std::{io, thread};
-use suppaftp::transfer_stream::Transfer;
-use suppaftp::{DownloadReader, ImplFtpStream};
 
 /// Sends 4 KiB so many times on the next connection, which ends then.
 fn send(data: &TcpListener, times: usize) -> io::Result<()> {

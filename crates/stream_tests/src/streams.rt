@@ -2,13 +2,13 @@
 
 use crate::scene::number;
 use ftp_base::types::FtpResult;
+use ftp_blocking::FtpStream;
 use std::io::{BufRead, BufReader, Read, Write};
 use std::net::{Net, TcpListener, TcpStream};
 use std::sync::Wait;
 use std::test::Fail;
 use std::time::Clock;
 use std::{io, thread};
-use suppaftp::FtpStream;
 
 /// Sends a file of five bytes on the next data connection, and the transfer's last reply.
 fn send_file(control: &mut TcpStream, data: &TcpListener) -> io::Result<()> {

@@ -7,9 +7,7 @@
 #![tactic(auto)]
 
 pub mod polled_ftp;
-pub mod program;
 pub mod sync_ftp;
-pub mod transfer_stream;
 
 pub use ftp_answers as answers;
 pub use ftp_base::encoding::{Encoding, Utf8Encoding};
@@ -25,5 +23,4 @@ pub use ftp_transfer::mark;
 pub use ftp_transport as transport;
 pub use ftp_transport::PassiveStreamBuilder;
 pub use polled_ftp::{AsyncFtpStream, ImplAsyncFtpStream};
-pub use sync_ftp::{ControlSocket, FtpStream, ImplFtpStream};
-pub use transfer_stream::TransferStream;
+pub use sync_ftp::{ControlSocket, FtpStream, ImplFtpStream, TransferStream};

@@ -1,10 +1,11 @@
 //! The program `suppaftp`.
 #![tactic(auto)]
 
+mod program;
+
 use std::process::ExitCode;
 use std::rt::Env;
 use std::{env, io};
-use suppaftp::program;
 
 fn main(rt: HostRuntime) -> ExitCode {
     match words(&rt) {

@@ -10,6 +10,7 @@ use crate::play::Play;
 use crate::requests::recorded;
 use crate::transcript::Standing;
 use ftp_base::types::{FtpError, FtpResult};
+use ftp_blocking::{ImplFtpStream, TransferStream};
 use ftp_session::session::{Answer, Call, NoTlsConnector, Setting};
 use ftp_transfer::mark::Left;
 use ftp_transport::MemoryTransport;
@@ -18,7 +19,6 @@ use std::alloc::{AllocError, Global};
 use std::io;
 use std::io::{Read, Write};
 use std::sync::Wait;
-use suppaftp::{ImplFtpStream, TransferStream};
 
 /// A blocking client over memory whose encoding a row may choose.
 type Client = ImplFtpStream<MemoryTransport, NoTlsConnector, Named, RowBuilder>;

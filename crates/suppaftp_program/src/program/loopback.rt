@@ -3,8 +3,8 @@
 //! Client and server are one thread: the server's lines are written before the client reads them, which a socket's
 //! buffer is large enough for.
 
-use crate::sync_ftp::FtpStream;
 use ftp_base::types::FtpError;
+use ftp_blocking::FtpStream;
 use std::io;
 use std::io::{BufRead, BufReader, Write};
 use std::net::{Net, TcpListener, TcpStream};

@@ -1,11 +1,9 @@
 //! What the program does: the demo, and the player of scripts.
-//!
-//! It is a library so that tests can call it; the crate of the program has `main` alone.
 
 mod loopback;
 
-pub use ftp_script::play_script;
-pub use loopback::{DemoError, demo};
+use ftp_script::play_script;
+use loopback::demo;
 use std::io;
 use std::io::Input;
 use std::net::{Net, TcpListener, TcpStream};

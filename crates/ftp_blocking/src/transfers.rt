@@ -5,7 +5,7 @@
 //! own.
 
 use super::ImplFtpStream;
-use crate::transfer_stream::TransferStream;
+use crate::TransferStream;
 use ftp_base::encoding::Encoding;
 use ftp_base::status::Status;
 use ftp_base::types::{FtpResult, Response};
