@@ -1,0 +1,4 @@
+use Rattle.refusals.proofs.ending.settle.Goals as goal
+
+pub returns-clause-settles : goal.returns-clause-settles
+returns-clause-settles g c = search rules

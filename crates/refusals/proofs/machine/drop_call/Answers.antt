@@ -1,0 +1,4 @@
+use Rattle.refusals.proofs.machine.drop_call.Goals as goal
+
+pub returns : goal.returns
+returns c = search rules

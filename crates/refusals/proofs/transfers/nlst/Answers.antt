@@ -1,0 +1,4 @@
+use Rattle.refusals.proofs.transfers.nlst.Goals as goal
+
+pub returns-clause-fetches : goal.returns-clause-fetches
+returns-clause-fetches g c = search rules
