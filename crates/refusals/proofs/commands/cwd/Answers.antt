@@ -1,3 +1,4 @@
+use Rattle.std.proofs.Common.{rules}
 use Rattle.refusals.proofs.commands.cwd.Goals as goal
 
 pub returns-clause-plays : goal.returns-clause-plays

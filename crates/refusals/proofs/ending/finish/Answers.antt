@@ -1,3 +1,4 @@
+use Rattle.std.proofs.Common.{rules}
 use Rattle.refusals.proofs.ending.finish.Goals as goal
 
 pub returns-clause-finishes : goal.returns-clause-finishes

@@ -1,3 +1,4 @@
+use Rattle.std.proofs.Common.{rules}
 use Rattle.refusals.proofs.machine.call.Goals as goal
 
 pub returns-clause-answers : goal.returns-clause-answers

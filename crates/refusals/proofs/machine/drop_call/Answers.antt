@@ -1,3 +1,4 @@
+use Rattle.std.proofs.Common.{rules}
 use Rattle.refusals.proofs.machine.drop_call.Goals as goal
 
 pub returns : goal.returns

@@ -1,3 +1,4 @@
+use Rattle.std.proofs.Common.{rules}
 use Rattle.refusals.proofs.polls.run_polled.Goals as goal
 
 pub returns-clause-scripted : goal.returns-clause-scripted

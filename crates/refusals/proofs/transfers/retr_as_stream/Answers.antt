@@ -1,3 +1,4 @@
+use Rattle.std.proofs.Common.{rules}
 use Rattle.refusals.proofs.transfers.retr_as_stream.Goals as goal
 
 pub returns-clause-opens : goal.returns-clause-opens
