@@ -1,0 +1,46 @@
+//! Calls that say one command, and a login.
+
+ghost use Rattle.std.specs.Prelude.{◌≡◌};
+ghost use Rattle.ftp_session.specs.Calls.{unit_answer};
+ghost use Rattle.ftp_dialogue.specs.Coding.{chosen};
+ghost use Rattle.ftp_dialogue.specs.Link.{link};
+ghost use Rattle.ftp_session.specs.Handed.{PlaysSeen};
+
+use ftp_base::encoding::Encoding;
+use ftp_base::types::FtpResult;
+use ftp_session::session::{Call, Session};
+use ftp_transport::{Conn, Network};
+use std::alloc::Global;
+
+/// `Session::cwd`.
+pub fn cwd<Tr: Network, K: Drop, E: Encoding, B: Drop>(
+    session: &mut Session<Tr, K, E, B>,
+    alloc: Global,
+    path: &str,
+) -> FtpResult<()>
+where
+    Tr::Conn: Conn,
+    ensures plays { PlaysSeen (link Tr.Conn.tells Tr.Conn.blocking_read_faults Tr.Conn.blocking_write_faults Tr.Conn.end_faults) (chosen E.decoded E.encoded session.old.encoding.0) (Call.Cwd path.now)
+        session.old.mark session.new.mark session.old.machine session.new.machine (unit_answer result) }
+    ensures encoding { session.new.encoding ≡ session.old.encoding }
+    ensures builder { session.new.builder ≡ session.old.builder }
+{
+    session.cwd(alloc, path)
+}
+
+/// `Session::login`.
+pub fn login<Tr: Network, K: Drop, E: Encoding, B: Drop>(
+    session: &mut Session<Tr, K, E, B>,
+    alloc: Global,
+    user: &str,
+    password: &str,
+) -> FtpResult<()>
+where
+    Tr::Conn: Conn,
+    ensures plays { PlaysSeen (link Tr.Conn.tells Tr.Conn.blocking_read_faults Tr.Conn.blocking_write_faults Tr.Conn.end_faults) (chosen E.decoded E.encoded session.old.encoding.0) (Call.Login user.now password.now)
+        session.old.mark session.new.mark session.old.machine session.new.machine (unit_answer result) }
+    ensures encoding { session.new.encoding ≡ session.old.encoding }
+    ensures builder { session.new.builder ≡ session.old.builder }
+{
+    session.login(alloc, user, password)
+}

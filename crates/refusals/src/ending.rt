@@ -1,0 +1,66 @@
+//! Calls that bring a transfer to its end.
+
+ghost use Rattle.std.specs.Prelude.{◌≡◌, true};
+ghost use Rattle.ftp_transfer.specs.Mark.{loaded};
+ghost use Rattle.ftp_session.specs.Calls.{unit_answer};
+ghost use Rattle.ftp_dialogue.specs.Coding.{chosen};
+ghost use Rattle.ftp_session.specs.Handed.{BringsToEnd, Settles};
+ghost use Rattle.ftp_dialogue.specs.Link.{link};
+
+use ftp_base::encoding::Encoding;
+use ftp_base::types::FtpResult;
+use ftp_session::session::{Call, Session};
+use ftp_transfer::Transfer;
+use ftp_transfer::mark::Left;
+use ftp_transport::{Conn, Network};
+use std::alloc::Global;
+
+/// `Session::finish`.
+pub fn finish<Tr: Network, K: Drop, E: Encoding, B: Drop>(
+    session: &mut Session<Tr, K, E, B>,
+    alloc: Global,
+    transfer: Transfer<Tr::Conn>,
+) -> FtpResult<()>
+where
+    Tr::Conn: Conn,
+    ensures finishes { BringsToEnd (link Tr.Conn.tells Tr.Conn.blocking_read_faults Tr.Conn.blocking_write_faults Tr.Conn.end_faults) (chosen E.decoded E.encoded session.old.encoding.0) Call.Finish transfer
+        session.old.mark session.new.mark session.old.machine session.new.machine (unit_answer result) }
+    ensures encoding { session.new.encoding ≡ session.old.encoding }
+    ensures builder { session.new.builder ≡ session.old.builder }
+{
+    session.finish(alloc, transfer)
+}
+
+/// `Session::abort`.
+pub fn abort<Tr: Network, K: Drop, E: Encoding, B: Drop>(
+    session: &mut Session<Tr, K, E, B>,
+    alloc: Global,
+    transfer: Transfer<Tr::Conn>,
+) -> FtpResult<()>
+where
+    Tr::Conn: Conn,
+    ensures aborts { BringsToEnd (link Tr.Conn.tells Tr.Conn.blocking_read_faults Tr.Conn.blocking_write_faults Tr.Conn.end_faults) (chosen E.decoded E.encoded session.old.encoding.0) Call.Abort transfer
+        session.old.mark session.new.mark session.old.machine session.new.machine (unit_answer result) }
+    ensures encoding { session.new.encoding ≡ session.old.encoding }
+    ensures builder { session.new.builder ≡ session.old.builder }
+{
+    session.abort(alloc, transfer)
+}
+
+/// `Session::settle`.
+pub fn settle<Tr: Network, K: Drop, E: Encoding, B: Drop>(
+    session: &mut Session<Tr, K, E, B>,
+    alloc: Global,
+    left: &mut Left,
+) -> FtpResult<()>
+where
+    Tr::Conn: Conn,
+    ensures settles { Settles (link Tr.Conn.tells Tr.Conn.blocking_read_faults Tr.Conn.blocking_write_faults Tr.Conn.end_faults) (chosen E.decoded E.encoded session.old.encoding.0) left.old
+        session.old.machine session.new.machine (unit_answer result) }
+    ensures looks { left.new ≡ loaded true left.old }
+    ensures mark { session.new.mark ≡ session.old.mark }
+    ensures encoding { session.new.encoding ≡ session.old.encoding }
+    ensures builder { session.new.builder ≡ session.old.builder }
+{
+    session.settle(alloc, left)
+}

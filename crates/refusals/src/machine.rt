@@ -1,0 +1,66 @@
+//! Calls of the machine that plays every dialogue.
+
+ghost use Rattle.std.specs.Prelude.{◌≡◌, true, false};
+ghost use Rattle.ftp_calls.specs.Exchanges.{is_local, negotiates, of_transfer};
+ghost use Rattle.ftp_dialogue.specs.Coding.{coding_of};
+ghost use Rattle.ftp_dialogue.specs.Dropping.{DropsCall};
+ghost use Rattle.ftp_dialogue.specs.Link.{building};
+ghost use Rattle.ftp_dialogue.specs.Play.{Lacking};
+ghost use Rattle.ftp_dialogue.specs.Promises.{refusal_of};
+ghost use Rattle.ftp_dialogue.specs.Steps.Moving.{Made, MadeDrained};
+ghost use Rattle.ftp_dialogue.specs.Steps.Stages.{MayAnswer};
+
+use ftp_base::encoding::Encoding;
+use ftp_dialogue::asks::Asks;
+use ftp_dialogue::machine::Machine;
+use ftp_dialogue::stage::Stage;
+use ftp_dialogue::{Answer, Call};
+use ftp_transport::{Conn, Network, NeverWaits};
+use std::alloc::Global;
+
+/// `Machine::call`.
+pub fn call<Tr: Network, E: Encoding, A: Asks<Tr, NeverWaits>>(
+    machine: &mut Machine<Tr>,
+    asker: &A,
+    alloc: Global,
+    encoding: &E,
+    call: &Call,
+) -> Answer
+where
+    Tr::Conn: Conn,
+    requires may { negotiates call.now ≡ true → A.may_ask }
+    requires channel { is_local call.now ≡ false }
+    requires blocks { A.may_wait → ⊥ }
+    ensures answers { of_transfer call.now ≡ false → MayAnswer call.now result }
+    ensures made { MadeDrained (building (A.builds asker.now) Tr.Conn.tells Tr.Conn.blocking_read_faults Tr.Conn.blocking_write_faults Tr.Conn.end_faults A.may_wait) (coding_of E.decoded E.encoded encoding.now) call.now
+        machine.old machine.new result }
+{
+    machine.call(asker, alloc, encoding, call)
+}
+
+/// `Machine::call_alone`.
+pub fn call_alone<Tr: Network, E: Encoding, A: Asks<Tr, NeverWaits>>(
+    machine: &mut Machine<Tr>,
+    asker: &A,
+    alloc: Global,
+    encoding: &E,
+    call: &Call,
+) -> Answer
+where
+    Tr::Conn: Conn,
+    requires may { negotiates call.now ≡ true → A.may_ask }
+    requires channel { is_local call.now ≡ false }
+    requires blocks { A.may_wait → ⊥ }
+    ensures answers { (refusal_of call.now machine.old ≡ Lacking → ⊥) → MayAnswer call.now result }
+    ensures made { Made (building (A.builds asker.now) Tr.Conn.tells Tr.Conn.blocking_read_faults Tr.Conn.blocking_write_faults Tr.Conn.end_faults A.may_wait) (coding_of E.decoded E.encoded encoding.now) call.now
+        machine.old machine.new result }
+{
+    machine.call_alone(asker, alloc, encoding, call)
+}
+
+/// `Machine::drop_call`.
+pub fn drop_call<Tr: Network>(machine: &mut Machine<Tr>, call: &Call, stage: &Stage)
+    ensures drops { DropsCall Tr.Conn.tells call.now stage.now machine.old machine.new }
+{
+    machine.drop_call(call, stage);
+}

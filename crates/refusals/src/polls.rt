@@ -1,0 +1,63 @@
+//! Polled calls, and runs of events.
+
+ghost use Rattle.std.specs.Prelude.{◌≡◌, ◌⊎◌, IfOk, IfErr, OnErr};
+ghost use Rattle.ftp_dialogue.specs.Coding.{chosen};
+ghost use Rattle.ftp_session.specs.Handed.{LooksIf, as_seen, watches};
+ghost use Rattle.ftp_dialogue.specs.Link.{building, built_by};
+ghost use Rattle.ftp_dialogue.specs.Promises.{FailsWith};
+ghost use Rattle.ftp_session.specs.Polled.{PollsCall};
+ghost use Rattle.ftp_session.specs.Scripted.{IsScripted, Stops};
+ghost use Rattle.ftp_dialogue.specs.Sound.{Sound};
+ghost use Rattle.ftp_session.specs.Steps.Following.{Grows};
+
+use ftp_base::encoding::Encoding;
+use ftp_base::types::{FtpError, FtpResult};
+use ftp_session::session::{Answer, Event, PolledCall, Session};
+use ftp_transport::{
+    MemoryConn, MemoryTransport, Network, PassiveStreamBuilder, PollConn, PollTransport,
+};
+use futures::task::Poll;
+use std::alloc::Global;
+
+/// `Session::run_polled`.
+pub fn run_polled<K: Drop, E: Encoding, B: PassiveStreamBuilder<MemoryConn>>(
+    session: &mut Session<MemoryTransport, K, E, B>,
+    alloc: Global,
+    events: &[Event],
+) -> FtpResult<Vec<Answer>>
+    ensures scripted { IfOk result (λ answers.
+        IsScripted (built_by B.answers session.old.builder) (chosen E.decoded E.encoded session.old.encoding.0) (as_seen session.new.mark session.old.machine)
+        events.now session.new.machine answers.items) }
+    ensures looks { LooksIf (watches session.old.mark session.old.machine) session.old.mark session.new.mark }
+    ensures encoding { session.new.encoding ≡ session.old.encoding }
+    ensures builder { session.new.builder ≡ session.old.builder }
+    ensures memory { IfErr result (λ fault. fault ≡ FtpError.OutOfMemory) }
+    ensures stops { OnErr result (Stops (built_by B.answers session.old.builder) (chosen E.decoded E.encoded session.old.encoding.0)
+        (as_seen session.new.mark session.old.machine) events.now session.new.machine) }
+    ensures grows { Grows (built_by B.answers session.old.builder) (as_seen session.new.mark session.old.machine) session.new.machine }
+    ensures fails { IfOk result (λ answers.
+        FailsWith (as_seen session.new.mark session.old.machine) session.new.machine answers.items) }
+    ensures sound { Sound (Unit {0}) session.new.machine.channel
+        session.new.machine.state.counts }
+{
+    session.run_polled(alloc, events)
+}
+
+/// `Session::poll_call`.
+pub fn poll_call<Tr: Network, K: Drop, E: Encoding, B: PassiveStreamBuilder<Tr::Conn>, R, W>(
+    session: &mut Session<Tr, K, E, B>,
+    alloc: Global,
+    rt: &R,
+    polled: &mut PolledCall,
+    w: &mut W,
+) -> Poll<Answer>
+where
+    Tr: PollTransport<R, W>,
+    Tr::Conn: PollConn<W>,
+    ensures polls { PollsCall (building (built_by B.answers session.old.builder) Tr.Conn.Tells.tells Tr.Conn.PollConn.read_faults Tr.Conn.PollConn.write_faults Tr.Conn.Tells.end_faults (Tr.PollTransport.may_wait ⊎ Tr.Conn.PollConn.may_wait)) Tr.Conn.PollConn.may_wait (chosen E.decoded E.encoded session.old.encoding.0)
+        polled.old polled.new session.old.mark session.new.mark session.old.machine session.new.machine result }
+    ensures encoding { session.new.encoding ≡ session.old.encoding }
+    ensures builder { session.new.builder ≡ session.old.builder }
+{
+    session.poll_call(alloc, rt, polled, w)
+}

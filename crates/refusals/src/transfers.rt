@@ -1,0 +1,117 @@
+//! Calls that open a data connection.
+
+ghost use Rattle.std.specs.Prelude.{◌≡◌, option_map};
+ghost use Rattle.ftp_calls.specs.declared.exchange.Fetch.TheVariants.{Listed, Whole};
+ghost use Rattle.ftp_dialogue.specs.Coding.{chosen};
+ghost use Rattle.ftp_dialogue.specs.Link.{building, built_by, link};
+ghost use Rattle.ftp_session.specs.Calls.{bytes_answer, lines_answer};
+ghost use Rattle.ftp_session.specs.Fetched.{Fetches};
+ghost use Rattle.ftp_session.specs.Files.{Retrieves};
+ghost use Rattle.ftp_session.specs.Handed.{Opens};
+ghost use Rattle.ftp_transfer.specs.declared.direction.Direction.TheVariants as directions;
+
+use ftp_base::encoding::Encoding;
+use ftp_base::types::FtpResult;
+use ftp_session::session::{Call, DownloadReader, Session};
+use ftp_transfer::Transfer;
+use ftp_transport::{Conn, Network, PassiveStreamBuilder, Transport};
+use std::alloc::Global;
+
+/// `Session::retr_as_stream`.
+pub fn retr_as_stream<Tr: Network, K: Drop, E: Encoding, B: PassiveStreamBuilder<Tr::Conn>, R>(
+    session: &mut Session<Tr, K, E, B>,
+    alloc: Global,
+    rt: &R,
+    path: &str,
+) -> FtpResult<Transfer<Tr::Conn>>
+where
+    Tr::Conn: Conn,
+    Tr: Transport<R>,
+    ensures opens { Opens (building (built_by B.answers session.old.builder) Tr.Conn.tells Tr.Conn.blocking_read_faults Tr.Conn.blocking_write_faults Tr.Conn.end_faults ⊥) (chosen E.decoded E.encoded session.old.encoding.0) (Call.RetrAsStream path.now)
+        directions.Download session.old.mark session.new.mark session.old.former session.new.former session.old.machine session.new.machine result }
+    ensures encoding { session.new.encoding ≡ session.old.encoding }
+    ensures builder { session.new.builder ≡ session.old.builder }
+{
+    session.retr_as_stream(alloc, rt, path)
+}
+
+/// `Session::append_with_stream`.
+pub fn append_with_stream<Tr: Network, K: Drop, E: Encoding, B: PassiveStreamBuilder<Tr::Conn>, R>(
+    session: &mut Session<Tr, K, E, B>,
+    alloc: Global,
+    rt: &R,
+    path: &str,
+) -> FtpResult<Transfer<Tr::Conn>>
+where
+    Tr::Conn: Conn,
+    Tr: Transport<R>,
+    ensures opens { Opens (building (built_by B.answers session.old.builder) Tr.Conn.tells Tr.Conn.blocking_read_faults Tr.Conn.blocking_write_faults Tr.Conn.end_faults ⊥) (chosen E.decoded E.encoded session.old.encoding.0) (Call.AppendWithStream path.now)
+        directions.Upload session.old.mark session.new.mark session.old.former session.new.former session.old.machine session.new.machine result }
+    ensures encoding { session.new.encoding ≡ session.old.encoding }
+    ensures builder { session.new.builder ≡ session.old.builder }
+{
+    session.append_with_stream(alloc, rt, path)
+}
+
+/// `Session::retr_as_buffer`.
+pub fn retr_as_buffer<Tr: Network, K: Drop, E: Encoding, B: PassiveStreamBuilder<Tr::Conn>, R>(
+    session: &mut Session<Tr, K, E, B>,
+    alloc: Global,
+    rt: &R,
+    path: &str,
+) -> FtpResult<Vec<u8>>
+where
+    Tr::Conn: Conn,
+    Tr: Transport<R>,
+    ensures fetches { Fetches (building (built_by B.answers session.old.builder) Tr.Conn.tells Tr.Conn.blocking_read_faults Tr.Conn.blocking_write_faults Tr.Conn.end_faults ⊥) (chosen E.decoded E.encoded session.old.encoding.0) (Call.Retr path.now)
+        Whole session.old.mark session.new.mark session.old.machine session.new.machine (bytes_answer result) }
+    ensures encoding { session.new.encoding ≡ session.old.encoding }
+    ensures builder { session.new.builder ≡ session.old.builder }
+{
+    session.retr_as_buffer(alloc, rt, path)
+}
+
+/// `Session::nlst`.
+pub fn nlst<Tr: Network, K: Drop, E: Encoding, B: PassiveStreamBuilder<Tr::Conn>, R>(
+    session: &mut Session<Tr, K, E, B>,
+    alloc: Global,
+    rt: &R,
+    path: Option<&str>,
+) -> FtpResult<Vec<String>>
+where
+    Tr::Conn: Conn,
+    Tr: Transport<R>,
+    ensures fetches { Fetches (building (built_by B.answers session.old.builder) Tr.Conn.tells Tr.Conn.blocking_read_faults Tr.Conn.blocking_write_faults Tr.Conn.end_faults ⊥) (chosen E.decoded E.encoded session.old.encoding.0) (Call.Nlst (option_map (λ text. text.now) path.entry))
+        Listed session.old.mark session.new.mark session.old.machine session.new.machine (lines_answer result) }
+    ensures encoding { session.new.encoding ≡ session.old.encoding }
+    ensures builder { session.new.builder ≡ session.old.builder }
+{
+    session.nlst(alloc, rt, path)
+}
+
+/// `Session::retr`.
+pub fn retr<
+    Tr: Network,
+    K: Drop,
+    E: Encoding,
+    B: PassiveStreamBuilder<Tr::Conn>,
+    R,
+    D: Drop,
+    F: DownloadReader<Tr::Conn, D>,
+>(
+    session: &mut Session<Tr, K, E, B>,
+    alloc: Global,
+    rt: &R,
+    path: &str,
+    reader: &mut F,
+) -> FtpResult<D>
+where
+    Tr::Conn: Conn,
+    Tr: Transport<R>,
+    ensures retrieves { Retrieves (building (built_by B.answers session.old.builder) Tr.Conn.tells Tr.Conn.blocking_read_faults Tr.Conn.blocking_write_faults Tr.Conn.end_faults ⊥) (link Tr.Conn.tells Tr.Conn.blocking_read_faults Tr.Conn.blocking_write_faults Tr.Conn.end_faults) (chosen E.decoded E.encoded session.old.encoding.0) (Call.RetrAsStream path.now)
+        F.reads session.old.mark session.new.mark session.old.former session.old.machine session.new.machine result }
+    ensures encoding { session.new.encoding ≡ session.old.encoding }
+    ensures builder { session.new.builder ≡ session.old.builder }
+{
+    session.retr(alloc, rt, path, reader)
+}
