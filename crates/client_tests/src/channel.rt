@@ -115,9 +115,10 @@ fn a_channel_has_the_ends_of_its_connection(rt: HostRuntime) -> Result<(), Fail>
     let local = SocketAddr::from(([192, 0, 2, 1], 50_000));
     let peer = SocketAddr::from(([192, 0, 2, 7], 21));
     let conn = MemoryConn::between(rt.alloc(), local, peer);
-    let mut channel = ControlChannel::new(rt.alloc(), conn);
-    assert_eq!(rt; channel.local_addr(), Ok(local));
-    assert_eq!(rt; channel.peer_addr(), Ok(peer));
+    let mut channel = boxed(rt.alloc(), ControlChannel::new(rt.alloc(), conn))?;
+    let ends = (channel.local_addr(), channel.peer_addr());
+    drop(channel);
+    assert_eq!(rt; ends, (Ok(local), Ok(peer)));
     Ok(())
 }
 

@@ -2,7 +2,7 @@
 
 ghost use Rattle.std.specs.Prelude.{Ok, encode_utf8_all};
 
-use crate::scene::{conn_with, greeted, number};
+use crate::scene::{boxed, conn_with, ends, greeted, number};
 use ftp_base::encoding::{EncodeError, Encoding, Utf8Encoding};
 use ftp_base::types::FtpResult;
 use ftp_control::transport::MemoryTransport;
@@ -21,7 +21,7 @@ type MemoryClient = ImplFtpStream<MemoryTransport>;
 /// A program's struct that keeps a client.
 #[derive(Drop)]
 struct Mirror {
-    client: MemoryClient,
+    client: Box<MemoryClient>,
 }
 
 impl Mirror {
@@ -50,45 +50,45 @@ impl Encoding for ReadsLatin1 {
 }
 
 /// A client whose server sent these bytes, the greeting first.
-fn client_of(alloc: Global, input: &[u8]) -> FtpResult<MemoryClient> {
-    ImplFtpStream::new(alloc, greeted(alloc, input)?)
+fn client_of(alloc: Global, input: &[u8]) -> FtpResult<Box<MemoryClient>> {
+    let session = Box::into_inner(greeted(alloc, input)?);
+    boxed(alloc, ImplFtpStream::new(alloc, session)?)
 }
 
-/// Whether a client that is lent still answers.
-fn is_alive<R: Wait + AllocGlobal>(rt: &R, client: &MemoryClient) -> bool {
-    client.noop(rt).is_ok()
+/// What a client that is lent answers: 0, or the number of its fault.
+fn lent<R: Wait + AllocGlobal>(rt: &R, client: &MemoryClient) -> u8 {
+    number(client.noop(rt))
 }
 
 /// A client over a loopback socket and the server's end of it. The server greets, and answers so many rounds in
 /// advance.
-fn connected<R>(rt: &R, round: &[u8], count: u32) -> Result<(FtpStream, TcpStream), Fail>
+fn connected<R>(rt: &R, round: &[u8], count: u32) -> Result<(Box<FtpStream>, TcpStream), Fail>
 where
     R: Net<Listener = TcpListener, Stream = TcpStream> + AllocGlobal,
 {
-    let listener = TcpListener::bind(rt, "127.0.0.1:0")?;
-    let stream = TcpStream::connect(rt, listener.local_addr()?)?;
-    let (mut server, _peer) = listener.accept()?;
+    let (near, mut server) = ends(rt, "127.0.0.1:0")?;
     server.write_all(b"220 ready\r\n")?;
     for _ in 0..count {
         server.write_all(round)?;
     }
-    Ok((FtpStream::connect_with_stream(rt, stream)?, server))
+    Ok((client_on(rt, near)?, server))
 }
 
-/// Sends NOOP twenty times.
-fn noops<R: Wait + AllocGlobal>(rt: &R, client: &FtpStream) -> FtpResult<()> {
-    for _ in 0..20 {
-        client.noop(rt)?;
-    }
-    Ok(())
+/// A client on a socket.
+fn client_on<R: AllocGlobal>(rt: &R, stream: TcpStream) -> FtpResult<Box<FtpStream>> {
+    boxed(rt.alloc(), FtpStream::connect_with_stream(rt, stream)?)
 }
 
-/// Renames a file twenty times.
-fn renames<R: Wait + AllocGlobal>(rt: &R, client: &FtpStream) -> FtpResult<()> {
-    for _ in 0..20 {
-        client.rename(rt, "a", "b")?;
-    }
-    Ok(())
+/// Sends NOOP twenty times; how often the answer is a fault.
+fn noops<R: Wait + AllocGlobal>(rt: &R, client: &FtpStream) -> usize {
+    (0..20).filter(|_| number(client.noop(rt)) != 0).count()
+}
+
+/// Renames a file twenty times; how often the answer is a fault.
+fn renames<R: Wait + AllocGlobal>(rt: &R, client: &FtpStream) -> usize {
+    (0..20)
+        .filter(|_| number(client.rename(rt, "a", "b")) != 0)
+        .count()
 }
 
 /// How often these lines stand in what the server received, and how many bytes that is.
@@ -101,8 +101,9 @@ fn rounds_received(alloc: Global, server: TcpStream, lines: &str) -> io::Result<
 fn a_client_is_returned_kept_and_lent(rt: HostRuntime) -> Result<(), Fail> {
     let client = client_of(rt.alloc(), b"220 r\r\n250 in\r\n200 ok\r\n")?;
     let mirror = Mirror { client };
-    assert!(rt; mirror.enter(&rt, "pub").is_ok());
-    assert!(rt; is_alive(&rt, &mirror.client));
+    let answers = (number(mirror.enter(&rt, "pub")), lent(&rt, &mirror.client));
+    drop(mirror);
+    assert_eq!(rt; answers, (0, 0));
     Ok(())
 }
 
@@ -111,9 +112,9 @@ fn the_control_connection_is_lent(rt: HostRuntime) -> Result<(), Fail> {
     let client = client_of(rt.alloc(), b"220 r\r\n250 in\r\n")?;
     client.cwd(&rt, "pub")?;
     let control = client.get_ref(&rt);
-    assert_eq!(rt; control.socket().sent(), b"CWD pub\r\n".as_slice());
+    let same = control.socket().sent() == b"CWD pub\r\n".as_slice();
     drop(control);
-    assert_eq!(rt; number(client.noop(&rt)), 2);
+    assert_eq!(rt; (same, number(client.noop(&rt))), (true, 2));
     Ok(())
 }
 
@@ -122,43 +123,49 @@ fn a_client_is_sent_to_a_thread_and_back(rt: HostRuntime) -> Result<(), Fail> {
     let client = client_of(rt.alloc(), b"220 r\r\n200 ok\r\n200 ok\r\n")?;
     let child = thread::spawn(&rt, move || (number(client.noop(&rt)), client))?;
     let (answer, client) = child.join(&rt);
-    assert_eq!(rt; answer, 0);
-    assert!(rt; is_alive(&rt, &client));
+    assert_eq!(rt; (answer, lent(&rt, &client)), (0, 0));
     Ok(())
 }
 
 #[test]
 fn commands_of_two_threads_are_not_torn(rt: HostRuntime) -> Result<(), Fail> {
     let (client, server) = connected(&rt, b"200 ok\r\n", 40)?;
-    let (first, second) = thread::join(&rt, || noops(&rt, &client), || noops(&rt, &client));
-    assert_eq!(rt; (number(first), number(second)), (0, 0));
+    let faults = thread::join(&rt, || noops(&rt, &client), || noops(&rt, &client));
     drop(client);
     let rounds = rounds_received(rt.alloc(), server, "NOOP\r\n")?;
-    assert_eq!(rt; rounds, (40, 240));
+    assert_eq!(rt; (faults, rounds), ((0, 0), (40, 240)));
     Ok(())
 }
 
 #[test]
 fn the_two_lines_of_a_rename_stay_together(rt: HostRuntime) -> Result<(), Fail> {
     let (client, server) = connected(&rt, b"350 to?\r\n250 ok\r\n", 40)?;
-    let (first, second) = thread::join(&rt, || renames(&rt, &client), || renames(&rt, &client));
-    assert_eq!(rt; (number(first), number(second)), (0, 0));
+    let faults = thread::join(&rt, || renames(&rt, &client), || renames(&rt, &client));
     drop(client);
     let rounds = rounds_received(rt.alloc(), server, "RNFR a\r\nRNTO b\r\n")?;
-    assert_eq!(rt; rounds, (40, 640));
+    assert_eq!(rt; (faults, rounds), ((0, 0), (40, 640)));
     Ok(())
+}
+
+/// A client that reads Latin-1 once it is told to.
+type Client = ImplFtpStream<MemoryTransport, NoTlsConnector, ReadsLatin1>;
+
+/// Such a client, whose server greeted with a byte that is no UTF-8.
+fn greeted_in_latin1(alloc: Global) -> FtpResult<Box<Client>> {
+    let conn = conn_with(alloc, b"220 caf\xe9\r\n")?;
+    let session: Session<MemoryTransport, NoTlsConnector, ReadsLatin1> =
+        Session::connect_with_stream(alloc, MemoryTransport::new(alloc), conn)?;
+    boxed(alloc, ImplFtpStream::new(alloc, session)?)
 }
 
 #[test]
 fn an_encoding_that_is_set_reads_the_welcome_again(rt: HostRuntime) -> Result<(), Fail> {
-    let conn = conn_with(rt.alloc(), b"220 caf\xe9\r\n")?;
-    let session: Session<MemoryTransport, NoTlsConnector, ReadsLatin1> =
-        Session::connect_with_stream(rt.alloc(), MemoryTransport::new(rt.alloc()), conn)?;
-    let client = ImplFtpStream::new(rt.alloc(), session)?;
+    let client = greeted_in_latin1(rt.alloc())?;
     let before = client.get_welcome_msg(&rt)?;
-    assert_eq!(rt; before.as_deref(), Some("220 caf\u{fffd}"));
     client.set_encoding(&rt, ReadsLatin1)?;
     let after = client.get_welcome_msg(&rt)?;
-    assert_eq!(rt; after.as_deref(), Some("220 caf\u{e9}"));
+    drop(client);
+    let due = (Some("220 caf\u{fffd}"), Some("220 caf\u{e9}"));
+    assert_eq!(rt; (before.as_deref(), after.as_deref()), due);
     Ok(())
 }

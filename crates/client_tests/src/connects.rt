@@ -37,8 +37,11 @@ fn connected<R: AllocGlobal>(
     rt: &R,
     transport: MemoryTransport,
     addresses: &[SocketAddr],
-) -> FtpResult<Session<MemoryTransport>> {
-    Session::connect(rt.alloc(), rt, transport, addresses)
+) -> FtpResult<Box<Session<MemoryTransport>>> {
+    boxed(
+        rt.alloc(),
+        Session::connect(rt.alloc(), rt, transport, addresses)?,
+    )
 }
 
 /// The kind of a connection's fault.
@@ -124,16 +127,18 @@ fn within<R: Wait + AllocGlobal>(rt: &R, seconds: u64) -> Result<(u8, u32), Allo
     let transport = Counting {
         count: count.clone()?,
     };
-    let limit = Duration::from_secs(seconds);
-    let session: FtpResult<Session<Counting>> = Session::connect_timeout(
-        alloc,
-        rt,
-        transport,
-        address(1),
-        limit,
-    );
+    let refusal = number(counted(rt, transport, Duration::from_secs(seconds)));
     let asked = *count.lock(rt);
-    Ok((number(session), asked))
+    Ok((refusal, asked))
+}
+
+/// A session that connects without a network.
+fn counted<R: Wait + AllocGlobal>(
+    rt: &R,
+    transport: Counting,
+    limit: Duration,
+) -> FtpResult<Session<Counting>> {
+    Session::connect_timeout(rt.alloc(), rt, transport, address(1), limit)
 }
 
 /// A server of one client: it sends all its replies at once, and returns what it received.
@@ -148,7 +153,7 @@ fn visit<R>(rt: &R, addresses: &[SocketAddr]) -> FtpResult<()>
 where
     R: Net<Listener = TcpListener, Stream = TcpStream> + Clock + Wait + AllocGlobal,
 {
-    let client = FtpStream::connect(rt, addresses)?;
+    let client = boxed(rt.alloc(), FtpStream::connect(rt, addresses)?)?;
     client.login(rt, "anonymous", "guest@example.org")?;
     client.noop(rt)?;
     client.quit(rt)
@@ -159,13 +164,12 @@ fn the_first_address_that_does_not_refuse_is_taken(rt: HostRuntime) -> Result<()
     let alloc = rt.alloc();
     let transport = after_two_refusals(alloc, b"220 r\r\n200 ok\r\n")?;
     let addresses = [address(1), address(2), address(3), address(4)];
-    let mut session = boxed(alloc, connected(&rt, transport, &addresses)?)?;
-    assert_eq!(rt; number(session.noop(alloc)), 0);
+    let mut session = connected(&rt, transport, &addresses)?;
+    let answer = number(session.noop(alloc));
     let asked = asked_text(alloc, session.transport().asked())?;
-    assert_eq!(rt;
-        asked.as_str(),
-        "-192.0.2.1:21 -192.0.2.2:21 +192.0.2.3:21 "
-    );
+    drop(session);
+    let due = "-192.0.2.1:21 -192.0.2.2:21 +192.0.2.3:21 ";
+    assert_eq!(rt; (answer, asked.as_str()), (0, due));
     Ok(())
 }
 
@@ -173,11 +177,28 @@ fn the_first_address_that_does_not_refuse_is_taken(rt: HostRuntime) -> Result<()
 fn the_last_address_says_why_none_connects(rt: HostRuntime) -> Result<(), Fail> {
     let alloc = rt.alloc();
     let transport = after_two_refusals(alloc, b"220 r\r\n")?;
-    let session = connected(&rt, transport, &[address(1), address(2)]);
-    assert_eq!(rt; kind_of(session), Some(ErrorKind::ConnectionReset));
-    let session = connected(&rt, MemoryTransport::new(alloc), &[address(1)]);
-    assert_eq!(rt; kind_of(session), Some(ErrorKind::ConnectionRefused));
+    let second = kind_of(connected(&rt, transport, &[address(1), address(2)]));
+    let only = kind_of(connected(&rt, MemoryTransport::new(alloc), &[address(1)]));
+    assert_eq!(rt;
+        (second, only),
+        (
+            Some(ErrorKind::ConnectionReset),
+            Some(ErrorKind::ConnectionRefused)
+        )
+    );
     Ok(())
+}
+
+/// The session over memory that connects to an address within seven seconds.
+fn connected_within<R: AllocGlobal>(
+    rt: &R,
+    transport: MemoryTransport,
+) -> FtpResult<Box<Session<MemoryTransport>>> {
+    let limit = Duration::from_secs(7);
+    boxed(
+        rt.alloc(),
+        Session::connect_timeout(rt.alloc(), rt, transport, address(1), limit)?,
+    )
 }
 
 #[test]
@@ -185,24 +206,16 @@ fn a_connection_within_a_time_is_asked_for_with_it(rt: HostRuntime) -> Result<()
     let alloc = rt.alloc();
     let mut transport = MemoryTransport::new(alloc);
     transport.supply(Supply::Connects(conn_with(alloc, b"220 r\r\n")?))?;
-    let limit = Duration::from_secs(7);
-    let session: Session<MemoryTransport> = Session::connect_timeout(
-        alloc,
-        &rt,
-        transport,
-        address(1),
-        limit,
-    )?;
-    let session = boxed(alloc, session)?;
+    let session = connected_within(&rt, transport)?;
     let asked = asked_text(alloc, session.transport().asked())?;
+    drop(session);
     assert_eq!(rt; asked.as_str(), "+192.0.2.1:21 in 7 ");
     Ok(())
 }
 
 #[test]
 fn no_time_asks_for_no_connection(rt: HostRuntime) -> Result<(), Fail> {
-    assert_eq!(rt; within(&rt, 0)?, (8, 0));
-    assert_eq!(rt; within(&rt, 1)?, (1, 1));
+    assert_eq!(rt; (within(&rt, 0)?, within(&rt, 1)?), ((8, 0), (1, 1)));
     Ok(())
 }
 
@@ -213,11 +226,21 @@ fn a_client_logs_in_on_the_address_that_answers(rt: HostRuntime) -> Result<(), F
     let open = listener.local_addr()?;
     let replies = b"220 ready\r\n331 pw\r\n230 in\r\n200 ok\r\n221 bye\r\n";
     let server = thread::spawn(&rt, move || serve(rt.alloc(), &listener, replies))?;
-    assert_eq!(rt; number(visit(&rt, &[closed, open])), 0);
+    let answer = number(visit(&rt, &[closed, open]));
     let received = server.join(&rt)?;
     let lines = "USER anonymous\r\nPASS guest@example.org\r\nNOOP\r\nQUIT\r\n";
-    assert_eq!(rt; received.as_str(), lines);
+    assert_eq!(rt; (answer, received.as_str()), (0, lines));
     Ok(())
+}
+
+/// What a server greets a client with that connects within five seconds.
+fn welcome<R>(rt: &R, address: SocketAddr) -> FtpResult<Option<String>>
+where
+    R: Net<Listener = TcpListener, Stream = TcpStream> + Clock + Wait + AllocGlobal,
+{
+    let limit = Duration::from_secs(5);
+    let client = boxed(rt.alloc(), FtpStream::connect_timeout(rt, address, limit)?)?;
+    client.get_welcome_msg(rt)
 }
 
 #[test]
@@ -225,13 +248,10 @@ fn a_client_connects_within_a_time_and_not_in_none(rt: HostRuntime) -> Result<()
     let listener = TcpListener::bind(&rt, "127.0.0.1:0")?;
     let address = listener.local_addr()?;
     let server = thread::spawn(&rt, move || serve(rt.alloc(), &listener, b"220 ready\r\n"))?;
-    assert_eq!(rt;
-        number(FtpStream::connect_timeout(&rt, address, Duration::ZERO)),
-        8
-    );
-    let client = FtpStream::connect_timeout(&rt, address, Duration::from_secs(5))?;
-    assert_eq!(rt; client.get_welcome_msg(&rt)?.as_deref(), Some("220 ready"));
-    drop(client);
-    assert_eq!(rt; server.join(&rt)?.as_str(), "");
+    let refusal = number(FtpStream::connect_timeout(&rt, address, Duration::ZERO));
+    let welcome = welcome(&rt, address)?;
+    let received = server.join(&rt)?;
+    let came = (refusal, welcome.as_deref(), received.as_str());
+    assert_eq!(rt; came, (8, Some("220 ready"), ""));
     Ok(())
 }

@@ -1,7 +1,7 @@
 //! Data connections over memory: which request takes which item, and what is on record.
 
-use crate::scene::{asked_text, conn_with};
-use ftp_base::types::ConnectionError;
+use crate::scene::{asked_text, boxed, conn_with};
+use ftp_base::types::{ConnectionError, FtpResult};
 use ftp_control::transport::{
     Conn, MemoryConn, MemoryTransport, Network, NeverWaits, PollTransport, Supply, Tells, Transport,
 };
@@ -23,10 +23,41 @@ fn address(last: u8, port: u16) -> SocketAddr {
 }
 
 /// A transport that was supplied with this.
-fn supplied(alloc: Global, supply: Supply) -> Result<MemoryTransport, AllocError> {
-    let mut transport = MemoryTransport::new(alloc);
+fn supplied(alloc: Global, supply: Supply) -> FtpResult<Box<MemoryTransport>> {
+    let mut transport = boxed(alloc, MemoryTransport::new(alloc))?;
     transport.supply(supply)?;
     Ok(transport)
+}
+
+/// How many bytes came on the connection that is asked for, or why there is none.
+fn connected(
+    transport: &mut MemoryTransport,
+    within: Option<Duration>,
+) -> Result<Result<usize, ConnectionError>, AllocError> {
+    let made = match within {
+        Some(limit) => transport.connect_timeout(&(), address(1, 21), limit)?,
+        None => transport.connect(&(), address(1, 21))?,
+    };
+    Ok(match made {
+        Ok(conn) => Ok(conn.unread()),
+        Err(fault) => Err(fault),
+    })
+}
+
+/// Where the peer comes from that a listener waits for, and how many bytes came; or why nobody comes.
+fn accepted(
+    transport: &mut MemoryTransport,
+) -> Result<Result<(SocketAddr, usize), ConnectionError>, Fail> {
+    let (mut listener, _bound) = transport.listen(&(), address(1, 0))??;
+    Ok(match transport.accept(&(), &mut listener, limit())? {
+        Ok((conn, from)) => Ok((from, conn.unread())),
+        Err(fault) => Err(fault),
+    })
+}
+
+/// A fault of this kind.
+fn fault(kind: ErrorKind) -> ConnectionError {
+    ConnectionError::Io(kind)
 }
 
 /// A connection on which these bytes went out.
@@ -51,19 +82,21 @@ where
     }
 }
 
+/// How many bytes came on the connection that a poll makes; `None` where it makes none.
+fn polled_connect(transport: &mut MemoryTransport, limit: Option<Duration>) -> Option<usize> {
+    match transport.poll_connect(&(), &mut (), address(1, 21), limit) {
+        Poll::Ready(Ok(Ok(conn))) => Some(conn.unread()),
+        _ => None,
+    }
+}
+
 #[test]
 fn a_connect_leaves_a_peer_where_it_is(rt: HostRuntime) -> Result<(), Fail> {
     let peer = Supply::Peer(address(7, 20), conn_with(rt.alloc(), b"abc")?);
     let mut transport = supplied(rt.alloc(), peer)?;
-    let made = transport.connect(&rt, address(1, 21))?;
-    assert_eq!(rt;
-        made.err(),
-        Some(ConnectionError::Io(ErrorKind::ConnectionRefused))
-    );
-    let (mut listener, _bound) = transport.listen(&rt, address(1, 0))??;
-    let (conn, from) = transport.accept(&rt, &mut listener, limit())??;
-    assert_eq!(rt; from, address(7, 20));
-    assert_eq!(rt; conn.unread(), 3);
+    let made = (connected(&mut transport, None)?, accepted(&mut transport)?);
+    let refusal = Err(fault(ErrorKind::ConnectionRefused));
+    assert_eq!(rt; made, (refusal, Ok((address(7, 20), 3))));
     Ok(())
 }
 
@@ -71,11 +104,9 @@ fn a_connect_leaves_a_peer_where_it_is(rt: HostRuntime) -> Result<(), Fail> {
 fn an_accept_leaves_a_connection_where_it_is(rt: HostRuntime) -> Result<(), Fail> {
     let conn = Supply::Connects(conn_with(rt.alloc(), b"abc")?);
     let mut transport = supplied(rt.alloc(), conn)?;
-    let (mut listener, _bound) = transport.listen(&rt, address(1, 0))??;
-    let made = transport.accept(&rt, &mut listener, limit())?;
-    assert_eq!(rt; made.err(), Some(ConnectionError::TimedOut));
-    let conn = transport.connect_timeout(&rt, address(1, 21), limit())??;
-    assert_eq!(rt; conn.unread(), 3);
+    let nobody = accepted(&mut transport)?;
+    let made = connected(&mut transport, Some(limit()))?;
+    assert_eq!(rt; (nobody, made), (Err(ConnectionError::TimedOut), Ok(3)));
     Ok(())
 }
 
@@ -83,31 +114,18 @@ fn an_accept_leaves_a_connection_where_it_is(rt: HostRuntime) -> Result<(), Fail
 fn a_fault_comes_to_a_connect_and_to_an_accept_alike(rt: HostRuntime) -> Result<(), Fail> {
     let mut transport = supplied(rt.alloc(), Supply::Refuses(ErrorKind::NetworkDown))?;
     transport.supply(Supply::Refuses(ErrorKind::ConnectionAborted))?;
-    let (mut listener, _bound) = transport.listen(&rt, address(1, 0))??;
-    let made = transport.connect(&rt, address(1, 21))?;
-    assert_eq!(rt;
-        made.err(),
-        Some(ConnectionError::Io(ErrorKind::NetworkDown))
-    );
-    let made = transport.accept(&rt, &mut listener, limit())?;
-    assert_eq!(rt;
-        made.err(),
-        Some(ConnectionError::Io(ErrorKind::ConnectionAborted))
-    );
+    let made = (connected(&mut transport, None)?, accepted(&mut transport)?);
+    let down = Err(fault(ErrorKind::NetworkDown));
+    assert_eq!(rt; made, (down, Err(fault(ErrorKind::ConnectionAborted))));
     Ok(())
 }
 
 #[test]
 fn after_the_last_item_nothing_connects_and_nobody_comes(rt: HostRuntime) -> Result<(), Fail> {
-    let mut transport = MemoryTransport::new(rt.alloc());
-    let (mut listener, _bound) = transport.listen(&rt, address(1, 0))??;
-    let made = transport.connect(&rt, address(1, 21))?;
-    assert_eq!(rt;
-        made.err(),
-        Some(ConnectionError::Io(ErrorKind::ConnectionRefused))
-    );
-    let made = transport.accept(&rt, &mut listener, limit())?;
-    assert_eq!(rt; made.err(), Some(ConnectionError::TimedOut));
+    let mut transport = boxed(rt.alloc(), MemoryTransport::new(rt.alloc()))?;
+    let made = (connected(&mut transport, None)?, accepted(&mut transport)?);
+    let refusal = Err(fault(ErrorKind::ConnectionRefused));
+    assert_eq!(rt; made, (refusal, Err(ConnectionError::TimedOut)));
     Ok(())
 }
 
@@ -115,10 +133,9 @@ fn after_the_last_item_nothing_connects_and_nobody_comes(rt: HostRuntime) -> Res
 fn a_transport_that_blocks_can_be_polled(rt: HostRuntime) -> Result<(), Fail> {
     let peer = Supply::Peer(address(7, 20), MemoryConn::new(rt.alloc()));
     let mut transport = supplied(rt.alloc(), peer)?;
-    let from = polled_peer(&mut transport, &rt, &mut NeverWaits);
-    assert_eq!(rt; from, Some(address(7, 20)));
-    let from = polled_peer(&mut transport, &rt, &mut NeverWaits);
-    assert_eq!(rt; from, None);
+    let first = polled_peer(&mut *transport, &rt, &mut NeverWaits);
+    let second = polled_peer(&mut *transport, &rt, &mut NeverWaits);
+    assert_eq!(rt; (first, second), (Some(address(7, 20)), None));
     Ok(())
 }
 
@@ -128,26 +145,21 @@ fn a_poll_over_memory_is_the_call_that_blocks(rt: HostRuntime) -> Result<(), Fai
     let mut transport = supplied(rt.alloc(), peer)?;
     transport.supply(Supply::Connects(conn_with(rt.alloc(), b"abc")?))?;
     transport.supply(Supply::Connects(conn_with(rt.alloc(), b"de")?))?;
-    let from = polled_peer(&mut transport, &rt, &mut ());
-    assert_eq!(rt; from, Some(address(7, 20)));
-    for (limit, due) in [(None, 3), (Some(limit()), 2)] {
-        let made = transport.poll_connect(&rt, &mut (), address(1, 21), limit);
-        let Poll::Ready(Ok(Ok(conn))) = made else {
-            return Err(Fail::new(format_args!("nothing connected")));
-        };
-        assert_eq!(rt; conn.unread(), due);
-    }
+    let from = polled_peer(&mut *transport, &rt, &mut ());
+    let first = polled_connect(&mut transport, None);
+    let second = polled_connect(&mut transport, Some(limit()));
+    let due = (Some(address(7, 20)), Some(3), Some(2));
+    assert_eq!(rt; (from, first, second), due);
     Ok(())
 }
 
 #[test]
 fn a_listener_gets_the_port_that_was_set(rt: HostRuntime) -> Result<(), Fail> {
-    let mut transport = MemoryTransport::new(rt.alloc());
-    let (_listener, bound) = transport.listen(&rt, address(1, 0))??;
-    assert_eq!(rt; bound, address(1, 0));
+    let mut transport = boxed(rt.alloc(), MemoryTransport::new(rt.alloc()))?;
+    let (_listener, before) = transport.listen(&rt, address(1, 0))??;
     transport.listens_on(50_000);
-    let (_listener, bound) = transport.listen(&rt, address(1, 0))??;
-    assert_eq!(rt; bound, address(1, 50_000));
+    let (_listener, after) = transport.listen(&rt, address(1, 0))??;
+    assert_eq!(rt; (before, after), (address(1, 0), address(1, 50_000)));
     Ok(())
 }
 
@@ -157,20 +169,20 @@ fn requests_are_on_record_with_their_outcomes(rt: HostRuntime) -> Result<(), Fai
     let mut transport = supplied(rt.alloc(), peer)?;
     transport.listens_on(2100);
     let (mut listener, _bound) = transport.listen(&rt, address(1, 0))??;
-    let _refused = transport.connect(&rt, address(1, 21))?;
-    let _made = transport.accept(&rt, &mut listener, limit())?;
-    let _late = transport.accept(&rt, &mut listener, limit())?;
-    assert_eq!(rt;
-        asked_text(rt.alloc(), transport.asked())?.as_str(),
-        "+listen 192.0.2.1:0 at 192.0.2.1:2100 -192.0.2.1:21 +accept in 60 at 192.0.2.7:20 \
-         -accept in 60 "
-    );
+    drop(transport.connect(&rt, address(1, 21))?);
+    drop(transport.accept(&rt, &mut listener, limit())?);
+    drop(transport.accept(&rt, &mut listener, limit())?);
+    let asked = asked_text(rt.alloc(), transport.asked())?;
+    drop(transport);
+    let due = "+listen 192.0.2.1:0 at 192.0.2.1:2100 -192.0.2.1:21 +accept in 60 at 192.0.2.7:20 \
+               -accept in 60 ";
+    assert_eq!(rt; asked.as_str(), due);
     Ok(())
 }
 
 #[test]
 fn connections_that_are_over_are_kept_in_order(rt: HostRuntime) -> Result<(), Fail> {
-    let mut transport = MemoryTransport::new(rt.alloc());
+    let mut transport = boxed(rt.alloc(), MemoryTransport::new(rt.alloc()))?;
     for bytes in [b"one", b"two"] {
         transport.make_room()?;
         transport.closed(sent(rt.alloc(), bytes)?);
@@ -178,18 +190,21 @@ fn connections_that_are_over_are_kept_in_order(rt: HostRuntime) -> Result<(), Fa
     let [first, second] = transport.uploaded() else {
         return Err(Fail::new(format_args!("two were closed")));
     };
-    assert_eq!(rt; first.sent(), b"one".as_slice());
-    assert_eq!(rt; second.sent(), b"two".as_slice());
+    let due = (b"one".as_slice(), b"two".as_slice());
+    assert_eq!(rt; (first.sent(), second.sent()), due);
     Ok(())
 }
 
 #[test]
 fn a_connection_over_memory_has_the_ends_that_it_was_given(rt: HostRuntime) -> Result<(), Fail> {
-    let mut conn = MemoryConn::between(rt.alloc(), address(1, 50_000), address(7, 20));
-    assert_eq!(rt; conn.local_addr(), Ok(address(1, 50_000)));
-    assert_eq!(rt; conn.peer_addr(), Ok(address(7, 20)));
-    let mut conn = MemoryConn::new(rt.alloc());
-    assert_eq!(rt; conn.peer_addr(), Ok(SocketAddr::from(([0, 0, 0, 0], 0))));
-    assert_eq!(rt; conn.close(), Ok(()));
+    let (local, peer) = (address(1, 50_000), address(7, 20));
+    let mut conn = boxed(rt.alloc(), MemoryConn::between(rt.alloc(), local, peer))?;
+    let mut other = boxed(rt.alloc(), MemoryConn::new(rt.alloc()))?;
+    let ends = (conn.local_addr(), conn.peer_addr(), other.peer_addr());
+    let nowhere = SocketAddr::from(([0, 0, 0, 0], 0));
+    assert_eq!(rt;
+        (ends, other.close()),
+        ((Ok(local), Ok(peer), Ok(nowhere)), Ok(()))
+    );
     Ok(())
 }

@@ -1,12 +1,11 @@
 //! Lines for which there is little room.
 
-use crate::scene::{boxed, conn_with};
+use crate::scene::{boxed, conn_with, greeted_over};
 use ftp_base::command::Command;
 use ftp_base::encoding::Utf8Encoding;
 use ftp_base::types::{ConnectionError, FtpError, FtpResult};
 use ftp_control::control::{ControlChannel, WireLine};
 use ftp_control::transport::{MemoryConn, MemoryTransport};
-use ftp_session::session::Session;
 use futures::task::Poll;
 use row_text::shown;
 use std::alloc::{AllocError, Global};
@@ -75,16 +74,11 @@ fn with_traffic(
     format!(in alloc; "{first}, {second}: {sent} and {received}")
 }
 
-/// A session on a connection, once the greeting was read.
-fn greeted(alloc: Global, conn: MemoryConn) -> FtpResult<Session<MemoryTransport>> {
-    Session::connect_with_stream(alloc, MemoryTransport::new(alloc), conn)
-}
-
 /// Two commands of a session that blocks, with room for so many bytes.
 fn two_commands(alloc: Global, room: u64) -> FtpResult<String> {
     let mut conn = conn_with(alloc, b"220 r\r\n200 ok\r\n")?;
     conn.allow(room);
-    let mut session = boxed(alloc, greeted(alloc, conn)?)?;
+    let mut session = greeted_over(alloc, MemoryTransport::new(alloc), conn)?;
     let words = (word(session.noop(alloc)), word(session.noop(alloc)));
     Ok(with_traffic(alloc, session.get_ref(), words)?)
 }

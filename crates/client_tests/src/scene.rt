@@ -2,11 +2,13 @@
 
 use ftp_base::types::{FtpError, FtpResult, Response};
 use ftp_control::transport::{Asked, MemoryConn, MemoryTransport, Request, RequestOutcome};
-use ftp_session::session::Session;
+use ftp_session::session::{Answer, Session};
 use futures::task::Poll;
 use row_text::shown;
 use std::alloc::{AllocError, Global};
+use std::io;
 use std::io::Write;
+use std::net::{Net, TcpListener, TcpStream};
 
 /// A connection that the server's bytes came on.
 pub fn conn_with(alloc: Global, input: &[u8]) -> Result<MemoryConn, AllocError> {
@@ -16,9 +18,28 @@ pub fn conn_with(alloc: Global, input: &[u8]) -> Result<MemoryConn, AllocError> 
 }
 
 /// A session whose server sent these bytes, the greeting first.
-pub fn greeted(alloc: Global, input: &[u8]) -> FtpResult<Session<MemoryTransport>> {
-    let conn = conn_with(alloc, input)?;
-    Session::connect_with_stream(alloc, MemoryTransport::new(alloc), conn)
+pub fn greeted(alloc: Global, input: &[u8]) -> FtpResult<Box<Session<MemoryTransport>>> {
+    greeted_over(alloc, MemoryTransport::new(alloc), conn_with(alloc, input)?)
+}
+
+/// A session over these, once the greeting was read.
+pub fn greeted_over(
+    alloc: Global,
+    transport: MemoryTransport,
+    conn: MemoryConn,
+) -> FtpResult<Box<Session<MemoryTransport>>> {
+    boxed(alloc, Session::connect_with_stream(alloc, transport, conn)?)
+}
+
+/// The two ends of a connection on loopback: the client's, and that of a server with this address.
+pub fn ends<R>(rt: &R, address: &str) -> io::Result<(TcpStream, TcpStream)>
+where
+    R: Net<Listener = TcpListener, Stream = TcpStream>,
+{
+    let listener = TcpListener::bind(rt, address)?;
+    let near = TcpStream::connect(rt, listener.local_addr()?)?;
+    let (far, _peer) = listener.accept()?;
+    Ok((near, far))
 }
 
 /// The same value in a box.
@@ -67,6 +88,33 @@ fn code_and_bytes(alloc: Global, reply: &Response) -> Result<String, AllocError>
     let code = reply.status.code();
     let body = shown(alloc, reply.body.as_slice())?;
     format!(in alloc; "{code} {body}")
+}
+
+/// The answers of a run, a space behind each: a word, bytes, a count, or a fault.
+pub fn answers_text(alloc: Global, answers: &[Answer]) -> Result<String, AllocError> {
+    let mut text = String::new(alloc);
+    for answer in answers {
+        write_answer(alloc, &mut text, answer)?;
+    }
+    Ok(text)
+}
+
+/// Adds an answer.
+fn write_answer(alloc: Global, text: &mut String, answer: &Answer) -> Result<(), AllocError> {
+    match answer {
+        Answer::Unit => write!(text, "unit "),
+        Answer::Opened => write!(text, "open "),
+        Answer::Bytes(bytes) => {
+            let bytes = shown(alloc, bytes.as_slice())?;
+            write!(text, "{bytes} ")
+        }
+        Answer::Count(count) => write!(text, "{count} "),
+        Answer::Fault(fault) => {
+            let fault = fault_text(alloc, fault)?;
+            write!(text, "{fault} ")
+        }
+        _ => write!(text, "another answer "),
+    }
 }
 
 /// What a transport was asked: a plus and the address of a connection, with its limit in seconds, `listen` or `accept`

@@ -33,10 +33,13 @@ fn settings_text(alloc: Global, settings: &Settings) -> Result<String, AllocErro
 }
 
 /// A session whose server sent this greeting, or one that read none.
-fn begun(alloc: Global, greeting: Option<&[u8]>) -> FtpResult<Session<MemoryTransport>> {
+fn begun(alloc: Global, greeting: Option<&[u8]>) -> FtpResult<Box<Session<MemoryTransport>>> {
     match greeting {
         Some(greeting) => greeted(alloc, greeting),
-        None => Session::new(alloc, MemoryTransport::new(alloc), MemoryConn::new(alloc)),
+        None => boxed(
+            alloc,
+            Session::new(alloc, MemoryTransport::new(alloc), MemoryConn::new(alloc))?,
+        ),
     }
 }
 
@@ -51,7 +54,7 @@ fn a_session_begins_passive_and_a_greeting_changes_the_welcome(
             "Passive false ControlPeer 60 true false 0 0 220 r",
         ),
     ] {
-        let session = boxed(rt.alloc(), begun(rt.alloc(), greeting)?)?;
+        let session = begun(rt.alloc(), greeting)?;
         let text = text_of(rt.alloc(), &session)?;
         assert_eq!(rt; text.as_str(), due);
     }
@@ -60,7 +63,7 @@ fn a_session_begins_passive_and_a_greeting_changes_the_welcome(
 
 #[test]
 fn settings_stay_as_they_were_set(rt: HostRuntime) -> Result<(), Fail> {
-    let mut session = boxed(rt.alloc(), begun(rt.alloc(), None)?)?;
+    let mut session = begun(rt.alloc(), None)?;
     session.set_mode(Mode::ExtendedPassive);
     session.set_passive_nat_workaround(true);
     session.set_active_peer_check(ActivePeerCheck::Any);
@@ -75,8 +78,8 @@ fn settings_stay_as_they_were_set(rt: HostRuntime) -> Result<(), Fail> {
 
 #[test]
 fn the_active_mode_has_a_deadline(rt: HostRuntime) -> Result<(), Fail> {
-    let session = begun(rt.alloc(), None)?.active_mode(Duration::from_secs(5));
-    let mut session = boxed(rt.alloc(), session)?;
+    let session = Box::into_inner(begun(rt.alloc(), None)?);
+    let mut session = boxed(rt.alloc(), session.active_mode(Duration::from_secs(5)))?;
     session.resume_transfer(rt.alloc(), 7)?;
     session.resume_transfer(rt.alloc(), 0)?;
     let text = text_of(rt.alloc(), &session)?;

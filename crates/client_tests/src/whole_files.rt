@@ -1,9 +1,10 @@
 //! Whole files over loopback sockets.
 
-use crate::negotiations::connected;
+use crate::negotiations::{SocketSession, connected, data_listener, replies};
+use crate::scene::boxed;
 use ftp_base::types::{FtpResult, Mode};
 use ftp_control::transport::{TcpConn, TcpTransport};
-use std::alloc::{AllocError, Global};
+use std::alloc::Global;
 use std::io::{Read, Write};
 use std::net::{Net, TcpListener, TcpStream};
 use std::sync::Wait;
@@ -12,6 +13,9 @@ use std::time::Clock;
 use std::{io, thread};
 use suppaftp::transfer_stream::Transfer;
 use suppaftp::{DownloadReader, ImplFtpStream};
+
+/// A client over sockets.
+type Client = ImplFtpStream<TcpTransport>;
 
 /// Sends 4 KiB so many times on the next connection, which ends then.
 fn send(data: &TcpListener, times: usize) -> io::Result<()> {
@@ -23,42 +27,26 @@ fn send(data: &TcpListener, times: usize) -> io::Result<()> {
     Ok(())
 }
 
-/// What a server says of a download from this port.
-fn replies(alloc: Global, port: u16) -> Result<String, AllocError> {
-    let (high, low) = (port / 256, port % 256);
-    format!(in alloc; "227 ok (127,0,0,2,{high},{low})\r\n150 ok\r\n226 ok\r\n")
-}
-
-/// The file that a server sends whose data connections come here.
-fn downloaded<R>(rt: &R, port: u16) -> Result<Vec<u8>, Fail>
+/// How many bytes the file has that a server sends whose data connections come to this port, and whether each is 7.
+fn downloaded<R>(rt: &R, port: u16) -> Result<(usize, bool), Fail>
 where
     R: Net<Listener = TcpListener, Stream = TcpStream> + Clock + AllocGlobal,
 {
-    let (mut session, mut server) = connected(rt, Mode::Passive)?;
-    server.write_all(replies(rt.alloc(), port)?.as_bytes())?;
-    Ok(session.retr_as_buffer(rt.alloc(), rt, "a")?)
+    let told = replies(rt.alloc(), Mode::Passive, 2, port)?;
+    let (mut session, _server) = connected(rt, Mode::Passive, &told)?;
+    let bytes = session.retr_as_buffer(rt.alloc(), rt, "a")?;
+    Ok((bytes.len(), bytes.iter().all(|byte| *byte == 7)))
 }
 
 #[test]
-fn a_file_of_3_mib_comes_whole(rt: HostRuntime) -> Result<(), Fail> {
-    let data = TcpListener::bind(&rt, "127.0.0.2:0")?;
-    let port = data.local_addr()?.port();
-    let serving = thread::spawn(&rt, move || send(&data, 768))?;
-    let bytes = downloaded(&rt, port)?;
-    serving.join(&rt)?;
-    assert_eq!(rt; bytes.len(), 3_145_728usize);
-    assert!(rt; bytes.iter().all(|byte| *byte == 7));
-    Ok(())
-}
-
-#[test]
-fn a_file_of_0_bytes_comes_whole(rt: HostRuntime) -> Result<(), Fail> {
-    let data = TcpListener::bind(&rt, "127.0.0.2:0")?;
-    let port = data.local_addr()?.port();
-    let serving = thread::spawn(&rt, move || send(&data, 0))?;
-    let bytes = downloaded(&rt, port)?;
-    serving.join(&rt)?;
-    assert!(rt; bytes.is_empty());
+fn a_file_of_3_mib_comes_whole_and_one_of_0_bytes(rt: HostRuntime) -> Result<(), Fail> {
+    for (times, due) in [(768usize, 3_145_728usize), (0, 0)] {
+        let (data, port) = data_listener(&rt)?;
+        let serving = thread::spawn(&rt, move || send(&data, times))?;
+        let came = downloaded(&rt, port)?;
+        serving.join(&rt)?;
+        assert_eq!(rt; came, (due, true), "{times} pieces");
+    }
     Ok(())
 }
 
@@ -77,64 +65,60 @@ fn receive(data: &TcpListener) -> io::Result<usize> {
     Ok(count)
 }
 
-/// A client whose server has said this.
-fn client_of<R>(rt: &R, port: u16) -> Result<(ImplFtpStream<TcpTransport>, TcpStream), Fail>
+/// A client whose server agrees to one transfer on a data connection to this port.
+fn client_of<R>(rt: &R, port: u16) -> Result<(Box<Client>, TcpStream), Fail>
 where
     R: Net<Listener = TcpListener, Stream = TcpStream> + Clock + AllocGlobal,
 {
-    let (session, mut server) = connected(rt, Mode::Passive)?;
-    server.write_all(replies(rt.alloc(), port)?.as_bytes())?;
-    let client = ImplFtpStream::new(rt.alloc(), Box::into_inner(session))?;
-    Ok((client, server))
+    let told = replies(rt.alloc(), Mode::Passive, 2, port)?;
+    let (session, server) = connected(rt, Mode::Passive, &told)?;
+    Ok((boxed_client(rt.alloc(), session)?, server))
 }
 
-/// What an upload of these bytes answers, to a server whose data connections come here.
-fn uploaded<R>(rt: &R, port: u16, mut bytes: &[u8]) -> Result<u64, Fail>
+/// A client that holds this session.
+fn boxed_client(alloc: Global, session: SocketSession) -> FtpResult<Box<Client>> {
+    boxed(alloc, ImplFtpStream::new(alloc, Box::into_inner(session))?)
+}
+
+/// What an upload of these bytes answers, as a new file or to the end of one.
+fn put<R>(rt: &R, port: u16, appends: bool, mut bytes: &[u8]) -> Result<u64, Fail>
 where
     R: Net<Listener = TcpListener, Stream = TcpStream> + Clock + Wait + AllocGlobal,
 {
     let (client, _server) = client_of(rt, port)?;
-    Ok(client.put_file(rt, "a", &mut bytes)?)
+    let answer = if appends {
+        client.append_file(rt, "a", &mut bytes)
+    } else {
+        client.put_file(rt, "a", &mut bytes)
+    };
+    Ok(answer?)
 }
 
-/// The same to the end of a file.
-fn appended<R>(rt: &R, port: u16, mut bytes: &[u8]) -> Result<u64, Fail>
+/// What an upload answers that has this byte so many times.
+fn uploaded<R>(rt: &R, port: u16, appends: bool, byte: u8, count: usize) -> Result<u64, Fail>
 where
     R: Net<Listener = TcpListener, Stream = TcpStream> + Clock + Wait + AllocGlobal,
 {
-    let (client, _server) = client_of(rt, port)?;
-    Ok(client.append_file(rt, "a", &mut bytes)?)
+    let bytes = vec![in rt.alloc(); byte; count]?;
+    put(rt, port, appends, &bytes)
 }
 
-#[test]
-fn an_upload_of_3_mib_arrives_whole(rt: HostRuntime) -> Result<(), Fail> {
-    let data = TcpListener::bind(&rt, "127.0.0.2:0")?;
-    let port = data.local_addr()?.port();
-    let serving = thread::spawn(&rt, move || receive(&data))?;
-    let bytes = vec![in rt.alloc(); 7u8; 3_145_728]?;
-    assert_eq!(rt; uploaded(&rt, port, &bytes)?, 3_145_728);
-    assert_eq!(rt; serving.join(&rt)?, 3_145_728usize);
-    Ok(())
-}
+/// Uploads: whether to the end of a file, which byte, how often, and how many bytes are answered and arrive.
+const UPLOADS: [(bool, u8, usize, (u64, usize)); 3] = [
+    (false, 7, 3_145_728, (3_145_728, 3_145_728)),
+    (false, 7, 0, (0, 0)),
+    (true, b'\n', 1_048_576, (2_097_152, 2_097_152)),
+];
 
 #[test]
-fn an_upload_of_a_mib_of_lines_arrives_with_their_returns(rt: HostRuntime) -> Result<(), Fail> {
-    let data = TcpListener::bind(&rt, "127.0.0.2:0")?;
-    let port = data.local_addr()?.port();
-    let serving = thread::spawn(&rt, move || receive(&data))?;
-    let bytes = vec![in rt.alloc(); b'\n'; 1_048_576]?;
-    assert_eq!(rt; appended(&rt, port, &bytes)?, 2_097_152);
-    assert_eq!(rt; serving.join(&rt)?, 2_097_152usize);
-    Ok(())
-}
-
-#[test]
-fn an_upload_of_0_bytes_arrives_whole(rt: HostRuntime) -> Result<(), Fail> {
-    let data = TcpListener::bind(&rt, "127.0.0.2:0")?;
-    let port = data.local_addr()?.port();
-    let serving = thread::spawn(&rt, move || receive(&data))?;
-    assert_eq!(rt; uploaded(&rt, port, &[])?, 0);
-    assert_eq!(rt; serving.join(&rt)?, 0usize);
+fn an_upload_arrives_whole_and_lines_with_their_returns(rt: HostRuntime) -> Result<(), Fail> {
+    for (appends, byte, count, due) in UPLOADS {
+        let (data, port) = data_listener(&rt)?;
+        let serving = thread::spawn(&rt, move || receive(&data))?;
+        let answer = uploaded(&rt, port, appends, byte, count)?;
+        let arrived = serving.join(&rt)?;
+        assert_eq!(rt; (answer, arrived), due, "{count} bytes");
+    }
     Ok(())
 }
 
@@ -174,8 +158,7 @@ where
 
 #[test]
 fn a_reader_gets_a_download_of_a_mib(rt: HostRuntime) -> Result<(), Fail> {
-    let data = TcpListener::bind(&rt, "127.0.0.2:0")?;
-    let port = data.local_addr()?.port();
+    let (data, port) = data_listener(&rt)?;
     let serving = thread::spawn(&rt, move || send(&data, 256))?;
     let count = counted(&rt, port)?;
     serving.join(&rt)?;
