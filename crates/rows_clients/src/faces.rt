@@ -1,0 +1,281 @@
+//! The ways in which a row is played.
+
+mod client;
+mod definition;
+mod methods;
+mod session;
+mod states;
+mod transfers;
+
+use crate::play::Play;
+use crate::transcript::{Mark, Standing};
+use ftp_session::session::Event;
+use rows_text::RowError;
+pub use session::NamedSession;
+use std::alloc::{AllocError, Global};
+use std::random::RandomSource;
+use std::sync::Wait;
+
+/// A way in which a row is played.
+#[derive(Clone, Copy, Debug, PartialEq, Eq)]
+pub enum Face {
+    /// What the definition of runs says.
+    Definition,
+    /// What the definition of polled runs says.
+    Script,
+    /// A run of all calls.
+    Run,
+    /// One call of the session after another.
+    Methods,
+    /// One call of the blocking client after another.
+    Client,
+    /// One call of the polled client after another.
+    States,
+    /// A polled run.
+    Polled,
+}
+
+/// What a row came to on a face.
+#[derive(Drop)]
+pub struct Came {
+    /// Its transcript.
+    pub transcript: String,
+    /// Whether the session has failed.
+    pub failed: bool,
+    /// How many bytes of no reply were read, where the face tells.
+    pub seen: Option<usize>,
+}
+
+impl Came {
+    /// Whether another face came to the same.
+    pub fn is_same(&self, other: &Came) -> bool {
+        self.transcript == other.transcript
+            && self.failed == other.failed
+            && self.seen == other.seen
+    }
+}
+
+/// What the faces of a row have told beside their transcripts.
+#[derive(Clone, Copy)]
+pub struct Agreement {
+    failed: Option<bool>,
+    seen: Option<usize>,
+}
+
+impl Agreement {
+    /// No face was played.
+    pub fn new() -> Agreement {
+        Agreement {
+            failed: None,
+            seen: None,
+        }
+    }
+
+    /// Whether a face tells what those before it told.
+    pub fn agrees(&mut self, came: &Came) -> bool {
+        let failed = self.failed.unwrap_or(came.failed);
+        let seen = self.seen.or(came.seen);
+        self.failed = Some(failed);
+        self.seen = seen;
+        failed == came.failed && (came.seen.is_none() || came.seen == seen)
+    }
+}
+
+impl Face {
+    /// The faces of a row without events.
+    pub const OF_CALLS: [Face; 7] = [
+        Face::Definition,
+        Face::Script,
+        Face::Run,
+        Face::Methods,
+        Face::Client,
+        Face::States,
+        Face::Polled,
+    ];
+
+    /// Those of them that are sessions.
+    pub const SESSIONS_OF_CALLS: [Face; 5] = [
+        Face::Run,
+        Face::Methods,
+        Face::Client,
+        Face::States,
+        Face::Polled,
+    ];
+
+    /// The faces of a row with events.
+    pub const OF_EVENTS: [Face; 2] = [Face::Script, Face::Polled];
+
+    /// That of them that is a session.
+    pub const SESSIONS_OF_EVENTS: [Face; 1] = [Face::Polled];
+
+    /// Its name.
+    pub fn name(self) -> &'static str {
+        match self {
+            Face::Definition => "the definition of runs",
+            Face::Script => "the definition of polled runs",
+            Face::Run => "a run",
+            Face::Methods => "one call after another",
+            Face::Client => "the blocking client",
+            Face::States => "the polled client",
+            Face::Polled => "a polled run",
+        }
+    }
+
+    /// Whether a row can be played on it: the blocking client has no method that reads a reply alone, and a run is made
+    /// on a connection.
+    pub fn plays(self, play: &Play) -> bool {
+        match self {
+            Face::Definition | Face::Methods | Face::States => true,
+            Face::Client => client::has_methods(&play.calls),
+            Face::Run | Face::Polled | Face::Script => play.dial.is_none(),
+        }
+    }
+
+    /// What is due of a row's transcript on it: a client doesn't tell what its transport was asked, nor on which data
+    /// connections nothing was written, so where the row opens some the lines of that are left out.
+    pub fn due(self, alloc: Global, play: &Play, due: &str) -> Result<String, AllocError> {
+        if self != Face::Client || !play.opens_data() {
+            return String::from_str(alloc, due);
+        }
+        let mut left = String::new(alloc);
+        for line in due.split_inclusive('\n') {
+            if !is_request(line) && line != "U:\n" {
+                left.push_str(line)?;
+            }
+        }
+        Ok(left)
+    }
+
+    /// What a row comes to.
+    pub fn play<R: Wait + RandomSource + AllocGlobal>(
+        self,
+        rt: &R,
+        play: &Play,
+        welcome: bool,
+    ) -> Result<Came, RowError> {
+        let alloc = rt.alloc();
+        let places = self.places(alloc, play)?;
+        let marks = self.marks(rt, play, &places)?;
+        let end = self.standing(rt, play, self.length(play))?;
+        came_to(alloc, &end, marks, places.len(), welcome)
+    }
+
+    /// How far the row has come at those of these places that are before its end.
+    fn marks<R: Wait + RandomSource + AllocGlobal>(
+        self,
+        rt: &R,
+        play: &Play,
+        places: &[usize],
+    ) -> Result<Vec<Mark>, RowError> {
+        let mut marks = Vec::new(rt.alloc());
+        for count in places {
+            if *count < self.length(play) {
+                marks.push(self.mark(rt, play, *count)?)?;
+            }
+        }
+        Ok(marks)
+    }
+
+    /// How many calls or events the row has.
+    fn length(self, play: &Play) -> usize {
+        match self {
+            Face::Definition | Face::Run | Face::Methods | Face::Client | Face::States => {
+                play.calls.len()
+            }
+            Face::Script | Face::Polled => play.events.len(),
+        }
+    }
+
+    /// After how many calls or events the transcript has its lines: after each call, or each poll.
+    fn places(self, alloc: Global, play: &Play) -> Result<Vec<usize>, AllocError> {
+        match self {
+            Face::Definition | Face::Run | Face::Methods | Face::Client | Face::States => ends(
+                alloc,
+                play.calls.len(),
+            ),
+            Face::Script | Face::Polled => polls(alloc, &play.events),
+        }
+    }
+
+    /// How far the row has come after so many calls or events.
+    fn mark<R: Wait + RandomSource + AllocGlobal>(
+        self,
+        rt: &R,
+        play: &Play,
+        count: usize,
+    ) -> Result<Mark, RowError> {
+        Ok(self.standing(rt, play, count)?.mark())
+    }
+
+    /// Where the row stands after so many calls or events.
+    fn standing<R: Wait + RandomSource + AllocGlobal>(
+        self,
+        rt: &R,
+        play: &Play,
+        count: usize,
+    ) -> Result<Standing, RowError> {
+        let alloc = rt.alloc();
+        let calls = front(&play.calls, count);
+        let events = front(&play.events, count);
+        match self {
+            Face::Definition => definition::ran(alloc, calls, play),
+            Face::Script => definition::scripted(alloc, events, play),
+            Face::Run => session::ran(alloc, calls, play),
+            Face::Methods => methods::called(alloc, calls, play),
+            Face::Client => client::called(rt, calls, play),
+            Face::States => states::called(rt, calls, play),
+            Face::Polled => session::polled(alloc, events, play),
+        }
+    }
+}
+
+/// What a row came to that ended here, and had come so far at those of so many places that are before its end.
+fn came_to(
+    alloc: Global,
+    end: &Standing,
+    mut marks: Vec<Mark>,
+    places: usize,
+    welcome: bool,
+) -> Result<Came, RowError> {
+    if marks.len() < places {
+        marks.push(end.mark())?;
+    }
+    let mut transcript = end.transcript(alloc, &marks)?;
+    end.add_end(alloc, &mut transcript, welcome)?;
+    Ok(Came {
+        transcript,
+        failed: end.failed,
+        seen: end.seen,
+    })
+}
+
+/// After how many calls each call is done.
+fn ends(alloc: Global, count: usize) -> Result<Vec<usize>, AllocError> {
+    let mut places = Vec::new(alloc);
+    for place in 0..count {
+        places.push(place + 1)?;
+    }
+    Ok(places)
+}
+
+/// After how many events each poll is done.
+fn polls(alloc: Global, events: &[Event]) -> Result<Vec<usize>, AllocError> {
+    let mut places = Vec::new(alloc);
+    for (place, event) in events.iter().enumerate() {
+        if matches!(event, Event::Poll) {
+            places.push(place.saturating_add(1))?;
+        }
+    }
+    Ok(places)
+}
+
+/// The first of a list, at most so many.
+fn front<T>(all: &[T], count: usize) -> &[T] {
+    all.get(..count).unwrap_or(all)
+}
+
+/// Whether a line of a transcript is of what a transport was asked.
+fn is_request(line: &str) -> bool {
+    let starts = ["D: ", "B: ", "L: ", "P: "];
+    starts.iter().any(|start| line.starts_with(*start))
+}

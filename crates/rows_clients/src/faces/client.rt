@@ -1,0 +1,303 @@
+//! The calls of the blocking client, one after another.
+
+use super::methods::{Opening, greeted, optional};
+use super::transfers::{Held, Transfers};
+use crate::answers::{bytes, features, lines, reply, size, text, texts_of, time, unit};
+use crate::builder::RowBuilder;
+use crate::encodings::Named;
+use crate::memory::had;
+use crate::play::Play;
+use crate::requests::recorded;
+use crate::transcript::Standing;
+use ftp_base::types::{FtpError, FtpResult};
+use ftp_blocking::{ImplFtpStream, TransferStream};
+use ftp_session::session::{Answer, Call, NoTlsConnector, Setting};
+use ftp_transfer::mark::Left;
+use ftp_transport::MemoryTransport;
+use rows_text::RowError;
+use std::alloc::{AllocError, Global};
+use std::io;
+use std::io::{Read, Write};
+use std::sync::Wait;
+
+/// A blocking client over memory whose encoding a row may choose.
+type Client = ImplFtpStream<MemoryTransport, NoTlsConnector, Named, RowBuilder>;
+
+/// A transfer of such a client.
+type Stream = TransferStream<MemoryTransport, NoTlsConnector, Named, RowBuilder>;
+
+impl Held for Stream {
+    fn sent(&self) -> &[u8] {
+        self.get_ref().sent()
+    }
+
+    fn take_in(&mut self, buffer: &mut [u8]) -> io::Result<usize> {
+        Read::read(self, buffer)
+    }
+
+    fn put_out(&mut self, bytes: &[u8]) -> io::Result<usize> {
+        Write::write(self, bytes)
+    }
+
+    fn left(self) -> Left {
+        self.leave()
+    }
+}
+
+/// Whether rows can play each of these calls by the client's methods. It reads a reply alone only where it is the greeting,
+/// which a session has read before the client is made; and what went out in an upload of one call is told by its session,
+/// which the client doesn't lend.
+pub fn has_methods(calls: &[Call]) -> bool {
+    let others = match calls.split_first() {
+        Some((Call::Greet, others)) => others,
+        _ => calls,
+    };
+    !others.iter().any(|call| is_apart(call))
+}
+
+/// Whether a call reads a reply and says nothing, or uploads a whole file.
+fn is_apart(call: &Call) -> bool {
+    matches!(
+        call,
+        Call::Greet
+            | Call::ReadResponse(_)
+            | Call::ReadResponseIn(_)
+            | Call::PutFile(..)
+            | Call::AppendFile(..)
+    )
+}
+
+/// Where these calls lead to, each made by the client's method.
+pub fn called<R: Wait + AllocGlobal>(
+    rt: &R,
+    calls: &[Call],
+    play: &Play,
+) -> Result<Standing, RowError> {
+    let Opening {
+        session,
+        mut answers,
+        others,
+    } = greeted(rt.alloc(), calls, play)?;
+    let asked = recorded(rt.alloc(), session.transport().asked())?;
+    let client = had(ImplFtpStream::new(rt.alloc(), Box::into_inner(session)))?;
+    if let Some(encoding) = play.encoding {
+        had(client.set_encoding(rt, encoding))?;
+    }
+    let mut end = made(rt, &client, others, &mut answers)?;
+    if !play.opens_data() {
+        end.asked = asked;
+    }
+    Ok(end)
+}
+
+/// Where a client stands that made these calls after those with these answers.
+fn made<R: Wait + AllocGlobal>(
+    rt: &R,
+    client: &Client,
+    calls: &[Call],
+    answers: &mut Vec<Answer>,
+) -> Result<Standing, RowError> {
+    let mut transfers = Transfers::new(rt.alloc());
+    stands_after(rt, client, &mut transfers, calls, answers)
+}
+
+/// The same, of a client with these transfers.
+fn stands_after<R: Wait + AllocGlobal>(
+    rt: &R,
+    client: &Client,
+    transfers: &mut Transfers<Stream>,
+    calls: &[Call],
+    answers: &mut Vec<Answer>,
+) -> Result<Standing, RowError> {
+    for call in calls {
+        make_next(rt, client, transfers, call, answers)?;
+    }
+    let uploaded = written(rt.alloc(), transfers.take_uploaded(rt.alloc()))?;
+    let mut end = stands(rt, client, &answers[..])?;
+    end.uploaded = uploaded;
+    Ok(end)
+}
+
+/// What was written to data connections, but for those to which nothing was.
+fn written(alloc: Global, uploaded: Vec<Vec<u8>>) -> Result<Vec<Vec<u8>>, AllocError> {
+    let mut written = Vec::new(alloc);
+    for sent in uploaded {
+        if !sent.is_empty() {
+            written.push(sent)?;
+        }
+    }
+    Ok(written)
+}
+
+/// Makes the next call, and notes its answer.
+fn make_next<R: Wait + AllocGlobal>(
+    rt: &R,
+    client: &Client,
+    transfers: &mut Transfers<Stream>,
+    call: &Call,
+    answers: &mut Vec<Answer>,
+) -> Result<(), RowError> {
+    let answer = make(rt, client, transfers, call)?;
+    transfers.made(call, &answer);
+    answers.push(answer)?;
+    Ok(())
+}
+
+/// Makes a call by its method.
+fn make<R: Wait + AllocGlobal>(
+    rt: &R,
+    client: &Client,
+    transfers: &mut Transfers<Stream>,
+    call: &Call,
+) -> Result<Answer, RowError> {
+    Ok(match call {
+        Call::Login(user, password) => unit(client.login(rt, user.as_str(), password.as_str())),
+        Call::Cwd(path) => unit(client.cwd(rt, path.as_str())),
+        Call::Cdup => unit(client.cdup(rt)),
+        Call::Noop => unit(client.noop(rt)),
+        Call::Eprt(address) => unit(client.eprt(rt, *address)),
+        Call::Opts(option, value) => unit(client.opts(
+            rt,
+            option.as_str(),
+            value.as_ref().map(|value| value.as_str()),
+        )),
+        Call::Site(command) => reply(client.site(rt, command.as_str())),
+        Call::TransferType(kind) => unit(client.transfer_type(rt, kind.clone()?)),
+        Call::Mkdir(path) => unit(client.mkdir(rt, path.as_str())),
+        Call::Rmdir(path) => unit(client.rmdir(rt, path.as_str())),
+        Call::Rm(path) => unit(client.rm(rt, path.as_str())),
+        Call::Rename(from, to) => unit(client.rename(rt, from.as_str(), to.as_str())),
+        Call::Quit => unit(client.quit(rt)),
+        Call::Pwd => text(client.pwd(rt)),
+        Call::Mlst(path) => text(client.mlst(rt, path.as_ref().map(|path| path.as_str()))),
+        Call::Mdtm(path) => time(client.mdtm(rt, path.as_str())),
+        Call::Size(path) => size(client.size(rt, path.as_str())),
+        Call::Feat => features(client.feat(rt)),
+        Call::ResumeTransfer(offset) => unit(client.resume_transfer(rt, *offset)),
+        Call::CustomCommand(line, codes) => {
+            reply(client.custom_command(rt, line.as_str(), codes.as_slice()))
+        }
+        Call::Greet
+        | Call::ReadResponse(_)
+        | Call::ReadResponseIn(_)
+        | Call::PutFile(..)
+        | Call::AppendFile(..) => {
+            return Err(RowError::NotUnderstood);
+        }
+        Call::RetrAsStream(_)
+        | Call::PutWithStream(_)
+        | Call::AppendWithStream(_)
+        | Call::CustomDataCommand(..) => open(rt, client, transfers, call)?,
+        Call::Retr(path) => bytes(client.retr_as_buffer(rt, path.as_str())),
+        Call::List(path) => lines(client.list(rt, optional(path))),
+        Call::Nlst(path) => lines(client.nlst(rt, optional(path))),
+        Call::Mlsd(path) => lines(client.mlsd(rt, optional(path))),
+        Call::Set(setting) => set(rt, client, setting)?,
+        Call::Read(most) => transfers.receive(rt.alloc(), *most)?,
+        Call::Write(bytes) => transfers.send(bytes.as_slice()),
+        Call::Leave => transfers.leave(rt.alloc())?,
+        Call::Finish | Call::Abort | Call::Drain => end(rt, client, transfers, call)?,
+    })
+}
+
+/// Opens a transfer.
+fn open<R: Wait + AllocGlobal>(
+    rt: &R,
+    client: &Client,
+    transfers: &mut Transfers<Stream>,
+    call: &Call,
+) -> Result<Answer, RowError> {
+    Ok(match call {
+        Call::RetrAsStream(path) => transfers.opened(client.retr_as_stream(rt, path.as_str())),
+        Call::PutWithStream(path) => transfers.opened(client.put_with_stream(rt, path.as_str())),
+        Call::AppendWithStream(path) => {
+            transfers.opened(client.append_with_stream(rt, path.as_str()))
+        }
+        Call::CustomDataCommand(line, codes) => transfers.opened_with(client.custom_data_command(
+            rt,
+            line.as_str(),
+            codes.as_slice(),
+        )),
+        _ => return Err(RowError::NotUnderstood),
+    })
+}
+
+/// Brings a transfer to its end.
+fn end<R: Wait + AllocGlobal>(
+    rt: &R,
+    client: &Client,
+    transfers: &mut Transfers<Stream>,
+    call: &Call,
+) -> Result<Answer, RowError> {
+    if matches!(call, Call::Drain) {
+        return Ok(drain(rt, client, transfers));
+    }
+    let Some(transfer) = transfers.take(rt.alloc())? else {
+        return Ok(Answer::NoTransfer);
+    };
+    Ok(unit(match call {
+        Call::Abort => transfer.abort(rt),
+        _ => transfer.finish(rt),
+    }))
+}
+
+/// Reads the last reply of the transfer that was left.
+fn drain<R: Wait + AllocGlobal>(
+    rt: &R,
+    client: &Client,
+    transfers: &mut Transfers<Stream>,
+) -> Answer {
+    let Some(mut receipt) = transfers.receipt() else {
+        return Answer::NoTransfer;
+    };
+    let answer = unit(client.settle(rt, &mut receipt));
+    transfers.keep(receipt, &answer);
+    answer
+}
+
+/// A setting changes.
+fn set<R: Wait>(rt: &R, client: &Client, setting: &Setting) -> Result<Answer, AllocError> {
+    match setting {
+        Setting::Mode(mode) => client.set_mode(rt, *mode),
+        Setting::PassiveNatWorkaround(enabled) => {
+            client.set_passive_nat_workaround(rt, *enabled);
+        }
+        Setting::ActivePeerCheck(check) => client.set_active_peer_check(rt, check.clone()?),
+        Setting::ActiveDeadline(deadline) => client.set_active_deadline(rt, *deadline),
+    }
+    Ok(Answer::Unit)
+}
+
+/// Where a client stands that gave these answers.
+fn stands<R: Wait + AllocGlobal>(
+    rt: &R,
+    client: &Client,
+    answers: &[Answer],
+) -> Result<Standing, RowError> {
+    let answers = texts_of(rt.alloc(), answers)?;
+    let welcome = had(client.get_welcome_msg(rt))?;
+    let (sent, taken) = traffic(rt, client)?;
+    let failed = is_failed(&client.noop(rt));
+    Ok(Standing {
+        asked: Vec::new(rt.alloc()),
+        uploaded: Vec::new(rt.alloc()),
+        sent,
+        answers,
+        taken,
+        seen: None,
+        failed,
+        welcome,
+    })
+}
+
+/// Whether a session has failed: a client doesn't tell, but its next call does.
+fn is_failed(answer: &FtpResult<()>) -> bool {
+    matches!(answer, Err(FtpError::SessionFailed))
+}
+
+/// What was sent, and how many bytes were taken: a call that blocks receives none beyond its reply.
+fn traffic<R: Wait + AllocGlobal>(rt: &R, client: &Client) -> Result<(Vec<u8>, usize), AllocError> {
+    let control = client.get_ref(rt);
+    let conn = control.socket();
+    Ok((Vec::from_slice(rt.alloc(), conn.sent())?, conn.received()))
+}

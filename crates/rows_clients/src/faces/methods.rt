@@ -1,0 +1,360 @@
+//! The calls of a session, one after another.
+
+use super::session::{NamedSession, conn_of, encoded, stands, unread};
+use super::transfers::{Held, Transfers};
+use crate::answers::{bytes, features, lines, reply, size, text, time, unit};
+use crate::memory::boxed;
+use crate::play::Play;
+use crate::transcript::Standing;
+use ftp_base::status::Status;
+use ftp_base::types::{FtpError, FtpResult, Text};
+use ftp_session::session::{Answer, Call, Session, Setting};
+use ftp_transfer::Transfer;
+use ftp_transfer::mark::Left;
+use ftp_transport::MemoryConn;
+use rows_text::RowError;
+use std::alloc::{AllocError, Global};
+use std::io;
+use std::io::{Read, Write};
+
+impl Held for Transfer<MemoryConn> {
+    fn sent(&self) -> &[u8] {
+        self.get_ref().sent()
+    }
+
+    fn take_in(&mut self, buffer: &mut [u8]) -> io::Result<usize> {
+        Read::read(self, buffer)
+    }
+
+    fn put_out(&mut self, bytes: &[u8]) -> io::Result<usize> {
+        Write::write(self, bytes)
+    }
+
+    fn left(self) -> Left {
+        self.leave()
+    }
+}
+
+/// A session that has read a greeting, where that is the first of a row's calls.
+#[derive(Drop)]
+pub struct Opening<'a> {
+    /// The session.
+    pub session: Box<NamedSession>,
+    /// The answer to the greeting, if it was read.
+    pub answers: Vec<Answer>,
+    /// The calls that are still to be made.
+    pub others: &'a [Call],
+}
+
+/// The session of these calls. A greeting that comes first is read by `connect_with_stream`.
+pub fn greeted<'a>(alloc: Global, calls: &'a [Call], play: &Play) -> Result<Opening<'a>, RowError> {
+    let Some((Call::Greet, others)) = calls.split_first() else {
+        return Ok(Opening {
+            session: unread(alloc, play)?,
+            answers: Vec::new(alloc),
+            others: calls,
+        });
+    };
+    match connected(alloc, play)? {
+        Ok(session) => after_a_greeting(alloc, session, play, others),
+        Err(fault) => after_a_failed_greeting(alloc, fault, play, others),
+    }
+}
+
+/// A session that was greeted.
+fn after_a_greeting<'a>(
+    alloc: Global,
+    mut session: Box<NamedSession>,
+    play: &Play,
+    others: &'a [Call],
+) -> Result<Opening<'a>, RowError> {
+    play.setup.set(&mut session)?;
+    let answers = first(alloc, Answer::Unit)?;
+    Ok(Opening {
+        session,
+        answers,
+        others,
+    })
+}
+
+/// A session whose greeting failed is gone with its connection: another that reads the same bytes stands for it.
+fn after_a_failed_greeting<'a>(
+    alloc: Global,
+    fault: FtpError,
+    play: &Play,
+    others: &'a [Call],
+) -> Result<Opening<'a>, RowError> {
+    let answers = first(alloc, Answer::Fault(fault))?;
+    let mut session = unread(alloc, play)?;
+    if play.dial.is_none() {
+        drop(session.read_response(alloc, Status::Ready));
+    }
+    Ok(Opening {
+        session,
+        answers,
+        others,
+    })
+}
+
+/// The session that connects as the row says: on the connection itself, or to addresses.
+fn connected(alloc: Global, play: &Play) -> Result<FtpResult<Box<NamedSession>>, RowError> {
+    let Some(dial) = &play.dial else {
+        let conn = conn_of(alloc, play)?;
+        let transport = play.setup.transport(alloc)?;
+        return Ok(in_box(alloc, Session::connect_with_stream(alloc, transport, conn)));
+    };
+    let transport = dial.transport(alloc, play.piece)?;
+    match (dial.limit, dial.addresses.first()) {
+        (Some(limit), Some(address)) => Ok(in_box(
+            alloc,
+            Session::connect_timeout(alloc, &(), transport, *address, limit),
+        )),
+        _ => Ok(in_box(
+            alloc,
+            Session::connect(alloc, &(), transport, &dial.addresses),
+        )),
+    }
+}
+
+/// The same session in a box.
+fn in_box(alloc: Global, outcome: FtpResult<NamedSession>) -> FtpResult<Box<NamedSession>> {
+    Ok(boxed(alloc, outcome?)?)
+}
+
+/// Where these calls lead to, each made by its method.
+pub fn called(alloc: Global, calls: &[Call], play: &Play) -> Result<Standing, RowError> {
+    let Opening {
+        session,
+        mut answers,
+        others,
+    } = greeted(alloc, calls, play)?;
+    let mut session = encoded(alloc, session, play)?;
+    made(alloc, &mut session, others, &mut answers)
+}
+
+/// Where a session stands that made these calls after those with these answers.
+fn made(
+    alloc: Global,
+    session: &mut NamedSession,
+    calls: &[Call],
+    answers: &mut Vec<Answer>,
+) -> Result<Standing, RowError> {
+    let mut transfers = Transfers::new(alloc);
+    stands_after(alloc, session, &mut transfers, calls, answers)
+}
+
+/// The same, of a session with these transfers.
+fn stands_after(
+    alloc: Global,
+    session: &mut NamedSession,
+    transfers: &mut Transfers<Transfer<MemoryConn>>,
+    calls: &[Call],
+    answers: &mut Vec<Answer>,
+) -> Result<Standing, RowError> {
+    for call in calls {
+        make_next(alloc, session, transfers, call, answers)?;
+    }
+    let mut end = stands(alloc, session, &answers[..])?;
+    end.uploaded = transfers.take_uploaded(alloc);
+    Ok(end)
+}
+
+/// Makes the next call, and notes its answer.
+fn make_next(
+    alloc: Global,
+    session: &mut NamedSession,
+    transfers: &mut Transfers<Transfer<MemoryConn>>,
+    call: &Call,
+    answers: &mut Vec<Answer>,
+) -> Result<(), RowError> {
+    let answer = make(alloc, session, transfers, call)?;
+    transfers.made(call, &answer);
+    answers.push(answer)?;
+    Ok(())
+}
+
+/// A first answer.
+fn first(alloc: Global, answer: Answer) -> Result<Vec<Answer>, AllocError> {
+    let mut answers = Vec::new(alloc);
+    answers.push(answer)?;
+    Ok(answers)
+}
+
+/// Makes a call by its method.
+fn make(
+    alloc: Global,
+    session: &mut NamedSession,
+    transfers: &mut Transfers<Transfer<MemoryConn>>,
+    call: &Call,
+) -> Result<Answer, RowError> {
+    Ok(match call {
+        Call::Greet => reply(session.read_response(alloc, Status::Ready)),
+        Call::Login(user, password) => {
+            unit(session.login(alloc, user.as_str(), password.as_str()))
+        }
+        Call::Cwd(path) => unit(session.cwd(alloc, path.as_str())),
+        Call::Cdup => unit(session.cdup(alloc)),
+        Call::Noop => unit(session.noop(alloc)),
+        Call::Eprt(address) => unit(session.eprt(alloc, *address)),
+        Call::Opts(option, value) => unit(session.opts(
+            alloc,
+            option.as_str(),
+            value.as_ref().map(|value| value.as_str()),
+        )),
+        Call::Site(command) => reply(session.site(alloc, command.as_str())),
+        Call::TransferType(kind) => unit(session.transfer_type(alloc, kind.clone()?)),
+        Call::Mkdir(path) => unit(session.mkdir(alloc, path.as_str())),
+        Call::Rmdir(path) => unit(session.rmdir(alloc, path.as_str())),
+        Call::Rm(path) => unit(session.rm(alloc, path.as_str())),
+        Call::Rename(from, to) => unit(session.rename(alloc, from.as_str(), to.as_str())),
+        Call::Quit => unit(session.quit(alloc)),
+        Call::Pwd => text(session.pwd(alloc)),
+        Call::Mlst(path) => { text(session.mlst(alloc, path.as_ref().map(|path| path.as_str()))) }
+        Call::Mdtm(path) => time(session.mdtm(alloc, path.as_str())),
+        Call::Size(path) => size(session.size(alloc, path.as_str())),
+        Call::Feat => features(session.feat(alloc)),
+        Call::ResumeTransfer(offset) => unit(session.resume_transfer(alloc, *offset)),
+        Call::CustomCommand(line, codes) => {
+            reply(session.custom_command(alloc, line.as_str(), codes.as_slice()))
+        }
+        Call::ReadResponse(status) => reply(session.read_response(alloc, *status)),
+        Call::ReadResponseIn(codes) => reply(session.read_response_in(alloc, codes.as_slice())),
+        Call::RetrAsStream(_)
+        | Call::PutWithStream(_)
+        | Call::AppendWithStream(_)
+        | Call::CustomDataCommand(..) => open(alloc, session, transfers, call)?,
+        Call::Retr(_)
+        | Call::List(_)
+        | Call::Nlst(_)
+        | Call::Mlsd(_)
+        | Call::PutFile(..)
+        | Call::AppendFile(..) => carry(alloc, session, transfers, call)?,
+        Call::Set(setting) => set(session, setting)?,
+        Call::Read(most) => transfers.receive(alloc, *most)?,
+        Call::Write(bytes) => transfers.send(bytes.as_slice()),
+        Call::Leave => transfers.leave(alloc)?,
+        Call::Finish | Call::Abort | Call::Drain => end(alloc, session, transfers, call)?,
+    })
+}
+
+/// Opens a transfer.
+fn open(
+    alloc: Global,
+    session: &mut NamedSession,
+    transfers: &mut Transfers<Transfer<MemoryConn>>,
+    call: &Call,
+) -> Result<Answer, RowError> {
+    Ok(match call {
+        Call::RetrAsStream(path) => {
+            transfers.opened(session.retr_as_stream(alloc, &(), path.as_str()))
+        }
+        Call::PutWithStream(path) => {
+            transfers.opened(session.put_with_stream(alloc, &(), path.as_str()))
+        }
+        Call::AppendWithStream(path) => {
+            transfers.opened(session.append_with_stream(alloc, &(), path.as_str()))
+        }
+        Call::CustomDataCommand(line, codes) => transfers.opened_with(session.custom_data_command(
+            alloc,
+            &(),
+            line.as_str(),
+            codes.as_slice(),
+        )),
+        _ => return Err(RowError::NotUnderstood),
+    })
+}
+
+/// Carries a whole file or listing, and notes what was written to its data connection once it is over.
+fn carry(
+    alloc: Global,
+    session: &mut NamedSession,
+    transfers: &mut Transfers<Transfer<MemoryConn>>,
+    call: &Call,
+) -> Result<Answer, RowError> {
+    let before = session.transport().uploaded().len();
+    let answer = match call {
+        Call::Retr(path) => bytes(session.retr_as_buffer(alloc, &(), path.as_str())),
+        Call::List(path) => lines(session.list(alloc, &(), optional(path))),
+        Call::Nlst(path) => lines(session.nlst(alloc, &(), optional(path))),
+        Call::Mlsd(path) => lines(session.mlsd(alloc, &(), optional(path))),
+        Call::PutFile(path, bytes) | Call::AppendFile(path, bytes) => {
+            let append = matches!(call, Call::AppendFile(..));
+            upload(alloc, session, append, path.as_str(), bytes.as_slice())
+        }
+        _ => return Err(RowError::NotUnderstood),
+    };
+    for conn in session.transport().uploaded().iter().skip(before) {
+        transfers
+            .uploaded
+            .push(Vec::from_slice(alloc, conn.sent())?)?;
+    }
+    Ok(answer)
+}
+
+/// Uploads these bytes to a file, in the place of what it held or to its end.
+fn upload(
+    alloc: Global,
+    session: &mut NamedSession,
+    append: bool,
+    path: &str,
+    mut bytes: &[u8],
+) -> Answer {
+    let outcome = if append {
+        session.append_file(alloc, &(), path, &mut bytes)
+    } else {
+        session.put_file(alloc, &(), path, &mut bytes)
+    };
+    match outcome {
+        Ok(count) => Answer::Count(count),
+        Err(fault) => Answer::Fault(fault),
+    }
+}
+
+/// A path that may be left out.
+pub fn optional(path: &Option<Text>) -> Option<&str> {
+    path.as_ref().map(|path| path.as_str())
+}
+
+/// Brings a transfer to its end.
+fn end(
+    alloc: Global,
+    session: &mut NamedSession,
+    transfers: &mut Transfers<Transfer<MemoryConn>>,
+    call: &Call,
+) -> Result<Answer, RowError> {
+    if matches!(call, Call::Drain) {
+        return Ok(drain(alloc, session, transfers));
+    }
+    let Some(transfer) = transfers.take(alloc)? else {
+        return Ok(Answer::NoTransfer);
+    };
+    Ok(unit(match call {
+        Call::Abort => session.abort(alloc, transfer),
+        _ => session.finish(alloc, transfer),
+    }))
+}
+
+/// Reads the last reply of the transfer that was left.
+fn drain(
+    alloc: Global,
+    session: &mut NamedSession,
+    transfers: &mut Transfers<Transfer<MemoryConn>>,
+) -> Answer {
+    let Some(mut receipt) = transfers.receipt() else {
+        return Answer::NoTransfer;
+    };
+    let answer = unit(session.settle(alloc, &mut receipt));
+    transfers.keep(receipt, &answer);
+    answer
+}
+
+/// A setting changes.
+fn set(session: &mut NamedSession, setting: &Setting) -> Result<Answer, AllocError> {
+    match setting {
+        Setting::Mode(mode) => session.set_mode(*mode),
+        Setting::PassiveNatWorkaround(enabled) => session.set_passive_nat_workaround(*enabled),
+        Setting::ActivePeerCheck(check) => session.set_active_peer_check(check.clone()?),
+        Setting::ActiveDeadline(deadline) => session.set_active_deadline(*deadline),
+    }
+    Ok(Answer::Unit)
+}

@@ -1,0 +1,237 @@
+//! How a row's session comes to its data connections: what it is set to, the ends of its control connection, and what
+//! its transport's requests come to.
+
+use crate::builder::RowBuilder;
+use crate::faces::NamedSession;
+use crate::settings::setting;
+use ftp_base::types::{ConnectionError, FtpError};
+use ftp_session::session::{Setting, Settings, State};
+use ftp_transport::{MemoryConn, MemoryTransport, Request, RequestOutcome, Supply};
+use rows_text::{RowError, bytes_of, value};
+use std::alloc::{AllocError, Global};
+use std::io::ErrorKind;
+use std::net::{Ipv4Addr, SocketAddr, SocketAddrV4};
+
+/// What the next request comes to that takes one.
+#[derive(Drop)]
+enum Item {
+    /// A connect is done, and these bytes come on the data connection.
+    Connects(Vec<u8>),
+    /// An accept: a peer comes from this address, and these bytes on its connection.
+    Comes(SocketAddr, Vec<u8>),
+    /// Either is refused.
+    Refuses(ErrorKind),
+}
+
+/// The settings of a row's session, the ends of its connection and what its transport is supplied with.
+#[derive(Drop)]
+pub struct Setup {
+    settings: Settings,
+    local: SocketAddr,
+    peer: SocketAddr,
+    port: u16,
+    items: Vec<Item>,
+    builder: Option<RowBuilder>,
+}
+
+impl Setup {
+    /// A session as it begins, between ends without an address, over a transport that refuses.
+    pub fn new(alloc: Global) -> Setup {
+        let unspecified = SocketAddr::V4(SocketAddrV4::new(Ipv4Addr::new(0, 0, 0, 0), 0));
+        Setup {
+            settings: State::new().settings,
+            local: unspecified,
+            peer: unspecified,
+            port: 0,
+            items: Vec::new(alloc),
+            builder: None,
+        }
+    }
+
+    /// Takes a word of a setting, an end or a supply, with what stands after it.
+    pub fn take(&mut self, alloc: Global, word: &str, argument: &str) -> Result<(), RowError> {
+        match word {
+            "local" => self.local = value(argument)?,
+            "peer" => self.peer = value(argument)?,
+            "listens" => self.port = value(argument)?,
+            "comes" => self.comes(alloc, argument)?,
+            "refuses" => self.items.push(Item::Refuses(kind(argument)?))?,
+            _ => self.change(setting(alloc, word, argument)?),
+        }
+        Ok(())
+    }
+
+    /// A setting changes.
+    fn change(&mut self, setting: Setting) {
+        match setting {
+            Setting::Mode(mode) => self.settings.mode = mode,
+            Setting::PassiveNatWorkaround(enabled) => {
+                self.settings.passive_nat_workaround = enabled;
+            }
+            Setting::ActivePeerCheck(check) => self.settings.active_peer_check = check,
+            Setting::ActiveDeadline(deadline) => self.settings.active_deadline = deadline,
+        }
+    }
+
+    /// A data connection connects, and these bytes come on it.
+    pub fn connects(&mut self, alloc: Global, bytes: &str) -> Result<(), RowError> {
+        self.items.push(Item::Connects(bytes_of(alloc, bytes)?))?;
+        Ok(())
+    }
+
+    /// The session has this builder of data connections.
+    pub fn has_builder(&mut self, builder: RowBuilder) {
+        self.settings.stream_builder = true;
+        self.builder = Some(builder);
+    }
+
+    /// A peer comes: `ADDRESS`, or `ADDRESS BYTES` with what comes on its connection.
+    fn comes(&mut self, alloc: Global, words: &str) -> Result<(), RowError> {
+        let (address, bytes) = words.split_once(' ').unwrap_or((words, ""));
+        let from = value(address)?;
+        self.items.push(Item::Comes(from, bytes_of(alloc, bytes)?))?;
+        Ok(())
+    }
+
+    /// The ends of the control connection: the client's and the server's.
+    pub fn ends(&self) -> (SocketAddr, SocketAddr) {
+        (self.local, self.peer)
+    }
+
+    /// A state in which a session with these settings begins.
+    pub fn state(&self) -> Result<State, AllocError> {
+        let settings = self.settings.clone()?;
+        let mut state = State::new();
+        state.settings = settings;
+        Ok(state)
+    }
+
+    /// Sets a session so.
+    pub fn set(&self, session: &mut NamedSession) -> Result<(), AllocError> {
+        session.set_mode(self.settings.mode);
+        session.set_passive_nat_workaround(self.settings.passive_nat_workaround);
+        session.set_active_peer_check(self.settings.active_peer_check.clone()?);
+        session.set_active_deadline(self.settings.active_deadline);
+        if let Some(builder) = &self.builder {
+            session.set_passive_stream_builder(builder.again()?);
+        }
+        Ok(())
+    }
+
+    /// The transport with these supplies.
+    pub fn transport(&self, alloc: Global) -> Result<MemoryTransport, AllocError> {
+        let mut transport = MemoryTransport::new(alloc);
+        transport.listens_on(self.port);
+        for item in &self.items {
+            supply(alloc, &mut transport, item)?;
+        }
+        Ok(transport)
+    }
+
+    /// What these requests come to, one after another.
+    pub fn outcomes(
+        &self,
+        alloc: Global,
+        requests: &[Request],
+    ) -> Result<Vec<RequestOutcome>, AllocError> {
+        let mut outcomes = Vec::new(alloc);
+        let mut taken = 0usize;
+        for request in requests {
+            let (outcome, takes) = outcome_of(self.port, *request, self.items.get(taken));
+            if takes {
+                taken = taken.saturating_add(1);
+            }
+            outcomes.push(outcome)?;
+        }
+        Ok(outcomes)
+    }
+
+    /// The fault that the builder gives, where it gives one.
+    pub fn fault_of_builder(&self) -> Result<Option<FtpError>, AllocError> {
+        match &self.builder {
+            Some(builder) => builder.fault(),
+            None => Ok(None),
+        }
+    }
+
+    /// The bytes that come on the last data connection that these requests came to.
+    pub fn data(&self, requests: &[Request]) -> &[u8] {
+        let mut data: &[u8] = &[];
+        let mut taken = 0usize;
+        for request in requests {
+            if let (Request::Build(_), Some(builder)) = (request, &self.builder) {
+                data = builder.bytes();
+            }
+            let next = self.items.get(taken);
+            let (_outcome, takes) = outcome_of(self.port, *request, next);
+            if takes {
+                taken = taken.saturating_add(1);
+                data = bytes_on(next);
+            }
+        }
+        data
+    }
+}
+
+/// Supplies a transport with an item.
+fn supply(alloc: Global, transport: &mut MemoryTransport, item: &Item) -> Result<(), AllocError> {
+    match item {
+        Item::Connects(bytes) => {
+            let conn = conn_of(alloc, bytes)?;
+            transport.supply(Supply::Connects(conn))
+        }
+        Item::Comes(address, bytes) => {
+            let conn = conn_of(alloc, bytes)?;
+            transport.supply(Supply::Peer(*address, conn))
+        }
+        Item::Refuses(kind) => transport.supply(Supply::Refuses(*kind)),
+    }
+}
+
+/// The bytes that come on the connection of an item.
+fn bytes_on(item: Option<&Item>) -> &[u8] {
+    match item {
+        Some(Item::Connects(bytes)) => bytes,
+        Some(Item::Comes(_, bytes)) => bytes,
+        Some(Item::Refuses(_)) | None => &[],
+    }
+}
+
+/// A connection on which these bytes came, and ended.
+fn conn_of(alloc: Global, bytes: &[u8]) -> Result<MemoryConn, AllocError> {
+    let mut conn = MemoryConn::new(alloc);
+    conn.feed(bytes)?;
+    conn.end();
+    Ok(conn)
+}
+
+/// What a request comes to where this is the next item, and whether it takes the item; listeners get this port.
+fn outcome_of(port: u16, request: Request, next: Option<&Item>) -> (RequestOutcome, bool) {
+    match (request, next) {
+        (Request::Connect(..), Some(Item::Connects(_))) => (RequestOutcome::Done, true),
+        (Request::Accept(_), Some(Item::Comes(from, _))) => (RequestOutcome::Address(*from), true),
+        (Request::Connect(..) | Request::Accept(_), Some(Item::Refuses(kind))) => {
+            (RequestOutcome::Refused(ConnectionError::Io(*kind)), true)
+        }
+        (Request::Connect(..), _) => {
+            let refused = ConnectionError::Io(ErrorKind::ConnectionRefused);
+            (RequestOutcome::Refused(refused), false)
+        }
+        (Request::Accept(_), _) => (RequestOutcome::Refused(ConnectionError::TimedOut), false),
+        (Request::Build(_), _) => (RequestOutcome::Done, false),
+        (Request::Listen(mut address), _) => {
+            address.set_port(port);
+            (RequestOutcome::Address(address), false)
+        }
+    }
+}
+
+/// A kind of fault by its name.
+fn kind(word: &str) -> Result<ErrorKind, RowError> {
+    match word {
+        "ConnectionRefused" => Ok(ErrorKind::ConnectionRefused),
+        "ConnectionReset" => Ok(ErrorKind::ConnectionReset),
+        "NotConnected" => Ok(ErrorKind::NotConnected),
+        _ => Err(RowError::NotUnderstood),
+    }
+}

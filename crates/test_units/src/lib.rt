@@ -1,0 +1,31 @@
+//! Tests of the crates that can be used without a session: the base, with the lines of listings; the parsers of listings, over lines
+//! as servers send them; and transfers over memory. They show what a call gives with ample memory, which no contract can say, and
+//! each way in which small types are read. What is a matter of values is a row of `rows_base`.
+#![tactic(auto)]
+
+#[cfg(test)]
+mod accessors;
+#[cfg(test)]
+mod contents;
+#[cfg(test)]
+mod copies;
+#[cfg(test)]
+mod described;
+#[cfg(test)]
+mod features;
+#[cfg(test)]
+mod hostile;
+#[cfg(test)]
+mod listings;
+#[cfg(test)]
+mod real_lines;
+#[cfg(test)]
+mod replies;
+#[cfg(test)]
+mod rows;
+#[cfg(test)]
+mod splits;
+#[cfg(test)]
+mod tables;
+#[cfg(test)]
+mod transfers;

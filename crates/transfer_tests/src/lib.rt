@@ -1,5 +1,0 @@
-//! Tests of transfers over memory.
-#![tactic(auto)]
-
-#[cfg(test)]
-mod values;
