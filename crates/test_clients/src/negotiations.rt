@@ -2,8 +2,8 @@
 
 use crate::scene::{answers_text, boxed, ends};
 use ftp_base::types::{ActivePeerCheck, FtpResult, Mode, Text};
-use ftp_transport::{TcpConn, TcpTransport};
 use ftp_session::session::{Call, Session};
+use ftp_transport::{TcpConn, TcpTransport};
 use std::alloc::{AllocError, Global};
 use std::io::{BufRead, BufReader, Write};
 use std::net::{Net, SocketAddr, TcpListener, TcpStream};

@@ -1,8 +1,8 @@
 //! What the tests share: a connection over memory, a session that was greeted, and answers as text.
 
 use ftp_base::types::{FtpError, FtpResult, Response};
-use ftp_transport::{Asked, MemoryConn, MemoryTransport, Request, RequestOutcome};
 use ftp_session::session::{Answer, Session};
+use ftp_transport::{Asked, MemoryConn, MemoryTransport, Request, RequestOutcome};
 use futures::task::Poll;
 use rows_text::shown;
 use std::alloc::{AllocError, Global};

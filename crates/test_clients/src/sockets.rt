@@ -2,8 +2,8 @@
 
 use crate::scene::{boxed, ends, number};
 use ftp_base::types::FtpResult;
-use ftp_transport::{TcpConn, TcpTransport};
 use ftp_session::session::Session;
+use ftp_transport::{TcpConn, TcpTransport};
 use std::alloc::Global;
 use std::io::Write;
 use std::net::{Net, TcpListener, TcpStream};

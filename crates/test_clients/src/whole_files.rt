@@ -3,6 +3,8 @@
 use crate::negotiations::{SocketSession, connected, data_listener, replies};
 use crate::scene::boxed;
 use ftp_base::types::{FtpResult, Mode};
+use ftp_blocking::{ImplFtpStream, Transfer};
+use ftp_session::session::DownloadReader;
 use ftp_transport::{TcpConn, TcpTransport};
 use std::alloc::Global;
 use std::io::{Read, Write};
@@ -11,9 +13,6 @@ use std::sync::Wait;
 use std::test::Fail;
 use std::time::Clock;
 use std::{io, thread};
-use ftp_blocking::Transfer;
-use ftp_blocking::ImplFtpStream;
-use ftp_session::session::DownloadReader;
 
 /// A client over sockets.
 type Client = ImplFtpStream<TcpTransport>;

@@ -167,33 +167,27 @@ fn downloaded(alloc: Global, last: &[u8]) -> Result<(Option<ErrorKind>, u8), Fai
 
 /// The kind of a connection's fault.
 fn kind_of(answer: FtpResult<Vec<u8>>) -> Option<ErrorKind> {
-    match answer {
+    match &answer {
         Err(FtpError::ConnectionError(fault)) => Some(fault.kind()),
         _ => None,
     }
 }
 
 #[test]
-fn a_listing_whose_data_break_is_no_listing(rt: HostRuntime) -> Result<(), Fail> {
-    let after_226 = listed(rt.alloc(), b"226 d\r\n200 ok\r\n")?;
-    assert_eq!(rt; after_226, (11u8, 0u8));
-    Ok(())
-}
-
-#[test]
-fn the_last_reply_of_a_listing_is_told_before_a_fault_of_its_data(
+fn a_listing_whose_data_break_is_no_listing_and_its_last_reply_is_told_first(
     rt: HostRuntime,
 ) -> Result<(), Fail> {
+    let after_226 = listed(rt.alloc(), b"226 d\r\n200 ok\r\n")?;
     let after_426 = listed(rt.alloc(), b"426 no\r\n200 ok\r\n")?;
-    assert_eq!(rt; after_426, (10u8, 0u8));
+    assert_eq!(rt; (after_226, after_426), ((11, 0), (10, 0)));
     Ok(())
 }
 
 #[test]
 fn a_fault_of_a_files_data_is_told_whatever_the_last_reply_is(rt: HostRuntime) -> Result<(), Fail> {
-    let after_226 = downloaded(rt.alloc(), b"226 d\r\n200 ok\r\n")?;
-    assert_eq!(rt; after_226, (Some(ErrorKind::ConnectionReset), 0u8));
-    let after_426 = downloaded(rt.alloc(), b"426 no\r\n200 ok\r\n")?;
-    assert_eq!(rt; after_426, (Some(ErrorKind::ConnectionReset), 0u8));
+    for last in [b"226 d\r\n200 ok\r\n".as_slice(), b"426 no\r\n200 ok\r\n"] {
+        let came = downloaded(rt.alloc(), last)?;
+        assert_eq!(rt; came, (Some(ErrorKind::ConnectionReset), 0u8));
+    }
     Ok(())
 }

@@ -1,217 +1,344 @@
 //! Transfers that a session hands out, over memory: their bytes, their end, and their leaving.
 
 use crate::counts::text_of;
-use crate::scene::{greeted, number, opened, sent};
+use crate::scene::{MemorySession, greeted, number, opened, sent};
 use ftp_base::status::Status;
+use ftp_base::types::FtpResult;
 use ftp_session::session::Call;
-use ftp_transfer::Direction;
+use ftp_transfer::{Direction, Transfer};
+use ftp_transport::MemoryConn;
+use std::alloc::{AllocError, Global};
+use std::io::Write;
 use std::test::Fail;
 use std::thread;
+
+/// What the server says of a data command, and of the command after it.
+const DOWNLOAD: &str = "227 x (10,0,0,1,4,0).\r\n150 b\r\n226 d\r\n200 ok\r\n";
+
+/// A situation, what the server sends, what is done, and what is due: the number of each refusal, 0 where there is
+/// none, the counts of the transfers (opened, finished, aborted, drained and owed), and what was sent.
+const ROWS: [(&str, &str, &[Step], &str, &[u8]); 9] = [
+    (
+        "a transfer that was dropped is one that lives, until the session looks",
+        DOWNLOAD,
+        &[Step::Open, Step::Drop],
+        "0 0 1 0 0 0 Live(1)",
+        b"PASV\r\nRETR a\r\n",
+    ),
+    (
+        "the last reply of a dropped transfer is read first",
+        "227 x (10,0,0,1,4,0).\r\n150 b\r\n426 d\r\n200 ok\r\n",
+        &[Step::Open, Step::Drop, Step::Noop],
+        "0 0 0 1 0 0 1 Nothing",
+        b"PASV\r\nRETR a\r\nNOOP\r\n",
+    ),
+    (
+        "a run sees a transfer that was left before",
+        DOWNLOAD,
+        &[Step::Open, Step::Drop, Step::Run],
+        "0 0 0 1 0 0 1 Nothing",
+        b"PASV\r\nRETR a\r\nNOOP\r\n",
+    ),
+    (
+        "a live transfer refuses another",
+        "227 x (10,0,0,1,4,0).\r\n150 b\r\n200 ok\r\n226 d\r\n",
+        &[Step::Open, Step::Open],
+        "0 12 1 0 0 0 Live(1)",
+        b"PASV\r\nRETR a\r\n",
+    ),
+    (
+        "a live transfer refuses no other command",
+        "227 x (10,0,0,1,4,0).\r\n150 b\r\n200 ok\r\n226 d\r\n",
+        &[Step::Open, Step::Open, Step::Noop, Step::Finish],
+        "0 12 0 0 1 1 0 0 Nothing",
+        b"PASV\r\nRETR a\r\nNOOP\r\n",
+    ),
+    (
+        "a command that is refused opens nothing",
+        "227 x (10,0,0,1,4,0).\r\n550 no\r\n",
+        &[Step::Open],
+        "10 0 0 0 0 Nothing",
+        b"PASV\r\nRETR a\r\n",
+    ),
+    (
+        "the transfer after a command that was refused is the first",
+        "227 x (10,0,0,1,4,0).\r\n550 no\r\n227 x (10,0,0,1,4,0).\r\n150 b\r\n",
+        &[Step::Open, Step::Open],
+        "10 0 1 0 0 0 Live(1)",
+        b"PASV\r\nRETR a\r\nPASV\r\nRETR a\r\n",
+    ),
+    (
+        "a failed session leaves the transfer it is to finish",
+        "227 x (10,0,0,1,4,0).\r\n150 b\r\n",
+        &[Step::Open, Step::Noop, Step::Finish],
+        "0 2 14 1 0 0 0 Left(1)",
+        b"PASV\r\nRETR a\r\nNOOP\r\n",
+    ),
+    (
+        "an abort hears two replies after 426",
+        "227 x (10,0,0,1,4,0).\r\n150 b\r\n426 a\r\n226 b\r\n",
+        &[Step::Open, Step::Abort],
+        "0 0 1 0 1 0 Nothing",
+        b"PASV\r\nRETR a\r\nABOR\r\n",
+    ),
+];
+
+/// What is done in a row.
+#[derive(Clone, Copy)]
+enum Step {
+    /// A download is opened, and held where it is.
+    Open,
+    /// The transfer that is held is dropped.
+    Drop,
+    /// It is finished.
+    Finish,
+    /// It is aborted.
+    Abort,
+    /// A command besides.
+    Noop,
+    /// The same by a run.
+    Run,
+}
+
+/// The transfers that are held.
+type Held = Vec<Transfer<MemoryConn>>;
+
+/// Holds a transfer; the number of the refusal where there is none.
+fn hold(held: &mut Held, made: FtpResult<Transfer<MemoryConn>>) -> Result<u8, AllocError> {
+    match made {
+        Ok(transfer) => {
+            held.push(transfer)?;
+            Ok(0)
+        }
+        refusal => Ok(number(refusal)),
+    }
+}
+
+/// Does a step, and gives the number of its refusal; 255 where no transfer is held.
+fn done(
+    alloc: Global,
+    session: &mut MemorySession,
+    held: &mut Held,
+    step: Step,
+) -> Result<u8, AllocError> {
+    match step {
+        Step::Open => hold(held, opened(alloc, session)),
+        Step::Noop => Ok(number(session.noop(alloc))),
+        Step::Run => Ok(number(session.run(alloc, &(), &[Call::Noop]))),
+        Step::Drop | Step::Finish | Step::Abort => Ok(ended(alloc, session, held, step)),
+    }
+}
+
+/// Ends the transfer that is held, and gives the number of the refusal; 255 where none is held.
+fn ended(alloc: Global, session: &mut MemorySession, held: &mut Held, step: Step) -> u8 {
+    let Some(transfer) = held.pop() else {
+        return 255;
+    };
+    match step {
+        Step::Finish => number(session.finish(alloc, transfer)),
+        Step::Abort => number(session.abort(alloc, transfer)),
+        _ => {
+            drop(transfer);
+            0
+        }
+    }
+}
+
+/// What the steps of a row come to: the numbers and the counts, and whether this was sent and each byte that came is
+/// part of a reply.
+fn played(
+    alloc: Global,
+    input: &str,
+    steps: &[Step],
+    lines: &[u8],
+) -> Result<(String, bool), Fail> {
+    let mut session = greeted(alloc, input)?;
+    let numbers = numbers_of(alloc, &mut session, steps)?;
+    let counts = text_of(alloc, session.counts())?;
+    let whole = sent(&session) == lines && session.untaken() == 0;
+    drop(session);
+    Ok((format!(in alloc; "{numbers}{counts}")?, whole))
+}
+
+/// The numbers of the refusals of these steps, a space behind each.
+fn numbers_of(
+    alloc: Global,
+    session: &mut MemorySession,
+    steps: &[Step],
+) -> Result<String, AllocError> {
+    let mut numbers = String::new(alloc);
+    let mut held = Vec::new(alloc);
+    for step in steps {
+        let number = done(alloc, session, &mut held, *step)?;
+        write!(numbers, "{number} ")?;
+    }
+    Ok(numbers)
+}
+
+#[test]
+fn a_transfer_is_opened_and_ends(rt: HostRuntime) -> Result<(), Fail> {
+    for (situation, input, steps, due, lines) in ROWS {
+        let (text, whole) = played(rt.alloc(), input, steps, lines)?;
+        assert_eq!(rt; (text.as_str(), whole), (due, true), "{situation}");
+    }
+    Ok(())
+}
+
+/// What a transfer is called, and what a read of it gives.
+fn read(transfer: &mut Transfer<MemoryConn>) -> (u64, bool, bool) {
+    let mut buffer = [0u8; 8];
+    let five = transfer.read(&mut buffer) == Ok(5) && &buffer[..5] == b"hello".as_slice();
+    (
+        transfer.number(),
+        transfer.direction() == Direction::Download,
+        five,
+    )
+}
 
 #[test]
 fn a_download_is_handed_out_read_and_finished(rt: HostRuntime) -> Result<(), Fail> {
     let alloc = rt.alloc();
-    let mut session = greeted(
-        alloc,
-        "227 x (10,0,0,1,4,0).\r\n150 b\r\n226 d\r\n200 ok\r\n",
-    )?;
+    let mut session = greeted(alloc, DOWNLOAD)?;
     let mut transfer = opened(alloc, &mut session)?;
+    let came = read(&mut transfer);
+    let finished = number(session.finish(alloc, transfer));
+    let counts = text_of(alloc, session.counts())?;
+    let after = number(session.noop(alloc));
+    let same = sent(&session) == b"PASV\r\nRETR a\r\nNOOP\r\n".as_slice();
+    drop(session);
     assert_eq!(rt;
-        (transfer.number(), transfer.direction()),
-        (1, Direction::Download)
+        (came, counts.as_str()),
+        ((1, true, true), "1 1 0 0 Nothing")
     );
-    let mut buffer = [0u8; 8];
-    assert_eq!(rt; transfer.read(&mut buffer), Ok(5));
-    assert_eq!(rt; &buffer[..5], b"hello".as_slice());
-    assert_eq!(rt; number(session.finish(alloc, transfer)), 0);
-    assert_eq!(rt;
-        text_of(alloc, session.counts())?.as_str(),
-        "1 1 0 0 Nothing"
-    );
-    assert_eq!(rt; number(session.noop(alloc)), 0);
-    assert_eq!(rt; sent(&session), b"PASV\r\nRETR a\r\nNOOP\r\n".as_slice());
-    Ok(())
-}
-
-#[test]
-fn the_last_reply_of_a_dropped_transfer_is_read_first(rt: HostRuntime) -> Result<(), Fail> {
-    let alloc = rt.alloc();
-    let mut session = greeted(
-        alloc,
-        "227 x (10,0,0,1,4,0).\r\n150 b\r\n426 d\r\n200 ok\r\n",
-    )?;
-    drop(opened(alloc, &mut session)?);
-    assert_eq!(rt;
-        text_of(alloc, session.counts())?.as_str(),
-        "1 0 0 0 Live(1)"
-    );
-    assert_eq!(rt; number(session.noop(alloc)), 0);
-    assert_eq!(rt;
-        text_of(alloc, session.counts())?.as_str(),
-        "1 0 0 1 Nothing"
-    );
-    assert_eq!(rt; session.untaken(), 0);
+    assert_eq!(rt; (finished, after, same), (0, 0, true));
     Ok(())
 }
 
 #[test]
 fn a_transfer_that_another_thread_drops_is_seen(rt: HostRuntime) -> Result<(), Fail> {
     let alloc = rt.alloc();
-    let mut session = greeted(
-        alloc,
-        "227 x (10,0,0,1,4,0).\r\n150 b\r\n226 d\r\n200 ok\r\n",
-    )?;
+    let mut session = greeted(alloc, DOWNLOAD)?;
     let transfer = opened(alloc, &mut session)?;
     thread::spawn(&rt, move || drop(transfer))?.join(&rt);
-    assert_eq!(rt; number(session.noop(alloc)), 0);
-    assert_eq!(rt;
-        text_of(alloc, session.counts())?.as_str(),
-        "1 0 0 1 Nothing"
-    );
+    let after = number(session.noop(alloc));
+    let counts = text_of(alloc, session.counts())?;
+    drop(session);
+    assert_eq!(rt; (after, counts.as_str()), (0, "1 0 0 1 Nothing"));
     Ok(())
 }
 
-#[test]
-fn a_live_transfer_refuses_another_and_no_other_command(rt: HostRuntime) -> Result<(), Fail> {
-    let alloc = rt.alloc();
-    let mut session = greeted(
-        alloc,
-        "227 x (10,0,0,1,4,0).\r\n150 b\r\n200 ok\r\n226 d\r\n",
-    )?;
-    let transfer = opened(alloc, &mut session)?;
-    assert_eq!(rt; number(opened(alloc, &mut session)), 12);
-    assert_eq!(rt; sent(&session), b"PASV\r\nRETR a\r\n".as_slice());
-    assert_eq!(rt; number(session.noop(alloc)), 0);
-    assert_eq!(rt; number(session.finish(alloc, transfer)), 0);
-    Ok(())
-}
-
-#[test]
-fn a_command_that_is_refused_opens_nothing(rt: HostRuntime) -> Result<(), Fail> {
-    let alloc = rt.alloc();
-    let mut session = greeted(
-        alloc,
-        "227 x (10,0,0,1,4,0).\r\n550 no\r\n227 x (10,0,0,1,4,0).\r\n150 b\r\n",
-    )?;
-    assert_eq!(rt; number(opened(alloc, &mut session)), 10);
-    assert_eq!(rt;
-        text_of(alloc, session.counts())?.as_str(),
-        "0 0 0 0 Nothing"
-    );
-    assert_eq!(rt; opened(alloc, &mut session)?.number(), 1);
-    Ok(())
+/// What the calls of an upload give, and whether its bytes arrived.
+fn uploaded(alloc: Global) -> Result<(bool, bool, u8, bool), Fail> {
+    let mut session = greeted(alloc, "227 x (10,0,0,1,4,0).\r\n125 b\r\n250 d\r\n")?;
+    let mut transfer = session.put_with_stream(alloc, &(), "b")?;
+    let uploads = transfer.direction() == Direction::Upload;
+    let three = transfer.write(b"abc") == Ok(3);
+    let finished = number(session.finish(alloc, transfer));
+    let arrived = match session.transport().uploaded() {
+        [conn] => conn.sent() == b"abc".as_slice(),
+        _ => false,
+    };
+    Ok((uploads, three, finished, arrived))
 }
 
 #[test]
 fn an_upload_is_told_by_the_transport(rt: HostRuntime) -> Result<(), Fail> {
-    let alloc = rt.alloc();
-    let mut session = greeted(alloc, "227 x (10,0,0,1,4,0).\r\n125 b\r\n250 d\r\n")?;
-    let mut transfer = session.put_with_stream(alloc, &(), "b")?;
-    assert_eq!(rt; transfer.direction(), Direction::Upload);
-    assert_eq!(rt; transfer.write(b"abc"), Ok(3));
-    assert_eq!(rt; number(session.finish(alloc, transfer)), 0);
-    let uploaded = session.transport().uploaded();
-    match uploaded {
-        [conn] => assert_eq!(rt; conn.sent(), b"abc".as_slice()),
-        _ => return Err(Fail::new(format_args!("one data connection"))),
-    }
+    assert_eq!(rt; uploaded(rt.alloc())?, (true, true, 0, true));
     Ok(())
+}
+
+/// What the end of an append at an offset gives, and whether these lines were sent for it.
+fn appended(alloc: Global, lines: &[u8]) -> Result<(u8, bool), Fail> {
+    let input = "227 x (10,0,0,1,4,0).\r\n350 at 7\r\n150 b\r\n226 d\r\n";
+    let mut session = greeted(alloc, input)?;
+    session.resume_transfer(alloc, 7)?;
+    let transfer = session.append_with_stream(alloc, &(), "b")?;
+    let finished = number(session.finish(alloc, transfer));
+    Ok((finished, sent(&session) == lines))
 }
 
 #[test]
 fn an_append_begins_at_the_offset(rt: HostRuntime) -> Result<(), Fail> {
-    let alloc = rt.alloc();
-    let mut session = greeted(
-        alloc,
-        "227 x (10,0,0,1,4,0).\r\n350 at 7\r\n150 b\r\n226 d\r\n",
-    )?;
-    session.resume_transfer(alloc, 7)?;
-    let transfer = session.append_with_stream(alloc, &(), "b")?;
-    assert_eq!(rt; number(session.finish(alloc, transfer)), 0);
-    assert_eq!(rt; sent(&session), b"PASV\r\nREST 7\r\nAPPE b\r\n".as_slice());
+    let lines = b"PASV\r\nREST 7\r\nAPPE b\r\n".as_slice();
+    assert_eq!(rt; appended(rt.alloc(), lines)?, (0, true));
     Ok(())
 }
 
-#[test]
-fn a_line_of_the_callers_gives_its_reply(rt: HostRuntime) -> Result<(), Fail> {
-    let alloc = rt.alloc();
-    let mut session = greeted(alloc, "227 x (10,0,0,1,4,0).\r\n150 b\r\n226 d\r\n")?;
-    let (reply, transfer) = session.custom_data_command(
+/// Whether a line of the caller's gives this reply, what its end gives, and whether these lines were sent.
+fn line_of_the_callers(
+    alloc: Global,
+    reply: &[u8],
+    lines: &[u8],
+) -> Result<(bool, u8, bool), Fail> {
+    let mut session = greeted(alloc, DOWNLOAD)?;
+    let (heard, transfer) = session.custom_data_command(
         alloc,
         &(),
         "LIST -a",
         &[Status::AboutToSend],
     )?;
-    assert_eq!(rt; reply.body.as_slice(), b"150 b\r\n".as_slice());
-    assert_eq!(rt; number(session.finish(alloc, transfer)), 0);
-    assert_eq!(rt; sent(&session), b"PASV\r\nLIST -a\r\n".as_slice());
+    let same = heard.body.as_slice() == reply;
+    drop(heard);
+    let finished = number(session.finish(alloc, transfer));
+    Ok((same, finished, sent(&session) == lines))
+}
+
+#[test]
+fn a_line_of_the_callers_gives_its_reply(rt: HostRuntime) -> Result<(), Fail> {
+    let lines = b"PASV\r\nLIST -a\r\n".as_slice();
+    let came = line_of_the_callers(rt.alloc(), b"150 b\r\n", lines)?;
+    assert_eq!(rt; came, (true, 0, true));
     Ok(())
+}
+
+/// What a transfer that was left comes to whose receipt is settled twice: the numbers of the two and of the command
+/// after them, and the counts after the first.
+fn settled(alloc: Global) -> Result<(u8, u8, u8, String), Fail> {
+    let mut session = greeted(alloc, DOWNLOAD)?;
+    let mut left = opened(alloc, &mut session)?.leave();
+    let first = number(session.settle(alloc, &mut left));
+    let counts = text_of(alloc, session.counts())?;
+    let second = number(session.settle(alloc, &mut left));
+    Ok((first, second, number(session.noop(alloc)), counts))
 }
 
 #[test]
 fn a_receipt_is_settled_once(rt: HostRuntime) -> Result<(), Fail> {
-    let alloc = rt.alloc();
-    let mut session = greeted(
-        alloc,
-        "227 x (10,0,0,1,4,0).\r\n150 b\r\n226 d\r\n200 ok\r\n",
-    )?;
-    let mut left = opened(alloc, &mut session)?.leave();
-    assert_eq!(rt; number(session.settle(alloc, &mut left)), 0);
-    assert_eq!(rt;
-        text_of(alloc, session.counts())?.as_str(),
-        "1 0 0 1 Nothing"
-    );
-    assert_eq!(rt; number(session.settle(alloc, &mut left)), 0);
-    assert_eq!(rt; number(session.noop(alloc)), 0);
+    let (first, second, after, counts) = settled(rt.alloc())?;
+    let came = (first, second, after, counts.as_str());
+    assert_eq!(rt; came, (0, 0, 0, "1 0 0 1 Nothing"));
     Ok(())
+}
+
+/// What another session answers that is to finish or abort this transfer, and its next command; and whether only that
+/// was sent.
+fn elsewhere(
+    alloc: Global,
+    transfer: Transfer<MemoryConn>,
+    aborts: bool,
+) -> Result<(u8, u8, bool), Fail> {
+    let mut other = greeted(alloc, "200 ok\r\n")?;
+    let refusal = if aborts {
+        number(other.abort(alloc, transfer))
+    } else {
+        number(other.finish(alloc, transfer))
+    };
+    let after = number(other.noop(alloc));
+    Ok((refusal, after, sent(&other) == b"NOOP\r\n".as_slice()))
 }
 
 #[test]
 fn a_transfer_of_another_number_is_left(rt: HostRuntime) -> Result<(), Fail> {
     let alloc = rt.alloc();
-    let mut session = greeted(
-        alloc,
-        "227 x (10,0,0,1,4,0).\r\n150 b\r\n226 d\r\n200 ok\r\n",
-    )?;
-    let mut other = greeted(alloc, "200 ok\r\n")?;
-    let transfer = opened(alloc, &mut session)?;
-    assert_eq!(rt; number(other.finish(alloc, transfer)), 18);
-    assert_eq!(rt; number(other.noop(alloc)), 0);
-    assert_eq!(rt; number(session.noop(alloc)), 0);
-    assert_eq!(rt;
-        text_of(alloc, session.counts())?.as_str(),
-        "1 0 0 1 Nothing"
-    );
-    Ok(())
-}
-
-#[test]
-fn a_failed_session_leaves_the_transfer_it_is_to_finish(rt: HostRuntime) -> Result<(), Fail> {
-    let alloc = rt.alloc();
-    let mut session = greeted(alloc, "227 x (10,0,0,1,4,0).\r\n150 b\r\n")?;
-    let transfer = opened(alloc, &mut session)?;
-    assert_eq!(rt; number(session.noop(alloc)), 2);
-    assert_eq!(rt; number(session.finish(alloc, transfer)), 14);
-    assert_eq!(rt;
-        text_of(alloc, session.counts())?.as_str(),
-        "1 0 0 0 Left(1)"
-    );
-    Ok(())
-}
-
-#[test]
-fn a_run_sees_a_transfer_that_was_left_before(rt: HostRuntime) -> Result<(), Fail> {
-    let alloc = rt.alloc();
-    let mut session = greeted(
-        alloc,
-        "227 x (10,0,0,1,4,0).\r\n150 b\r\n226 d\r\n200 ok\r\n",
-    )?;
-    drop(opened(alloc, &mut session)?);
-    session.run(alloc, &(), &[Call::Noop])?;
-    assert_eq!(rt;
-        text_of(alloc, session.counts())?.as_str(),
-        "1 0 0 1 Nothing"
-    );
-    assert_eq!(rt; session.untaken(), 0);
+    for aborts in [false, true] {
+        let mut session = greeted(alloc, DOWNLOAD)?;
+        let transfer = opened(alloc, &mut session)?;
+        let there = elsewhere(alloc, transfer, aborts)?;
+        let after = number(session.noop(alloc));
+        let counts = text_of(alloc, session.counts())?;
+        drop(session);
+        assert_eq!(rt; there, (18, 0, true), "{aborts}");
+        assert_eq!(rt; (after, counts.as_str()), (0, "1 0 0 1 Nothing"));
+    }
     Ok(())
 }

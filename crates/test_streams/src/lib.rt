@@ -2,8 +2,6 @@
 #![tactic(auto)]
 
 #[cfg(test)]
-mod aborted;
-#[cfg(test)]
 mod broken_data;
 #[cfg(test)]
 mod counts;

@@ -5,6 +5,7 @@ use ftp_base::types::{FileType, FtpError, FtpResult};
 use ftp_session::session::DownloadReader;
 use ftp_transfer::Transfer;
 use ftp_transport::MemoryConn;
+use std::alloc::Global;
 use std::io;
 use std::io::{ErrorKind, Read};
 use std::test::Fail;
@@ -34,61 +35,73 @@ impl Read for Stumbling {
 /// What a server says of one upload, and then of a `NOOP`.
 const UPLOAD: &str = "227 x (10,0,0,1,4,0).\r\n150 b\r\n226 d\r\n200 o\r\n";
 
+/// The same after the type was set.
+const IMAGE: &str = "200 t\r\n227 x (10,0,0,1,4,0).\r\n150 b\r\n226 d\r\n200 o\r\n";
+
+/// A situation: how often a source is interrupted, what it gives, and its fault; and what is due: how many bytes the
+/// upload answers, or 1000 and the number of its fault, and what arrives.
+const SOURCES: [(&str, u32, &[u8], Option<ErrorKind>, u64, &[u8]); 3] = [
+    (
+        "interrupted 64 times it is read again",
+        64,
+        b"a",
+        None,
+        1,
+        b"a",
+    ),
+    ("interrupted 65 times it fails", 65, b"a", None, 1001, b""),
+    (
+        "what it gave before its fault is uploaded",
+        0,
+        b"ab",
+        Some(ErrorKind::BrokenPipe),
+        1001,
+        b"ab",
+    ),
+];
+
 /// How many bytes an upload of this source answers, or 1000 and the number of its fault.
-fn put<R: AllocGlobal>(rt: &R, session: &mut MemorySession, source: &mut Stumbling) -> u64 {
-    match session.put_file(rt.alloc(), &(), "f", source) {
-        Ok(count) => count,
+fn put(alloc: Global, session: &mut MemorySession, mut source: Stumbling) -> u64 {
+    let answer = session.put_file(alloc, &(), "f", &mut source);
+    match &answer {
+        Ok(count) => *count,
         Err(fault) => 1000 + u64::from(fault.number()),
     }
 }
 
-/// What was sent on the first data connection.
-fn uploaded(session: &MemorySession) -> &[u8] {
-    match session.transport().uploaded().first() {
-        Some(conn) => conn.sent(),
-        None => b"nothing",
+/// What an upload of this source answers, which goes as an image where it has a fault, whether this arrives, and what
+/// the command after it answers.
+fn uploaded(alloc: Global, source: Stumbling, due: &[u8]) -> Result<(u64, bool, u8), Fail> {
+    let mut session = greeted(
+        alloc,
+        if source.fault.is_some() {
+            IMAGE
+        } else {
+            UPLOAD
+        },
+    )?;
+    if source.fault.is_some() {
+        session.transfer_type(alloc, FileType::Image)?;
     }
-}
-
-/// A source that is interrupted so many times and then gives a byte.
-fn interrupted(interruptions: u32) -> Stumbling {
-    Stumbling {
-        interruptions,
-        bytes: b"a",
-        fault: None,
-    }
-}
-
-#[test]
-fn a_source_that_was_interrupted_64_times_is_read_again(rt: HostRuntime) -> Result<(), Fail> {
-    let mut session = greeted(rt.alloc(), UPLOAD)?;
-    assert_eq!(rt; put(&rt, &mut session, &mut interrupted(64)), 1);
-    assert!(rt; uploaded(&session) == b"a".as_slice());
-    Ok(())
-}
-
-#[test]
-fn a_source_that_was_interrupted_65_times_fails(rt: HostRuntime) -> Result<(), Fail> {
-    let mut session = greeted(rt.alloc(), UPLOAD)?;
-    assert_eq!(rt; put(&rt, &mut session, &mut interrupted(65)), 1001);
-    assert!(rt; uploaded(&session).is_empty());
-    assert_eq!(rt; number(session.noop(rt.alloc())), 0);
-    Ok(())
-}
-
-#[test]
-fn what_a_source_gave_before_its_fault_is_uploaded(rt: HostRuntime) -> Result<(), Fail> {
-    let replies = "200 t\r\n227 x (10,0,0,1,4,0).\r\n150 b\r\n226 d\r\n200 o\r\n";
-    let mut session = greeted(rt.alloc(), replies)?;
-    session.transfer_type(rt.alloc(), FileType::Image)?;
-    let mut source = Stumbling {
-        interruptions: 0,
-        bytes: b"ab",
-        fault: Some(ErrorKind::BrokenPipe),
+    let answer = put(alloc, &mut session, source);
+    let arrived = match session.transport().uploaded().first() {
+        Some(conn) => conn.sent() == due,
+        None => false,
     };
-    assert_eq!(rt; put(&rt, &mut session, &mut source), 1001);
-    assert!(rt; uploaded(&session) == b"ab".as_slice());
-    assert_eq!(rt; number(session.noop(rt.alloc())), 0);
+    Ok((answer, arrived, number(session.noop(alloc))))
+}
+
+#[test]
+fn what_a_source_gives_is_uploaded(rt: HostRuntime) -> Result<(), Fail> {
+    for (situation, interruptions, bytes, fault, answer, due) in SOURCES {
+        let source = Stumbling {
+            interruptions,
+            bytes,
+            fault,
+        };
+        let came = uploaded(rt.alloc(), source, due)?;
+        assert_eq!(rt; came, (answer, true, 0), "{situation}");
+    }
     Ok(())
 }
 
@@ -111,27 +124,27 @@ impl DownloadReader<MemoryConn, u16> for Pair {
     }
 }
 
-/// What a download by a reader gives, or the number of its fault.
-fn pair_of<R: AllocGlobal>(rt: &R, session: &mut MemorySession, fails: bool) -> u16 {
-    match session.retr(rt.alloc(), &(), "f", &mut Pair { fails }) {
-        Ok(pair) => pair,
+/// What a download by a reader gives, or the number of its fault; and what the command after it answers.
+fn pair_of(alloc: Global, replies: &str, fails: bool) -> Result<(u16, u8), Fail> {
+    let mut session = greeted(alloc, replies)?;
+    let answer = session.retr(alloc, &(), "f", &mut Pair { fails });
+    let pair = match &answer {
+        Ok(pair) => *pair,
         Err(fault) => u16::from(fault.number()),
-    }
+    };
+    drop(answer);
+    Ok((pair, number(session.noop(alloc))))
 }
 
 #[test]
 fn a_reader_gives_what_it_read(rt: HostRuntime) -> Result<(), Fail> {
-    let mut session = greeted(rt.alloc(), UPLOAD)?;
-    assert_eq!(rt; pair_of(&rt, &mut session, false), 0x6865);
-    assert_eq!(rt; number(session.noop(rt.alloc())), 0);
+    assert_eq!(rt; pair_of(rt.alloc(), UPLOAD, false)?, (0x6865, 0));
     Ok(())
 }
 
 #[test]
 fn a_readers_fault_is_told_before_the_last_reply(rt: HostRuntime) -> Result<(), Fail> {
     let replies = "227 x (10,0,0,1,4,0).\r\n150 b\r\n426 n\r\n200 o\r\n";
-    let mut session = greeted(rt.alloc(), replies)?;
-    assert_eq!(rt; pair_of(&rt, &mut session, true), 15);
-    assert_eq!(rt; number(session.noop(rt.alloc())), 0);
+    assert_eq!(rt; pair_of(rt.alloc(), replies, true)?, (15, 0));
     Ok(())
 }

@@ -4,7 +4,7 @@ use crate::scene::number;
 use ftp_base::types::FtpResult;
 use ftp_blocking::FtpStream;
 use std::io::{BufRead, BufReader, Read, Write};
-use std::net::{Net, TcpListener, TcpStream};
+use std::net::{Net, SocketAddr, TcpListener, TcpStream};
 use std::sync::Wait;
 use std::test::Fail;
 use std::time::Clock;
@@ -71,7 +71,7 @@ where
 {
     let (mut server, _peer) = listener.accept()?;
     server.write_all(b"220 ready\r\n")?;
-    let mut control = BufReader::new(rt.alloc(), server)?;
+    let mut control = Box::new(rt.alloc(), BufReader::new(rt.alloc(), server)?)?;
     for count in 0..32 {
         if !answer(rt, &mut control, data)? {
             return Ok(count);
@@ -85,10 +85,10 @@ fn downloaded<R>(rt: &R, client: &FtpStream, name: &str) -> Result<String, Fail>
 where
     R: Net<Listener = TcpListener, Stream = TcpStream> + Clock + Wait + AllocGlobal,
 {
-    let mut transfer = client.retr_as_stream(rt, name)?;
+    let mut transfer = Box::new(rt.alloc(), client.retr_as_stream(rt, name)?)?;
     let mut text = String::new(rt.alloc());
     transfer.read_to_string(&mut text)?;
-    transfer.finish(rt)?;
+    Box::into_inner(transfer).finish(rt)?;
     Ok(text)
 }
 
@@ -101,18 +101,27 @@ where
     Ok(())
 }
 
+/// Whether a download is whole before another is left, what leaving that and the next command answer, and whether a
+/// download is whole afterwards.
+fn visited<R>(rt: &R, address: SocketAddr) -> Result<(bool, u8, u8, bool), Fail>
+where
+    R: Net<Listener = TcpListener, Stream = TcpStream> + Clock + Wait + AllocGlobal,
+{
+    let client = Box::new(rt.alloc(), FtpStream::connect(rt, &[address])?)?;
+    let before = downloaded(rt, &client, "a")?.as_str() == "hello";
+    let leaving = number(left(rt, &client, "b"));
+    let next = number(client.noop(rt));
+    let after = downloaded(rt, &client, "a")?.as_str() == "hello";
+    Ok((before, leaving, next, after))
+}
+
 #[test]
 fn a_client_goes_on_after_a_transfer_that_it_left(rt: HostRuntime) -> Result<(), Fail> {
     let listener = TcpListener::bind(&rt, "127.0.0.2:0")?;
     let data = TcpListener::bind(&rt, "127.0.0.2:0")?;
     let address = listener.local_addr()?;
     let server = thread::spawn(&rt, move || serve(&rt, &listener, &data))?;
-    let client = FtpStream::connect(&rt, &[address])?;
-    assert_eq!(rt; downloaded(&rt, &client, "a")?.as_str(), "hello");
-    assert_eq!(rt; number(left(&rt, &client, "b")), 0);
-    assert_eq!(rt; number(client.noop(&rt)), 0);
-    assert_eq!(rt; downloaded(&rt, &client, "a")?.as_str(), "hello");
-    drop(client);
-    assert_eq!(rt; server.join(&rt)?, 7);
+    let came = visited(&rt, address)?;
+    assert_eq!(rt; (came, server.join(&rt)?), ((true, 0, 0, true), 7));
     Ok(())
 }
