@@ -25,17 +25,18 @@ use Rattle.ftp_calls.specs.declared.call.Answer.TheVariants.{Unit as Done, Fault
 use Rattle.ftp_calls.specs.declared.call.Call.{Call}
 use Rattle.ftp_calls.specs.declared.call.Call.TheVariants.{Drain, Greet, Noop}
 use Rattle.ftp_dialogue.specs.declared.model.Standing.{Standing}
-use Rattle.ftp_dialogue.specs.declared.model.Ran.{Ran}
-use Rattle.ftp_dialogue.specs.declared.model.Ran.TheVariants.{Finished, Waiting}
+use Rattle.ftp_runs.specs.declared.model.Ran.{Ran}
+use Rattle.ftp_runs.specs.declared.model.Ran.TheVariants.{Finished, Waiting}
 use Rattle.ftp_dialogue.specs.Link.{Builds, Link}
 use Rattle.ftp_dialogue.specs.Coding.{Coding}
 use Rattle.ftp_dialogue.specs.Sound.{no_transfers}
 use Rattle.ftp_dialogue.specs.State.{SessionValue, Begins}
 use Rattle.ftp_dialogue.specs.Dialogue.{Tree, Say, Hear, Look, Ask, Build, Move, Leaf, dialogue}
 use Rattle.ftp_dialogue.specs.Play.{play}
-use Rattle.ftp_dialogue.specs.Run.{run, OneView}
-use Rattle.ftp_dialogue.specs.Promises.{answer_at, begun_by, due_of, standing, Aborts, BeginsAfter, Completes, IsPlayed, Runs, RunsTo, RunAborts, Fails, LacksMemory, MayFailAt}
-use Rattle.ftp_session.proofs.Running.{nothing_views}
+use Rattle.ftp_runs.specs.Run.{run, OneView}
+use Rattle.ftp_dialogue.specs.Promises.{answer_at, begun_by, due_of, standing, Aborts, Completes, IsPlayed, Fails, LacksMemory, MayFailAt}
+use Rattle.ftp_runs.specs.Runs.{BeginsAfter, Runs, RunsTo, RunAborts}
+use Rattle.ftp_runs.proofs.Running.{nothing_views}
 use Rattle.from_contracts.specs.Aborted.{MayAbort, WasAborted}
 use Rattle.ftp_dialogue.proofs.Deals.{letting_beside}
 

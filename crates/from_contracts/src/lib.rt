@@ -5,6 +5,7 @@ ghost use Rattle.std.specs.Prelude.{◌≡◌, ◌⊎◌, ◌∷◌, [], IfOk};
 ghost use Rattle.from_contracts.specs.Aborted.{WasAborted};
 
 use ftp_base::types::FtpResult;
+use ftp_runs::RunCalls;
 use ftp_session::session::{Answer, Call, Session};
 use ftp_transport::{MemoryConn, MemoryTransport};
 use std::alloc::Global;

@@ -35,7 +35,7 @@ use Rattle.ftp_dialogue.specs.Dialogue.{Tree, Move, Leaf, accepted, awaiting, ca
 use Rattle.ftp_dialogue.specs.Link.{Link}
 use Rattle.ftp_dialogue.specs.Play.{Refusal, Taken, Lacking, Failing, finally, leaving, play, play_call, play_unless, lacks, refusal, refused_if_failed, needs_data}
 use Rattle.ftp_dialogue.specs.Promises.{Aborts, Goes, IsFault, IsRefusal, IsRefused, IsSuccess, standing, LeavesIf, Refuses, begun_by, lacks_of, refusal_of, IsApart}
-use Rattle.ftp_dialogue.specs.Run.{Resumes}
+use Rattle.ftp_dialogue.specs.Resuming.{Resumes}
 use Rattle.ftp_dialogue.specs.Sound.{Transfers, left_behind}
 use Rattle.ftp_dialogue.specs.State.{SessionValue, LetsGo}
 use Rattle.std.specs.declared.io.ErrorKind.{ErrorKind}

@@ -29,7 +29,7 @@ use Rattle.ftp_dialogue.specs.Deals.{Net}
 use Rattle.ftp_dialogue.specs.State.{SessionValue}
 use Rattle.ftp_dialogue.specs.Dialogue.{Expected, Tree, Say, Hear, Look, Ask, Build, Move, Leaf}
 use Rattle.ftp_dialogue.specs.Play.{play, heard_then}
-use Rattle.ftp_dialogue.specs.Run.{Resumes}
+use Rattle.ftp_dialogue.specs.Resuming.{Resumes}
 use Rattle.ftp_dialogue.specs.Promises.{AbortsRead, standing, Goes, Leads, Rests}
 use Rattle.ftp_dialogue.specs.Steps.Moving.{Moves, Advances, WaitsFor, Hears, Takes}
 use Rattle.ftp_dialogue.specs.Link.{Link}

@@ -26,7 +26,7 @@ use Rattle.ftp_dialogue.specs.declared.model.Played.TheVariants as played
 use Rattle.ftp_dialogue.specs.State.{SessionValue, LetsGo}
 use Rattle.ftp_dialogue.specs.Dialogue.{Tree, Say, Hear, Look, Ask, Build, Move, Leaf}
 use Rattle.ftp_dialogue.specs.Play.{ended, finally, play, fits, said_then}
-use Rattle.ftp_dialogue.specs.Run.{Resumes, Silent}
+use Rattle.ftp_dialogue.specs.Resuming.{Resumes, Silent}
 use Rattle.ftp_dialogue.specs.Promises.{IsFault, However, SaidOrTaken, standing, Rests, Goes, Leads, Fails, Touched, Untouched, LacksMemory, Aborts, failed_from}
 use Rattle.ftp_dialogue.specs.Steps.Moving.{NothingTouched, StillSays, HasGoneOut, Keeps, Shrinks, Calm, Moves, Advances, Ends, WaitsFor, Steps, TakesLine, after_line, step_of}
 use Rattle.ftp_dialogue.specs.Link.{Link}

@@ -39,7 +39,7 @@ use Rattle.ftp_dialogue.specs.Dialogue.{Expected, expected_of, Tree, Say, Hear, 
 use Rattle.ftp_dialogue.proofs.DrainingLemmas.{failed_undue, makes_undue}
 use Rattle.ftp_dialogue.specs.Promises.{DrainsIf, PlaysAlone, due_of, AbortsRead, FailsRead, IsFault, HasFault, Aborts, Fails, SaidOrTaken, Touched, Untouched, LacksMemory, Plays, GivesFault, Reads, Rests, begun_by, failed_from, refusal_of}
 use Rattle.ftp_control.specs.Channel.{untaken}
-use Rattle.ftp_dialogue.specs.Run.{Resumes}
+use Rattle.ftp_dialogue.specs.Resuming.{Resumes}
 use Rattle.ftp_dialogue.specs.Steps.Polls.{StageIn, entered_at, entered_state, entered_tree, is_first, is_first_turn}
 use Rattle.ftp_dialogue.specs.Steps.Stages.{is_later, remaining, awaited, begun_at, StageOf, line_of}
 use Rattle.ftp_dialogue.specs.Steps.Moving.{Moves, Advances, Ends, Steps, PollSteps, Hears, BeginsExchange, Concludes, Made, NothingTouched, NothingYet, Quiet, Still, HasBegun, HeardFault, BeginsHere, EndsFaulty, FaultLeaves, FaultLeavesIf, Speaks, Takes, Tracks, wants_memory, withheld, after_fault}

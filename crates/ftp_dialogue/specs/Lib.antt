@@ -8,7 +8,7 @@ pub mod Link
 pub mod Play
 pub mod Promises
 pub mod Reading
-pub mod Run
+pub mod Resuming
 pub mod Sending
 pub mod Sound
 pub mod State

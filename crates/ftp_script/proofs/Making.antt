@@ -3,7 +3,7 @@ use Rattle.std.proofs.Common.{Result, Ok, Err, OnOk, drop, ◌≡◌, ℕ, List,
 use Rattle.ftp_transport.specs.declared.request.Asked.{Asked}
 use Rattle.ftp_calls.specs.declared.call.Answer.{Answer}
 use Rattle.ftp_calls.specs.declared.call.Call.{Call}
-use Rattle.ftp_dialogue.specs.Promises.{Runs}
+use Rattle.ftp_runs.specs.Runs.{Runs}
 use Rattle.ftp_dialogue.specs.State.{SessionValue}
 use Rattle.ftp_script.specs.Playing.{Makes, MakesOne, memory, utf8}
 use Rattle.ftp_script.specs.Shown.{call_text}

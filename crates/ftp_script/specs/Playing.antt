@@ -17,7 +17,7 @@ use Rattle.ftp_calls.specs.declared.call.Call.TheVariants.{Greet}
 use Rattle.ftp_dialogue.specs.Deals.{first_net}
 use Rattle.ftp_dialogue.specs.Coding.{Coding}
 use Rattle.ftp_dialogue.specs.Link.{Link}
-use Rattle.ftp_dialogue.specs.Promises.{Runs}
+use Rattle.ftp_runs.specs.Runs.{Runs}
 use Rattle.ftp_dialogue.specs.State.{SessionValue, Begins}
 use Rattle.ftp_script.specs.declared.script.Script.{Script}
 use Rattle.ftp_script.specs.declared.supplies.DataConn.{DataConn}

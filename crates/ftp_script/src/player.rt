@@ -14,6 +14,7 @@ use crate::script::Script;
 use crate::shown::{push_call, push_end};
 use crate::supplies::transport_of;
 use ftp_calls::call::Call;
+use ftp_runs::RunCalls;
 use ftp_session::session::Session;
 use ftp_transport::{Asked, MemoryConn, MemoryTransport};
 use std::alloc::{AllocError, Global};

@@ -1,17 +1,5 @@
-pub mod Carried
 pub mod Connecting
 pub mod CopyingLemmas
-pub mod Drained
-pub mod Events
 pub mod FilesLemmas
-pub mod Following
 pub mod Handed
-pub mod HiddenCalls
-pub mod Leaving
-pub mod Parting
 pub mod PolledLemmas
-pub mod Polling
-pub mod Replay
-pub mod Running
-pub mod Scripts
-pub mod Unheard

@@ -5,6 +5,3 @@ pub mod Fetched
 pub mod Files
 pub mod Handed
 pub mod Polled
-pub mod Script
-pub mod Scripted
-pub mod Steps

@@ -6,13 +6,14 @@ ghost use Rattle.ftp_session.specs.Handed.{LooksIf, as_seen, watches};
 ghost use Rattle.ftp_dialogue.specs.Link.{building, built_by};
 ghost use Rattle.ftp_dialogue.specs.Promises.{FailsWith};
 ghost use Rattle.ftp_session.specs.Polled.{PollsCall};
-ghost use Rattle.ftp_session.specs.Scripted.{IsScripted, Stops};
+ghost use Rattle.ftp_runs.specs.Scripted.{IsScripted, Stops};
 ghost use Rattle.ftp_dialogue.specs.Sound.{Sound};
-ghost use Rattle.ftp_session.specs.Steps.Following.{Grows};
+ghost use Rattle.ftp_runs.specs.Following.{Grows};
 
 use ftp_base::encoding::Encoding;
 use ftp_base::types::{FtpError, FtpResult};
-use ftp_session::session::{Answer, Event, PolledCall, Session};
+use ftp_runs::{Event, RunEvents};
+use ftp_session::session::{Answer, PolledCall, Session};
 use ftp_transport::{
     MemoryConn, MemoryTransport, Network, PassiveStreamBuilder, PollConn, PollTransport,
 };

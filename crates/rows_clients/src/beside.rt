@@ -3,7 +3,8 @@
 
 use crate::setup::Setup;
 use ftp_base::types::Bytes;
-use ftp_session::model::{DealOutcome, Dealings, Script};
+use ftp_runs::model::Script;
+use ftp_session::model::{DealOutcome, Dealings};
 use ftp_session::session::Call;
 use ftp_transport::{Request, RequestOutcome};
 use rows_text::RowError;

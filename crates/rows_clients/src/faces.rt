@@ -9,7 +9,7 @@ mod transfers;
 
 use crate::play::Play;
 use crate::transcript::{Mark, Standing};
-use ftp_session::session::Event;
+use ftp_runs::Event;
 use rows_text::RowError;
 pub use session::NamedSession;
 use std::alloc::{AllocError, Global};

@@ -8,7 +8,8 @@ use crate::setup::Setup;
 use crate::step::Step;
 use ftp_base::types::Bytes;
 use ftp_calls::exchange::negotiates;
-use ftp_session::session::{Call, Event};
+use ftp_runs::Event;
+use ftp_session::session::Call;
 use rows_text::{RowError, bytes_of, value};
 use std::alloc::Global;
 

@@ -3,9 +3,9 @@ use Rattle.std.proofs.Common.{◌≡◌, Bool, true, false, Option, Some, None, 
 use Rattle.std.specs.Prelude.{OnOk, Result, Ok, Err}
 use Rattle.ftp_calls.specs.declared.call.Call.{Call}
 use Rattle.ftp_dialogue.specs.Coding.{Coding}
-use Rattle.ftp_dialogue.specs.declared.model.Script.{Script}
+use Rattle.ftp_runs.specs.declared.model.Script.{Script}
 use Rattle.ftp_dialogue.specs.declared.model.Standing.{Standing}
-use Rattle.ftp_session.specs.Script.{after_poll, over, poll_event, poll_next}
+use Rattle.ftp_runs.specs.Script.{after_poll, over, poll_event, poll_next}
 
 pub on_ok : (T E : Type 0) (result : Result T E) (P Q : Type 0) → (P → Q) → OnOk result P → OnOk result Q
 on_ok T E (Ok value) P Q then holds = then holds

@@ -3,7 +3,7 @@
 ghost use Rattle.std.specs.Prelude.{◌≡◌, IfOk};
 ghost use Rattle.ftp_dialogue.specs.Coding.{coding_of};
 ghost use Rattle.ftp_dialogue.specs.Play.{after_drain, is_due, is_unit, play_call, play_drained, play_drained_if};
-ghost use Rattle.ftp_session.specs.Script.{last_of, succeeded};
+ghost use Rattle.ftp_runs.specs.Script.{last_of, succeeded};
 
 use crate::play::play_call;
 use ftp_base::encoding::Encoding;

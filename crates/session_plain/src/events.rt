@@ -3,8 +3,8 @@
 ghost use Rattle.std.specs.Prelude.{◌≡◌, ℕ, List, [], ◌∷◌, ◌++◌, IfOk, OnOk, None, Some, length, true, false};
 ghost use Rattle.ftp_transport.specs.Memory.{more_room};
 ghost use Rattle.ftp_dialogue.specs.Coding.{coding_of};
-ghost use Rattle.ftp_session.specs.Script.{after_event, drained_as, drained_to, draining, fed, front, heard_at, heard_in, poll_next, poll_script, polled_as, run_with, script, seen_at, seen_in, start_script, form_at, with_call};
-ghost use Rattle.ftp_dialogue.specs.declared.model.Ran.TheVariants.{Finished, Waiting};
+ghost use Rattle.ftp_runs.specs.Script.{after_event, drained_as, drained_to, draining, fed, front, heard_at, heard_in, poll_next, poll_script, polled_as, run_with, script, seen_at, seen_in, start_script, form_at, with_call};
+ghost use Rattle.ftp_runs.specs.declared.model.Ran.TheVariants.{Finished, Waiting};
 ghost use Rattle.ftp_calls.specs.declared.call.Answer.{Answer as Answers};
 
 use crate::draining::{is_due, succeeded};
@@ -13,8 +13,10 @@ use crate::leaving::{drop_call, leave_now, poll_event};
 use crate::runs::replay_then;
 use ftp_base::encoding::Encoding;
 use ftp_base::types::{Bytes, Items};
-use ftp_session::model::{Item, Ran, Script, Standing, Wait};
-use ftp_session::session::{Answer, Call, Event};
+use ftp_runs::Event;
+use ftp_runs::model::{Item, Ran, Script};
+use ftp_session::model::{Standing, Wait};
+use ftp_session::session::{Answer, Call};
 use ftp_transport::Room;
 use std::alloc::{AllocError, Global};
 use std::mem;

@@ -3,16 +3,17 @@
 ghost use Rattle.std.specs.Prelude.{◌≡◌, ◌∷◌, [], ◌++◌, is_none, None, OnOk, Some};
 ghost use Rattle.ftp_dialogue.specs.Coding.{coding_of};
 ghost use Rattle.ftp_dialogue.specs.Sound.{holds};
-ghost use Rattle.ftp_dialogue.specs.declared.model.Ran.TheVariants.{Finished};
+ghost use Rattle.ftp_runs.specs.declared.model.Ran.TheVariants.{Finished};
 ghost use Rattle.ftp_calls.specs.declared.call.Answer.{Answer as Answers};
 ghost use Rattle.std.specs.Prelude.{List};
-ghost use Rattle.ftp_session.specs.Script.{dropped, dropped_if, end_dropped, holds_in, idle, leave_beside, leave_held, leave_now, left_as, over, poll_event, run_with};
+ghost use Rattle.ftp_runs.specs.Script.{dropped, dropped_if, end_dropped, holds_in, idle, leave_beside, leave_held, leave_now, left_as, over, poll_event, run_with};
 
 use crate::events::{add, finish, pass_over, poll_next, run_with};
 use ftp_base::encoding::Encoding;
 use ftp_base::types::Items;
 use ftp_calls::exchange::finishes;
-use ftp_session::model::{Item, Ran, Script, Standing};
+use ftp_runs::model::{Item, Ran, Script};
+use ftp_session::model::Standing;
 use ftp_session::session::{Call, Owed};
 use std::alloc::{AllocError, Global};
 use std::mem;

@@ -2,14 +2,15 @@
 
 ghost use Rattle.std.specs.Prelude.{◌≡◌, [], ◌∷◌, ◌++◌, IfOk};
 ghost use Rattle.ftp_dialogue.specs.Coding.{coding_of};
-ghost use Rattle.ftp_dialogue.specs.Run.{before, replay, run};
-ghost use Rattle.ftp_dialogue.specs.declared.model.Item.TheVariants.{Shown};
+ghost use Rattle.ftp_runs.specs.Run.{before, replay, run};
+ghost use Rattle.ftp_runs.specs.declared.model.Item.TheVariants.{Shown};
 
 use crate::draining::play_drained;
 use crate::play::play_call;
 use ftp_base::encoding::Encoding;
 use ftp_base::types::Items;
-use ftp_session::model::{Item, Played, Ran, Standing, Wait};
+use ftp_runs::model::{Item, Ran};
+use ftp_session::model::{Played, Standing, Wait};
 use ftp_session::session::{Answer, Call};
 use ftp_transport::Room;
 use std::alloc::{AllocError, Global};

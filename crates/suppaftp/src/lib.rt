@@ -7,6 +7,7 @@
 #![tactic(auto)]
 
 pub mod polled_ftp;
+pub mod session;
 pub mod sync_ftp;
 
 pub use ftp_answers as answers;
@@ -18,7 +19,7 @@ pub use ftp_calls::{active, call, exchange};
 pub use ftp_control::{control, plain};
 pub use ftp_list as list;
 pub use ftp_session::session::DownloadReader;
-pub use ftp_session::{laws as session_laws, model, session};
+pub use ftp_session::{laws as session_laws, model};
 pub use ftp_transfer::mark;
 pub use ftp_transport as transport;
 pub use ftp_transport::PassiveStreamBuilder;

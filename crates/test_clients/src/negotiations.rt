@@ -2,6 +2,7 @@
 
 use crate::scene::{answers_text, boxed, ends};
 use ftp_base::types::{ActivePeerCheck, FtpResult, Mode, Text};
+use ftp_runs::RunCalls;
 use ftp_session::session::{Call, Session};
 use ftp_transport::{TcpConn, TcpTransport};
 use std::alloc::{AllocError, Global};

@@ -3,7 +3,8 @@
 use crate::scene::{boxed, conn_with, poll_text};
 use ftp_base::status::Status;
 use ftp_base::types::{Bytes, FtpResult};
-use ftp_session::session::{Event, Owed, Session};
+use ftp_runs::{Event, RunEvents};
+use ftp_session::session::{Owed, Session};
 use ftp_transport::{MemoryConn, MemoryTransport, Supply};
 use futures::task::Poll;
 use std::alloc::{AllocError, Global};

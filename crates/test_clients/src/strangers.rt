@@ -3,6 +3,7 @@
 use crate::negotiations::opening;
 use crate::scene::{answers_text, asked_text, greeted_over};
 use ftp_base::types::{FtpResult, Mode};
+use ftp_runs::RunCalls;
 use ftp_session::session::Session;
 use ftp_transport::{MemoryConn, MemoryTransport, Supply};
 use std::alloc::{AllocError, Global};

@@ -2,6 +2,7 @@
 
 use crate::scene::{conn_with, session_on, transport_with};
 use ftp_base::types::Text;
+use ftp_runs::RunCalls;
 use ftp_session::session::{Call, Counts};
 use std::alloc::{AllocError, Global};
 use std::test::Fail;

@@ -4,6 +4,7 @@ use crate::counts::text_of;
 use crate::scene::{MemorySession, greeted, number, opened, sent};
 use ftp_base::status::Status;
 use ftp_base::types::FtpResult;
+use ftp_runs::RunCalls;
 use ftp_session::session::Call;
 use ftp_transfer::{Direction, Transfer};
 use ftp_transport::MemoryConn;

@@ -58,7 +58,7 @@ use Rattle.ftp_calls.specs.declared.exchange.Row.TheVariants as row
 use Rattle.ftp_control.specs.Refusal.{IsRefusalOf}
 use Rattle.ftp_calls.specs.Exchanges.{is_draining, is_local, is_read, row_of, says_of, Kind, Nothing, kind_of, kind_of_task}
 use Rattle.ftp_dialogue.specs.Dialogue.{Expected, End, Tree, Say, Hear, Look, Ask, Build, Move, Leaf, accepted, chunk, fetched, first_fault, later, lets_in, most_bytes, moved_answer, performing, too_long, unfetched, with_fetched, set_to, answer_to_fault, after_fault_of, with_aborted, with_left, with_transfer, dialogue}
-use Rattle.ftp_dialogue.specs.Run.{Resumes, Silent}
+use Rattle.ftp_dialogue.specs.Resuming.{Resumes, Silent}
 use Rattle.ftp_dialogue.specs.Promises.{DrainsIf, due_of, AbortsRead, IsFault, Leads, Completes, Aborts, However, SaidOrTaken, Untouched, Rests, IsRefused, begun_by, failed_from, refusal_of, IsApart}
 use Rattle.ftp_dialogue.specs.Steps.Stages.{AnswersKind, Begun, GoesOnTo, StageAfter, StepAnswers, asking_of, nodes_left, remaining, begun_at, is_later, is_out, line_of}
 use Rattle.ftp_dialogue.specs.Link.{Link}

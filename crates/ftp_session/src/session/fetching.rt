@@ -16,7 +16,7 @@ ghost use Rattle.ftp_session.specs.Handed.{IsOpening, PlaysSeen};
 use super::client::Session;
 use super::commands::optional_text;
 use super::looking::look;
-use super::run::make;
+use super::making::make;
 use super::{Answer, Call};
 use ftp_base::encoding::Encoding;
 use ftp_base::types::{ConnectionError, FtpError, FtpResult, Text};

@@ -14,7 +14,7 @@ ghost use Rattle.ftp_transfer.specs.declared.direction.Direction.TheVariants as 
 use super::client::Session;
 use super::ending::leave_behind;
 use super::looking::look;
-use super::run::make;
+use super::making::make;
 use super::{Answer, Call};
 use ftp_base::encoding::Encoding;
 use ftp_base::status::Status;

@@ -1,5 +1,5 @@
 use Rattle.std.proofs.Common.{◌≡◌, ◌∙◌, ◌∷◌, [], sym, ap, length, drop}
-use Rattle.ftp_dialogue.specs.Promises.{Runs}
+use Rattle.ftp_runs.specs.Runs.{Runs}
 use Rattle.ftp_session.proofs.Handed.{unmarked}
 use Rattle.ftp_script.specs.Playing.{memory, utf8}
 use Rattle.ftp_script.proofs.Making.{made_one, only_item, runs_same}

@@ -1,0 +1,12 @@
+pub mod Carried
+pub mod Drained
+pub mod EventLemmas
+pub mod Following
+pub mod HiddenCalls
+pub mod Leaving
+pub mod Parting
+pub mod Polling
+pub mod Replay
+pub mod Running
+pub mod Scripts
+pub mod Unheard

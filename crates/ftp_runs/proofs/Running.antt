@@ -1,0 +1,491 @@
+-- Lemmas on lists of calls.
+use Rattle.std.proofs.lemmas.List.{drop_more}
+use Rattle.std.proofs.Math.ListN.{drop_of_length-le}
+use Rattle.std.proofs.Common.{◌≡◌, ℕ, ◌+◌, ◌<◌, ◌≤◌, drop, get_or, Bool, true, false, cond, List, [], ◌∷◌, ◌++◌, length, length-append, inl, inr, ◌⊎◌, refl, ap, sym, ◌∙◌, subst, append_assoc, append-nil}
+use Rattle.ftp_control.specs.declared.control.rule.ReplyRule.{ReplyRule}
+use Rattle.ftp_transport.specs.declared.room.Room.{Room}
+use Rattle.ftp_dialogue.specs.Deals.{Deal, outcomes_of}
+use Rattle.ftp_dialogue.proofs.Deals.{outcomes-append}
+use Rattle.ftp_dialogue.specs.declared.state.State.{State}
+use Rattle.ftp_calls.specs.declared.call.Answer.{Answer}
+use Rattle.ftp_calls.specs.declared.call.Answer.TheVariants.{Fault}
+use Rattle.ftp_calls.specs.declared.call.Call.{Call}
+use Rattle.ftp_calls.specs.declared.call.Call.TheVariants.{Drain}
+use Rattle.ftp_dialogue.specs.declared.model.Standing.{Standing}
+use Rattle.ftp_dialogue.specs.declared.model.Played.{Played}
+use Rattle.ftp_dialogue.specs.declared.model.Played.TheVariants.{Done}
+use Rattle.ftp_dialogue.specs.declared.model.Wait.{Wait}
+use Rattle.ftp_runs.specs.declared.model.Ran.{Ran}
+use Rattle.ftp_runs.specs.declared.model.Ran.TheVariants.{Finished, Waiting}
+use Rattle.ftp_dialogue.specs.State.{SessionValue, LetsGo}
+use Rattle.ftp_dialogue.specs.Coding.{Coding}
+use Rattle.ftp_dialogue.specs.Dialogue.{dialogue}
+use Rattle.ftp_calls.specs.Exchanges.{drains_first, is_local}
+use Rattle.ftp_dialogue.specs.declared.model.DealOutcome.{DealOutcome}
+use Rattle.ftp_dialogue.specs.Play.{Taken, after_drain, is_unit, play_call, play_drained, play_drained_if}
+use Rattle.ftp_dialogue.proofs.CarryingLemmas.{beside_goes, refused_so, taken_going, taken_goes_on, taken_plays, taken_resumes}
+use Rattle.ftp_dialogue.specs.Resuming.{Resumes, Silent}
+use Rattle.ftp_runs.specs.Run.{run, before, and_then, MayBeSilent, OneView, ResumesDrain}
+use Rattle.ftp_dialogue.specs.Promises.{begun_by, lacks_of, DrainsFirst, DrainsIf, However, MakesAfter, Goes, FailsWith, HasFault, standing, Completes, Aborts, Plays, PlaysAlone, IsRefusal, IsRefused, IsPlayed, IsWithheld, due_of, refusal_of}
+use Rattle.ftp_runs.specs.Runs.{BeginsAfter, before_all, Agrees, AllRefused, Makes, RanTo, RunsTo, RunAborts, Runs}
+use Rattle.ftp_dialogue.specs.Steps.Moving.{Keeps, Ends, IsMade, Made, MadeDrained}
+use Rattle.ftp_dialogue.proofs.Hearing.{nothing_resumes}
+use Rattle.ftp_dialogue.proofs.DrainingLemmas.{Due, drained_plays, due_so, due_taken, failed_undue, goes_from, taken_unrefused, unit_is}
+use Rattle.ftp_dialogue.proofs.Moving.{Finishes, finishes, nothing_goes, joined_goes, goes_after, fitted}
+use Rattle.ftp_dialogue.specs.Link.{Link}
+
+module _ (coding : Coding) where
+  pub run-nil : (room : Room) (s : Standing) → run room coding [] s ≡ Finished [] s
+  unfolding run
+  run-nil room s = refl
+
+  pub run-cons : (room : Room) (call : Call) (calls : List Call) (s : Standing) → run room coding (call ∷ calls) s ≡ and_then (play_drained room coding call s) (λ t. run room coding calls t)
+  unfolding run
+  run-cons room call calls s = refl
+
+-- one answer more
+pub before_all-snoc : (answers : List Answer) (answer : Answer) (ran : Ran) → before_all (answers ++ answer ∷ []) ran ≡ before_all answers (before answer ran)
+before_all-snoc [] answer ran = refl
+before_all-snoc (first ∷ answers) answer ran = ap (before first) (before_all-snoc answers answer ran)
+
+pub before_all-Finished : (answers later : List Answer) (s : Standing) → before_all answers (Finished later s) ≡ Finished (answers ++ later) s
+before_all-Finished [] later s = refl
+before_all-Finished (answer ∷ answers) later s = ap (before answer) (before_all-Finished answers later s)
+
+pub before_all-Waiting : (answers later : List Answer) (wait : Wait) (s : Standing) → before_all answers (Waiting later wait s) ≡ Waiting (answers ++ later) wait s
+before_all-Waiting [] later wait s = refl
+before_all-Waiting (answer ∷ answers) later wait s = ap (before answer) (before_all-Waiting answers later wait s)
+
+-- A session fails only where a call does
+
+fault_before : (first second : List Answer) → HasFault first → HasFault (first ++ second)
+fault_before [] second one = absurd one
+fault_before (answer ∷ first) second (inl here) = inl here
+fault_before (answer ∷ first) second (inr later) = inr (fault_before first second later)
+
+fault_after : (first second : List Answer) → HasFault second → HasFault (first ++ second)
+fault_after [] second two = two
+fault_after (answer ∷ first) second two = inr (fault_after first second two)
+
+-- a session fails only where a call of one event more does
+pub fails_more : (old v w : SessionValue) (first second all : List Answer) → all ≡ first ++ second → FailsWith old v first → FailsWith v w second → FailsWith old w all
+fails_more old v w first second all is before here =
+    let P : List Answer → Type 0 = FailsWith old w in
+    subst P (sym is) (λ failed. go (here failed))
+  where
+    earlier : (old.channel.failed ≡ true) ⊎ HasFault first → (old.channel.failed ≡ true) ⊎ HasFault (first ++ second)
+    earlier (inl was) = inl was
+    earlier (inr fault) = inr (fault_before first second fault)
+
+    go : (v.channel.failed ≡ true) ⊎ HasFault second → (old.channel.failed ≡ true) ⊎ HasFault (first ++ second)
+    go (inl was) = earlier (before was)
+    go (inr fault) = inr (fault_after first second fault)
+
+keeps_from : (P : Type 0) (came : List ℕ) (call : Call) (old new : SessionValue) → Keeps P came (begun_by call old) new → Keeps P came old new
+keeps_from P came call old new keeps = keeps
+
+module _ (coding : Coding) where
+  -- where nothing is kept, every list has the same view
+  nothing_resumes_drain : (rule : ReplyRule) (first : Bool) (state : State) → ResumesDrain first rule [] coding state
+  nothing_resumes_drain rule true state = nothing_resumes rule (dialogue coding Drain state)
+  nothing_resumes_drain rule false state = tt
+
+  pub nothing_views : (rule : ReplyRule) (calls : List Call) → OneView rule [] coding calls
+  nothing_views rule [] = tt
+  nothing_views rule (call ∷ calls) = λ state. (nothing_resumes_drain rule (drains_first call) state, nothing_resumes rule (dialogue coding call state), λ silent. nothing_views rule calls)
+
+  -- what these calls see of what is kept, the first of them without a drain
+  abbrev pub SeesCall : Call → List Call → SessionValue → Type 0
+  SeesCall call later v = (state : State) → Resumes v.channel.rule v.channel.kept (dialogue coding call state) × (MayBeSilent coding call state → OneView v.channel.rule v.channel.kept coding later)
+
+  nothing_seen : (call : Call) (later : List Call) (v : SessionValue) → v.channel.kept ≡ [] → SeesCall call later v
+  nothing_seen call later v none = λ state. (rw none (nothing_resumes v.channel.rule (dialogue coding call state)), λ silent. rw none (nothing_views v.channel.rule later))
+
+  -- the view of the calls after one that is done
+  views_on : (call : Call) (later : List Call) (came : List ℕ) (mid new : SessionValue) (state : State) → new.channel.rule ≡ mid.channel.rule → Keeps (Silent (dialogue coding call state)) came mid new → SeesCall call later mid → OneView new.channel.rule new.channel.kept coding later
+  views_on call later came mid new state rule (inl none) view = rw none (nothing_views new.channel.rule later)
+  views_on call later came mid new state rule (inr same) view = rw (same.0, rule) ((view state).1 (inl same.3))
+
+-- a run that got so far, with the view of the calls that are left
+pub record Reached (link : Link) (coding : Coding) (calls to_make : List Call) (old new : SessionValue) (answers : List Answer) : Type 0 where
+  pub ran : RanTo link coding calls to_make old new answers
+  pub agrees : Agrees coding old calls → Agrees coding new to_make
+
+pub ran_nothing : (link : Link) (coding : Coding) (calls : List Call) (v : SessionValue) → Reached link coding calls calls v v []
+ran_nothing link coding calls v = record {
+  ran = record {
+    done = [];
+    split = refl;
+    count = refl;
+    came = [];
+    answered = [];
+    goes = nothing_goes link v;
+    runs = λ h agrees room more ended outcomes fit on. refl;
+  };
+  agrees = λ a. a;
+}
+
+-- a run so far, where these are left to make
+abbrev pub RunsSoFar : Link → Coding → List Call → List Call → SessionValue → SessionValue → List Answer → Type 0
+RunsSoFar link coding calls to_make old new answers = Reached link coding calls to_make old new answers ⊎ RunAborts link coding calls to_make old new answers
+
+-- one call more is done
+split_more : (calls later : List Call) (call : Call) (done : List Call) → calls ≡ done ++ call ∷ later → calls ≡ (done ++ call ∷ []) ++ later
+split_more calls later call done is = is ∙ sym (append_assoc done (call ∷ []) later)
+
+counts_more : (call : Call) (answers : List Answer) (done : List Call) (one : Answer) → length answers ≡ length done → length (answers ++ one ∷ []) ≡ length (done ++ call ∷ [])
+counts_more call answers done one is = length-append answers (one ∷ []) ∙ ap (λ n. n + 1) is ∙ sym (length-append done (call ∷ []))
+
+-- a run that got to a call, whose drain is done where one was due, with the view of what is left
+pub record ReachedCall (link : Link) (coding : Coding) (calls : List Call) (call : Call) (later : List Call) (old new : SessionValue) (answers : List Answer) : Type 0 where
+  pub done : List Call
+  pub split : calls ≡ done ++ call ∷ later
+  pub count : length answers ≡ length done
+  pub came : List ℕ
+  pub answered : List Deal
+  pub goes : Goes link came answered old new
+  pub runs : link.tells → Agrees coding old calls → However old came answered new (λ room s t. run room coding calls s ≡ before_all answers (and_then (play_call room coding call t) (λ u. run room coding later u)))
+  pub agrees : Agrees coding old calls → new.channel.failed ≡ false → SeesCall coding call later new
+
+module _ (link : Link) (coding : Coding) (calls later : List Call) (call : Call) (old mid : SessionValue) (answers : List Answer) (reached : Reached link coding calls (call ∷ later) old mid answers) where
+  -- where no drain is due the call comes next
+  comes_next : due_of call mid ≡ false → ReachedCall link coding calls call later old mid answers
+  comes_next none =
+      let ran = reached.ran in
+      record {
+        done = ran.done;
+        split = ran.split;
+        count = ran.count;
+        came = ran.came;
+        answered = ran.answered;
+        goes = ran.goes;
+        runs = λ h agrees room more ended outcomes fit on.
+            let s : Standing = standing mid more ended outcomes in
+            let next : Standing → Ran = λ u. run room coding later u in
+            ran.runs h agrees room more ended outcomes fit on
+            ∙ ap (before_all answers) (run-cons coding room call later s ∙ ap (λ b. and_then (play_drained_if b room coding call s) next) none);
+        agrees = λ agrees going state. let sees = reached.agrees agrees going state in (sees.1, sees.2);
+      }
+
+  module _ (new : SessionValue) (first : Answer) (due : due_of call mid ≡ true) (drains : Finishes link (dialogue coding Drain mid.state) first (begun_by Drain mid) new) where
+    taken : refusal_of Drain mid ≡ Taken
+    taken = due_taken call mid due
+
+    so : Due call mid.channel.failed mid.state.counts.owed
+    so = due_so call mid.channel.failed mid.state.counts.owed due
+
+    resumes : Agrees coding old calls → Resumes mid.channel.rule mid.channel.kept (dialogue coding Drain mid.state)
+    resumes agrees =
+        let P : Bool → Type 0 = λ b. ResumesDrain b mid.channel.rule mid.channel.kept coding mid.state in
+        subst P so.first (reached.agrees agrees so.going mid.state).0
+
+    goes : Goes link (reached.ran.came ++ drains.came) (reached.ran.answered ++ drains.answered) old new
+    goes = joined_goes link reached.ran.came drains.came reached.ran.answered drains.answered old mid new reached.ran.goes (goes_from link drains.came drains.answered Drain mid new drains.goes)
+
+    -- the run comes to what the drain leads to
+    comes_to : link.tells → Agrees coding old calls → However old (reached.ran.came ++ drains.came) (reached.ran.answered ++ drains.answered) new (λ room s t. run room coding calls s ≡ before_all answers (and_then (after_drain (Done first t) (λ u. play_call room coding call u)) (λ u. run room coding later u)))
+    comes_to h agrees room more ended outcomes fit on =
+        let ran = reached.ran in
+        let next : Standing → Ran = λ u. run room coding later u in
+        let then : Standing → Played = λ u. play_call room coding call u in
+        let s : Standing = standing mid (drains.came ++ more) ended (outcomes_of drains.answered ++ outcomes) in
+        let t : Standing = standing new more ended outcomes in
+        let before = ran.runs h agrees room (drains.came ++ more) ended (outcomes_of drains.answered ++ outcomes) (fitted room _ _ (drains.goes.sent h) fit) (goes_after mid.channel.ended drains.came more new.channel.ended ended drains.goes.over on) in
+        let played = drains.plays h (resumes agrees) room more ended outcomes fit on in
+        rw (append_assoc ran.came drains.came more, outcomes-append ran.answered drains.answered, append_assoc (outcomes_of ran.answered) (outcomes_of drains.answered) outcomes)
+        (before
+        ∙ ap (before_all answers) (run-cons coding room call later s
+        ∙ ap (λ b. and_then (play_drained_if b room coding call s) next) due
+        ∙ ap (λ p. and_then (after_drain p then) next) (taken_plays coding room Drain mid (drains.came ++ more) ended (outcomes_of drains.answered ++ outcomes) taken ∙ played)))
+
+    -- nothing is kept after it
+    nothing_kept : new.channel.kept ≡ []
+    nothing_kept = go drains.keeps
+      where
+        go : Keeps (Silent (dialogue coding Drain mid.state)) drains.came (begun_by Drain mid) new → new.channel.kept ≡ []
+        go (inl none) = none
+        go (inr same) = absurd same.3
+
+    -- the drain is done, and the call goes on
+    goes_on_next : is_unit first ≡ true → ReachedCall link coding calls call later old new answers
+    goes_on_next unit =
+        let ran = reached.ran in
+        record {
+          done = ran.done;
+          split = ran.split;
+          count = ran.count;
+          came = ran.came ++ drains.came;
+          answered = ran.answered ++ drains.answered;
+          goes = goes;
+          runs = λ h agrees room more ended outcomes fit on.
+              let next : Standing → Ran = λ u. run room coding later u in
+              let t : Standing = standing new more ended outcomes in
+              comes_to h agrees room more ended outcomes fit on ∙ ap (λ b. before_all answers (and_then (if_unit b room t) next)) unit;
+          agrees = λ agrees going. nothing_seen coding call later new nothing_kept;
+        }
+      where
+        if_unit : Bool → Room → Standing → Played
+        if_unit b room t = cond b (play_call room coding call t) (Done first t)
+
+    -- the drain fails, and that is the call's answer
+    fails_next : is_unit first ≡ false → Reached link coding calls later old new (answers ++ first ∷ [])
+    fails_next fault =
+        let ran = reached.ran in
+        record {
+          ran = record {
+            done = ran.done ++ call ∷ [];
+            split = split_more calls later call ran.done ran.split;
+            count = counts_more call answers ran.done first ran.count;
+            came = ran.came ++ drains.came;
+            answered = ran.answered ++ drains.answered;
+            goes = goes;
+            runs = λ h agrees room more ended outcomes fit on.
+                let next : Standing → Ran = λ u. run room coding later u in
+                let t : Standing = standing new more ended outcomes in
+                comes_to h agrees room more ended outcomes fit on ∙ ap (λ b. before_all answers (and_then (if_unit b room t) next)) fault ∙ sym (before_all-snoc answers first (next t));
+          };
+          agrees = λ agrees going. rw nothing_kept (nothing_views coding new.channel.rule later);
+        }
+      where
+        if_unit : Bool → Room → Standing → Played
+        if_unit b room t = cond b (play_call room coding call t) (Done first t)
+
+module _ (link : Link) (coding : Coding) (calls later : List Call) (call : Call) (old mid new : SessionValue) (answers : List Answer) (answer : Answer) (reached : ReachedCall link coding calls call later old mid answers) where
+  -- the next call is done
+  completes_next : refusal_of call mid ≡ Taken → (is_local call ≡ true → new.channel ≡ mid.channel) → Finishes link (dialogue coding call mid.state) answer (begun_by call mid) new → Reached link coding calls later old new (answers ++ answer ∷ [])
+  completes_next taken apart done =
+      record {
+        ran = record {
+          done = reached.done ++ call ∷ [];
+          split = split_more calls later call reached.done reached.split;
+          count = counts_more call answers reached.done answer reached.count;
+          came = reached.came ++ done.came;
+          answered = reached.answered ++ done.answered;
+          goes = joined_goes link reached.came done.came reached.answered done.answered old mid new reached.goes (goes_from link done.came done.answered call mid new done.goes);
+          runs = λ h agrees room more ended outcomes fit on.
+              let next : Standing → Ran = λ u. run room coding later u in
+              let resumes = taken_resumes mid.channel.rule mid.channel.kept coding call mid taken (λ going. (reached.agrees agrees going mid.state).0) in
+              let first = reached.runs h agrees room (done.came ++ more) ended (outcomes_of done.answered ++ outcomes) (fitted room _ _ (done.goes.sent h) fit) (goes_after mid.channel.ended done.came more new.channel.ended ended done.goes.over on) in
+              let played = done.plays h resumes room more ended outcomes fit on in
+              rw (append_assoc reached.came done.came more, outcomes-append reached.answered done.answered, append_assoc (outcomes_of reached.answered) (outcomes_of done.answered) outcomes)
+              (first
+              ∙ ap (λ p. before_all answers (and_then p next)) (taken_plays coding room call mid (done.came ++ more) ended (outcomes_of done.answered ++ outcomes) taken ∙ played)
+              ∙ sym (before_all-snoc answers answer (run room coding later (standing new more ended outcomes))));
+        };
+        agrees = λ agrees going'. views_on coding call later done.came mid new mid.state done.goes.rule (keeps_from (Silent (dialogue coding call mid.state)) done.came call mid new done.keeps) (reached.agrees agrees (taken_goes_on call mid new taken apart going'));
+      }
+
+  -- it is refused
+  refuses_next : IsRefused link.tells call mid new answer → Reached link coding calls later old new (answers ++ answer ∷ [])
+  refuses_next refused =
+      let so = refused_so link.builds link.tells coding call mid new answer refused in
+      let goes = beside_goes link so.answered mid new so.channel so.deals in
+      record {
+        ran = record {
+          done = reached.done ++ call ∷ [];
+          split = split_more calls later call reached.done reached.split;
+          count = counts_more call answers reached.done answer reached.count;
+          came = reached.came ++ [];
+          answered = reached.answered ++ so.answered;
+          goes = joined_goes link reached.came [] reached.answered so.answered old mid new reached.goes goes;
+          runs = λ h agrees room more ended outcomes fit on.
+              let next : Standing → Ran = λ u. run room coding later u in
+              let O : List DealOutcome → Ran = λ o. run room coding calls (standing old (reached.came ++ more) ended o) in
+              let same : outcomes_of (reached.answered ++ so.answered) ++ outcomes ≡ outcomes_of reached.answered ++ outcomes = ap (λ o. o ++ outcomes) (outcomes-append reached.answered so.answered ∙ ap (λ o. outcomes_of reached.answered ++ o) so.none ∙ append-nil (outcomes_of reached.answered)) in
+              let first = reached.runs h agrees room more ended outcomes (fitted room _ _ (goes.sent h) fit) (goes_after mid.channel.ended [] more new.channel.ended ended goes.over on) in
+              rw (append-nil reached.came)
+              (ap O same
+              ∙ first
+              ∙ ap (λ p. before_all answers (and_then p next)) (so.plays h room more ended outcomes)
+              ∙ sym (before_all-snoc answers answer (run room coding later (standing new more ended outcomes))));
+        };
+        agrees = λ agrees going.
+            let on = so.goes_on going in
+            let V : SessionValue → Type 0 = λ v. v.channel.failed ≡ false in
+            let P : SessionValue → Type 0 = λ v. OneView v.channel.rule v.channel.kept coding later in
+            subst P (sym on.0) ((reached.agrees agrees (subst V on.0 going) mid.state).1 (inr on.1));
+      }
+
+-- a dialogue of a call is aborted
+aborts_next : (link : Link) (coding : Coding) (calls later : List Call) (call part : Call) (old before mid last new : SessionValue) (answers : List Answer) (answer : Answer) → RanTo link coding calls (call ∷ later) old before answers → BeginsAfter (due_of call before) link coding call part before mid → LetsGo link.tells last new → refusal_of part mid ≡ Taken → Aborts link false (dialogue coding part mid.state) answer (begun_by part mid) last → RunAborts link coding calls later old new (answers ++ answer ∷ [])
+aborts_next link coding calls later call part old before mid last new answers answer ran begins lets_go going aborts = record {
+  first = answers;
+  call = call;
+  made = [];
+  before = before;
+  ran = ran;
+  part = part;
+  middle = mid;
+  begins = begins;
+  going = going;
+  fault = aborts.fault;
+  last = last;
+  aborts = let P : Answer → Type 0 = λ a. Aborts link false (dialogue coding part mid.state) a (begun_by part mid) last in subst P aborts.is aborts;
+  after = new;
+  lets_go = lets_go;
+  later = [];
+  answers_are = ap (λ a. answers ++ a ∷ []) aborts.is;
+  makes = (refl, refl);
+  failed = λ failed. (refl, refl);
+}
+
+module _ (link : Link) (coding : Coding) (calls later : List Call) (call : Call) (old mid : SessionValue) (answers : List Answer) (reached : Reached link coding calls (call ∷ later) old mid answers) where
+  -- what is made of a call by itself, where the run got to it
+  call_answer : (start new : SessionValue) (answer : Answer) → ReachedCall link coding calls call later old start answers → BeginsAfter (due_of call mid) link coding call call mid start → Made link coding call start new answer → RunsSoFar link coding calls later old new (answers ++ answer ∷ [])
+  call_answer start new answer there begins (inl refused) = inl (refuses_next link coding calls later call old start new answers answer there refused)
+  call_answer start new answer there begins (inr made) = go made.plays
+    where
+      go : Ends link (dialogue coding call start.state) answer (begun_by call start) made.last ⊎ Aborts link false (dialogue coding call start.state) answer (begun_by call start) made.last → RunsSoFar link coding calls later old new (answers ++ answer ∷ [])
+      go (inl ends) = inl (completes_next link coding calls later call old start new answers answer there made.going made.apart (finishes link (dialogue coding call start.state) answer (begun_by call start) made.last new made.lets_go ends))
+      go (inr aborts) = inr (aborts_next link coding calls later call call old mid start made.last new answers answer reached.ran begins made.lets_go made.going aborts)
+
+  -- the drain comes before it
+  drain_answer : (due : due_of call mid ≡ true) (new : SessionValue) (answer : Answer) → DrainsFirst (Made link coding) call mid new answer → RunsSoFar link coding calls later old new (answers ++ answer ∷ [])
+  drain_answer due new answer drains = go drains.drains
+    where
+      D : SessionValue → Type 0
+      D v = Finishes link (dialogue coding Drain mid.state) drains.first (begun_by Drain mid) v
+
+      A : SessionValue → Answer → Type 0
+      A v a = RunsSoFar link coding calls later old v (answers ++ a ∷ [])
+
+      ended_with : (b : Bool) → is_unit drains.first ≡ b → IsPlayed link coding Drain mid drains.middle drains.first → D drains.middle → MakesAfter b drains.first (Made link coding call) drains.middle new answer → A new answer
+      ended_with true unit played done made =
+          let P : Bool → Type 0 = λ b. BeginsAfter b link coding call call mid drains.middle in
+          let Q : Answer → Type 0 = λ a. IsPlayed link coding Drain mid drains.middle a in
+          call_answer drains.middle new answer (goes_on_next link coding calls later call old mid answers reached drains.middle drains.first due done unit) (subst P (sym due) (inr (refl, subst Q (unit_is drains.first unit) played))) made
+      ended_with false fault played done ends =
+          let P : SessionValue → Type 0 = λ v. A v answer in
+          let Q : Answer → Type 0 = λ a. A drains.middle a in
+          subst P (sym ends.1) (subst Q (sym ends.0) (inl (fails_next link coding calls later call old mid answers reached drains.middle drains.first due done fault)))
+
+      failed_with : (b : Bool) → is_unit drains.first ≡ b → (last : SessionValue) → LetsGo link.tells last drains.middle → Aborts link false (dialogue coding Drain mid.state) drains.first (begun_by Drain mid) last → MakesAfter b drains.first (Made link coding call) drains.middle new answer → A new answer
+      failed_with true unit last lets_go aborts made =
+          let P : Answer → Type 0 = λ a. is_unit a ≡ true in
+          let clash : false ≡ true = subst P aborts.is unit in
+          cc
+      failed_with false fault last lets_go aborts ends =
+          let P : SessionValue → Type 0 = λ v. A v answer in
+          let Q : Answer → Type 0 = λ a. A drains.middle a in
+          let B : Bool → Type 0 = λ b. BeginsAfter b link coding call Drain mid mid in
+          subst P (sym ends.1) (subst Q (sym ends.0) (inr (aborts_next link coding calls later call Drain old mid mid last drains.middle answers drains.first reached.ran (subst B (sym due) (inl (refl, refl))) lets_go (due_taken call mid due) aborts)))
+
+      played : IsMade link coding Drain mid drains.middle drains.first → IsPlayed link coding Drain mid drains.middle drains.first
+      played made = record { going = made.going; apart = made.apart; last = made.last; plays = ended made.plays; lets_go = made.lets_go }
+        where
+          ended : Ends link (dialogue coding Drain mid.state) drains.first (begun_by Drain mid) made.last ⊎ Aborts link false (dialogue coding Drain mid.state) drains.first (begun_by Drain mid) made.last → Completes link (dialogue coding Drain mid.state) drains.first (begun_by Drain mid) made.last ⊎ Aborts link false (dialogue coding Drain mid.state) drains.first (begun_by Drain mid) made.last
+          ended (inl ends) = inl ends.completes
+          ended (inr aborts) = inr aborts
+
+      made_by : (made : IsMade link coding Drain mid drains.middle drains.first) → Ends link (dialogue coding Drain mid.state) drains.first (begun_by Drain mid) made.last ⊎ Aborts link false (dialogue coding Drain mid.state) drains.first (begun_by Drain mid) made.last → A new answer
+      made_by made (inl ends) = ended_with (is_unit drains.first) refl (played made) (finishes link (dialogue coding Drain mid.state) drains.first (begun_by Drain mid) made.last drains.middle made.lets_go ends) drains.then_makes
+      made_by made (inr aborts) = failed_with (is_unit drains.first) refl made.last made.lets_go aborts drains.then_makes
+
+      go : Made link coding Drain mid drains.middle drains.first → A new answer
+      go (inl refused) = absurd (taken_unrefused link.tells Drain mid drains.middle drains.first (due_taken call mid due) refused)
+      go (inr made) = made_by made made.plays
+
+  pub next_answer : (new : SessionValue) (answer : Answer) → MadeDrained link coding call mid new answer → RunsSoFar link coding calls later old new (answers ++ answer ∷ [])
+  next_answer new answer made = go (due_of call mid) refl made.makes
+    where
+      go : (b : Bool) → due_of call mid ≡ b → DrainsIf b (Made link coding) call mid new answer → RunsSoFar link coding calls later old new (answers ++ answer ∷ [])
+      go true due drains = drain_answer due new answer drains
+      go false none made =
+          let P : Bool → Type 0 = λ b. BeginsAfter b link coding call call mid mid in
+          call_answer mid new answer (comes_next link coding calls later call old mid answers reached none) (subst P (sym none) (refl, refl)) made
+
+all_snoc : (calls : List Call) (first : List Answer) (call : Call) (answer : Answer) → AllRefused calls first → (is_local call ≡ false → IsRefusal answer) → AllRefused (calls ++ call ∷ []) (first ++ answer ∷ [])
+all_snoc [] first call answer none is =
+    let P : List Answer → Type 0 = λ l. AllRefused (call ∷ []) (l ++ answer ∷ []) in
+    subst P (sym none) (is, refl)
+all_snoc (one ∷ calls) [] call answer all is = absurd all
+all_snoc (one ∷ calls) (first ∷ answers) call answer all is = (all.0, all_snoc calls answers call answer all.1 is)
+
+-- one call more is made
+makes_more : (link : Link) (coding : Coding) (made : List Call) (call : Call) (old mid new : SessionValue) (answers : List Answer) (answer : Answer) → Makes link coding made old mid answers → Plays link coding call mid new answer → Makes link coding (made ++ call ∷ []) old new (answers ++ answer ∷ [])
+makes_more link coding [] call old mid new answers answer so_far plays =
+    let P : SessionValue → Type 0 = λ v. Plays link coding call v new answer in
+    (new, answer, [], ap (λ a. a ++ answer ∷ []) so_far.1, subst P so_far.0 plays, (refl, refl))
+makes_more link coding (first ∷ made) call old mid new answers answer so_far plays =
+    (so_far.0, so_far.1, so_far.2 ++ answer ∷ [], ap (λ a. a ++ answer ∷ []) so_far.3, so_far.4, makes_more link coding made call so_far.0 mid new so_far.2 answer so_far.5 plays)
+
+-- a call after one that was aborted
+aborted_more : (link : Link) (coding : Coding) (calls to_make : List Call) (call : Call) (old mid new : SessionValue) (answers : List Answer) (answer : Answer) → RunAborts link coding calls (call ∷ to_make) old mid answers → Plays link coding call mid new answer → RunAborts link coding calls to_make old new (answers ++ answer ∷ [])
+aborted_more link coding calls to_make call old mid new answers answer broke plays = record {
+  first = broke.first;
+  call = broke.call;
+  made = broke.made ++ call ∷ [];
+  before = broke.before;
+  ran = let P : List Call → Type 0 = λ l. RanTo link coding calls (broke.call ∷ l) old broke.before broke.first in subst P (sym (append_assoc broke.made (call ∷ []) to_make)) broke.ran;
+  part = broke.part;
+  middle = broke.middle;
+  begins = broke.begins;
+  going = broke.going;
+  fault = broke.fault;
+  last = broke.last;
+  aborts = broke.aborts;
+  after = broke.after;
+  lets_go = broke.lets_go;
+  later = broke.later ++ answer ∷ [];
+  answers_are = ap (λ a. a ++ answer ∷ []) broke.answers_are ∙ append_assoc broke.first (Fault broke.fault ∷ broke.later) (answer ∷ []);
+  makes = makes_more link coding broke.made call broke.after mid new broke.later answer broke.makes plays;
+  failed = λ failed. by_itself failed (broke.failed failed);
+}
+  where
+    go : PlaysAlone link coding call mid new answer → broke.after.channel.failed ≡ true → (mid.channel ≡ broke.after.channel) × AllRefused broke.made broke.later → (new.channel ≡ broke.after.channel) × AllRefused (broke.made ++ call ∷ []) (broke.later ++ answer ∷ [])
+    go alone failed so_far = by alone.made
+      where
+        by : IsRefused link.tells call mid new answer ⊎ IsPlayed link coding call mid new answer ⊎ IsWithheld mid new answer → (new.channel ≡ broke.after.channel) × AllRefused (broke.made ++ call ∷ []) (broke.later ++ answer ∷ [])
+        by (inl refused) =
+            let so = refused_so link.builds link.tells coding call mid new answer refused in
+            (so.channel ∙ so_far.0, all_snoc broke.made broke.later call answer so_far.1 (λ abroad. so.refusal_is))
+        by (inr (inl played)) = apart (is_local call) refl
+          where
+            apart : (b : Bool) → is_local call ≡ b → (new.channel ≡ broke.after.channel) × AllRefused (broke.made ++ call ∷ []) (broke.later ++ answer ∷ [])
+            apart true local = (played.apart local ∙ so_far.0, all_snoc broke.made broke.later call answer so_far.1 (λ abroad. (let clash : true ≡ false = sym local ∙ abroad in cc)))
+            apart false abroad =
+                let clash : true ≡ false = sym failed ∙ sym (ap (λ c. c.failed) so_far.0) ∙ taken_going call mid.channel.failed (lacks_of call mid) played.going abroad in
+                cc
+        by (inr (inr none)) =
+            let clash : true ≡ false = sym failed ∙ sym (ap (λ c. c.failed) so_far.0) ∙ none.going in
+            cc
+
+    by_itself : broke.after.channel.failed ≡ true → (mid.channel ≡ broke.after.channel) × AllRefused broke.made broke.later → (new.channel ≡ broke.after.channel) × AllRefused (broke.made ++ call ∷ []) (broke.later ++ answer ∷ [])
+    by_itself failed so_far =
+        let P : Bool → Type 0 = λ b. DrainsIf b (PlaysAlone link coding) call mid new answer in
+        go (subst P (failed_undue call mid (ap (λ c. c.failed) so_far.0 ∙ failed)) plays.makes) failed so_far
+
+-- no call is left
+ran_all : (link : Link) (coding : Coding) (calls : List Call) (old new : SessionValue) (answers : List Answer) → Reached link coding calls [] old new answers → RunsTo link coding calls old new answers
+ran_all link coding calls old new answers reached = record {
+  came = reached.ran.came;
+  answered = reached.ran.answered;
+  goes = reached.ran.goes;
+  runs = λ h agrees room more ended outcomes fit on.
+      reached.ran.runs h agrees room more ended outcomes fit on
+      ∙ ap (before_all answers) (run-nil coding room (standing new more ended outcomes))
+      ∙ before_all-Finished answers [] (standing new more ended outcomes)
+      ∙ ap (λ a. Finished a (standing new more ended outcomes)) (append-nil answers);
+}
+
+-- the next of the calls
+pub next_of : (link : Link) (coding : Coding) (calls : List Call) (i : ℕ) (call : Call) (old mid new : SessionValue) (answers answers' : List Answer) (answer : Answer) → i < length calls → call ≡ get_or calls i call → answers' ≡ answers ++ answer ∷ [] → RunsSoFar link coding calls (drop i calls) old mid answers → MadeDrained link coding call mid new answer → RunsSoFar link coding calls (drop (i + 1) calls) old new answers'
+next_of link coding calls i call old mid new answers answers' answer inside is pushed so_far made =
+    let P : List Answer → Type 0 = λ a. RunsSoFar link coding calls (drop (i + 1) calls) old new a in
+    let Q : List Call → Type 0 = λ l. RunsSoFar link coding calls l old mid answers in
+    let left : drop i calls ≡ call ∷ drop (i + 1) calls = drop_more calls i call inside ∙ ap (λ c. c ∷ drop (i + 1) calls) (sym is) in
+    subst P (sym pushed) (go (subst Q left so_far))
+  where
+    go : RunsSoFar link coding calls (call ∷ drop (i + 1) calls) old mid answers → RunsSoFar link coding calls (drop (i + 1) calls) old new (answers ++ answer ∷ [])
+    go (inl reached) = next_answer link coding calls (drop (i + 1) calls) call old mid answers reached new answer made
+    go (inr broke) = inr (aborted_more link coding calls (drop (i + 1) calls) call old mid new answers answer broke (drained_plays link coding call mid new answer made))
+
+-- no call is left, or one was aborted
+pub all_of : (link : Link) (coding : Coding) (calls : List Call) (i : ℕ) (old new : SessionValue) (answers : List Answer) → length calls ≤ i → RunsSoFar link coding calls (drop i calls) old new answers → Runs link coding calls old new answers
+all_of link coding calls i old new answers past so_far =
+    let P : List Call → Type 0 = λ l. RunsSoFar link coding calls l old new answers in
+    go (subst P (drop_of_length-le calls {i = i} past) so_far)
+  where
+    go : RunsSoFar link coding calls [] old new answers → Runs link coding calls old new answers
+    go (inl reached) = inl (ran_all link coding calls old new answers reached)
+    go (inr broke) = inr broke

@@ -1,0 +1,24 @@
+use Rattle.std.proofs.Common.{◌≡◌, ◌++◌, ◌∷◌, [], length, length-append, inl, ap, ◌∙◌, arith}
+use Rattle.ftp_dialogue.proofs.DrainingLemmas.{drained_fails}
+use Rattle.ftp_runs.proofs.Running.{fails_more, ran_nothing, next_of, all_of}
+use Rattle.ftp_runs.proofs.calls.run.Goals as goal
+
+pub loop-call-init : goal.loop-call-init
+loop-call-init g c =
+    let made = c.in_ok-answers.ensures in
+    record { so_far = inl (rw made.items (ran_nothing _ _ _ _)); fails = λ failed. inl failed; count = ap length made.items; room = made.capacity }
+
+pub loop-call-preserved : goal.loop-call-preserved
+loop-call-preserved g c =
+    let held = c.loop-call.invariant in
+    let pushed : c.push.new.self.items ≡ c.loop-call.answers.items ++ c.make-answer.result ∷ [] = rw c.unwrap.ensures at c.push.ensures.items in
+    let longer = ap length pushed ∙ length-append c.loop-call.answers.items (c.make-answer.result ∷ []) in
+    record {
+      so_far = next_of _ _ c.args.calls.now c.loop-call.call-index c.call-item.result _ _ _ _ _ _ c.loop-call-test.true c.call-item.is pushed held.so_far c.make-answer.ensures.made;
+      fails = fails_more c.args.machine.now c.loop-call.machine c.make-answer.new.machine c.loop-call.answers.items (c.make-answer.result ∷ []) _ pushed held.fails (drained_fails _ _ _ _ _ _ c.make-answer.ensures.made);
+      count = omega (arith, longer, held.count);
+      room = omega (arith, held.room, c.push.ensures.capacity);
+    }
+
+pub returns-clause-runs : goal.returns-clause-runs
+returns-clause-runs g c = all_of _ _ _ c.loop-call.call-index _ _ _ c.loop-call-test.false c.loop-call.invariant.so_far

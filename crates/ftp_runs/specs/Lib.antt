@@ -1,0 +1,5 @@
+pub mod Following
+pub mod Run
+pub mod Runs
+pub mod Script
+pub mod Scripted

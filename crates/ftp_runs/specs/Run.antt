@@ -1,0 +1,63 @@
+-- A list of calls, played one after another, and one view of System for all of them.
+use Rattle.std.specs.Prelude.{◌≡◌, ◌⊎◌, Bool, true, false, ℕ, List, [], ◌∷◌}
+use Rattle.ftp_control.specs.declared.control.rule.ReplyRule.{ReplyRule}
+use Rattle.ftp_transport.specs.declared.room.Room.{Room}
+use Rattle.ftp_dialogue.specs.declared.state.State.{State}
+use Rattle.ftp_calls.specs.declared.call.Answer.{Answer}
+use Rattle.ftp_calls.specs.declared.call.Call.{Call}
+use Rattle.ftp_dialogue.specs.declared.model.Standing.{Standing}
+use Rattle.ftp_dialogue.specs.declared.model.Played.{Played}
+use Rattle.ftp_dialogue.specs.declared.model.Played.TheVariants.{Done, Pending}
+use Rattle.ftp_runs.specs.declared.model.Ran.{Ran}
+use Rattle.ftp_runs.specs.declared.model.Ran.TheVariants.{Finished, Waiting}
+use Rattle.ftp_calls.specs.declared.call.Call.TheVariants.{Drain}
+use Rattle.ftp_calls.specs.Exchanges.{drains_first, of_transfer}
+use Rattle.ftp_dialogue.specs.Coding.{Coding}
+use Rattle.ftp_dialogue.specs.Dialogue.{dialogue}
+use Rattle.ftp_runs.specs.declared.model.Item.{Item}
+use Rattle.ftp_runs.specs.declared.model.Item.TheVariants.{Shown, Hidden}
+use Rattle.ftp_dialogue.specs.Play.{play_call, play_drained}
+use Rattle.ftp_dialogue.specs.Resuming.{Resumes, Silent}
+
+-- an answer before those of later calls
+abbrev pub before : Answer → Ran → Ran
+before answer (Finished answers s) = Finished (answer ∷ answers) s
+before answer (Waiting answers wait s) = Waiting (answer ∷ answers) wait s
+
+-- a call that is done goes on with the later ones
+abbrev pub and_then : Played → (Standing → Ran) → Ran
+and_then (Done answer s) next = before answer (next s)
+and_then (Pending wait s) next = Waiting [] wait s
+
+-- the calls in turn, each after the last reply of a transfer that was left
+unfoldable pub run : Room → Coding → List Call → Standing → Ran
+run room coding [] s = Finished [] s
+run room coding (call ∷ calls) s = and_then (play_drained room coding call s) (λ t. run room coding calls t)
+
+-- a call whose answer is told to nobody
+abbrev pub and_on : Played → (Standing → Ran) → Ran
+and_on (Done answer s) next = next s
+and_on (Pending wait s) next = Waiting [] wait s
+
+-- the items of a script in turn: the last reply of a transfer that was left is an item by itself
+unfoldable pub replay : Room → Coding → List Item → Standing → Ran
+replay room coding [] s = Finished [] s
+replay room coding (Shown call ∷ items) s = and_then (play_call room coding call s) (λ t. replay room coding items t)
+replay room coding (Hidden call ∷ items) s = and_on (play_call room coding call s) (λ t. replay room coding items t)
+
+-- One view of System: what earlier reads left of a reply is no whole reply under the list that goes on with it
+
+-- a call may hear nothing: its dialogue doesn't, or it is of a transfer, and none is held
+abbrev pub MayBeSilent : Coding → Call → State → Type 0
+MayBeSilent coding call state = Silent (dialogue coding call state) ⊎ (of_transfer call ≡ true)
+
+-- the list under which the last reply of a transfer that was left is heard, where a call may come after one
+abbrev pub ResumesDrain : Bool → ReplyRule → List ℕ → Coding → State → Type 0
+ResumesDrain true rule seen coding state = Resumes rule seen (dialogue coding Drain state)
+ResumesDrain false rule seen coding state = Unit {0}
+
+-- the first list under which these calls hear
+abbrev pub OneView : ReplyRule → List ℕ → Coding → List Call → Type 0
+OneView rule seen coding [] = Unit {0}
+OneView rule seen coding (call ∷ calls) =
+    (state : State) → ResumesDrain (drains_first call) rule seen coding state × Resumes rule seen (dialogue coding call state) × (MayBeSilent coding call state → OneView rule seen coding calls)

@@ -1,0 +1,240 @@
+-- What a session promises of a list of events: what their script says, until the connection fails or memory runs out.
+use Rattle.std.specs.Prelude.{◌≡◌, ◌⊎◌, ◌<◌, ◌+◌, ◌||◌, ℕ, zero, suc, Bool, true, false, Option, Some, None, is_none, List, [], ◌∷◌, ◌++◌, length, if◌then◌else◌}
+use Rattle.ftp_base.specs.declared.types.fault.FtpError.{FtpError}
+use Rattle.ftp_control.specs.declared.control.form.ReplyForm.{ReplyForm}
+use Rattle.ftp_transport.specs.declared.room.Room.{Room}
+use Rattle.ftp_control.specs.declared.control.outcome.Outcome.TheVariants.{Waits}
+use Rattle.ftp_control.specs.Grammar.{outcome}
+use Rattle.ftp_transport.specs.Told.{HasRoomFor}
+use Rattle.ftp_dialogue.specs.Deals.{Deal, Deals, dealings_of, outcomes_of, parted}
+use Rattle.ftp_dialogue.specs.declared.model.DealOutcome.{DealOutcome}
+use Rattle.ftp_control.specs.Reading.{GoesOn}
+use Rattle.ftp_control.specs.Channel.{Channel, untaken}
+use Rattle.ftp_control.specs.Saying.{said}
+use Rattle.ftp_calls.specs.declared.call.Answer.{Answer}
+use Rattle.ftp_calls.specs.declared.call.Answer.TheVariants.{Fault}
+use Rattle.ftp_calls.specs.declared.call.Call.{Call}
+use Rattle.ftp_calls.specs.declared.call.Event.{Event}
+use Rattle.ftp_calls.specs.declared.call.Event.TheVariants.{Feed, Poll}
+use Rattle.ftp_runs.specs.declared.model.Script.{Script}
+use Rattle.ftp_dialogue.specs.State.{SessionValue, LetsGo}
+use Rattle.ftp_dialogue.specs.Coding.{Coding}
+use Rattle.ftp_calls.specs.Exchanges.{finishes}
+use Rattle.ftp_dialogue.specs.Dialogue.{Tree, with_left}
+use Rattle.ftp_dialogue.specs.Sound.{holds}
+use Rattle.ftp_dialogue.specs.Play.{is_due, play, finally}
+use Rattle.ftp_runs.specs.Run.{replay, and_then}
+use Rattle.ftp_runs.specs.declared.model.Item.{Item}
+use Rattle.ftp_runs.specs.declared.model.Item.TheVariants.{Shown}
+use Rattle.ftp_runs.specs.declared.model.Ran.{Ran}
+use Rattle.ftp_runs.specs.declared.model.Ran.TheVariants.{Finished, Waiting}
+use Rattle.ftp_dialogue.specs.declared.model.Standing.{Standing}
+use Rattle.ftp_calls.specs.declared.call.Call.TheVariants.{Drain}
+use Rattle.ftp_dialogue.specs.Play.{Taken}
+use Rattle.ftp_dialogue.specs.Promises.{standing, begun_by, refusal_of, Aborts, IsApart, IsRefusal}
+use Rattle.ftp_runs.specs.Runs.{before_all}
+use Rattle.ftp_runs.specs.Script.{script, script_of, start_of, unread, is_over, draining, drained_to, dropped, polled_as, run_with, succeeded, Lawful, MayCancel}
+use Rattle.ftp_dialogue.specs.Link.{Builds, over_memory}
+
+-- what was sent and what is unsent, joined, begin what was said; where they aren't all of it, the tail of an earlier
+-- line is still unsent
+pub record SaysFrontOf (c : Channel) (all : List ℕ) : Type 0 where
+  pub rest : List ℕ
+  pub is : all ≡ said c ++ rest
+  pub whole : (rest ≡ []) ⊎ (c.unsent ≡ [] → ⊥)
+
+-- the session stands where the script does, with these answers
+pub record StandsAt (s : Script) (new : SessionValue) (answers : List Answer) : Type 0 where
+  pub answers_are : answers ≡ s.answers
+  pub sent : new.channel.told.sent ≡ s.sent
+  pub said : SaysFrontOf new.channel s.said
+  pub untaken : untaken new.channel ++ unread new.channel.told ≡ s.untaken
+  pub dealings : dealings_of new.net ≡ s.dealings
+  pub seen : length new.channel.kept ≡ s.seen
+  pub waits : outcome new.channel.rule s.form new.channel.kept false ≡ Waits
+  pub ended : is_over new.channel.told ≡ s.ended
+  pub room : new.channel.told.given.room ≡ s.room
+  pub unsent : MayCancel s.call s.polled → new.channel.unsent ≡ s.unsent
+  pub state : new.state ≡ s.state
+  pub failed : new.channel.failed ≡ s.failed
+
+-- what happened beside the control connection since, with these outcomes first of all
+pub record Answered (builds : Builds) (outcomes left : List DealOutcome) (old new : SessionValue) : Type 0 where
+  pub answered : List Deal
+  pub deals : Deals builds answered old.net new.net
+  pub outcomes_are : outcomes ≡ outcomes_of answered ++ left
+
+-- the events come to their script, where these are the outcomes of the transport's requests; what was received and what
+-- is unread are the bytes that came; nothing fails, and which lines open and end a reply stays
+pub record HoldsAt (builds : Builds) (outcomes : List DealOutcome) (old : SessionValue) (s : Script) (new : SessionValue) (answers : List Answer) : Type 0 where
+  pub at : StandsAt s new answers
+  pub left : List DealOutcome
+  pub answered : Answered builds outcomes left old new
+  pub came : List ℕ
+  pub received : new.channel.told.received ≡ old.channel.told.received ++ came
+  pub bytes : s.bytes ≡ untaken old.channel ++ came ++ unread new.channel.told
+  pub rule : new.channel.rule ≡ old.channel.rule
+  pub failures : new.channel.told.failures ≡ old.channel.told.failures
+
+-- a call under way leaves a transfer where it is dropped: it brings it to its end, or the transfer was to be left once the
+-- call is over
+abbrev pub leaves_dropped : Option Call → Bool → Bool
+leaves_dropped None leaving = false
+leaves_dropped (Some call) leaving = finishes call || leaving
+
+-- after the last event the call under way is dropped: nothing goes over the control connection, and where it may be dropped
+-- the session stands where the script does after a Cancel
+pub record EndsAt (builds : Builds) (coding : Coding) (outcomes : List DealOutcome) (old : SessionValue) (s : Script) (new : SessionValue) (answers : List Answer) : Type 0 where
+  pub last : SessionValue
+  pub at : HoldsAt builds outcomes old s last answers
+  pub channel : new.channel ≡ last.channel
+  pub stays : leaves_dropped s.call s.leaving ≡ false → new ≡ last
+  pub drops : MayCancel s.call s.polled → HoldsAt builds outcomes old (dropped coding (start_of old outcomes) s.call s) new answers
+
+abbrev pub ScriptHolds : Builds → Coding → List DealOutcome → SessionValue → ReplyForm → List Event → SessionValue → List Answer → Type 0
+ScriptHolds builds coding outcomes old form events new answers =
+    EndsAt builds coding outcomes old (script coding (start_of old outcomes) (script_of old form) events) new answers
+
+-- the transfer that is held, if any, is left: its data connection is closed and handed back
+abbrev pub LeavesHeldIf : Bool → SessionValue → SessionValue → Type 0
+LeavesHeldIf true v w = (w ≡ record v { state = with_left v.state; net = w.net }) × (dealings_of w.net ≡ parted (dealings_of v.net))
+LeavesHeldIf false v w = w ≡ v
+
+abbrev pub LeavesHeld : SessionValue → SessionValue → Type 0
+LeavesHeld v w = LeavesHeldIf (holds (is_none v.net.data_conn) v.state.counts.owed) v w
+
+-- it is, where that was to be done once a call is over
+abbrev pub LeavesThen : Bool → SessionValue → SessionValue → Type 0
+LeavesThen true v w = LeavesHeld v w
+LeavesThen false v w = w ≡ v
+
+-- the calls that are done come to these answers, and the call under way to what is left of it, from here
+abbrev pub Reaches : Coding → SessionValue → List Item → List ℕ → List Deal → SessionValue → List Answer → Call → Tree → Type 0
+Reaches coding old items came answered v answers call tree =
+    (later : List Item) (room : Room) (more : List ℕ) (ended : Bool) (outcomes : List DealOutcome)
+    → HasRoomFor room (length v.channel.told.sent) → GoesOn v.channel.ended more ended
+    → replay room coding (items ++ Shown call ∷ later) (standing old (came ++ more) ended (outcomes_of answered ++ outcomes)) ≡ before_all answers (and_then (finally (play room tree (standing v more ended outcomes))) (λ t. replay room coding later t))
+
+-- the calls that are done come to these answers, and to whatever comes after them from here
+abbrev pub Stands : Coding → SessionValue → List Item → List ℕ → List Deal → SessionValue → List Answer → Type 0
+Stands coding old items came answered v answers =
+    (later : List Item) (room : Room) (more : List ℕ) (ended : Bool) (outcomes : List DealOutcome)
+    → HasRoomFor room (length v.channel.told.sent) → GoesOn v.channel.ended more ended
+    → replay room coding (items ++ later) (standing old (came ++ more) ended (outcomes_of answered ++ outcomes)) ≡ before_all answers (replay room coding later (standing v more ended outcomes))
+
+-- something was said since, or a reply was taken: fewer bytes are untaken than were and came
+abbrev pub SaysOrTakes : List ℕ → List ℕ → SessionValue → SessionValue → Type 0
+SaysOrTakes before came start v =
+    (length (said start.channel) < length (said v.channel)) ⊎ (length before + length (untaken v.channel) < length came + length (untaken start.channel))
+
+-- nothing was said since, and no reply was taken: what came is untaken
+abbrev pub SaysNothing : List ℕ → SessionValue → SessionValue → Type 0
+SaysNothing later start v = (said v.channel ≡ said start.channel) × (untaken v.channel ≡ untaken start.channel ++ later)
+
+-- where the calls before it were done; since then something of a call was said, or a reply was taken, exactly if it has
+-- begun
+pub record CallHasBegun (coding : Coding) (old : SessionValue) (s : Script) (came : List ℕ) (answered : List Deal) (v : SessionValue) (begun : Bool) : Type 0 where
+  pub start : SessionValue
+  pub before : List ℕ
+  pub later : List ℕ
+  pub split : came ≡ before ++ later
+  pub asked_before : List Deal
+  pub asked_later : List Deal
+  pub asked_split : answered ≡ asked_before ++ asked_later
+  pub stands : Stands coding old s.items before asked_before start s.answers
+  pub has_begun : begun ≡ true → SaysOrTakes before came start v
+  pub not_begun : begun ≡ false → SaysNothing later start v
+
+-- a call that wasn't polled begins; one that opens a data connection takes the offset away
+abbrev pub entering : Bool → Call → SessionValue → SessionValue
+entering polled call v = if polled then v else begun_by call v
+
+-- a call that is polled for the first time isn't refused; one that was polled goes on
+abbrev pub MayGoOn : Bool → Call → SessionValue → Type 0
+MayGoOn true call v = v.channel.failed ≡ false
+MayGoOn false call v = refusal_of call v ≡ Taken
+
+-- a call was under way, and this is left of its dialogue
+pub record LeftOf (builds : Builds) (coding : Coding) (old : SessionValue) (s : Script) (v : SessionValue) (call : Call) (begun : Bool) (tree : Tree) : Type 0 where
+  pub call_is : s.call ≡ Some call
+  pub going : MayGoOn s.polled call v
+  pub came : List ℕ
+  pub bytes : s.bytes ≡ untaken old.channel ++ came ++ unread v.channel.told
+  pub answered : List Deal
+  pub deals : Deals builds answered old.net v.net
+  pub reaches : Reaches coding old s.items came answered (entering s.polled call v) s.answers call tree
+  pub since : CallHasBegun coding old s came answered v begun
+
+abbrev pub IsOfFailed : Answer → Type 0
+IsOfFailed answer = IsRefusal answer ⊎ IsApart answer
+
+-- each is refused, or is such an answer
+abbrev pub AreRefused : List Answer → Type 0
+AreRefused [] = Unit {0}
+AreRefused (answer ∷ answers) = IsOfFailed answer × AreRefused answers
+
+-- what is polled: the call under way; or the drain in its place, where it is due; or the call, once that is over
+abbrev pub IsDrained : Ran → Call → Script → Script → Type 0
+IsDrained (Finished answers t) call s here = (succeeded answers ≡ true) × (here ≡ drained_to call s (polled_as (Finished answers t) Drain (draining s)))
+IsDrained (Waiting answers wait t) call s here = ⊥
+
+abbrev pub IsPolledIf : Bool → Coding → Standing → Call → Script → Script → Type 0
+IsPolledIf true coding start call s here = (here ≡ draining s) ⊎ IsDrained (run_with coding start Drain (draining s)) call s here
+IsPolledIf false coding start call s here = here ≡ s
+
+abbrev pub IsPolled : Coding → Standing → Option Call → Script → Script → Type 0
+IsPolled coding start None s here = ⊥
+IsPolled coding start (Some call) s here = IsPolledIf (is_due call s.failed s.state.counts.owed) coding start call s here
+
+-- a call was aborted at a Poll, in a session that the events before had come to; the later events find no call under
+-- way, and come to `Later`
+pub record ScriptAborts (builds : Builds) (Later : SessionValue → List Event → List Answer → Type 0) (coding : Coding) (outcomes : List DealOutcome) (old : SessionValue) (form : ReplyForm) (events : List Event) (new : SessionValue) (answers : List Answer) : Type 0 where
+  pub before : List Event
+  pub later : List Event
+  pub split : events ≡ before ++ Poll ∷ later
+  pub first : List Answer
+  pub here : Script
+  pub polled : IsPolled coding (start_of old outcomes) (script coding (start_of old outcomes) (script_of old form) before).call (script coding (start_of old outcomes) (script_of old form) before) here
+  pub middle : SessionValue
+  pub at : HoldsAt builds outcomes old here middle first
+  pub call : Call
+  pub begun : Bool
+  pub tree : Tree
+  pub under_way : LeftOf builds coding old here middle call begun tree
+  pub fault : FtpError
+  pub last : SessionValue
+  pub aborts : Aborts (over_memory builds) begun tree (Fault fault) (entering here.polled call middle) last
+  pub gone : SessionValue
+  pub lets_go : LetsGo (Unit {0}) last gone
+  pub after : SessionValue
+  pub leaves : LeavesThen here.leaving gone after
+  pub others : List Answer
+  pub answers_are : answers ≡ first ++ Fault fault ∷ others
+  pub goes_on : Later after later others
+  pub failed : after.channel.failed ≡ true → (new.channel.failed ≡ true) × AreRefused others
+
+-- what happened beside the control connection is told; with these outcomes, whatever others come after them, and for
+-- every lawful list, where what an earlier read left of a reply says nothing yet as one of this form: the events come to
+-- their script, or a call is aborted and the later ones are such a list again; that is said of so many calls that are
+-- aborted
+abbrev pub ScriptsHold : Builds → ℕ → Coding → SessionValue → List Event → SessionValue → List Answer → Type 0
+ScriptsHold builds zero coding old events new answers = Unit {0}
+ScriptsHold builds (suc depth) coding old events new answers =
+    (answered : List Deal) × Deals builds answered old.net new.net × ((form : ReplyForm) (left : List DealOutcome) → outcome old.channel.rule form old.channel.kept false ≡ Waits → Lawful coding (start_of old (outcomes_of answered ++ left)) (script_of old form) events → ScriptHolds builds coding (outcomes_of answered ++ left) old form events new answers ⊎ ScriptAborts builds (λ after later others. ScriptsHold builds depth coding after later new others) coding (outcomes_of answered ++ left) old form events new answers)
+
+-- that is said of however many
+abbrev pub IsScripted : Builds → Coding → SessionValue → List Event → SessionValue → List Answer → Type 0
+IsScripted builds coding old events new answers = (depth : ℕ) → ScriptsHold builds depth coding old events new answers
+
+-- memory ran out: for the answers, and nothing changed; or for the bytes of a Feed, and the events before it have
+-- happened
+pub record StopsAtFeed (builds : Builds) (coding : Coding) (old : SessionValue) (events : List Event) (new : SessionValue) : Type 0 where
+  pub before : List Event
+  pub bytes : List ℕ
+  pub later : List Event
+  pub split : events ≡ before ++ Feed bytes ∷ later
+  pub answers : List Answer
+  pub scripted : IsScripted builds coding old before new answers
+
+abbrev pub Stops : Builds → Coding → SessionValue → List Event → SessionValue → Type 0
+Stops builds coding old events new = (new ≡ old) ⊎ StopsAtFeed builds coding old events new

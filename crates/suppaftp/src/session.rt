@@ -1,0 +1,10 @@
+//! The session: the blocking core of both clients, for a program of one thread.
+//!
+//! [`Session`] has a method for each call. With [`RunCalls`] in scope it makes lists of calls, and with [`RunEvents`] it
+//! plays events over memory.
+
+pub use ftp_runs::{Event, RunCalls, RunEvents};
+pub use ftp_session::session::{
+    Answer, Call, Chosen, Counts, DownloadReader, NewMark, NoStreamBuilder, NoTlsConnector, Owed,
+    PolledCall, Session, Setting, Settings, State,
+};
