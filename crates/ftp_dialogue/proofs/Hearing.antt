@@ -30,6 +30,7 @@ use Rattle.ftp_dialogue.specs.State.{SessionValue}
 use Rattle.ftp_dialogue.specs.Dialogue.{Expected, Tree, Say, Hear, Look, Ask, Build, Move, Leaf}
 use Rattle.ftp_dialogue.specs.Play.{play, heard_then}
 use Rattle.ftp_dialogue.specs.Resuming.{Resumes}
+use Rattle.ftp_dialogue.proofs.Places.{here}
 use Rattle.ftp_dialogue.specs.Promises.{AbortsRead, standing, Goes, Leads, Rests}
 use Rattle.ftp_dialogue.specs.Steps.Moving.{Moves, Advances, WaitsFor, Hears, Takes}
 use Rattle.ftp_dialogue.specs.Link.{Link}
@@ -102,6 +103,7 @@ module _ (link : Link) (state : State) (net : Net) (t : Told) (kept ahead unsent
     settles : (failed : Bool) (heard : Outcome) (answer : Result Response FtpError) → (link.tells → u ≡ after_input came ended t) → kept' ≡ [] → length ahead' ≤ length ahead + length came → ((s : Standing) (k : Result Response FtpError → Standing → Played) → heard_then heard codes (record s { failed = false }) k ≡ k answer (record s { bytes = left_by heard s.bytes; failed = failed })) → (outcome rule codes.form kept false ≡ Waits → (more : List ℕ) (e : Bool) → GoesOn ended more e → (outcome rule codes.form (((kept ++ ahead) ++ came) ++ more) e ≡ heard) × (left_by heard (((kept ++ ahead) ++ came) ++ more) ≡ (kept' ++ ahead') ++ more)) → Moves link (Hear codes next) (next answer) old (new u failed)
     settles failed heard answer told none shrinks then_is stays = record {
       leads = record {
+        within = inr (answer, here (next answer));
         came = came;
         answered = [];
         goes = goes u failed came was over (fewer_left none shrinks) (input_told u came told);
@@ -139,6 +141,7 @@ module _ (link : Link) (state : State) (net : Net) (t : Told) (kept ahead unsent
 
     leads_on : (link.tells → (u.received ≡ t.received ++ came) × (u.given ≡ t.given) × NoneFailed t u × (u.sent ≡ t.sent)) → kept' ++ ahead' ≡ (kept ++ ahead) ++ came → Leads link (Hear codes next) (Hear codes next) old (new u false)
     leads_on told all = record {
+      within = inl refl;
       came = came;
       answered = [];
       goes = goes u false came was over (none_left came all) told;
@@ -188,6 +191,7 @@ module _ (link : Link) (state : State) (net : Net) (t : Told) (kept ahead unsent
       where
         at_now : (v : Told) → (link.tells → IsGiven t → IsGiven v) → kept' ++ ahead' ≡ (kept ++ ahead) ++ came → (link.tells → v ≡ after_input came ended t) → Leads link (Hear codes next) (Hear codes next) old (new v false)
         at_now v at_hand all same = record {
+          within = inl refl;
           came = came;
           answered = [];
           goes = goes v false came at_hand over (none_left came all) (input_told v came same);

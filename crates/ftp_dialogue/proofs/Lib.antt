@@ -13,6 +13,7 @@ pub mod Sorts
 pub mod Moving
 pub mod NegotiationLemmas
 pub mod Nexts
+pub mod Places
 pub mod Polls
 pub mod Reading
 pub mod Stages

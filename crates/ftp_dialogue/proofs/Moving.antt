@@ -27,7 +27,9 @@ use Rattle.ftp_dialogue.specs.State.{SessionValue, LetsGo}
 use Rattle.ftp_dialogue.specs.Dialogue.{Tree, Say, Hear, Look, Ask, Build, Move, Leaf}
 use Rattle.ftp_dialogue.specs.Play.{ended, finally, play, fits, said_then}
 use Rattle.ftp_dialogue.specs.Resuming.{Resumes, Silent}
-use Rattle.ftp_dialogue.specs.Promises.{IsFault, However, SaidOrTaken, standing, Rests, Goes, Leads, Fails, Touched, Untouched, LacksMemory, Aborts, failed_from}
+use Rattle.ftp_dialogue.specs.Promises.{IsFault, However, SaidOrTaken, standing, Rests, Goes, Leads, Fails, Touched, Untouched, LacksMemory, Aborts, KeepsNoReply, failed_from}
+use Rattle.ftp_dialogue.specs.Within.{Within}
+use Rattle.ftp_dialogue.proofs.Places.{here, within_on}
 use Rattle.ftp_dialogue.specs.Steps.Moving.{NothingTouched, StillSays, HasGoneOut, Keeps, Shrinks, Calm, Moves, Advances, Ends, WaitsFor, Steps, TakesLine, after_line, step_of}
 use Rattle.ftp_dialogue.specs.Link.{Link}
 
@@ -72,6 +74,7 @@ nothing_shrinks n = omega arith
 
 unfoldable pub nothing_leads : (link : Link) (tree : Tree) (v : SessionValue) → Leads link tree tree v v
 nothing_leads link tree v = record {
+  within = here tree;
   came = [];
   answered = [];
   goes = nothing_goes link v;
@@ -147,6 +150,7 @@ module _ (link : Link) (state : State) (net : Net) (a : Channel) (told : Told) (
     said_whole says = record {
       moves = record {
         leads = record {
+          within = inr (inr (here next));
           came = [];
           answered = [];
           goes = said_goes says.hears_nothing says.leaves.3 says.sends (λ h. said_grows line line' says.whole (says.said h));
@@ -175,8 +179,14 @@ module _ (link : Link) (state : State) (net : Net) (a : Channel) (told : Told) (
     said_part_plays : failed ≡ a.failed → told.given ≡ a.told.given → told.sent ++ unsent ++ due line' ≡ a.told.sent ++ a.unsent ++ due line → However before [] [] after (λ room s t. play room (Say (Ok (due line)) next) s ≡ play room (Say (Ok (due line')) next) t)
     said_part_plays going given all = λ room more ended outcomes fit on. play-Say room (due line) next _ ∙ rw (← all, going, given) (sym (play-Say room (due line') next _))
 
-    said_part : failed ≡ a.failed → (link.tells → told.sent ++ unsent ++ due line' ≡ a.told.sent ++ a.unsent ++ due line) → Goes link [] [] before after → Leads link (Say (Ok (due line)) next) (Say (Ok (due line')) next) before after
-    said_part going said goes = record {
+    -- the line that is begun is a place of it
+    said_within : (line' ≡ line) ⊎ (line' ≡ None) → Within (Say (Ok (due line')) next) (Say (Ok (due line)) next)
+    said_within (inl same) = inl (ap (λ l. Say (Ok (due l)) next) same)
+    said_within (inr none) = inr (inl (ap (λ l. Say (Ok (due l)) next) none))
+
+    said_part : (line' ≡ line) ⊎ (line' ≡ None) → failed ≡ a.failed → (link.tells → told.sent ++ unsent ++ due line' ≡ a.told.sent ++ a.unsent ++ due line) → Goes link [] [] before after → Leads link (Say (Ok (due line)) next) (Say (Ok (due line')) next) before after
+    said_part whole going said goes = record {
+      within = said_within whole;
       came = [];
       answered = [];
       goes = goes;
@@ -189,7 +199,7 @@ module _ (link : Link) (state : State) (net : Net) (a : Channel) (told : Told) (
     said_waits says = (
       record {
         moves = record {
-          leads = said_part says.leaves.2 says.said (said_goes says.hears_nothing says.leaves.3 says.sends (λ h. said_grows line line' says.whole (says.said h)));
+          leads = said_part says.whole says.leaves.2 says.said (said_goes says.hears_nothing says.leaves.3 says.sends (λ h. said_grows line line' says.whole (says.said h)));
           state = refl;
           resumes = λ r. r;
           keeps = λ silent. inr (refl, refl, refl, silent);
@@ -219,7 +229,7 @@ said_aborts link state net a told unsent failed line line' begun next fault goin
     record {
       place = Say (Ok (due line')) next;
       at = at;
-      leads = said_part link state net a now unsent a.failed line line' next refl says.said
+      leads = said_part link state net a now unsent a.failed line line' next says.whole refl says.said
           (said_goes link state net a now unsent a.failed (λ h. let F : Told → Told = λ t. record t { failures = a.told.failures; last_fault = a.told.last_fault } in ap F (says.hears_nothing h)) (λ h. record { failures = refl; last_fault = refl }) says.sends (λ h. said_grows link state net a now unsent a.failed line line' says.whole (says.said h)));
       state = refl;
       going = refl;
@@ -266,6 +276,11 @@ line_said link state net a b line line' answer going says begun next =
 
 -- A dialogue ends
 
+-- what is kept of a reply under way
+kept_none : (untouched : Type 0) (came : List ℕ) (old new : SessionValue) → Keeps untouched came old new → KeepsNoReply came old new
+kept_none untouched came old new (inl none) = inl none
+kept_none untouched came old new (inr (kept, ahead, nothing, rest)) = inr (kept, nothing)
+
 -- a leaf was reached, and only the state changes
 pub leaf_ends : (link : Link) (tree : Tree) (answer : Answer) (old mid new : SessionValue) → Moves link tree (Leaf answer new.state) old mid → (mid.channel.failed ≡ true → (old.channel.failed ≡ true) ⊎ IsFault answer) → new.channel ≡ mid.channel → new.net ≡ mid.net → Ends link tree answer old new
 leaf_ends link tree answer old mid new moves fails channel net =
@@ -277,6 +292,7 @@ leaf_ends link tree answer old mid new moves fails channel net =
         came = moves.leads.came;
         answered = moves.leads.answered;
         goes = record { over = moves.leads.goes.over; received = moves.leads.goes.received; given = moves.leads.goes.given; failures = moves.leads.goes.failures; sent = moves.leads.goes.sent; said = moves.leads.goes.said; untaken = moves.leads.goes.untaken; at_hand = moves.leads.goes.at_hand; deals = moves.leads.goes.deals; rule = moves.leads.goes.rule };
+        keeps = kept_none (Silent tree) moves.leads.came old mid (moves.keeps tt);
         plays = λ h resumes room more ended outcomes fit on.
             moves.leads.plays h resumes room more ended outcomes fit on ∙ play-Leaf room answer new.state (standing mid more ended outcomes);
       };
@@ -298,6 +314,7 @@ refused_line link cause next v = record {
     came = [];
     answered = [];
     goes = nothing_goes link v;
+    keeps = inr (refl, refl);
     plays = λ h resumes room more ended outcomes fit on. play-Refused room cause next _;
   };
   fails = λ f. inl f;
@@ -416,6 +433,7 @@ module _ (link : Link) (tree tree' : Tree) (a b c : SessionValue) (first : Moves
   -- a lead after a step
   unfoldable pub leads_on : (last : Tree) → Leads link tree' last b c → Leads link tree last a c
   leads_on last second = record {
+    within = within_on last tree' tree second.within first.leads.within;
     came = first.leads.came ++ second.came;
     answered = first.leads.answered ++ second.answered;
     goes = joined_goes link first.leads.came second.came first.leads.answered second.answered a b c first.leads.goes second.goes;
@@ -466,6 +484,7 @@ module _ (link : Link) (tree tree' : Tree) (a b c : SessionValue) (first : Moves
       came = first.leads.came ++ second.completes.came;
       answered = first.leads.answered ++ second.completes.answered;
       goes = joined_goes link first.leads.came second.completes.came first.leads.answered second.completes.answered a b c first.leads.goes second.completes.goes;
+      keeps = kept_none (Silent tree) (first.leads.came ++ second.completes.came) a c (keeps_after (Silent tree) (Silent tree') first.leads.came second.completes.came a b c first.keeps second.keeps);
       plays = λ h resumes room more ended outcomes fit on.
           first_plays second.completes.came second.completes.answered second.completes.goes h (first.leads.plays h resumes) room more ended outcomes fit on
           ∙ second.completes.plays h (first.resumes resumes) room more ended outcomes fit on;
@@ -499,6 +518,7 @@ module _ (link : Link) (tree tree' : Tree) (a b c : SessionValue) (first : Moves
     where
       leads_at : Leads link tree second.place a second.at
       leads_at = record {
+        within = within_on second.place tree' tree second.leads.within first.leads.within;
         came = first.leads.came ++ second.leads.came;
         answered = first.leads.answered ++ second.leads.answered;
         goes = joined_goes link first.leads.came second.leads.came first.leads.answered second.leads.answered a b second.at first.leads.goes second.leads.goes;

@@ -54,6 +54,7 @@ use Rattle.ftp_dialogue.specs.declared.model.Played.{Played}
 use Rattle.ftp_dialogue.specs.declared.model.Traffic.{Traffic}
 use Rattle.ftp_dialogue.proofs.Deals.{dealings_constructed, dealings_dealt, dealings_moved}
 use Rattle.ftp_dialogue.specs.Play.{asked_then, play, address_at}
+use Rattle.ftp_dialogue.proofs.Places.{here}
 use Rattle.ftp_dialogue.specs.Promises.{standing, Goes, Aborts, Untouched, failed_from}
 use Rattle.ftp_dialogue.specs.State.{SessionValue}
 use Rattle.ftp_dialogue.specs.Steps.Moving.{AsksFirst, LetsIn, dropped, Accepts, Concludes, ConnectsTo, Ends, LooksUp, Meets, MeetsIf, Moves, NothingTouched, Speaks, Still, TurnsAway, Walks}
@@ -117,6 +118,7 @@ module _ (link : Link) (old : SessionValue) (net' : Net) where
     advances = record {
       moves = record {
         leads = record {
+          within = inr (outcome, here (next outcome));
           came = [];
           answered = Requested request outcome ∷ [];
           goes = beside_goes (Requested request outcome ∷ []) (λ h. (net', tie h, refl));
@@ -145,6 +147,7 @@ module _ (link : Link) (old : SessionValue) (net' : Net) where
     advances = record {
       moves = record {
         leads = record {
+          within = inr (fault, here (next fault));
           came = [];
           answered = Constructed address fault ∷ [];
           goes = beside_goes (Constructed address fault ∷ []) (λ h. (net', tie h, refl));
@@ -173,6 +176,7 @@ module _ (link : Link) (old : SessionValue) (net' : Net) where
     advances = record {
       moves = record {
         leads = record {
+          within = inr (outcome, here (next outcome));
           came = [];
           answered = Moved moves outcome ∷ [];
           goes = beside_goes (Moved moves outcome ∷ []) (λ h. (net', tie h, refl));
@@ -201,6 +205,7 @@ module _ (link : Link) (old : SessionValue) (net' : Net) where
     advances = record {
       moves = record {
         leads = record {
+          within = here tree;
           came = [];
           answered = [];
           goes = beside_goes [] tie;
@@ -275,6 +280,7 @@ dropped_still link deadline next v = record {
   advances = record {
     moves = record {
       leads = record {
+        within = inl refl;
         came = [];
         answered = Dropped ∷ [];
         goes = beside_goes link v (record v.net { data_conn = None }) (Dropped ∷ []) (λ h. (record v.net { data_conn = None }, refl, refl));
@@ -308,6 +314,7 @@ module _ (link : Link) (old : SessionValue) (told' : Told) where
     advances = record {
       moves = record {
         leads = record {
+          within = inr (address, here (next address));
           came = [];
           answered = [];
           goes = record {

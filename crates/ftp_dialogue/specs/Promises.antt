@@ -44,6 +44,7 @@ use Rattle.ftp_calls.specs.Exchanges.{row_of, drains, finishes, is_local, negoti
 use Rattle.ftp_dialogue.specs.Dialogue.{Expected, expected_of, Tree, Say, Hear, Look, Ask, Build, Move, Leaf, dialogue, entered, with_left}
 use Rattle.ftp_dialogue.specs.Play.{Refusal, Taken, Lacking, Failing, is_due, is_unit, lacks, play, refusal}
 use Rattle.ftp_dialogue.specs.Resuming.{Resumes}
+use Rattle.ftp_dialogue.specs.Within.{Within}
 use Rattle.ftp_dialogue.specs.Link.{Link}
 
 -- What a call that succeeded did on the wire
@@ -194,18 +195,24 @@ pub record Goes (link : Link) (came : List ℕ) (answered : List Deal) (old new 
   pub deals : link.tells → Deals link.builds answered old.net new.net
   pub rule : new.channel.rule ≡ old.channel.rule
 
--- one tree is left of another
+-- one tree is left of another, and is a place of it
 pub record Leads (link : Link) (tree tree' : Tree) (old new : SessionValue) : Type 0 where
+  pub within : Within tree' tree
   pub came : List ℕ
   pub answered : List Deal
   pub goes : Goes link came answered old new
   pub plays : link.tells → Resumes old.channel.rule old.channel.kept tree → However old came answered new (λ room s t. play room tree s ≡ play room tree' t)
+
+-- of a reply under way nothing is kept, as after a reply; or what was, where nothing came
+abbrev pub KeepsNoReply : List ℕ → SessionValue → SessionValue → Type 0
+KeepsNoReply came old new = (new.channel.kept ≡ []) ⊎ ((new.channel.kept ≡ old.channel.kept) × (came ≡ []))
 
 -- a tree comes to its answer
 pub record Completes (link : Link) (tree : Tree) (answer : Answer) (old new : SessionValue) : Type 0 where
   pub came : List ℕ
   pub answered : List Deal
   pub goes : Goes link came answered old new
+  pub keeps : KeepsNoReply came old new
   pub plays : link.tells → Resumes old.channel.rule old.channel.kept tree → However old came answered new (λ room s t. play room tree s ≡ played.Done answer t)
 
 -- a node fails where a line is said, a reply is read or an address is looked up, with a fault that the connection may
