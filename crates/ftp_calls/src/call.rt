@@ -14,7 +14,7 @@ use std::net::SocketAddr;
 use std::time::Duration;
 
 /// What a session is told to do, without a word to the server.
-#[derive(Clone, Debug, Drop)]
+#[derive(Clone, Drop)]
 pub enum Setting {
     /// Who opens data connections, and how they are asked for.
     Mode(Mode),
@@ -27,7 +27,7 @@ pub enum Setting {
 }
 
 /// A call of a session, with its arguments.
-#[derive(Clone, Debug, Drop)]
+#[derive(Clone, Drop)]
 pub enum Call {
     /// The greeting is read (220).
     Greet,
@@ -116,7 +116,7 @@ pub enum Call {
 }
 
 /// The answer of a call in a run.
-#[derive(Debug, Drop)]
+#[derive(Drop)]
 pub enum Answer {
     /// The call succeeded.
     Unit,
@@ -147,7 +147,7 @@ pub enum Answer {
 }
 
 /// What happens to a session that is polled over memory.
-#[derive(Debug, Drop)]
+#[derive(Drop)]
 pub enum Event {
     /// The server's bytes come. After `End` none do.
     Feed(Bytes),

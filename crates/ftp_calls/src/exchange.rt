@@ -17,7 +17,7 @@ use std::io::ErrorKind;
 use std::net::SocketAddr;
 
 /// Which of a call's exchanges. Those that negotiate keep the offset at which the transfer begins, in bytes.
-#[derive(Clone, Copy, Debug, PartialEq, Eq)]
+#[derive(Clone, Copy)]
 pub enum Turn {
     /// The first.
     First,
@@ -38,7 +38,7 @@ pub enum Turn {
 }
 
 /// The statuses that a reply may have.
-#[derive(Clone, Debug, Drop)]
+#[derive(Drop)]
 pub enum Codes {
     /// This one.
     One(Status),
@@ -51,7 +51,7 @@ pub enum Codes {
 }
 
 /// How an exchange ends once a reply was accepted.
-#[derive(Clone, Debug, Drop)]
+#[derive(Drop)]
 pub enum Ending {
     /// The call is done.
     Done,
@@ -92,7 +92,7 @@ pub enum Ending {
 }
 
 /// As what the bytes of a whole data connection are given.
-#[derive(Clone, Copy, Debug)]
+#[derive(Clone, Copy)]
 pub enum Fetch {
     /// As they are.
     Whole,
@@ -101,7 +101,7 @@ pub enum Fetch {
 }
 
 /// What is done with a whole data connection.
-#[derive(Clone, Debug, Drop)]
+#[derive(Drop)]
 pub enum Task {
     /// It is read to its end; what came is the answer.
     Fetch(Fetch),
@@ -134,7 +134,7 @@ pub enum Row {
 }
 
 /// What is done on a data connection.
-#[derive(Clone, Debug, Drop)]
+#[derive(Drop)]
 pub enum Movement {
     /// At most so many bytes are read, in one read.
     Read(usize),

@@ -5,7 +5,7 @@ ghost use Rattle.std.specs.Prelude.{◌≡◌, ℕ, List, map, string_bytes};
 use std::marker::Model;
 
 /// Lines of text, made from a `Vec<String>` and given back as one without taking memory.
-#[derive(Debug, Drop)]
+#[derive(Drop)]
 pub struct Lines {
     lines: Vec<String>,
 }
