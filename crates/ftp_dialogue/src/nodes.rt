@@ -3,16 +3,16 @@
 //! Each is one step on the channel or on the session's state, with a contract that says what the dialogue's tree says
 //! of it, for whatever comes behind it (`(next : ..) → ..`).
 
-ghost use Rattle.std.specs.Prelude.{◌≡◌, IfOk, IfErr, OnErr, Result, false};
+ghost use Rattle.std.specs.Prelude.{◌≡◌, Result, false};
 ghost use Rattle.futures.specs.declared.task.Poll.TheVariants as poll;
 ghost use Rattle.ftp_base.specs.declared.types.reply.Response.{Response as Heard};
 ghost use Rattle.ftp_base.specs.declared.types.fault.FtpError.{FtpError as Faults};
 ghost use Rattle.ftp_transport.specs.Told.{EndsAsTold};
 ghost use Rattle.ftp_dialogue.specs.Coding.{Coding, coding_of};
-ghost use Rattle.ftp_dialogue.specs.Dialogue.{Tree, drain_answer, expected_of, expecting, finish_answer, opened_answer};
+ghost use Rattle.ftp_dialogue.specs.Dialogue.{Tree, drain_answer, expected_of, expecting, opened_answer};
 ghost use Rattle.ftp_dialogue.specs.declared.state.State.{State as States};
 ghost use Rattle.ftp_dialogue.specs.Link.{building};
-ghost use Rattle.ftp_dialogue.specs.Steps.Moving.{Accepts, AnswersAs, FaultLeaves, Hears, SaysNode, TakesLine, step_of, wants_memory};
+ghost use Rattle.ftp_dialogue.specs.Steps.Moving.{Accepts, AnswersAs, FaultLeaves, Hears, SaysNode, TakesLine, done_as, step_of, wants_memory};
 
 use super::answers::{features_answer, line_answer, path_answer, size_answer, time_answer};
 use super::asks::Asks;
@@ -146,61 +146,86 @@ pub(crate) enum Accepted {
     Performs(Task),
     /// The answer.
     Done(Answer),
+    /// There was no memory for the answer, and nothing changed.
+    NoMemory,
 }
 
-/// Accepts a reply: the answer and the change of state, or the next exchange. On an error nothing changes.
+/// Accepts a reply: the answer and the change of state, or the next exchange.
 pub(crate) fn accept<E: Encoding>(
     alloc: Global,
     encoding: &E,
     ending: Ending,
     reply: Response,
     state: &mut State,
-) -> FtpResult<Accepted>
-    ensures accepts { IfOk result (λ accepted.
-        Accepts (coding_of E.decoded E.encoded encoding.now) ending reply state.old state.new accepted) }
-    ensures answers { IfOk result (λ accepted. AnswersAs ending accepted) }
-    ensures unchanged { OnErr result (state.new ≡ state.old) }
-    ensures memory { IfErr result (λ fault. fault ≡ FtpError.OutOfMemory) }
+) -> Accepted
+    ensures accepts { Accepts (coding_of E.decoded E.encoded encoding.now) ending reply state.old state.new result }
+    ensures answers { AnswersAs ending result }
 {
     match ending {
-        Ending::Done => Ok(Accepted::Done(Answer::Unit)),
-        Ending::GivesReply => Ok(Accepted::Done(Answer::Reply(reply))),
-        Ending::Greets => {
-            let welcome = WelcomeMessage::new(alloc, reply.body, encoding)?;
-            state.welcome = Some(welcome);
-            Ok(Accepted::Done(Answer::Unit))
-        }
-        Ending::GivesPath => Ok(Accepted::Done(path_answer(alloc, encoding, reply)?)),
-        Ending::GivesSecondLine => Ok(Accepted::Done(line_answer(alloc, encoding, &reply)?)),
-        Ending::GivesTime => Ok(Accepted::Done(time_answer(&reply))),
-        Ending::GivesSize => Ok(Accepted::Done(size_answer(&reply))),
-        Ending::GivesFeatures => Ok(Accepted::Done(features_answer(alloc, &reply)?)),
+        Ending::Done => Accepted::Done(Answer::Unit),
+        Ending::GivesReply => Accepted::Done(Answer::Reply(reply)),
+        Ending::Greets => greeted(alloc, encoding, reply, state),
+        Ending::GivesPath => done(path_answer(alloc, encoding, reply)),
+        Ending::GivesSecondLine => done(line_answer(alloc, encoding, &reply)),
+        Ending::GivesTime => Accepted::Done(time_answer(&reply)),
+        Ending::GivesSize => Accepted::Done(size_answer(&reply)),
+        Ending::GivesFeatures => done(features_answer(alloc, &reply)),
         Ending::SetsText(text) => {
             state.settings.text = text;
-            Ok(Accepted::Done(Answer::Unit))
+            Accepted::Done(Answer::Unit)
         }
-        Ending::Continues => Ok(Accepted::GoesOn),
-        Ending::GivesAddress => Ok(address_told(reply, state)),
-        Ending::GivesPort => Ok(port_told(reply)),
-        Ending::Opens(gives_reply) => Ok(opens(gives_reply, reply, state)),
-        Ending::Performs(task) => Ok(performs(task, state)),
-        Ending::Finishes(close) => {
-            state.counts.finish();
-            Ok(Accepted::Done(finish_answer(close)))
-        }
+        Ending::Continues => Accepted::GoesOn,
+        Ending::GivesAddress => address_told(reply, state),
+        Ending::GivesPort => port_told(reply),
+        Ending::Opens(gives_reply) => opens(gives_reply, reply, state),
+        Ending::Performs(task) => performs(task, state),
+        Ending::Finishes(close) => finished(close, state),
         Ending::Drains => {
             state.counts.drain();
-            Ok(Accepted::Done(Answer::Unit))
+            Accepted::Done(Answer::Unit)
         }
-        Ending::Stops => Ok(aborted(&reply, state)),
-        Ending::GoesOn(status) => {
-            if reply.status.code() == status.code() {
-                Ok(Accepted::GoesOn)
-            } else {
-                Ok(Accepted::Done(Answer::Unit))
-            }
+        Ending::Stops => aborted(&reply, state),
+        Ending::GoesOn(status) => goes_on(status, &reply),
+    }
+}
+
+/// The answer, where there was memory for it.
+fn done(answer: Result<Answer, AllocError>) -> Accepted
+    ensures { result ≡ done_as answer }
+{
+    match answer {
+        Ok(answer) => Accepted::Done(answer),
+        Err(AllocError) => Accepted::NoMemory,
+    }
+}
+
+/// The server's greeting is kept, where there is memory for it.
+fn greeted<E: Encoding>(alloc: Global, encoding: &E, reply: Response, state: &mut State) -> Accepted
+    ensures accepts { Accepts (coding_of E.decoded E.encoded encoding.now) Ending.Greets reply state.old state.new result }
+    ensures answers { AnswersAs Ending.Greets result }
+{
+    match WelcomeMessage::new(alloc, reply.body, encoding) {
+        Ok(welcome) => {
+            state.welcome = Some(welcome);
+            Accepted::Done(Answer::Unit)
+        }
+        Err(fault) => {
+            drop(fault);
+            Accepted::NoMemory
         }
     }
+}
+
+/// A reply of this status goes on to the next exchange; with another the call is done.
+fn goes_on(status: Status, reply: &Response) -> Accepted
+    ensures accepts { (coding : Coding) (state : States) →
+        Accepts coding (Ending.GoesOn status) reply.now state state result }
+    ensures answers { AnswersAs (Ending.GoesOn status) result }
+{
+    if reply.status.code() == status.code() {
+        return Accepted::GoesOn;
+    }
+    Accepted::Done(Answer::Unit)
 }
 
 /// The transfer was aborted; after 426 another reply follows.
@@ -263,13 +288,18 @@ fn opened(gives_reply: bool, reply: Response) -> Answer
     }
 }
 
-/// The answer of a transfer that has come to its end, after this fault of its close, if it is told.
-fn finish_answer(close: Option<ErrorKind>) -> Answer
-    ensures { result ≡ finish_answer close }
+/// The transfer has come to its end; the answer is this fault of its close, if there is one.
+fn finished(close: Option<ErrorKind>, state: &mut State) -> Accepted
+    ensures accepts { (coding : Coding) (reply : Heard) →
+        Accepts coding (Ending.Finishes close) reply state.old state.new result }
+    ensures answers { AnswersAs (Ending.Finishes close) result }
 {
+    state.counts.finish();
     match close {
-        None => Answer::Unit,
-        Some(kind) => Answer::Fault(FtpError::ConnectionError(ConnectionError::Io(kind))),
+        None => Accepted::Done(Answer::Unit),
+        Some(kind) => Accepted::Done(Answer::Fault(FtpError::ConnectionError(ConnectionError::Io(
+            kind,
+        )))),
     }
 }
 

@@ -241,22 +241,22 @@ impl<Tr: Network> Machine<Tr> {
     {
         drop(awaits.hears);
         match accept(alloc, encoding, awaits.ending, reply, &mut self.state) {
-            Ok(Accepted::Done(answer)) => Step::Done(answer),
-            Ok(Accepted::GoesOn) => go_on(call, awaits.turn, stage),
-            Ok(Accepted::Asks(asking)) => {
+            Accepted::Done(answer) => Step::Done(answer),
+            Accepted::GoesOn => go_on(call, awaits.turn, stage),
+            Accepted::Asks(asking) => {
                 go_to(
                     stage,
                     Stage::Agreeing(Agreeing::Asking(awaits.turn, asking)),
                 );
                 Step::Next
             }
-            Ok(Accepted::Performs(task)) => {
+            Accepted::Performs(task) => {
                 go_to(stage, Stage::Fetching(Fetching::Starting(task)));
                 Step::Next
             }
-            Err(fault) => {
-                self.abort_dialogue(true, &fault);
-                Step::Done(Answer::Fault(fault))
+            Accepted::NoMemory => {
+                self.channel.fail();
+                Step::Done(Answer::Fault(FtpError::OutOfMemory))
             }
         }
     }

@@ -251,6 +251,12 @@ Accepts coding ending reply state state' accepts.GoesOn = (state' ≡ state) × 
 Accepts coding ending reply state state' (accepts.Asks asking) = (state' ≡ state) × ((later : State → Tree) → accepted coding ending state reply later ≡ asking_of coding asking state (later state))
 Accepts coding ending reply state state' (accepts.Performs task) = (state' ≡ state) × ((later : State → Tree) → accepted coding ending state reply later ≡ performing coding task state)
 Accepts coding ending reply state state' (accepts.Done answer) = (later : State → Tree) → accepted coding ending state reply later ≡ Leaf answer state'
+Accepts coding ending reply state state' accepts.NoMemory = state' ≡ state
+
+-- an answer for which there may have been no memory
+abbrev pub done_as : Result Answer AllocError → Accepted
+done_as (Ok answer) = accepts.Done answer
+done_as (Err full) = accepts.NoMemory
 
 abbrev pub wants_memory : FtpError → Bool
 wants_memory (ConnectionError cause) = false
@@ -386,6 +392,7 @@ AnswersAs ending accepts.GoesOn = (kind_of ending ≡ Nothing) × (is_draining e
 AnswersAs ending (accepts.Asks asking) = (agrees ending ≡ true) × AskingAnswers (kind_of ending) asking
 AnswersAs ending (accepts.Performs task) = (agrees ending ≡ true) × (kind_of ending ≡ kind_of_task task)
 AnswersAs ending (accepts.Done answer) = AnswersKind (kind_of ending) answer
+AnswersAs ending accepts.NoMemory = Unit {0}
 
 -- a reply that was heard is accepted: the next exchange is reached, or the answer with the change of state; where
 -- memory ran out the session has failed
