@@ -38,6 +38,24 @@ built_by answers (Some builder) = answers builder
 abbrev pub link : Type 0 → (ErrorKind → Type 0) → (Told → ErrorKind → Type 0) → (ErrorKind → Type 0) → Link
 link tells reads writes ends = building builds_nothing tells reads writes ends ⊥
 
+-- what a clause has as C.Conn: all that is known of a connection that blocks; and as C.PollConn, of one that may wait
+abbrev pub Blocks : Type 0 → Type 1
+Blocks C = record { tells : Type 0; told : C → Told; end_faults : ErrorKind → Type 0; blocking_read_faults : ErrorKind → Type 0; blocking_write_faults : Told → ErrorKind → Type 0 }
+
+abbrev pub Polls : Type 0 → Type 1
+Polls C = record { tells : Type 0; told : C → Told; end_faults : ErrorKind → Type 0; may_wait : Type 0; read_faults : ErrorKind → Type 0; write_faults : Told → ErrorKind → Type 0 }
+
+-- a connection that blocks, and one that may wait, where nothing is asked of a builder
+abbrev pub blocking : {C : Type 0} → Blocks C → Link
+blocking c = link c.tells c.blocking_read_faults c.blocking_write_faults c.end_faults
+
+abbrev pub polled : {C : Type 0} → Polls C → Link
+polled c = link c.tells c.read_faults c.write_faults c.end_faults
+
+-- the same connection, beside a builder; its requests may wait, or not
+abbrev pub asking : Builds → Type 0 → Link → Link
+asking builds asks_wait link = record link { asks_wait = asks_wait; builds = builds }
+
 -- a polled connection over memory: no read fails and no question, and a write fails only for want of memory
 abbrev pub over_memory : Builds → Link
 over_memory builds = building builds (Unit {0}) (λ kind. ⊥) (λ told kind. kind ≡ kinds.OutOfMemory) (λ kind. ⊥) ⊥

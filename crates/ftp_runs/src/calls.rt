@@ -6,7 +6,7 @@
 ghost use Rattle.std.specs.Prelude.{◌≡◌, IfOk, IfErr, OnErr, length};
 ghost use Rattle.ftp_dialogue.specs.Coding.{chosen, coding_of};
 ghost use Rattle.ftp_session.specs.Handed.{LooksIf, as_seen, watches};
-ghost use Rattle.ftp_dialogue.specs.Link.{building, built_by};
+ghost use Rattle.ftp_dialogue.specs.Link.{asking, blocking, built_by};
 ghost use Rattle.ftp_dialogue.specs.Promises.{FailsWith};
 ghost use Rattle.ftp_runs.specs.Runs.{Runs};
 ghost use Rattle.ftp_dialogue.specs.Sound.{Sound};
@@ -41,7 +41,7 @@ where
     /// `OutOfMemory` where there is no memory for the answers, and no call is made.
     fn run(&mut self, alloc: Global, rt: &R, calls: &[Call]) -> FtpResult<Vec<Answer>>
         ensures runs { IfOk result (λ answers.
-            Runs (building (built_by B.answers self.old.builder) Tr.Conn.tells Tr.Conn.blocking_read_faults Tr.Conn.blocking_write_faults Tr.Conn.end_faults ⊥) (chosen E.decoded E.encoded self.old.encoding.0) calls.now
+            Runs (asking (built_by B.answers self.old.builder) ⊥ (blocking Tr.Conn.Conn)) (chosen E.decoded E.encoded self.old.encoding.0) calls.now
             (as_seen self.new.mark self.old.machine) self.new.machine answers.items) }
         ensures looks { LooksIf (watches self.old.mark self.old.machine) self.old.mark self.new.mark }
         ensures count { IfOk result (λ answers. length answers.items ≡ length calls.now) }
@@ -79,7 +79,7 @@ where
     Tr::Conn: Conn,
     Tr: Transport<R>,
     ensures runs { IfOk result (λ answers.
-        Runs (building (built_by B.answers builder.now) Tr.Conn.tells Tr.Conn.blocking_read_faults Tr.Conn.blocking_write_faults Tr.Conn.end_faults ⊥) (coding_of E.decoded E.encoded encoding.now) calls.now machine.old
+        Runs (asking (built_by B.answers builder.now) ⊥ (blocking Tr.Conn.Conn)) (coding_of E.decoded E.encoded encoding.now) calls.now machine.old
         machine.new answers.items) }
     ensures fails { IfOk result (λ answers. FailsWith machine.old machine.new answers.items) }
     ensures count { IfOk result (λ answers. length answers.items ≡ length calls.now) }

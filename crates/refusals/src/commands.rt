@@ -3,7 +3,7 @@
 ghost use Rattle.std.specs.Prelude.{◌≡◌};
 ghost use Rattle.ftp_session.specs.Calls.{unit_answer};
 ghost use Rattle.ftp_dialogue.specs.Coding.{chosen};
-ghost use Rattle.ftp_dialogue.specs.Link.{link};
+ghost use Rattle.ftp_dialogue.specs.Link.{blocking};
 ghost use Rattle.ftp_session.specs.Handed.{PlaysSeen};
 
 use ftp_base::encoding::Encoding;
@@ -20,7 +20,7 @@ pub fn cwd<Tr: Network, K: Drop, E: Encoding, B: Drop>(
 ) -> FtpResult<()>
 where
     Tr::Conn: Conn,
-    ensures plays { PlaysSeen (link Tr.Conn.tells Tr.Conn.blocking_read_faults Tr.Conn.blocking_write_faults Tr.Conn.end_faults) (chosen E.decoded E.encoded session.old.encoding.0) (Call.Cwd path.now)
+    ensures plays { PlaysSeen (blocking Tr.Conn.Conn) (chosen E.decoded E.encoded session.old.encoding.0) (Call.Cwd path.now)
         session.old.mark session.new.mark session.old.machine session.new.machine (unit_answer result) }
     ensures encoding { session.new.encoding ≡ session.old.encoding }
     ensures builder { session.new.builder ≡ session.old.builder }
@@ -37,7 +37,7 @@ pub fn login<Tr: Network, K: Drop, E: Encoding, B: Drop>(
 ) -> FtpResult<()>
 where
     Tr::Conn: Conn,
-    ensures plays { PlaysSeen (link Tr.Conn.tells Tr.Conn.blocking_read_faults Tr.Conn.blocking_write_faults Tr.Conn.end_faults) (chosen E.decoded E.encoded session.old.encoding.0) (Call.Login user.now password.now)
+    ensures plays { PlaysSeen (blocking Tr.Conn.Conn) (chosen E.decoded E.encoded session.old.encoding.0) (Call.Login user.now password.now)
         session.old.mark session.new.mark session.old.machine session.new.machine (unit_answer result) }
     ensures encoding { session.new.encoding ≡ session.old.encoding }
     ensures builder { session.new.builder ≡ session.old.builder }

@@ -5,7 +5,7 @@ ghost use Rattle.ftp_transfer.specs.Mark.{loaded};
 ghost use Rattle.ftp_session.specs.Calls.{unit_answer};
 ghost use Rattle.ftp_dialogue.specs.Coding.{chosen};
 ghost use Rattle.ftp_session.specs.Handed.{BringsToEnd, Settles};
-ghost use Rattle.ftp_dialogue.specs.Link.{link};
+ghost use Rattle.ftp_dialogue.specs.Link.{blocking};
 
 use ftp_base::encoding::Encoding;
 use ftp_base::types::FtpResult;
@@ -23,7 +23,7 @@ pub fn finish<Tr: Network, K: Drop, E: Encoding, B: Drop>(
 ) -> FtpResult<()>
 where
     Tr::Conn: Conn,
-    ensures finishes { BringsToEnd (link Tr.Conn.tells Tr.Conn.blocking_read_faults Tr.Conn.blocking_write_faults Tr.Conn.end_faults) (chosen E.decoded E.encoded session.old.encoding.0) Call.Finish transfer
+    ensures finishes { BringsToEnd (blocking Tr.Conn.Conn) (chosen E.decoded E.encoded session.old.encoding.0) Call.Finish transfer
         session.old.mark session.new.mark session.old.machine session.new.machine (unit_answer result) }
     ensures encoding { session.new.encoding ≡ session.old.encoding }
     ensures builder { session.new.builder ≡ session.old.builder }
@@ -39,7 +39,7 @@ pub fn abort<Tr: Network, K: Drop, E: Encoding, B: Drop>(
 ) -> FtpResult<()>
 where
     Tr::Conn: Conn,
-    ensures aborts { BringsToEnd (link Tr.Conn.tells Tr.Conn.blocking_read_faults Tr.Conn.blocking_write_faults Tr.Conn.end_faults) (chosen E.decoded E.encoded session.old.encoding.0) Call.Abort transfer
+    ensures aborts { BringsToEnd (blocking Tr.Conn.Conn) (chosen E.decoded E.encoded session.old.encoding.0) Call.Abort transfer
         session.old.mark session.new.mark session.old.machine session.new.machine (unit_answer result) }
     ensures encoding { session.new.encoding ≡ session.old.encoding }
     ensures builder { session.new.builder ≡ session.old.builder }
@@ -55,7 +55,7 @@ pub fn settle<Tr: Network, K: Drop, E: Encoding, B: Drop>(
 ) -> FtpResult<()>
 where
     Tr::Conn: Conn,
-    ensures settles { Settles (link Tr.Conn.tells Tr.Conn.blocking_read_faults Tr.Conn.blocking_write_faults Tr.Conn.end_faults) (chosen E.decoded E.encoded session.old.encoding.0) left.old
+    ensures settles { Settles (blocking Tr.Conn.Conn) (chosen E.decoded E.encoded session.old.encoding.0) left.old
         session.old.machine session.new.machine (unit_answer result) }
     ensures looks { left.new ≡ loaded true left.old }
     ensures mark { session.new.mark ≡ session.old.mark }

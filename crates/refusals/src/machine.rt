@@ -4,7 +4,7 @@ ghost use Rattle.std.specs.Prelude.{◌≡◌, true, false};
 ghost use Rattle.ftp_calls.specs.Exchanges.{is_local, negotiates, of_transfer};
 ghost use Rattle.ftp_dialogue.specs.Coding.{coding_of};
 ghost use Rattle.ftp_dialogue.specs.Dropping.{DropsCall};
-ghost use Rattle.ftp_dialogue.specs.Link.{building};
+ghost use Rattle.ftp_dialogue.specs.Link.{asking, blocking};
 ghost use Rattle.ftp_dialogue.specs.Play.{Lacking};
 ghost use Rattle.ftp_dialogue.specs.Promises.{refusal_of};
 ghost use Rattle.ftp_dialogue.specs.Steps.Moving.{Made, MadeDrained};
@@ -32,7 +32,7 @@ where
     requires channel { is_local call.now ≡ false }
     requires blocks { A.may_wait → ⊥ }
     ensures answers { of_transfer call.now ≡ false → MayAnswer call.now result }
-    ensures made { MadeDrained (building (A.builds asker.now) Tr.Conn.tells Tr.Conn.blocking_read_faults Tr.Conn.blocking_write_faults Tr.Conn.end_faults A.may_wait) (coding_of E.decoded E.encoded encoding.now) call.now
+    ensures made { MadeDrained (asking (A.builds asker.now) A.may_wait (blocking Tr.Conn.Conn)) (coding_of E.decoded E.encoded encoding.now) call.now
         machine.old machine.new result }
 {
     machine.call(asker, alloc, encoding, call)
@@ -52,7 +52,7 @@ where
     requires channel { is_local call.now ≡ false }
     requires blocks { A.may_wait → ⊥ }
     ensures answers { (refusal_of call.now machine.old ≡ Lacking → ⊥) → MayAnswer call.now result }
-    ensures made { Made (building (A.builds asker.now) Tr.Conn.tells Tr.Conn.blocking_read_faults Tr.Conn.blocking_write_faults Tr.Conn.end_faults A.may_wait) (coding_of E.decoded E.encoded encoding.now) call.now
+    ensures made { Made (asking (A.builds asker.now) A.may_wait (blocking Tr.Conn.Conn)) (coding_of E.decoded E.encoded encoding.now) call.now
         machine.old machine.new result }
 {
     machine.call_alone(asker, alloc, encoding, call)

@@ -3,7 +3,7 @@
 ghost use Rattle.std.specs.Prelude.{◌≡◌, option_map};
 ghost use Rattle.ftp_calls.specs.declared.exchange.Fetch.TheVariants.{Listed, Whole};
 ghost use Rattle.ftp_dialogue.specs.Coding.{chosen};
-ghost use Rattle.ftp_dialogue.specs.Link.{building, built_by, link};
+ghost use Rattle.ftp_dialogue.specs.Link.{asking, blocking, built_by};
 ghost use Rattle.ftp_session.specs.Calls.{bytes_answer, lines_answer};
 ghost use Rattle.ftp_session.specs.Fetched.{Fetches};
 ghost use Rattle.ftp_session.specs.Files.{Retrieves};
@@ -27,7 +27,7 @@ pub fn retr_as_stream<Tr: Network, K: Drop, E: Encoding, B: PassiveStreamBuilder
 where
     Tr::Conn: Conn,
     Tr: Transport<R>,
-    ensures opens { Opens (building (built_by B.answers session.old.builder) Tr.Conn.tells Tr.Conn.blocking_read_faults Tr.Conn.blocking_write_faults Tr.Conn.end_faults ⊥) (chosen E.decoded E.encoded session.old.encoding.0) (Call.RetrAsStream path.now)
+    ensures opens { Opens (asking (built_by B.answers session.old.builder) ⊥ (blocking Tr.Conn.Conn)) (chosen E.decoded E.encoded session.old.encoding.0) (Call.RetrAsStream path.now)
         directions.Download session.old.mark session.new.mark session.old.former session.new.former session.old.machine session.new.machine result }
     ensures encoding { session.new.encoding ≡ session.old.encoding }
     ensures builder { session.new.builder ≡ session.old.builder }
@@ -45,7 +45,7 @@ pub fn append_with_stream<Tr: Network, K: Drop, E: Encoding, B: PassiveStreamBui
 where
     Tr::Conn: Conn,
     Tr: Transport<R>,
-    ensures opens { Opens (building (built_by B.answers session.old.builder) Tr.Conn.tells Tr.Conn.blocking_read_faults Tr.Conn.blocking_write_faults Tr.Conn.end_faults ⊥) (chosen E.decoded E.encoded session.old.encoding.0) (Call.AppendWithStream path.now)
+    ensures opens { Opens (asking (built_by B.answers session.old.builder) ⊥ (blocking Tr.Conn.Conn)) (chosen E.decoded E.encoded session.old.encoding.0) (Call.AppendWithStream path.now)
         directions.Upload session.old.mark session.new.mark session.old.former session.new.former session.old.machine session.new.machine result }
     ensures encoding { session.new.encoding ≡ session.old.encoding }
     ensures builder { session.new.builder ≡ session.old.builder }
@@ -63,7 +63,7 @@ pub fn retr_as_buffer<Tr: Network, K: Drop, E: Encoding, B: PassiveStreamBuilder
 where
     Tr::Conn: Conn,
     Tr: Transport<R>,
-    ensures fetches { Fetches (building (built_by B.answers session.old.builder) Tr.Conn.tells Tr.Conn.blocking_read_faults Tr.Conn.blocking_write_faults Tr.Conn.end_faults ⊥) (chosen E.decoded E.encoded session.old.encoding.0) (Call.Retr path.now)
+    ensures fetches { Fetches (asking (built_by B.answers session.old.builder) ⊥ (blocking Tr.Conn.Conn)) (chosen E.decoded E.encoded session.old.encoding.0) (Call.Retr path.now)
         Whole session.old.mark session.new.mark session.old.machine session.new.machine (bytes_answer result) }
     ensures encoding { session.new.encoding ≡ session.old.encoding }
     ensures builder { session.new.builder ≡ session.old.builder }
@@ -81,7 +81,7 @@ pub fn nlst<Tr: Network, K: Drop, E: Encoding, B: PassiveStreamBuilder<Tr::Conn>
 where
     Tr::Conn: Conn,
     Tr: Transport<R>,
-    ensures fetches { Fetches (building (built_by B.answers session.old.builder) Tr.Conn.tells Tr.Conn.blocking_read_faults Tr.Conn.blocking_write_faults Tr.Conn.end_faults ⊥) (chosen E.decoded E.encoded session.old.encoding.0) (Call.Nlst (option_map (λ text. text.now) path.entry))
+    ensures fetches { Fetches (asking (built_by B.answers session.old.builder) ⊥ (blocking Tr.Conn.Conn)) (chosen E.decoded E.encoded session.old.encoding.0) (Call.Nlst (option_map (λ text. text.now) path.entry))
         Listed session.old.mark session.new.mark session.old.machine session.new.machine (lines_answer result) }
     ensures encoding { session.new.encoding ≡ session.old.encoding }
     ensures builder { session.new.builder ≡ session.old.builder }
@@ -108,7 +108,7 @@ pub fn retr<
 where
     Tr::Conn: Conn,
     Tr: Transport<R>,
-    ensures retrieves { Retrieves (building (built_by B.answers session.old.builder) Tr.Conn.tells Tr.Conn.blocking_read_faults Tr.Conn.blocking_write_faults Tr.Conn.end_faults ⊥) (link Tr.Conn.tells Tr.Conn.blocking_read_faults Tr.Conn.blocking_write_faults Tr.Conn.end_faults) (chosen E.decoded E.encoded session.old.encoding.0) (Call.RetrAsStream path.now)
+    ensures retrieves { Retrieves (asking (built_by B.answers session.old.builder) ⊥ (blocking Tr.Conn.Conn)) (blocking Tr.Conn.Conn) (chosen E.decoded E.encoded session.old.encoding.0) (Call.RetrAsStream path.now)
         F.reads session.old.mark session.new.mark session.old.former session.old.machine session.new.machine result }
     ensures encoding { session.new.encoding ≡ session.old.encoding }
     ensures builder { session.new.builder ≡ session.old.builder }

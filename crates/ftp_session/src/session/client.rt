@@ -9,7 +9,7 @@ ghost use Rattle.ftp_control.specs.Channel.{IsSound, untaken};
 ghost use Rattle.ftp_session.specs.Calls.{Connects, FailsToConnect};
 ghost use Rattle.ftp_dialogue.specs.Coding.{chosen};
 ghost use Rattle.ftp_dialogue.specs.Deals.{first_net};
-ghost use Rattle.ftp_dialogue.specs.Link.{link};
+ghost use Rattle.ftp_dialogue.specs.Link.{blocking};
 ghost use Rattle.ftp_dialogue.specs.Sound.{SoundCounts};
 ghost use Rattle.ftp_dialogue.specs.State.{greeted_again, Begins};
 
@@ -85,9 +85,9 @@ impl<Tr: Network, K: Drop, E: Encoding, B: Drop> Session<Tr, K, E, B> {
         ensures builder { IfOk result (λ session. session.builder ≡ None) }
         ensures mark { IfOk result (λ session. session.mark ≡ None) }
         ensures connects { MatchResult result
-            (λ session. Connects (link Tr.Conn.tells Tr.Conn.blocking_read_faults Tr.Conn.blocking_write_faults Tr.Conn.end_faults) (chosen E.decoded E.encoded None) (Tr.Conn.told conn)
+            (λ session. Connects (blocking Tr.Conn.Conn) (chosen E.decoded E.encoded None) (Tr.Conn.told conn)
             (first_net (Tr.asked transport) (Tr.ready transport) (Tr.closed transport)) session.machine (Ok tt))
-            (λ fault. FailsToConnect (link Tr.Conn.tells Tr.Conn.blocking_read_faults Tr.Conn.blocking_write_faults Tr.Conn.end_faults) (chosen E.decoded E.encoded None) (Tr.Conn.told conn)
+            (λ fault. FailsToConnect (blocking Tr.Conn.Conn) (chosen E.decoded E.encoded None) (Tr.Conn.told conn)
             (first_net (Tr.asked transport) (Tr.ready transport) (Tr.closed transport)) fault) }
     {
         let mut session = Session::new(alloc, transport, conn)?;

@@ -9,7 +9,7 @@ ghost use Rattle.ftp_calls.specs.declared.call.Answer.TheVariants.{Fault};
 ghost use Rattle.ftp_calls.specs.declared.call.Call.{Call as Called};
 ghost use Rattle.ftp_session.specs.Calls.{reply_answer, unit_answer};
 ghost use Rattle.ftp_dialogue.specs.Coding.{chosen};
-ghost use Rattle.ftp_dialogue.specs.Link.{link};
+ghost use Rattle.ftp_dialogue.specs.Link.{blocking};
 ghost use Rattle.ftp_session.specs.Handed.{PlaysSeen};
 ghost use Rattle.ftp_dialogue.specs.Promises.{PlaysAlone};
 ghost use Rattle.ftp_dialogue.specs.Steps.Moving.{withheld};
@@ -35,7 +35,7 @@ where
         ensures encoding { self.new.encoding ≡ self.old.encoding }
         ensures builder { self.new.builder ≡ self.old.builder }
         ensures mark { self.new.mark ≡ self.old.mark }
-        ensures plays { PlaysAlone (link Tr.Conn.tells Tr.Conn.blocking_read_faults Tr.Conn.blocking_write_faults Tr.Conn.end_faults) (chosen E.decoded E.encoded self.old.encoding.0) Call.Greet
+        ensures plays { PlaysAlone (blocking Tr.Conn.Conn) (chosen E.decoded E.encoded self.old.encoding.0) Call.Greet
             self.old.machine self.new.machine (unit_answer result) }
     {
         unit(
@@ -50,7 +50,7 @@ where
     /// # Errors
     /// Those of a command and its reply: `LineBreak` where CR or LF stands in the user's name or the password.
     pub fn login(&mut self, alloc: Global, user: &str, password: &str) -> FtpResult<()>
-        ensures plays { PlaysSeen (link Tr.Conn.tells Tr.Conn.blocking_read_faults Tr.Conn.blocking_write_faults Tr.Conn.end_faults) (chosen E.decoded E.encoded self.old.encoding.0) (Call.Login user.now password.now)
+        ensures plays { PlaysSeen (blocking Tr.Conn.Conn) (chosen E.decoded E.encoded self.old.encoding.0) (Call.Login user.now password.now)
             self.old.mark self.new.mark self.old.machine self.new.machine (unit_answer result) }
         ensures encoding { self.new.encoding ≡ self.old.encoding }
         ensures builder { self.new.builder ≡ self.old.builder }
@@ -63,7 +63,7 @@ where
     /// # Errors
     /// Those of a command and its reply.
     pub fn cwd(&mut self, alloc: Global, path: &str) -> FtpResult<()>
-        ensures plays { PlaysSeen (link Tr.Conn.tells Tr.Conn.blocking_read_faults Tr.Conn.blocking_write_faults Tr.Conn.end_faults) (chosen E.decoded E.encoded self.old.encoding.0) (Call.Cwd path.now)
+        ensures plays { PlaysSeen (blocking Tr.Conn.Conn) (chosen E.decoded E.encoded self.old.encoding.0) (Call.Cwd path.now)
             self.old.mark self.new.mark self.old.machine self.new.machine (unit_answer result) }
         ensures encoding { self.new.encoding ≡ self.old.encoding }
         ensures builder { self.new.builder ≡ self.old.builder }
@@ -76,7 +76,7 @@ where
     /// # Errors
     /// Those of a command and its reply.
     pub fn cdup(&mut self, alloc: Global) -> FtpResult<()>
-        ensures plays { PlaysSeen (link Tr.Conn.tells Tr.Conn.blocking_read_faults Tr.Conn.blocking_write_faults Tr.Conn.end_faults) (chosen E.decoded E.encoded self.old.encoding.0) Call.Cdup
+        ensures plays { PlaysSeen (blocking Tr.Conn.Conn) (chosen E.decoded E.encoded self.old.encoding.0) Call.Cdup
             self.old.mark self.new.mark self.old.machine self.new.machine (unit_answer result) }
         ensures encoding { self.new.encoding ≡ self.old.encoding }
         ensures builder { self.new.builder ≡ self.old.builder }
@@ -89,7 +89,7 @@ where
     /// # Errors
     /// Those of a command and its reply.
     pub fn noop(&mut self, alloc: Global) -> FtpResult<()>
-        ensures plays { PlaysSeen (link Tr.Conn.tells Tr.Conn.blocking_read_faults Tr.Conn.blocking_write_faults Tr.Conn.end_faults) (chosen E.decoded E.encoded self.old.encoding.0) Call.Noop
+        ensures plays { PlaysSeen (blocking Tr.Conn.Conn) (chosen E.decoded E.encoded self.old.encoding.0) Call.Noop
             self.old.mark self.new.mark self.old.machine self.new.machine (unit_answer result) }
         ensures encoding { self.new.encoding ≡ self.old.encoding }
         ensures builder { self.new.builder ≡ self.old.builder }
@@ -102,7 +102,7 @@ where
     /// # Errors
     /// Those of a command and its reply.
     pub fn eprt(&mut self, alloc: Global, address: SocketAddr) -> FtpResult<()>
-        ensures plays { PlaysSeen (link Tr.Conn.tells Tr.Conn.blocking_read_faults Tr.Conn.blocking_write_faults Tr.Conn.end_faults) (chosen E.decoded E.encoded self.old.encoding.0) (Call.Eprt address)
+        ensures plays { PlaysSeen (blocking Tr.Conn.Conn) (chosen E.decoded E.encoded self.old.encoding.0) (Call.Eprt address)
             self.old.mark self.new.mark self.old.machine self.new.machine (unit_answer result) }
         ensures encoding { self.new.encoding ≡ self.old.encoding }
         ensures builder { self.new.builder ≡ self.old.builder }
@@ -115,7 +115,7 @@ where
     /// # Errors
     /// Those of a command and its reply.
     pub fn opts(&mut self, alloc: Global, option: &str, value: Option<&str>) -> FtpResult<()>
-        ensures plays { PlaysSeen (link Tr.Conn.tells Tr.Conn.blocking_read_faults Tr.Conn.blocking_write_faults Tr.Conn.end_faults) (chosen E.decoded E.encoded self.old.encoding.0) (Call.Opts option.now (option_map (λ text. text.now) value.entry))
+        ensures plays { PlaysSeen (blocking Tr.Conn.Conn) (chosen E.decoded E.encoded self.old.encoding.0) (Call.Opts option.now (option_map (λ text. text.now) value.entry))
             self.old.mark self.new.mark self.old.machine self.new.machine (unit_answer result) }
         ensures encoding { self.new.encoding ≡ self.old.encoding }
         ensures builder { self.new.builder ≡ self.old.builder }
@@ -128,7 +128,7 @@ where
     /// # Errors
     /// Those of a command and its reply.
     pub fn site(&mut self, alloc: Global, command: &str) -> FtpResult<Response>
-        ensures plays { PlaysSeen (link Tr.Conn.tells Tr.Conn.blocking_read_faults Tr.Conn.blocking_write_faults Tr.Conn.end_faults) (chosen E.decoded E.encoded self.old.encoding.0) (Call.Site command.now)
+        ensures plays { PlaysSeen (blocking Tr.Conn.Conn) (chosen E.decoded E.encoded self.old.encoding.0) (Call.Site command.now)
             self.old.mark self.new.mark self.old.machine self.new.machine (reply_answer result) }
         ensures encoding { self.new.encoding ≡ self.old.encoding }
         ensures builder { self.new.builder ≡ self.old.builder }
@@ -141,7 +141,7 @@ where
     /// # Errors
     /// Those of a command and its reply.
     pub fn transfer_type(&mut self, alloc: Global, kind: FileType) -> FtpResult<()>
-        ensures plays { PlaysSeen (link Tr.Conn.tells Tr.Conn.blocking_read_faults Tr.Conn.blocking_write_faults Tr.Conn.end_faults) (chosen E.decoded E.encoded self.old.encoding.0) (Call.TransferType kind)
+        ensures plays { PlaysSeen (blocking Tr.Conn.Conn) (chosen E.decoded E.encoded self.old.encoding.0) (Call.TransferType kind)
             self.old.mark self.new.mark self.old.machine self.new.machine (unit_answer result) }
         ensures encoding { self.new.encoding ≡ self.old.encoding }
         ensures builder { self.new.builder ≡ self.old.builder }
@@ -154,7 +154,7 @@ where
     /// # Errors
     /// Those of a command and its reply.
     pub fn mkdir(&mut self, alloc: Global, path: &str) -> FtpResult<()>
-        ensures plays { PlaysSeen (link Tr.Conn.tells Tr.Conn.blocking_read_faults Tr.Conn.blocking_write_faults Tr.Conn.end_faults) (chosen E.decoded E.encoded self.old.encoding.0) (Call.Mkdir path.now)
+        ensures plays { PlaysSeen (blocking Tr.Conn.Conn) (chosen E.decoded E.encoded self.old.encoding.0) (Call.Mkdir path.now)
             self.old.mark self.new.mark self.old.machine self.new.machine (unit_answer result) }
         ensures encoding { self.new.encoding ≡ self.old.encoding }
         ensures builder { self.new.builder ≡ self.old.builder }
@@ -167,7 +167,7 @@ where
     /// # Errors
     /// Those of a command and its reply.
     pub fn rmdir(&mut self, alloc: Global, path: &str) -> FtpResult<()>
-        ensures plays { PlaysSeen (link Tr.Conn.tells Tr.Conn.blocking_read_faults Tr.Conn.blocking_write_faults Tr.Conn.end_faults) (chosen E.decoded E.encoded self.old.encoding.0) (Call.Rmdir path.now)
+        ensures plays { PlaysSeen (blocking Tr.Conn.Conn) (chosen E.decoded E.encoded self.old.encoding.0) (Call.Rmdir path.now)
             self.old.mark self.new.mark self.old.machine self.new.machine (unit_answer result) }
         ensures encoding { self.new.encoding ≡ self.old.encoding }
         ensures builder { self.new.builder ≡ self.old.builder }
@@ -180,7 +180,7 @@ where
     /// # Errors
     /// Those of a command and its reply.
     pub fn rm(&mut self, alloc: Global, path: &str) -> FtpResult<()>
-        ensures plays { PlaysSeen (link Tr.Conn.tells Tr.Conn.blocking_read_faults Tr.Conn.blocking_write_faults Tr.Conn.end_faults) (chosen E.decoded E.encoded self.old.encoding.0) (Call.Rm path.now)
+        ensures plays { PlaysSeen (blocking Tr.Conn.Conn) (chosen E.decoded E.encoded self.old.encoding.0) (Call.Rm path.now)
             self.old.mark self.new.mark self.old.machine self.new.machine (unit_answer result) }
         ensures encoding { self.new.encoding ≡ self.old.encoding }
         ensures builder { self.new.builder ≡ self.old.builder }
@@ -193,7 +193,7 @@ where
     /// # Errors
     /// Those of a command and its reply.
     pub fn rename(&mut self, alloc: Global, from: &str, to: &str) -> FtpResult<()>
-        ensures plays { PlaysSeen (link Tr.Conn.tells Tr.Conn.blocking_read_faults Tr.Conn.blocking_write_faults Tr.Conn.end_faults) (chosen E.decoded E.encoded self.old.encoding.0) (Call.Rename from.now to.now)
+        ensures plays { PlaysSeen (blocking Tr.Conn.Conn) (chosen E.decoded E.encoded self.old.encoding.0) (Call.Rename from.now to.now)
             self.old.mark self.new.mark self.old.machine self.new.machine (unit_answer result) }
         ensures encoding { self.new.encoding ≡ self.old.encoding }
         ensures builder { self.new.builder ≡ self.old.builder }
@@ -206,7 +206,7 @@ where
     /// # Errors
     /// Those of a command and its reply.
     pub fn quit(&mut self, alloc: Global) -> FtpResult<()>
-        ensures plays { PlaysSeen (link Tr.Conn.tells Tr.Conn.blocking_read_faults Tr.Conn.blocking_write_faults Tr.Conn.end_faults) (chosen E.decoded E.encoded self.old.encoding.0) Call.Quit
+        ensures plays { PlaysSeen (blocking Tr.Conn.Conn) (chosen E.decoded E.encoded self.old.encoding.0) Call.Quit
             self.old.mark self.new.mark self.old.machine self.new.machine (unit_answer result) }
         ensures encoding { self.new.encoding ≡ self.old.encoding }
         ensures builder { self.new.builder ≡ self.old.builder }
@@ -224,7 +224,7 @@ where
         line: &str,
         expected: &[Status],
     ) -> FtpResult<Response>
-        ensures plays { PlaysSeen (link Tr.Conn.tells Tr.Conn.blocking_read_faults Tr.Conn.blocking_write_faults Tr.Conn.end_faults) (chosen E.decoded E.encoded self.old.encoding.0) (Call.CustomCommand line.now expected.now)
+        ensures plays { PlaysSeen (blocking Tr.Conn.Conn) (chosen E.decoded E.encoded self.old.encoding.0) (Call.CustomCommand line.now expected.now)
             self.old.mark self.new.mark self.old.machine self.new.machine (reply_answer result) }
         ensures encoding { self.new.encoding ≡ self.old.encoding }
         ensures builder { self.new.builder ≡ self.old.builder }
@@ -237,7 +237,7 @@ where
     /// # Errors
     /// Those of a read of one reply.
     pub fn read_response(&mut self, alloc: Global, expected: Status) -> FtpResult<Response>
-        ensures plays { PlaysSeen (link Tr.Conn.tells Tr.Conn.blocking_read_faults Tr.Conn.blocking_write_faults Tr.Conn.end_faults) (chosen E.decoded E.encoded self.old.encoding.0) (Call.ReadResponse expected)
+        ensures plays { PlaysSeen (blocking Tr.Conn.Conn) (chosen E.decoded E.encoded self.old.encoding.0) (Call.ReadResponse expected)
             self.old.mark self.new.mark self.old.machine self.new.machine (reply_answer result) }
         ensures encoding { self.new.encoding ≡ self.old.encoding }
         ensures builder { self.new.builder ≡ self.old.builder }
@@ -250,7 +250,7 @@ where
     /// # Errors
     /// Those of a read of one reply.
     pub fn read_response_in(&mut self, alloc: Global, expected: &[Status]) -> FtpResult<Response>
-        ensures plays { PlaysSeen (link Tr.Conn.tells Tr.Conn.blocking_read_faults Tr.Conn.blocking_write_faults Tr.Conn.end_faults) (chosen E.decoded E.encoded self.old.encoding.0) (Call.ReadResponseIn expected.now)
+        ensures plays { PlaysSeen (blocking Tr.Conn.Conn) (chosen E.decoded E.encoded self.old.encoding.0) (Call.ReadResponseIn expected.now)
             self.old.mark self.new.mark self.old.machine self.new.machine (reply_answer result) }
         ensures encoding { self.new.encoding ≡ self.old.encoding }
         ensures builder { self.new.builder ≡ self.old.builder }
@@ -263,7 +263,7 @@ where
     /// # Errors
     /// `SessionFailed`; or those of the last reply of a transfer that was left. The offset of before stays.
     pub fn resume_transfer(&mut self, alloc: Global, offset: u64) -> FtpResult<()>
-        ensures plays { PlaysSeen (link Tr.Conn.tells Tr.Conn.blocking_read_faults Tr.Conn.blocking_write_faults Tr.Conn.end_faults) (chosen E.decoded E.encoded self.old.encoding.0) (Call.ResumeTransfer offset)
+        ensures plays { PlaysSeen (blocking Tr.Conn.Conn) (chosen E.decoded E.encoded self.old.encoding.0) (Call.ResumeTransfer offset)
             self.old.mark self.new.mark self.old.machine self.new.machine (unit_answer result) }
         ensures encoding { self.new.encoding ≡ self.old.encoding }
         ensures builder { self.new.builder ≡ self.old.builder }
@@ -277,7 +277,7 @@ where
         ensures encoding { self.new.encoding ≡ self.old.encoding }
         ensures builder { self.new.builder ≡ self.old.builder }
         ensures answers { MayAnswer call.now result }
-        ensures plays { PlaysSeen (link Tr.Conn.tells Tr.Conn.blocking_read_faults Tr.Conn.blocking_write_faults Tr.Conn.end_faults) (chosen E.decoded E.encoded self.old.encoding.0)
+        ensures plays { PlaysSeen (blocking Tr.Conn.Conn) (chosen E.decoded E.encoded self.old.encoding.0)
             call.now self.old.mark self.new.mark self.old.machine self.new.machine result }
     {
         look(&mut self.machine, &mut self.mark);
@@ -290,7 +290,7 @@ where
         ensures encoding { self.new.encoding ≡ self.old.encoding }
         ensures builder { self.new.builder ≡ self.old.builder }
         ensures plays { (made : Called) → IsPlain made → IfOk call (λ c. c ≡ made) →
-            PlaysSeen (link Tr.Conn.tells Tr.Conn.blocking_read_faults Tr.Conn.blocking_write_faults Tr.Conn.end_faults) (chosen E.decoded E.encoded self.old.encoding.0) made
+            PlaysSeen (blocking Tr.Conn.Conn) (chosen E.decoded E.encoded self.old.encoding.0) made
             self.old.mark self.new.mark self.old.machine self.new.machine (unit_answer result) }
     {
         match call {
@@ -313,7 +313,7 @@ where
         ensures encoding { self.new.encoding ≡ self.old.encoding }
         ensures builder { self.new.builder ≡ self.old.builder }
         ensures plays { (made : Called) → IsPlain made → IfOk call (λ c. c ≡ made) →
-            PlaysSeen (link Tr.Conn.tells Tr.Conn.blocking_read_faults Tr.Conn.blocking_write_faults Tr.Conn.end_faults) (chosen E.decoded E.encoded self.old.encoding.0) made
+            PlaysSeen (blocking Tr.Conn.Conn) (chosen E.decoded E.encoded self.old.encoding.0) made
             self.old.mark self.new.mark self.old.machine self.new.machine (reply_answer result) }
     {
         match call {
@@ -331,7 +331,7 @@ where
         ensures encoding { self.new.encoding ≡ self.old.encoding }
         ensures builder { self.new.builder ≡ self.old.builder }
         ensures plays { (call : Called) → IsPlain call →
-            PlaysSeen (link Tr.Conn.tells Tr.Conn.blocking_read_faults Tr.Conn.blocking_write_faults Tr.Conn.end_faults) (chosen E.decoded E.encoded self.old.encoding.0) call
+            PlaysSeen (blocking Tr.Conn.Conn) (chosen E.decoded E.encoded self.old.encoding.0) call
             self.old.mark self.new.mark self.old.machine self.new.machine (Fault result) }
     {
         look(&mut self.machine, &mut self.mark);

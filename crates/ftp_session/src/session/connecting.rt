@@ -9,7 +9,7 @@ ghost use Rattle.ftp_base.specs.declared.types.fault.ConnectionError.TheVariants
 ghost use Rattle.ftp_transport.specs.Asking.{connects_to};
 ghost use Rattle.ftp_dialogue.specs.Coding.{chosen};
 ghost use Rattle.ftp_session.specs.Connecting.{ConnectsBy, FailsToConnectBy, connects_within};
-ghost use Rattle.ftp_dialogue.specs.Link.{link};
+ghost use Rattle.ftp_dialogue.specs.Link.{blocking};
 
 use super::client::Session;
 use ftp_base::encoding::Encoding;
@@ -43,8 +43,8 @@ where
         ensures nowhere { length addresses.now ≡ 0 →
             result ≡ Err (FtpError.ConnectionError faults.NoAddress) }
         ensures connects { MatchResult result
-            (λ session. ConnectsBy (link Tr.Conn.tells Tr.Conn.blocking_read_faults Tr.Conn.blocking_write_faults Tr.Conn.end_faults) (chosen E.decoded E.encoded None) Tr.refuses (connects_to None addresses.now) faults.NoAddress (Tr.ready transport) (Tr.closed transport) (Tr.asked transport) session.machine (Ok tt))
-            (λ fault. FailsToConnectBy (link Tr.Conn.tells Tr.Conn.blocking_read_faults Tr.Conn.blocking_write_faults Tr.Conn.end_faults) (chosen E.decoded E.encoded None) Tr.refuses (connects_to None addresses.now) faults.NoAddress (Tr.ready transport) (Tr.closed transport) (Tr.asked transport) fault) }
+            (λ session. ConnectsBy (blocking Tr.Conn.Conn) (chosen E.decoded E.encoded None) Tr.refuses (connects_to None addresses.now) faults.NoAddress (Tr.ready transport) (Tr.closed transport) (Tr.asked transport) session.machine (Ok tt))
+            (λ fault. FailsToConnectBy (blocking Tr.Conn.Conn) (chosen E.decoded E.encoded None) Tr.refuses (connects_to None addresses.now) faults.NoAddress (Tr.ready transport) (Tr.closed transport) (Tr.asked transport) fault) }
     {
         Session::connect_in_turn(
             alloc,
@@ -77,8 +77,8 @@ where
         ensures no_time { as_nanos limit ≡ 0 →
             result ≡ Err (FtpError.ConnectionError faults.TimedOut) }
         ensures connects { MatchResult result
-            (λ session. ConnectsBy (link Tr.Conn.tells Tr.Conn.blocking_read_faults Tr.Conn.blocking_write_faults Tr.Conn.end_faults) (chosen E.decoded E.encoded None) Tr.refuses (connects_within limit address) faults.TimedOut (Tr.ready transport) (Tr.closed transport) (Tr.asked transport) session.machine (Ok tt))
-            (λ fault. FailsToConnectBy (link Tr.Conn.tells Tr.Conn.blocking_read_faults Tr.Conn.blocking_write_faults Tr.Conn.end_faults) (chosen E.decoded E.encoded None) Tr.refuses (connects_within limit address) faults.TimedOut (Tr.ready transport) (Tr.closed transport) (Tr.asked transport) fault) }
+            (λ session. ConnectsBy (blocking Tr.Conn.Conn) (chosen E.decoded E.encoded None) Tr.refuses (connects_within limit address) faults.TimedOut (Tr.ready transport) (Tr.closed transport) (Tr.asked transport) session.machine (Ok tt))
+            (λ fault. FailsToConnectBy (blocking Tr.Conn.Conn) (chosen E.decoded E.encoded None) Tr.refuses (connects_within limit address) faults.TimedOut (Tr.ready transport) (Tr.closed transport) (Tr.asked transport) fault) }
     {
         let addresses = [address];
         let count = if limit.is_zero() { 0 } else { 1 };
@@ -110,8 +110,8 @@ where
         ensures nowhere { length addresses.now ≡ 0 →
             result ≡ Err (FtpError.ConnectionError fault) }
         ensures connects { MatchResult result
-            (λ session. ConnectsBy (link Tr.Conn.tells Tr.Conn.blocking_read_faults Tr.Conn.blocking_write_faults Tr.Conn.end_faults) (chosen E.decoded E.encoded None) Tr.refuses (connects_to limit addresses.now) fault (Tr.ready transport) (Tr.closed transport) (Tr.asked transport) session.machine (Ok tt))
-            (λ cause. FailsToConnectBy (link Tr.Conn.tells Tr.Conn.blocking_read_faults Tr.Conn.blocking_write_faults Tr.Conn.end_faults) (chosen E.decoded E.encoded None) Tr.refuses (connects_to limit addresses.now) fault (Tr.ready transport) (Tr.closed transport) (Tr.asked transport) cause) }
+            (λ session. ConnectsBy (blocking Tr.Conn.Conn) (chosen E.decoded E.encoded None) Tr.refuses (connects_to limit addresses.now) fault (Tr.ready transport) (Tr.closed transport) (Tr.asked transport) session.machine (Ok tt))
+            (λ cause. FailsToConnectBy (blocking Tr.Conn.Conn) (chosen E.decoded E.encoded None) Tr.refuses (connects_to limit addresses.now) fault (Tr.ready transport) (Tr.closed transport) (Tr.asked transport) cause) }
     {
         let mut tried = Tried { count: 0, fault };
         match poll_connect_in_turn(

@@ -8,7 +8,7 @@ ghost use Rattle.ftp_transfer.specs.Mark.{loaded};
 ghost use Rattle.ftp_session.specs.Calls.{unit_answer};
 ghost use Rattle.ftp_dialogue.specs.Coding.{chosen};
 ghost use Rattle.ftp_session.specs.Handed.{BeginsToSettle, BringsToEnd, EndsOnly, Settles, TakesBack, left_if, with_data};
-ghost use Rattle.ftp_dialogue.specs.Link.{link};
+ghost use Rattle.ftp_dialogue.specs.Link.{blocking};
 ghost use Rattle.ftp_dialogue.specs.Sound.{is_live, is_owed};
 
 use super::client::Session;
@@ -35,7 +35,7 @@ where
     /// `SessionFailed`; where there is no memory for the record of the data connection `OutOfMemory`; the transfer is
     /// left then.
     pub fn finish(&mut self, alloc: Global, transfer: Transfer<Tr::Conn>) -> FtpResult<()>
-        ensures finishes { BringsToEnd (link Tr.Conn.tells Tr.Conn.blocking_read_faults Tr.Conn.blocking_write_faults Tr.Conn.end_faults) (chosen E.decoded E.encoded self.old.encoding.0) Call.Finish transfer
+        ensures finishes { BringsToEnd (blocking Tr.Conn.Conn) (chosen E.decoded E.encoded self.old.encoding.0) Call.Finish transfer
             self.old.mark self.new.mark self.old.machine self.new.machine (unit_answer result) }
         ensures encoding { self.new.encoding ≡ self.old.encoding }
         ensures builder { self.new.builder ≡ self.old.builder }
@@ -58,7 +58,7 @@ where
     /// nothing of the session changes. On a session that has failed `SessionFailed`; where there is no memory for the
     /// record of the data connection `OutOfMemory`; the transfer is left then.
     pub fn abort(&mut self, alloc: Global, transfer: Transfer<Tr::Conn>) -> FtpResult<()>
-        ensures aborts { BringsToEnd (link Tr.Conn.tells Tr.Conn.blocking_read_faults Tr.Conn.blocking_write_faults Tr.Conn.end_faults) (chosen E.decoded E.encoded self.old.encoding.0) Call.Abort transfer
+        ensures aborts { BringsToEnd (blocking Tr.Conn.Conn) (chosen E.decoded E.encoded self.old.encoding.0) Call.Abort transfer
             self.old.mark self.new.mark self.old.machine self.new.machine (unit_answer result) }
         ensures encoding { self.new.encoding ≡ self.old.encoding }
         ensures builder { self.new.builder ≡ self.old.builder }
@@ -78,7 +78,7 @@ where
     /// # Errors
     /// Those of a read of one reply, but for `UnexpectedResponse`; `SessionFailed` on a session that has failed.
     pub fn settle(&mut self, alloc: Global, left: &mut Left) -> FtpResult<()>
-        ensures settles { Settles (link Tr.Conn.tells Tr.Conn.blocking_read_faults Tr.Conn.blocking_write_faults Tr.Conn.end_faults) (chosen E.decoded E.encoded self.old.encoding.0) left.old
+        ensures settles { Settles (blocking Tr.Conn.Conn) (chosen E.decoded E.encoded self.old.encoding.0) left.old
             self.old.machine self.new.machine (unit_answer result) }
         ensures looks { left.new ≡ loaded true left.old }
         ensures mark { self.new.mark ≡ self.old.mark }

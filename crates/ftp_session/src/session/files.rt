@@ -6,7 +6,7 @@
 
 ghost use Rattle.std.specs.Prelude.{◌≡◌};
 ghost use Rattle.ftp_dialogue.specs.Coding.{chosen};
-ghost use Rattle.ftp_dialogue.specs.Link.{building, built_by, link};
+ghost use Rattle.ftp_dialogue.specs.Link.{asking, blocking, built_by};
 ghost use Rattle.ftp_session.specs.Files.{Abandons, Puts, Retrieves, Stores, first_of, unless_failed};
 
 use super::client::Session;
@@ -61,7 +61,7 @@ where
     ) -> FtpResult<u64>
     where
         Tr: Transport<R>,
-        ensures puts { Puts (building (built_by B.answers self.old.builder) Tr.Conn.tells Tr.Conn.blocking_read_faults Tr.Conn.blocking_write_faults Tr.Conn.end_faults ⊥) (link Tr.Conn.tells Tr.Conn.blocking_read_faults Tr.Conn.blocking_write_faults Tr.Conn.end_faults) (chosen E.decoded E.encoded self.old.encoding.0) (Call.PutWithStream path.now)
+        ensures puts { Puts (asking (built_by B.answers self.old.builder) ⊥ (blocking Tr.Conn.Conn)) (blocking Tr.Conn.Conn) (chosen E.decoded E.encoded self.old.encoding.0) (Call.PutWithStream path.now)
             (S.remaining source.old) (S.remaining source.new) self.old.mark self.new.mark self.old.former self.old.machine self.new.machine result }
         ensures encoding { self.new.encoding ≡ self.old.encoding }
         ensures builder { self.new.builder ≡ self.old.builder }
@@ -85,7 +85,7 @@ where
     ) -> FtpResult<u64>
     where
         Tr: Transport<R>,
-        ensures puts { Puts (building (built_by B.answers self.old.builder) Tr.Conn.tells Tr.Conn.blocking_read_faults Tr.Conn.blocking_write_faults Tr.Conn.end_faults ⊥) (link Tr.Conn.tells Tr.Conn.blocking_read_faults Tr.Conn.blocking_write_faults Tr.Conn.end_faults) (chosen E.decoded E.encoded self.old.encoding.0) (Call.AppendWithStream path.now)
+        ensures puts { Puts (asking (built_by B.answers self.old.builder) ⊥ (blocking Tr.Conn.Conn)) (blocking Tr.Conn.Conn) (chosen E.decoded E.encoded self.old.encoding.0) (Call.AppendWithStream path.now)
             (S.remaining source.old) (S.remaining source.new) self.old.mark self.new.mark self.old.former self.old.machine self.new.machine result }
         ensures encoding { self.new.encoding ≡ self.old.encoding }
         ensures builder { self.new.builder ≡ self.old.builder }
@@ -113,7 +113,7 @@ where
     ) -> FtpResult<D>
     where
         Tr: Transport<R>,
-        ensures retrieves { Retrieves (building (built_by B.answers self.old.builder) Tr.Conn.tells Tr.Conn.blocking_read_faults Tr.Conn.blocking_write_faults Tr.Conn.end_faults ⊥) (link Tr.Conn.tells Tr.Conn.blocking_read_faults Tr.Conn.blocking_write_faults Tr.Conn.end_faults) (chosen E.decoded E.encoded self.old.encoding.0) (Call.RetrAsStream path.now)
+        ensures retrieves { Retrieves (asking (built_by B.answers self.old.builder) ⊥ (blocking Tr.Conn.Conn)) (blocking Tr.Conn.Conn) (chosen E.decoded E.encoded self.old.encoding.0) (Call.RetrAsStream path.now)
             F.reads self.old.mark self.new.mark self.old.former self.old.machine self.new.machine result }
         ensures encoding { self.new.encoding ≡ self.old.encoding }
         ensures builder { self.new.builder ≡ self.old.builder }
@@ -134,7 +134,7 @@ where
         source: &mut S,
         mut transfer: Transfer<Tr::Conn>,
     ) -> FtpResult<u64>
-        ensures stores { Stores (link Tr.Conn.tells Tr.Conn.blocking_read_faults Tr.Conn.blocking_write_faults Tr.Conn.end_faults) (chosen E.decoded E.encoded self.old.encoding.0)
+        ensures stores { Stores (blocking Tr.Conn.Conn) (chosen E.decoded E.encoded self.old.encoding.0)
             (S.remaining source.old) (S.remaining source.new) transfer self.old.mark self.new.mark self.old.machine self.new.machine result }
         ensures encoding { self.new.encoding ≡ self.old.encoding }
         ensures builder { self.new.builder ≡ self.old.builder }

@@ -1,7 +1,7 @@
 //! A call of a list, after the last reply of a transfer that was left where one is due.
 
 ghost use Rattle.ftp_dialogue.specs.Coding.{coding_of};
-ghost use Rattle.ftp_dialogue.specs.Link.{building, built_by};
+ghost use Rattle.ftp_dialogue.specs.Link.{asking, blocking, built_by};
 ghost use Rattle.ftp_dialogue.specs.Steps.Moving.{MadeDrained};
 
 use super::{Answer, Call};
@@ -24,7 +24,7 @@ pub fn make<Tr: Network, R, E: Encoding, B: PassiveStreamBuilder<Tr::Conn>>(
 where
     Tr::Conn: Conn,
     Tr: Transport<R>,
-    ensures made { MadeDrained (building (built_by B.answers builder.now) Tr.Conn.tells Tr.Conn.blocking_read_faults Tr.Conn.blocking_write_faults Tr.Conn.end_faults ⊥) (coding_of E.decoded E.encoded encoding.now) call.now
+    ensures made { MadeDrained (asking (built_by B.answers builder.now) ⊥ (blocking Tr.Conn.Conn)) (coding_of E.decoded E.encoded encoding.now) call.now
         machine.old machine.new result }
 {
     if is_local(call) {

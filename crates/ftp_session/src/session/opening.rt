@@ -8,7 +8,7 @@ ghost use Rattle.ftp_calls.specs.declared.call.Call.{Call as Called};
 ghost use Rattle.ftp_dialogue.specs.Coding.{chosen};
 ghost use Rattle.ftp_session.specs.Handed.{ComesTo, GivesUp, IsOpening, OpensAs, OpensEither, Opens, OpensReplied, with_data, with_reply, without_reply};
 ghost use Rattle.ftp_dialogue.specs.Sound.{is_live, next_number};
-ghost use Rattle.ftp_dialogue.specs.Link.{building, built_by};
+ghost use Rattle.ftp_dialogue.specs.Link.{asking, blocking, built_by};
 ghost use Rattle.ftp_transfer.specs.declared.direction.Direction.TheVariants as directions;
 
 use super::client::Session;
@@ -43,7 +43,7 @@ where
     ) -> FtpResult<Transfer<Tr::Conn>>
     where
         Tr: Transport<R>,
-        ensures opens { Opens (building (built_by B.answers self.old.builder) Tr.Conn.tells Tr.Conn.blocking_read_faults Tr.Conn.blocking_write_faults Tr.Conn.end_faults ⊥) (chosen E.decoded E.encoded self.old.encoding.0) (Call.RetrAsStream path.now)
+        ensures opens { Opens (asking (built_by B.answers self.old.builder) ⊥ (blocking Tr.Conn.Conn)) (chosen E.decoded E.encoded self.old.encoding.0) (Call.RetrAsStream path.now)
             directions.Download self.old.mark self.new.mark self.old.former self.new.former self.old.machine self.new.machine result }
         ensures encoding { self.new.encoding ≡ self.old.encoding }
         ensures builder { self.new.builder ≡ self.old.builder }
@@ -69,7 +69,7 @@ where
     ) -> FtpResult<Transfer<Tr::Conn>>
     where
         Tr: Transport<R>,
-        ensures opens { Opens (building (built_by B.answers self.old.builder) Tr.Conn.tells Tr.Conn.blocking_read_faults Tr.Conn.blocking_write_faults Tr.Conn.end_faults ⊥) (chosen E.decoded E.encoded self.old.encoding.0) (Call.PutWithStream path.now)
+        ensures opens { Opens (asking (built_by B.answers self.old.builder) ⊥ (blocking Tr.Conn.Conn)) (chosen E.decoded E.encoded self.old.encoding.0) (Call.PutWithStream path.now)
             directions.Upload self.old.mark self.new.mark self.old.former self.new.former self.old.machine self.new.machine result }
         ensures encoding { self.new.encoding ≡ self.old.encoding }
         ensures builder { self.new.builder ≡ self.old.builder }
@@ -89,7 +89,7 @@ where
     ) -> FtpResult<Transfer<Tr::Conn>>
     where
         Tr: Transport<R>,
-        ensures opens { Opens (building (built_by B.answers self.old.builder) Tr.Conn.tells Tr.Conn.blocking_read_faults Tr.Conn.blocking_write_faults Tr.Conn.end_faults ⊥) (chosen E.decoded E.encoded self.old.encoding.0) (Call.AppendWithStream path.now)
+        ensures opens { Opens (asking (built_by B.answers self.old.builder) ⊥ (blocking Tr.Conn.Conn)) (chosen E.decoded E.encoded self.old.encoding.0) (Call.AppendWithStream path.now)
             directions.Upload self.old.mark self.new.mark self.old.former self.new.former self.old.machine self.new.machine result }
         ensures encoding { self.new.encoding ≡ self.old.encoding }
         ensures builder { self.new.builder ≡ self.old.builder }
@@ -118,7 +118,7 @@ where
     ) -> FtpResult<(Response, Transfer<Tr::Conn>)>
     where
         Tr: Transport<R>,
-        ensures opens { OpensReplied (building (built_by B.answers self.old.builder) Tr.Conn.tells Tr.Conn.blocking_read_faults Tr.Conn.blocking_write_faults Tr.Conn.end_faults ⊥) (chosen E.decoded E.encoded self.old.encoding.0) (Call.CustomDataCommand line.now expected.now)
+        ensures opens { OpensReplied (asking (built_by B.answers self.old.builder) ⊥ (blocking Tr.Conn.Conn)) (chosen E.decoded E.encoded self.old.encoding.0) (Call.CustomDataCommand line.now expected.now)
             directions.Download self.old.mark self.new.mark self.old.former self.new.former self.old.machine self.new.machine result }
         ensures encoding { self.new.encoding ≡ self.old.encoding }
         ensures builder { self.new.builder ≡ self.old.builder }
@@ -146,7 +146,7 @@ where
         Tr: Transport<R>,
         requires { IfOk call IsOpening }
         ensures opens { (made : Called) → IsOpening made → IfOk call (λ c. c ≡ made) →
-            OpensAs (building (built_by B.answers self.old.builder) Tr.Conn.tells Tr.Conn.blocking_read_faults Tr.Conn.blocking_write_faults Tr.Conn.end_faults ⊥) (chosen E.decoded E.encoded self.old.encoding.0) made
+            OpensAs (asking (built_by B.answers self.old.builder) ⊥ (blocking Tr.Conn.Conn)) (chosen E.decoded E.encoded self.old.encoding.0) made
             replies direction self.old.mark self.new.mark self.old.former self.new.former self.old.machine self.new.machine result }
         ensures replies { IfOk result (λ opened. is_none opened.0 ≡ not replies) }
         ensures encoding { self.new.encoding ≡ self.old.encoding }
@@ -175,7 +175,7 @@ where
     where
         Tr: Transport<R>,
         requires { IsOpening call.now }
-        ensures opens { OpensEither (building (built_by B.answers self.old.builder) Tr.Conn.tells Tr.Conn.blocking_read_faults Tr.Conn.blocking_write_faults Tr.Conn.end_faults ⊥) (chosen E.decoded E.encoded self.old.encoding.0) call.now
+        ensures opens { OpensEither (asking (built_by B.answers self.old.builder) ⊥ (blocking Tr.Conn.Conn)) (chosen E.decoded E.encoded self.old.encoding.0) call.now
             replies direction self.old.mark self.new.mark self.old.former self.new.former self.old.machine self.new.machine result }
         ensures replies { IfOk result (λ opened. is_none opened.0 ≡ not replies) }
         ensures encoding { self.new.encoding ≡ self.old.encoding }

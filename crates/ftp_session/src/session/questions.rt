@@ -8,7 +8,7 @@ ghost use Rattle.std.specs.Prelude.{◌≡◌, IfOk, option_map};
 ghost use Rattle.ftp_calls.specs.declared.call.Call.{Call as Called};
 ghost use Rattle.ftp_session.specs.Calls.{features_answer, size_answer, text_answer, time_answer};
 ghost use Rattle.ftp_dialogue.specs.Coding.{chosen};
-ghost use Rattle.ftp_dialogue.specs.Link.{link};
+ghost use Rattle.ftp_dialogue.specs.Link.{blocking};
 ghost use Rattle.ftp_session.specs.Handed.{PlaysSeen};
 ghost use Rattle.ftp_dialogue.specs.Steps.Stages.{GivesFeatures, GivesSize, GivesText, GivesTime, MayAnswer};
 
@@ -31,7 +31,7 @@ where
     /// # Errors
     /// Those of a command and its reply; `UnexpectedResponse` where the reply has fewer than two quotes.
     pub fn pwd(&mut self, alloc: Global) -> FtpResult<String>
-        ensures plays { PlaysSeen (link Tr.Conn.tells Tr.Conn.blocking_read_faults Tr.Conn.blocking_write_faults Tr.Conn.end_faults) (chosen E.decoded E.encoded self.old.encoding.0) Call.Pwd
+        ensures plays { PlaysSeen (blocking Tr.Conn.Conn) (chosen E.decoded E.encoded self.old.encoding.0) Call.Pwd
             self.old.mark self.new.mark self.old.machine self.new.machine (text_answer result) }
         ensures encoding { self.new.encoding ≡ self.old.encoding }
         ensures builder { self.new.builder ≡ self.old.builder }
@@ -45,7 +45,7 @@ where
     /// # Errors
     /// Those of a command and its reply; `BadResponse` where the second line is absent or empty.
     pub fn mlst(&mut self, alloc: Global, path: Option<&str>) -> FtpResult<String>
-        ensures plays { PlaysSeen (link Tr.Conn.tells Tr.Conn.blocking_read_faults Tr.Conn.blocking_write_faults Tr.Conn.end_faults) (chosen E.decoded E.encoded self.old.encoding.0) (Call.Mlst (option_map (λ text. text.now) path.entry))
+        ensures plays { PlaysSeen (blocking Tr.Conn.Conn) (chosen E.decoded E.encoded self.old.encoding.0) (Call.Mlst (option_map (λ text. text.now) path.entry))
             self.old.mark self.new.mark self.old.machine self.new.machine (text_answer result) }
         ensures encoding { self.new.encoding ≡ self.old.encoding }
         ensures builder { self.new.builder ≡ self.old.builder }
@@ -66,7 +66,7 @@ where
     /// # Errors
     /// Those of a command and its reply; `BadResponse` where the reply isn't UTF-8 or tells no date and time.
     pub fn mdtm(&mut self, alloc: Global, path: &str) -> FtpResult<DateTime>
-        ensures plays { PlaysSeen (link Tr.Conn.tells Tr.Conn.blocking_read_faults Tr.Conn.blocking_write_faults Tr.Conn.end_faults) (chosen E.decoded E.encoded self.old.encoding.0) (Call.Mdtm path.now)
+        ensures plays { PlaysSeen (blocking Tr.Conn.Conn) (chosen E.decoded E.encoded self.old.encoding.0) (Call.Mdtm path.now)
             self.old.mark self.new.mark self.old.machine self.new.machine (time_answer result) }
         ensures encoding { self.new.encoding ≡ self.old.encoding }
         ensures builder { self.new.builder ≡ self.old.builder }
@@ -87,7 +87,7 @@ where
     /// Those of a command and its reply; `BadResponse` where the reply isn't UTF-8 or its last word is no number below
     /// 2^64.
     pub fn size(&mut self, alloc: Global, path: &str) -> FtpResult<usize>
-        ensures plays { PlaysSeen (link Tr.Conn.tells Tr.Conn.blocking_read_faults Tr.Conn.blocking_write_faults Tr.Conn.end_faults) (chosen E.decoded E.encoded self.old.encoding.0) (Call.Size path.now)
+        ensures plays { PlaysSeen (blocking Tr.Conn.Conn) (chosen E.decoded E.encoded self.old.encoding.0) (Call.Size path.now)
             self.old.mark self.new.mark self.old.machine self.new.machine (size_answer result) }
         ensures encoding { self.new.encoding ≡ self.old.encoding }
         ensures builder { self.new.builder ≡ self.old.builder }
@@ -109,7 +109,7 @@ where
     /// Those of a command and its reply, the list being part of the reply; `BadResponse` where a line of the list
     /// doesn't begin with a space.
     pub fn feat(&mut self, alloc: Global) -> FtpResult<Features>
-        ensures plays { PlaysSeen (link Tr.Conn.tells Tr.Conn.blocking_read_faults Tr.Conn.blocking_write_faults Tr.Conn.end_faults) (chosen E.decoded E.encoded self.old.encoding.0) Call.Feat
+        ensures plays { PlaysSeen (blocking Tr.Conn.Conn) (chosen E.decoded E.encoded self.old.encoding.0) Call.Feat
             self.old.mark self.new.mark self.old.machine self.new.machine (features_answer result) }
         ensures encoding { self.new.encoding ≡ self.old.encoding }
         ensures builder { self.new.builder ≡ self.old.builder }
