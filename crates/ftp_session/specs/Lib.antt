@@ -1,7 +1,9 @@
 pub mod Calls
-pub mod Copying
+pub mod Commands
 pub mod Connecting
+pub mod Copying
 pub mod Fetched
 pub mod Files
 pub mod Handed
 pub mod Polled
+pub mod Trees

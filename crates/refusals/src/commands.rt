@@ -4,11 +4,12 @@ ghost use Rattle.std.specs.Prelude.{◌≡◌};
 ghost use Rattle.ftp_session.specs.Calls.{unit_answer};
 ghost use Rattle.ftp_dialogue.specs.Coding.{chosen};
 ghost use Rattle.ftp_dialogue.specs.Link.{blocking};
-ghost use Rattle.ftp_session.specs.Handed.{PlaysSeen};
+ghost use Rattle.ftp_session.specs.Commands.{PlaysCommand};
+ghost use Rattle.ftp_session.specs.Trees.{cwd_tree, login_tree};
 
 use ftp_base::encoding::Encoding;
 use ftp_base::types::FtpResult;
-use ftp_session::session::{Call, Session};
+use ftp_session::session::Session;
 use ftp_transport::{Conn, Network};
 use std::alloc::Global;
 
@@ -20,7 +21,7 @@ pub fn cwd<Tr: Network, K: Drop, E: Encoding, B: Drop>(
 ) -> FtpResult<()>
 where
     Tr::Conn: Conn,
-    ensures plays { PlaysSeen (blocking Tr.Conn.Conn) (chosen E.decoded E.encoded session.old.encoding.0) (Call.Cwd path.now)
+    ensures plays { PlaysCommand (blocking Tr.Conn.Conn) (cwd_tree (chosen E.decoded E.encoded session.old.encoding.0) path.now)
         session.old.mark session.new.mark session.old.machine session.new.machine (unit_answer result) }
     ensures encoding { session.new.encoding ≡ session.old.encoding }
     ensures builder { session.new.builder ≡ session.old.builder }
@@ -37,7 +38,7 @@ pub fn login<Tr: Network, K: Drop, E: Encoding, B: Drop>(
 ) -> FtpResult<()>
 where
     Tr::Conn: Conn,
-    ensures plays { PlaysSeen (blocking Tr.Conn.Conn) (chosen E.decoded E.encoded session.old.encoding.0) (Call.Login user.now password.now)
+    ensures plays { PlaysCommand (blocking Tr.Conn.Conn) (login_tree (chosen E.decoded E.encoded session.old.encoding.0) user.now password.now)
         session.old.mark session.new.mark session.old.machine session.new.machine (unit_answer result) }
     ensures encoding { session.new.encoding ≡ session.old.encoding }
     ensures builder { session.new.builder ≡ session.old.builder }

@@ -1,16 +1,19 @@
 //! The calls of a session, a method each.
 //!
 //! A method copies its texts into a `Call` and hands it to the machine; what the call says and hears is its row in
-//! `ftp_calls::exchange`. Where the copy finds no memory nothing has happened. The contract of each is one clause: the
-//! call is its dialogue (`Plays`).
+//! `ftp_calls::exchange`. Where the copy finds no memory nothing has happened. The contract of each names its own
+//! dialogue, a tree of `specs/Trees.antt`: what is sent, which statuses are accepted, and what is made of the reply; and
+//! says that the method is this dialogue (`PlaysCommand`).
 
-ghost use Rattle.std.specs.Prelude.{◌≡◌, IfOk, option_map};
+ghost use Rattle.std.specs.Prelude.{◌≡◌, [], ◌∷◌, IfOk, option_map};
 ghost use Rattle.ftp_calls.specs.declared.call.Answer.TheVariants.{Fault};
 ghost use Rattle.ftp_calls.specs.declared.call.Call.{Call as Called};
 ghost use Rattle.ftp_session.specs.Calls.{reply_answer, unit_answer};
 ghost use Rattle.ftp_dialogue.specs.Coding.{chosen};
 ghost use Rattle.ftp_dialogue.specs.Link.{blocking};
+ghost use Rattle.ftp_session.specs.Commands.{PlaysCommand};
 ghost use Rattle.ftp_session.specs.Handed.{PlaysSeen};
+ghost use Rattle.ftp_session.specs.Trees.{cdup_tree, custom_tree, cwd_tree, eprt_tree, login_tree, mkdir_tree, noop_tree, opts_tree, quit_tree, read_tree, rename_tree, resume_tree, rm_tree, rmdir_tree, site_tree, type_tree};
 ghost use Rattle.ftp_dialogue.specs.Promises.{PlaysAlone};
 ghost use Rattle.ftp_dialogue.specs.Steps.Moving.{withheld};
 ghost use Rattle.ftp_dialogue.specs.Steps.Stages.{GivesNothing, GivesReply, IsPlain, MayAnswer};
@@ -50,7 +53,7 @@ where
     /// # Errors
     /// Those of a command and its reply: `LineBreak` where CR or LF stands in the user's name or the password.
     pub fn login(&mut self, alloc: Global, user: &str, password: &str) -> FtpResult<()>
-        ensures plays { PlaysSeen (blocking Tr.Conn.Conn) (chosen E.decoded E.encoded self.old.encoding.0) (Call.Login user.now password.now)
+        ensures plays { PlaysCommand (blocking Tr.Conn.Conn) (login_tree (chosen E.decoded E.encoded self.old.encoding.0) user.now password.now)
             self.old.mark self.new.mark self.old.machine self.new.machine (unit_answer result) }
         ensures encoding { self.new.encoding ≡ self.old.encoding }
         ensures builder { self.new.builder ≡ self.old.builder }
@@ -63,7 +66,7 @@ where
     /// # Errors
     /// Those of a command and its reply.
     pub fn cwd(&mut self, alloc: Global, path: &str) -> FtpResult<()>
-        ensures plays { PlaysSeen (blocking Tr.Conn.Conn) (chosen E.decoded E.encoded self.old.encoding.0) (Call.Cwd path.now)
+        ensures plays { PlaysCommand (blocking Tr.Conn.Conn) (cwd_tree (chosen E.decoded E.encoded self.old.encoding.0) path.now)
             self.old.mark self.new.mark self.old.machine self.new.machine (unit_answer result) }
         ensures encoding { self.new.encoding ≡ self.old.encoding }
         ensures builder { self.new.builder ≡ self.old.builder }
@@ -76,7 +79,7 @@ where
     /// # Errors
     /// Those of a command and its reply.
     pub fn cdup(&mut self, alloc: Global) -> FtpResult<()>
-        ensures plays { PlaysSeen (blocking Tr.Conn.Conn) (chosen E.decoded E.encoded self.old.encoding.0) Call.Cdup
+        ensures plays { PlaysCommand (blocking Tr.Conn.Conn) (cdup_tree (chosen E.decoded E.encoded self.old.encoding.0))
             self.old.mark self.new.mark self.old.machine self.new.machine (unit_answer result) }
         ensures encoding { self.new.encoding ≡ self.old.encoding }
         ensures builder { self.new.builder ≡ self.old.builder }
@@ -89,7 +92,7 @@ where
     /// # Errors
     /// Those of a command and its reply.
     pub fn noop(&mut self, alloc: Global) -> FtpResult<()>
-        ensures plays { PlaysSeen (blocking Tr.Conn.Conn) (chosen E.decoded E.encoded self.old.encoding.0) Call.Noop
+        ensures plays { PlaysCommand (blocking Tr.Conn.Conn) (noop_tree (chosen E.decoded E.encoded self.old.encoding.0))
             self.old.mark self.new.mark self.old.machine self.new.machine (unit_answer result) }
         ensures encoding { self.new.encoding ≡ self.old.encoding }
         ensures builder { self.new.builder ≡ self.old.builder }
@@ -102,7 +105,7 @@ where
     /// # Errors
     /// Those of a command and its reply.
     pub fn eprt(&mut self, alloc: Global, address: SocketAddr) -> FtpResult<()>
-        ensures plays { PlaysSeen (blocking Tr.Conn.Conn) (chosen E.decoded E.encoded self.old.encoding.0) (Call.Eprt address)
+        ensures plays { PlaysCommand (blocking Tr.Conn.Conn) (eprt_tree (chosen E.decoded E.encoded self.old.encoding.0) address)
             self.old.mark self.new.mark self.old.machine self.new.machine (unit_answer result) }
         ensures encoding { self.new.encoding ≡ self.old.encoding }
         ensures builder { self.new.builder ≡ self.old.builder }
@@ -115,7 +118,7 @@ where
     /// # Errors
     /// Those of a command and its reply.
     pub fn opts(&mut self, alloc: Global, option: &str, value: Option<&str>) -> FtpResult<()>
-        ensures plays { PlaysSeen (blocking Tr.Conn.Conn) (chosen E.decoded E.encoded self.old.encoding.0) (Call.Opts option.now (option_map (λ text. text.now) value.entry))
+        ensures plays { PlaysCommand (blocking Tr.Conn.Conn) (opts_tree (chosen E.decoded E.encoded self.old.encoding.0) option.now (option_map (λ text. text.now) value.entry))
             self.old.mark self.new.mark self.old.machine self.new.machine (unit_answer result) }
         ensures encoding { self.new.encoding ≡ self.old.encoding }
         ensures builder { self.new.builder ≡ self.old.builder }
@@ -128,7 +131,7 @@ where
     /// # Errors
     /// Those of a command and its reply.
     pub fn site(&mut self, alloc: Global, command: &str) -> FtpResult<Response>
-        ensures plays { PlaysSeen (blocking Tr.Conn.Conn) (chosen E.decoded E.encoded self.old.encoding.0) (Call.Site command.now)
+        ensures plays { PlaysCommand (blocking Tr.Conn.Conn) (site_tree (chosen E.decoded E.encoded self.old.encoding.0) command.now)
             self.old.mark self.new.mark self.old.machine self.new.machine (reply_answer result) }
         ensures encoding { self.new.encoding ≡ self.old.encoding }
         ensures builder { self.new.builder ≡ self.old.builder }
@@ -141,7 +144,7 @@ where
     /// # Errors
     /// Those of a command and its reply.
     pub fn transfer_type(&mut self, alloc: Global, kind: FileType) -> FtpResult<()>
-        ensures plays { PlaysSeen (blocking Tr.Conn.Conn) (chosen E.decoded E.encoded self.old.encoding.0) (Call.TransferType kind)
+        ensures plays { PlaysCommand (blocking Tr.Conn.Conn) (type_tree (chosen E.decoded E.encoded self.old.encoding.0) kind)
             self.old.mark self.new.mark self.old.machine self.new.machine (unit_answer result) }
         ensures encoding { self.new.encoding ≡ self.old.encoding }
         ensures builder { self.new.builder ≡ self.old.builder }
@@ -154,7 +157,7 @@ where
     /// # Errors
     /// Those of a command and its reply.
     pub fn mkdir(&mut self, alloc: Global, path: &str) -> FtpResult<()>
-        ensures plays { PlaysSeen (blocking Tr.Conn.Conn) (chosen E.decoded E.encoded self.old.encoding.0) (Call.Mkdir path.now)
+        ensures plays { PlaysCommand (blocking Tr.Conn.Conn) (mkdir_tree (chosen E.decoded E.encoded self.old.encoding.0) path.now)
             self.old.mark self.new.mark self.old.machine self.new.machine (unit_answer result) }
         ensures encoding { self.new.encoding ≡ self.old.encoding }
         ensures builder { self.new.builder ≡ self.old.builder }
@@ -167,7 +170,7 @@ where
     /// # Errors
     /// Those of a command and its reply.
     pub fn rmdir(&mut self, alloc: Global, path: &str) -> FtpResult<()>
-        ensures plays { PlaysSeen (blocking Tr.Conn.Conn) (chosen E.decoded E.encoded self.old.encoding.0) (Call.Rmdir path.now)
+        ensures plays { PlaysCommand (blocking Tr.Conn.Conn) (rmdir_tree (chosen E.decoded E.encoded self.old.encoding.0) path.now)
             self.old.mark self.new.mark self.old.machine self.new.machine (unit_answer result) }
         ensures encoding { self.new.encoding ≡ self.old.encoding }
         ensures builder { self.new.builder ≡ self.old.builder }
@@ -180,7 +183,7 @@ where
     /// # Errors
     /// Those of a command and its reply.
     pub fn rm(&mut self, alloc: Global, path: &str) -> FtpResult<()>
-        ensures plays { PlaysSeen (blocking Tr.Conn.Conn) (chosen E.decoded E.encoded self.old.encoding.0) (Call.Rm path.now)
+        ensures plays { PlaysCommand (blocking Tr.Conn.Conn) (rm_tree (chosen E.decoded E.encoded self.old.encoding.0) path.now)
             self.old.mark self.new.mark self.old.machine self.new.machine (unit_answer result) }
         ensures encoding { self.new.encoding ≡ self.old.encoding }
         ensures builder { self.new.builder ≡ self.old.builder }
@@ -193,7 +196,7 @@ where
     /// # Errors
     /// Those of a command and its reply.
     pub fn rename(&mut self, alloc: Global, from: &str, to: &str) -> FtpResult<()>
-        ensures plays { PlaysSeen (blocking Tr.Conn.Conn) (chosen E.decoded E.encoded self.old.encoding.0) (Call.Rename from.now to.now)
+        ensures plays { PlaysCommand (blocking Tr.Conn.Conn) (rename_tree (chosen E.decoded E.encoded self.old.encoding.0) from.now to.now)
             self.old.mark self.new.mark self.old.machine self.new.machine (unit_answer result) }
         ensures encoding { self.new.encoding ≡ self.old.encoding }
         ensures builder { self.new.builder ≡ self.old.builder }
@@ -206,7 +209,7 @@ where
     /// # Errors
     /// Those of a command and its reply.
     pub fn quit(&mut self, alloc: Global) -> FtpResult<()>
-        ensures plays { PlaysSeen (blocking Tr.Conn.Conn) (chosen E.decoded E.encoded self.old.encoding.0) Call.Quit
+        ensures plays { PlaysCommand (blocking Tr.Conn.Conn) (quit_tree (chosen E.decoded E.encoded self.old.encoding.0))
             self.old.mark self.new.mark self.old.machine self.new.machine (unit_answer result) }
         ensures encoding { self.new.encoding ≡ self.old.encoding }
         ensures builder { self.new.builder ≡ self.old.builder }
@@ -224,7 +227,7 @@ where
         line: &str,
         expected: &[Status],
     ) -> FtpResult<Response>
-        ensures plays { PlaysSeen (blocking Tr.Conn.Conn) (chosen E.decoded E.encoded self.old.encoding.0) (Call.CustomCommand line.now expected.now)
+        ensures plays { PlaysCommand (blocking Tr.Conn.Conn) (custom_tree (chosen E.decoded E.encoded self.old.encoding.0) line.now expected.now)
             self.old.mark self.new.mark self.old.machine self.new.machine (reply_answer result) }
         ensures encoding { self.new.encoding ≡ self.old.encoding }
         ensures builder { self.new.builder ≡ self.old.builder }
@@ -237,7 +240,7 @@ where
     /// # Errors
     /// Those of a read of one reply.
     pub fn read_response(&mut self, alloc: Global, expected: Status) -> FtpResult<Response>
-        ensures plays { PlaysSeen (blocking Tr.Conn.Conn) (chosen E.decoded E.encoded self.old.encoding.0) (Call.ReadResponse expected)
+        ensures plays { PlaysCommand (blocking Tr.Conn.Conn) (read_tree (expected ∷ []))
             self.old.mark self.new.mark self.old.machine self.new.machine (reply_answer result) }
         ensures encoding { self.new.encoding ≡ self.old.encoding }
         ensures builder { self.new.builder ≡ self.old.builder }
@@ -250,7 +253,7 @@ where
     /// # Errors
     /// Those of a read of one reply.
     pub fn read_response_in(&mut self, alloc: Global, expected: &[Status]) -> FtpResult<Response>
-        ensures plays { PlaysSeen (blocking Tr.Conn.Conn) (chosen E.decoded E.encoded self.old.encoding.0) (Call.ReadResponseIn expected.now)
+        ensures plays { PlaysCommand (blocking Tr.Conn.Conn) (read_tree expected.now)
             self.old.mark self.new.mark self.old.machine self.new.machine (reply_answer result) }
         ensures encoding { self.new.encoding ≡ self.old.encoding }
         ensures builder { self.new.builder ≡ self.old.builder }
@@ -263,7 +266,7 @@ where
     /// # Errors
     /// `SessionFailed`; or those of the last reply of a transfer that was left. The offset of before stays.
     pub fn resume_transfer(&mut self, alloc: Global, offset: u64) -> FtpResult<()>
-        ensures plays { PlaysSeen (blocking Tr.Conn.Conn) (chosen E.decoded E.encoded self.old.encoding.0) (Call.ResumeTransfer offset)
+        ensures plays { PlaysCommand (blocking Tr.Conn.Conn) (resume_tree offset)
             self.old.mark self.new.mark self.old.machine self.new.machine (unit_answer result) }
         ensures encoding { self.new.encoding ≡ self.old.encoding }
         ensures builder { self.new.builder ≡ self.old.builder }

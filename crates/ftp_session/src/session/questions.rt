@@ -9,7 +9,8 @@ ghost use Rattle.ftp_calls.specs.declared.call.Call.{Call as Called};
 ghost use Rattle.ftp_session.specs.Calls.{features_answer, size_answer, text_answer, time_answer};
 ghost use Rattle.ftp_dialogue.specs.Coding.{chosen};
 ghost use Rattle.ftp_dialogue.specs.Link.{blocking};
-ghost use Rattle.ftp_session.specs.Handed.{PlaysSeen};
+ghost use Rattle.ftp_session.specs.Commands.{PlaysCommand};
+ghost use Rattle.ftp_session.specs.Trees.{feat_tree, mdtm_tree, mlst_tree, pwd_tree, size_tree};
 ghost use Rattle.ftp_dialogue.specs.Steps.Stages.{GivesFeatures, GivesSize, GivesText, GivesTime, MayAnswer};
 
 use super::client::Session;
@@ -31,7 +32,7 @@ where
     /// # Errors
     /// Those of a command and its reply; `UnexpectedResponse` where the reply has fewer than two quotes.
     pub fn pwd(&mut self, alloc: Global) -> FtpResult<String>
-        ensures plays { PlaysSeen (blocking Tr.Conn.Conn) (chosen E.decoded E.encoded self.old.encoding.0) Call.Pwd
+        ensures plays { PlaysCommand (blocking Tr.Conn.Conn) (pwd_tree (chosen E.decoded E.encoded self.old.encoding.0))
             self.old.mark self.new.mark self.old.machine self.new.machine (text_answer result) }
         ensures encoding { self.new.encoding ≡ self.old.encoding }
         ensures builder { self.new.builder ≡ self.old.builder }
@@ -45,7 +46,7 @@ where
     /// # Errors
     /// Those of a command and its reply; `BadResponse` where the second line is absent or empty.
     pub fn mlst(&mut self, alloc: Global, path: Option<&str>) -> FtpResult<String>
-        ensures plays { PlaysSeen (blocking Tr.Conn.Conn) (chosen E.decoded E.encoded self.old.encoding.0) (Call.Mlst (option_map (λ text. text.now) path.entry))
+        ensures plays { PlaysCommand (blocking Tr.Conn.Conn) (mlst_tree (chosen E.decoded E.encoded self.old.encoding.0) (option_map (λ text. text.now) path.entry))
             self.old.mark self.new.mark self.old.machine self.new.machine (text_answer result) }
         ensures encoding { self.new.encoding ≡ self.old.encoding }
         ensures builder { self.new.builder ≡ self.old.builder }
@@ -66,7 +67,7 @@ where
     /// # Errors
     /// Those of a command and its reply; `BadResponse` where the reply isn't UTF-8 or tells no date and time.
     pub fn mdtm(&mut self, alloc: Global, path: &str) -> FtpResult<DateTime>
-        ensures plays { PlaysSeen (blocking Tr.Conn.Conn) (chosen E.decoded E.encoded self.old.encoding.0) (Call.Mdtm path.now)
+        ensures plays { PlaysCommand (blocking Tr.Conn.Conn) (mdtm_tree (chosen E.decoded E.encoded self.old.encoding.0) path.now)
             self.old.mark self.new.mark self.old.machine self.new.machine (time_answer result) }
         ensures encoding { self.new.encoding ≡ self.old.encoding }
         ensures builder { self.new.builder ≡ self.old.builder }
@@ -87,7 +88,7 @@ where
     /// Those of a command and its reply; `BadResponse` where the reply isn't UTF-8 or its last word is no number below
     /// 2^64.
     pub fn size(&mut self, alloc: Global, path: &str) -> FtpResult<usize>
-        ensures plays { PlaysSeen (blocking Tr.Conn.Conn) (chosen E.decoded E.encoded self.old.encoding.0) (Call.Size path.now)
+        ensures plays { PlaysCommand (blocking Tr.Conn.Conn) (size_tree (chosen E.decoded E.encoded self.old.encoding.0) path.now)
             self.old.mark self.new.mark self.old.machine self.new.machine (size_answer result) }
         ensures encoding { self.new.encoding ≡ self.old.encoding }
         ensures builder { self.new.builder ≡ self.old.builder }
@@ -109,7 +110,7 @@ where
     /// Those of a command and its reply, the list being part of the reply; `BadResponse` where a line of the list
     /// doesn't begin with a space.
     pub fn feat(&mut self, alloc: Global) -> FtpResult<Features>
-        ensures plays { PlaysSeen (blocking Tr.Conn.Conn) (chosen E.decoded E.encoded self.old.encoding.0) Call.Feat
+        ensures plays { PlaysCommand (blocking Tr.Conn.Conn) (feat_tree (chosen E.decoded E.encoded self.old.encoding.0))
             self.old.mark self.new.mark self.old.machine self.new.machine (features_answer result) }
         ensures encoding { self.new.encoding ≡ self.old.encoding }
         ensures builder { self.new.builder ≡ self.old.builder }

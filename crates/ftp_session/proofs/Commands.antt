@@ -1,0 +1,292 @@
+-- A command's own dialogue is that of its call.
+use Rattle.std.proofs.Common.{◌≡◌, ◌++◌, ℕ, [], ◌∷◌, List, Option, Bool, true, false, cond, Result, Ok, Err, inl, inr, ◌⊎◌, refl, ap, sym, ◌∙◌, subst, append-nil}
+use Rattle.std.specs.Prelude.{◌&&◌, ◌||◌, not}
+use Rattle.ftp_base.specs.Status.{status_of}
+use Rattle.ftp_base.specs.declared.status.Status.TheVariants.{ClosingDataConnection, RequestedFileActionOk}
+use Rattle.ftp_base.specs.declared.types.reply.Response.{Response}
+use Rattle.ftp_base.specs.declared.types.fault.FtpError.{FtpError}
+use Rattle.ftp_base.specs.declared.types.fault.FtpError.TheVariants as fault
+use Rattle.ftp_base.specs.declared.types.fault.ConnectionError.TheVariants as connection
+use Rattle.ftp_control.specs.declared.control.outcome.Outcome.{Outcome}
+use Rattle.ftp_control.specs.declared.control.outcome.Outcome.TheVariants.{Whole, Bad, TooLarge, Ended, Waits}
+use Rattle.ftp_control.specs.Grammar.{outcome, left_by}
+use Rattle.ftp_control.specs.Answer.{is_among}
+use Rattle.ftp_transport.specs.declared.room.Room.TheVariants.{Any}
+use Rattle.ftp_calls.specs.Exchanges.{drains_first, finishes, is_local, negotiates, of_transfer}
+use Rattle.ftp_calls.specs.declared.call.Call.{Call}
+use Rattle.ftp_calls.specs.declared.call.Call.TheVariants.{Drain}
+use Rattle.ftp_calls.specs.declared.call.Answer.{Answer}
+use Rattle.ftp_calls.specs.declared.call.Answer.TheVariants.{Fault}
+use Rattle.ftp_calls.specs.declared.exchange.Ending.TheVariants.{Drains}
+use Rattle.ftp_calls.specs.declared.exchange.Turn.TheVariants.{First}
+use Rattle.ftp_transfer.specs.Mark.{End}
+use Rattle.ftp_dialogue.specs.declared.model.DealOutcome.{DealOutcome}
+use Rattle.ftp_dialogue.specs.declared.model.Played.TheVariants as played
+use Rattle.ftp_dialogue.specs.declared.model.Standing.{Standing}
+use Rattle.ftp_dialogue.specs.declared.state.State.{State}
+use Rattle.ftp_dialogue.specs.Coding.{Coding}
+use Rattle.ftp_dialogue.specs.Deals.{outcomes_of}
+use Rattle.ftp_dialogue.specs.Dialogue.{Expected, Tree, Say, Hear, Look, Ask, Build, Move, Leaf, concluded, dialogue, expecting, later}
+use Rattle.ftp_dialogue.specs.Link.{Link}
+use Rattle.ftp_dialogue.specs.Play.{Refusal, Taken, Lacking, Failing, heard_then, is_unit, play, refused_if_failed, taken}
+use Rattle.ftp_dialogue.specs.Promises.{Aborts, Completes, DrainsIf, IsPlayed, IsRefused, IsSilent, IsSuccess, IsWithheld, LeavesIf, MakesAfter, PlaysAlone, Refuses, Wired, begun_by, due_of, lacks_of, refusal_of, standing}
+use Rattle.ftp_dialogue.specs.Sound.{none_left}
+use Rattle.ftp_dialogue.specs.State.{SessionValue, LetsGo}
+use Rattle.ftp_dialogue.proofs.Hearing.{play-Hear}
+use Rattle.ftp_dialogue.proofs.Moving.{play-Leaf, play-Refused, play-Say}
+use Rattle.ftp_dialogue.proofs.TransitionsLemmas.{begun_plain}
+use Rattle.ftp_dialogue.proofs.Wired.{wired}
+use Rattle.ftp_session.specs.Commands.{Converses, FollowsIf, HasFailedBefore, MakesCommand, MakesTree, OnWire, PlaysCommand, SucceedsOnWire, is_reply_due, line_sent}
+use Rattle.ftp_session.specs.Handed.{PlaysSeen, as_seen}
+use Rattle.ftp_session.specs.Trees.{drain_reply, drain_tree}
+
+-- each fault that is heard ends the dialogue, and is its answer
+abbrev pub StopsAtFaults : Tree → Type 0
+StopsAtFaults (Say line next) = StopsAtFaults next
+StopsAtFaults (Hear expected next) =
+    ((fault : FtpError) → (state : State) × (next (Err fault) ≡ Leaf (Fault fault) state)) × ((reply : Response) → StopsAtFaults (next (Ok reply)))
+StopsAtFaults other = Unit {0}
+
+-- a call is a command: it goes over the control connection, after the last reply of a transfer that was left, and neither
+-- opens a data connection nor moves or ends a transfer
+abbrev pub IsOneCommand : Call → Type 0
+IsOneCommand call = (negotiates call ≡ false) × (is_local call ≡ false) × (of_transfer call ≡ false) × (finishes call ≡ false) × (drains_first call ≡ true)
+
+-- and its dialogue is this tree
+pub record IsCommand (coding : Coding) (call : Call) (tree : State → Tree) : Type 0 where
+  pub sort : IsOneCommand call
+  pub same : (state : State) → dialogue coding call state ≡ tree state
+  pub stops : (state : State) → StopsAtFaults (tree state)
+
+-- why a command isn't made
+refusal_is : (call : Call) (v : SessionValue) → is_local call ≡ false → of_transfer call ≡ false → refusal_of call v ≡ refused_if_failed false v.channel.failed
+refusal_is call v abroad none =
+    let F : Bool → Refusal = λ b. cond (b && lacks_of call v) Lacking (refused_if_failed (is_local call) v.channel.failed) in
+    ap F none ∙ ap (λ b. refused_if_failed b v.channel.failed) abroad
+
+failed_before : (tells : Type 0) (call : Call) (old new : SessionValue) (answer : Answer) → refusal_of call old ≡ refused_if_failed false old.channel.failed → finishes call ≡ false → IsRefused tells call old new answer → HasFailedBefore old new answer
+failed_before tells call old new answer why goes_on refused =
+    let P : Refusal → Type 0 = λ r. Refuses r tells call old new answer in
+    go old.channel.failed refl (subst P why refused)
+  where
+    go : (b : Bool) → old.channel.failed ≡ b → Refuses (refused_if_failed false b) tells call old new answer → HasFailedBefore old new answer
+    go true failed refuses =
+        let Q : Bool → Type 0 = λ f. LeavesIf f tells old new in
+        record { failed = failed; is = refuses.0; unchanged = subst Q goes_on refuses.1 }
+    go false going refuses = absurd refuses
+
+-- a dialogue is made only where the session hasn't failed
+going_if : (failed : Bool) → refused_if_failed false failed ≡ Taken → failed ≡ false
+going_if true is = let clash : Failing ≡ Taken = is in cc
+going_if false is = refl
+
+converses : (link : Link) (coding : Coding) (call : Call) (tree : State → Tree) (old new : SessionValue) (answer : Answer) → refusal_of call old ≡ refused_if_failed false old.channel.failed → begun_by call old ≡ old → dialogue coding call old.state ≡ tree old.state → IsPlayed link coding call old new answer → Converses link (tree old.state) old new answer
+converses link coding call tree old new answer why begins same played =
+    let T : Tree → SessionValue → Type 0 = λ t v. Completes link t answer v played.last ⊎ Aborts link false t answer v played.last in
+    let P : SessionValue → Type 0 = λ v. T (dialogue coding call old.state) v in
+    let Q : Tree → Type 0 = λ t. T t old in
+    record { going = going_if old.channel.failed (sym why ∙ played.going); last = played.last; plays = subst Q same (subst P begins played.plays); lets_go = played.lets_go }
+
+-- a fault is no success
+no_success : (fault : FtpError) (answer : Answer) (s t : Standing) → played.Done (Fault fault) s ≡ played.Done answer t → IsSuccess answer → ⊥
+no_success fault answer s t is success =
+    let same : answer ≡ Fault fault = cc in
+    let P : Answer → Type 0 = IsSuccess in
+    subst P same success
+
+-- a dialogue that succeeded, on the wire
+ends_silent : (answer answer' : Answer) (state : State) (s t : Standing) → play Any (Leaf answer state) s ≡ played.Done answer' t → IsSilent s t
+ends_silent answer answer' state s t is =
+    let both : played.Done answer (record s { state = state }) ≡ played.Done answer' t = sym (play-Leaf Any answer state s) ∙ is in
+    let same : t ≡ record s { state = state } = cc in
+    (ap (λ x. x.said) same, ap (λ x. x.unsent) same, ap (λ x. x.bytes) same)
+
+heard_on_wire : (expected : Expected) (next : Result Response FtpError → Tree) (answer : Answer) (s t : Standing) → ((fault : FtpError) → (state : State) × (next (Err fault) ≡ Leaf (Fault fault) state)) → IsSuccess answer → ((reply : Response) (u : Standing) → play Any (next (Ok reply)) u ≡ played.Done answer t → OnWire (next (Ok reply)) u t) → play Any (Hear expected next) s ≡ played.Done answer t → OnWire (Hear expected next) s t
+heard_on_wire expected next answer s t stops success then_on_wire is = go (outcome s.rule expected.form s.bytes s.ended) refl (sym (play-Hear Any expected next s) ∙ is)
+  where
+    found : (fault : FtpError) (u : Standing) → play Any (next (Err fault)) u ≡ played.Done answer t → ⊥
+    found fault u done =
+        let P : Tree → Type 0 = λ x. play Any x u ≡ played.Done answer t in
+        no_success fault answer (record u { state = (stops fault).0 }) t (sym (play-Leaf Any (Fault fault) (stops fault).0 u) ∙ subst P (stops fault).1 done) success
+
+    go : (o : Outcome) → outcome s.rule expected.form s.bytes s.ended ≡ o → heard_then o expected s (λ heard u. play Any (next heard) u) ≡ played.Done answer t → OnWire (Hear expected next) s t
+    go (Whole body code) whole done =
+        let reply : Response = record { status = status_of code; body = body } in
+        let here : Standing = taken (left_by (Whole body code) s.bytes) s in
+        elim (is_among expected.statuses (status_of code)) as (λ b. is_among expected.statuses (status_of code) ≡ b → play Any (next (cond b (Ok reply) (Err (fault.UnexpectedResponse reply)))) here ≡ played.Done answer t → OnWire (Hear expected next) s t) [
+          | true ↦ λ among done. (reply, code, record { whole = whole; status = refl; accepted = among }, then_on_wire reply here done)
+          | false ↦ λ among done. absurd (found (fault.UnexpectedResponse reply) here done)
+        ] refl done
+    go (Bad line) whole done = absurd (found fault.BadResponse (taken (left_by (Bad line) s.bytes) s) done)
+    go TooLarge whole done = absurd (found (fault.ConnectionError connection.ReplyTooLarge) (record (taken (left_by TooLarge s.bytes) s) { failed = true }) done)
+    go Ended whole done = absurd (found (fault.ConnectionError connection.UnexpectedEof) (record (taken (left_by Ended s.bytes) s) { failed = true }) done)
+    go Waits whole done = cc done
+
+on_wire : (tree : Tree) (answer : Answer) (s t : Standing) → StopsAtFaults tree → IsSuccess answer → play Any tree s ≡ played.Done answer t → OnWire tree s t
+on_wire (Say (Ok line) next) answer s t stops success is = (line, refl, on_wire next answer (line_sent line s) t stops success (sym (play-Say Any line next s) ∙ is))
+on_wire (Say (Err cause) next) answer s t stops success is = absurd (no_success (fault.ConnectionError cause) answer s t (sym (play-Refused Any cause next s) ∙ is) success)
+on_wire (Hear expected next) answer s t stops success is = heard_on_wire expected next answer s t stops.0 success (λ reply u done. on_wire (next (Ok reply)) answer u t (stops.1 reply) success done) is
+on_wire (Look end next) answer s t stops success is = tt
+on_wire (Ask request next) answer s t stops success is = tt
+on_wire (Build address next) answer s t stops success is = tt
+on_wire (Move movement next) answer s t stops success is = tt
+on_wire (Leaf answer' state) answer s t stops success is = ends_silent answer' answer state s t is
+
+completes_on_wire : (link : Link) (tree : Tree) (answer : Answer) (old last new : SessionValue) → LetsGo link.tells last new → StopsAtFaults tree → IsSuccess answer → Completes link tree answer old last → SucceedsOnWire link tree old new
+completes_on_wire link tree answer old last new lets_go stops success done = record {
+  last = last;
+  lets_go = lets_go;
+  came = done.came;
+  answered = done.answered;
+  goes = done.goes;
+  wire = λ tells resumes.
+      let ended = last.channel.ended in
+      let is = done.plays tells resumes Any [] ended [] tt (record { nothing = λ e. refl; over = λ e. e }) in
+      let F : List ℕ → Standing = λ c. standing old c ended (outcomes_of done.answered ++ []) in
+      let G : List DealOutcome → Standing = λ o. standing old done.came ended o in
+      let P : Standing → Type 0 = λ s. play Any tree s ≡ played.Done answer (standing last [] ended []) in
+      on_wire tree answer (standing old done.came ended (outcomes_of done.answered)) (standing last [] ended []) stops success (subst P (ap F (append-nil done.came) ∙ ap G (append-nil (outcomes_of done.answered))) is);
+}
+
+-- a command by itself
+succeeds_on_wire : (link : Link) (tree : Tree) (old new : SessionValue) (answer : Answer) → StopsAtFaults tree → HasFailedBefore old new answer ⊎ Converses link tree old new answer ⊎ IsWithheld old new answer → IsSuccess answer → SucceedsOnWire link tree old new
+succeeds_on_wire link tree old new answer stops made success = go made
+  where
+    fault_is_none : (fault : FtpError) → answer ≡ Fault fault → ⊥
+    fault_is_none fault is = let P : Answer → Type 0 = IsSuccess in subst P is success
+
+    ends : (last : SessionValue) → LetsGo link.tells last new → Completes link tree answer old last ⊎ Aborts link false tree answer old last → SucceedsOnWire link tree old new
+    ends last lets_go (inl done) = completes_on_wire link tree answer old last new lets_go stops success done
+    ends last lets_go (inr aborts) = absurd (fault_is_none aborts.fault aborts.is)
+
+    go : HasFailedBefore old new answer ⊎ Converses link tree old new answer ⊎ IsWithheld old new answer → SucceedsOnWire link tree old new
+    go (inl failed) = absurd (fault_is_none fault.SessionFailed failed.is)
+    go (inr (inl converses)) = ends converses.last converses.lets_go converses.plays
+    go (inr (inr withheld)) = absurd (fault_is_none fault.OutOfMemory withheld.is)
+
+makes_command : (link : Link) (coding : Coding) (call : Call) (tree : State → Tree) (old new : SessionValue) (answer : Answer) → IsCommand coding call tree → PlaysAlone link coding call old new answer → MakesCommand link tree old new answer
+makes_command link coding call tree old new answer is alone = record {
+  wired = succeeds_on_wire link (tree old.state) old new answer (is.stops old.state) (made alone.made);
+  makes = record { made = made alone.made; fails = alone.fails };
+}
+  where
+    made : IsRefused link.tells call old new answer ⊎ IsPlayed link coding call old new answer ⊎ IsWithheld old new answer → HasFailedBefore old new answer ⊎ Converses link (tree old.state) old new answer ⊎ IsWithheld old new answer
+    made (inl refused) = inl (failed_before link.tells call old new answer (refusal_is call old is.sort.1 is.sort.2) is.sort.3 refused)
+    made (inr (inl played)) = inr (inl (converses link coding call tree old new answer (refusal_is call old is.sort.1 is.sort.2) (begun_plain call old is.sort.0 is.sort.3) (is.same old.state) played))
+    made (inr (inr withheld)) = inr (inr withheld)
+
+-- the last reply of a transfer that was left
+drain_replies : (coding : Coding) (state : State) (l : State → Tree) (heard : Result Response FtpError) → concluded coding Drains state l heard ≡ drain_reply state heard
+drain_replies coding state l (Ok reply) = refl
+drain_replies coding state l (Err fault) = refl
+
+drain_is : (coding : Coding) (state : State) → dialogue coding Drain state ≡ drain_tree state
+drain_is coding state = ap (λ next. Hear (expecting (ClosingDataConnection ∷ RequestedFileActionOk ∷ [])) next) (λ i r. drain_replies coding state (later coding Drain First) r i)
+
+-- it is due only where the session hasn't failed, and a transfer was left
+due_going : (failed none : Bool) → not (failed || none) ≡ true → failed ≡ false
+due_going true none due = let clash : false ≡ true = due in cc
+due_going false none due = refl
+
+due_left : (failed none : Bool) → not (failed || none) ≡ true → none ≡ false
+due_left true none due = let clash : false ≡ true = due in cc
+due_left false true due = let clash : false ≡ true = due in cc
+due_left false false due = refl
+
+-- so its read isn't refused
+drain_taken : (v : SessionValue) → is_reply_due v ≡ true → refusal_of Drain v ≡ refused_if_failed false v.channel.failed
+drain_taken v due =
+    let F : Bool → Refusal = λ b. cond b Lacking (refused_if_failed false v.channel.failed) in
+    ap F (due_left v.channel.failed (none_left v.state.counts.owed) due)
+
+drains_alone : (link : Link) (coding : Coding) (old new : SessionValue) (answer : Answer) → is_reply_due old ≡ true → PlaysAlone link coding Drain old new answer → MakesTree link (drain_tree old.state) old new answer
+drains_alone link coding old new answer due alone = record { made = made alone.made; fails = alone.fails }
+  where
+    why : refusal_of Drain old ≡ Taken
+    why = drain_taken old due ∙ ap (refused_if_failed false) (due_going old.channel.failed (none_left old.state.counts.owed) due)
+
+    made : IsRefused link.tells Drain old new answer ⊎ IsPlayed link coding Drain old new answer ⊎ IsWithheld old new answer → HasFailedBefore old new answer ⊎ Converses link (drain_tree old.state) old new answer ⊎ IsWithheld old new answer
+    made (inl refused) = let P : Refusal → Type 0 = λ r. Refuses r link.tells Drain old new answer in absurd (subst P why refused)
+    made (inr (inl played)) = inr (inl (converses link coding Drain drain_tree old new answer (drain_taken old due) refl (drain_is coding old.state) played))
+    made (inr (inr withheld)) = inr (inr withheld)
+
+-- a command, after that reply where it is due
+due_is : (call : Call) (v : SessionValue) → drains_first call ≡ true → due_of call v ≡ is_reply_due v
+due_is call v follows =
+    ap (λ d. cond (v.channel.failed || none_left v.state.counts.owed) false d) follows ∙ turned (v.channel.failed || none_left v.state.counts.owed)
+  where
+    turned : (b : Bool) → cond b false true ≡ not b
+    turned true = refl
+    turned false = refl
+
+pub plays_command : (link : Link) (coding : Coding) (call : Call) (tree : State → Tree) (mark after : Option End) (old new : SessionValue) (answer : Answer) → IsCommand coding call tree → PlaysSeen link coding call mark after old new answer → PlaysCommand link tree mark after old new answer
+plays_command link coding call tree mark after old new answer is seen =
+    let v = as_seen after old in
+    let P : Bool → Type 0 = λ b. DrainsIf b (PlaysAlone link coding) call v new answer in
+    record { looks = seen.looks; plays = go v (is_reply_due v) refl (subst P (due_is call v is.sort.4) seen.plays.makes) }
+  where
+    goes : (b : Bool) (first : Answer) (middle : SessionValue) → MakesAfter b first (PlaysAlone link coding call) middle new answer → MakesAfter b first (MakesCommand link tree) middle new answer
+    goes true first middle alone = makes_command link coding call tree middle new answer is alone
+    goes false first middle stops = stops
+
+    go : (v : SessionValue) (b : Bool) → is_reply_due v ≡ b → DrainsIf b (PlaysAlone link coding) call v new answer → FollowsIf b link tree v new answer
+    go v true due drains = record { middle = drains.middle; first = drains.first; drains = drains_alone link coding v drains.middle drains.first due drains.drains; then_makes = goes (is_unit drains.first) drains.first drains.middle drains.then_makes }
+    go v false due alone = makes_command link coding call tree v new answer is alone
+
+-- The other way: a method's clause says all that its call's says
+
+refused_as : (tells : Type 0) (call : Call) (old new : SessionValue) (answer : Answer) → refusal_of call old ≡ refused_if_failed false old.channel.failed → finishes call ≡ false → HasFailedBefore old new answer → IsRefused tells call old new answer
+refused_as tells call old new answer why goes_on failed =
+    let P : Refusal → Type 0 = λ r. Refuses r tells call old new answer in
+    let Q : Bool → Type 0 = λ f. LeavesIf f tells old new in
+    subst P (sym (why ∙ ap (refused_if_failed false) failed.failed)) (failed.is, subst Q (sym goes_on) failed.unchanged)
+
+played_as : (link : Link) (coding : Coding) (call : Call) (tree : State → Tree) (old new : SessionValue) (answer : Answer) → refusal_of call old ≡ refused_if_failed false old.channel.failed → is_local call ≡ false → begun_by call old ≡ old → dialogue coding call old.state ≡ tree old.state → Converses link (tree old.state) old new answer → IsPlayed link coding call old new answer
+played_as link coding call tree old new answer why abroad begins same converses =
+    let T : Tree → SessionValue → Type 0 = λ t v. Completes link t answer v converses.last ⊎ Aborts link false t answer v converses.last in
+    let P : SessionValue → Type 0 = λ v. T (dialogue coding call old.state) v in
+    let Q : Tree → Type 0 = λ t. T t old in
+    record {
+      going = why ∙ ap (refused_if_failed false) converses.going;
+      apart = λ local. (let clash : true ≡ false = sym local ∙ abroad in cc);
+      last = converses.last;
+      plays = subst P (sym begins) (subst Q (sym same) converses.plays);
+      lets_go = converses.lets_go;
+    }
+
+alone_as : (link : Link) (coding : Coding) (call : Call) (tree : State → Tree) (old new : SessionValue) (answer : Answer) → refusal_of call old ≡ refused_if_failed false old.channel.failed → is_local call ≡ false → finishes call ≡ false → begun_by call old ≡ old → dialogue coding call old.state ≡ tree old.state → MakesTree link (tree old.state) old new answer → PlaysAlone link coding call old new answer
+alone_as link coding call tree old new answer why abroad goes_on begins same makes = record { wired = λ success. wired_by success (made makes.made); made = made makes.made; fails = makes.fails }
+  where
+    made : HasFailedBefore old new answer ⊎ Converses link (tree old.state) old new answer ⊎ IsWithheld old new answer → IsRefused link.tells call old new answer ⊎ IsPlayed link coding call old new answer ⊎ IsWithheld old new answer
+    made (inl failed) = inl (refused_as link.tells call old new answer why goes_on failed)
+    made (inr (inl converses)) = inr (inl (played_as link coding call tree old new answer why abroad begins same converses))
+    made (inr (inr withheld)) = inr (inr withheld)
+
+    fault_is_none : (fault : FtpError) → IsSuccess answer → answer ≡ Fault fault → ⊥
+    fault_is_none fault success is = let P : Answer → Type 0 = IsSuccess in subst P is success
+
+    ends : IsSuccess answer → (last : SessionValue) → LetsGo link.tells last new → Completes link (dialogue coding call old.state) answer (begun_by call old) last ⊎ Aborts link false (dialogue coding call old.state) answer (begun_by call old) last → Wired link coding call old new
+    ends success last lets_go (inl done) = wired link coding call old last new lets_go answer done success
+    ends success last lets_go (inr aborts) = absurd (fault_is_none aborts.fault success aborts.is)
+
+    wired_by : IsSuccess answer → IsRefused link.tells call old new answer ⊎ IsPlayed link coding call old new answer ⊎ IsWithheld old new answer → Wired link coding call old new
+    wired_by success (inl refused) = absurd (fault_is_none fault.SessionFailed success (failed_before link.tells call old new answer why goes_on refused).is)
+    wired_by success (inr (inl played)) = ends success played.last played.lets_go played.plays
+    wired_by success (inr (inr withheld)) = absurd (fault_is_none fault.OutOfMemory success withheld.is)
+
+pub plays_seen : (link : Link) (coding : Coding) (call : Call) (tree : State → Tree) (mark after : Option End) (old new : SessionValue) (answer : Answer) → IsCommand coding call tree → PlaysCommand link tree mark after old new answer → PlaysSeen link coding call mark after old new answer
+plays_seen link coding call tree mark after old new answer is plays =
+    let v = as_seen after old in
+    let P : Bool → Type 0 = λ b. DrainsIf b (PlaysAlone link coding) call v new answer in
+    record { looks = plays.looks; plays = record { makes = subst P (sym (due_is call v is.sort.4)) (go v (is_reply_due v) refl plays.plays) } }
+  where
+    alone : (v : SessionValue) → MakesCommand link tree v new answer → PlaysAlone link coding call v new answer
+    alone v command = alone_as link coding call tree v new answer (refusal_is call v is.sort.1 is.sort.2) is.sort.1 is.sort.3 (begun_plain call v is.sort.0 is.sort.3) (is.same v.state) command.makes
+
+    goes : (b : Bool) (first : Answer) (middle : SessionValue) → MakesAfter b first (MakesCommand link tree) middle new answer → MakesAfter b first (PlaysAlone link coding call) middle new answer
+    goes true first middle command = alone middle command
+    goes false first middle stops = stops
+
+    go : (v : SessionValue) (b : Bool) → is_reply_due v ≡ b → FollowsIf b link tree v new answer → DrainsIf b (PlaysAlone link coding) call v new answer
+    go v true due follows = record { middle = follows.middle; first = follows.first; drains = alone_as link coding Drain drain_tree v follows.middle follows.first (drain_taken v due) refl refl refl (drain_is coding v.state) follows.drains; then_makes = goes (is_unit follows.first) follows.first follows.middle follows.then_makes }
+    go v false due command = alone v command

@@ -1,0 +1,189 @@
+-- The dialogue of each call of one command is the tree that its method names.
+use Rattle.std.proofs.Common.{◌≡◌, ℕ, [], ◌∷◌, List, Option, Bool, true, false, cond, eqb, Result, Ok, Err, refl, ap, ◌∙◌}
+use Rattle.std.specs.declared.net.socket_addr.SocketAddr.{SocketAddr}
+use Rattle.ftp_base.specs.Status.{code_of}
+use Rattle.ftp_base.specs.declared.status.Status.{Status}
+use Rattle.ftp_base.specs.declared.status.Status.TheVariants.{CommandOk, File, Closing, LoggedIn, RequestedFileActionOk, PathCreated, NeedPassword, RequestFilePending}
+use Rattle.ftp_base.specs.declared.types.file_type.FileType.{FileType}
+use Rattle.ftp_base.specs.declared.types.reply.Response.{Response}
+use Rattle.ftp_base.specs.declared.types.fault.FtpError.{FtpError}
+use Rattle.ftp_base.specs.declared.command.Command.{Command}
+use Rattle.ftp_base.specs.declared.command.Command.TheVariants as command
+use Rattle.ftp_base.specs.Command.{text_of}
+use Rattle.ftp_base.specs.Wire.{wire}
+use Rattle.ftp_answers.specs.Answers.{path_of, second_line_of, size_of, features_in}
+use Rattle.ftp_answers.specs.Times.{time_of}
+use Rattle.ftp_calls.specs.Exchanges.{is_ascii}
+use Rattle.ftp_calls.specs.declared.call.Call.{Call}
+use Rattle.ftp_calls.specs.declared.call.Call.TheVariants as call
+use Rattle.ftp_calls.specs.declared.call.Answer.{Answer}
+use Rattle.ftp_calls.specs.declared.call.Answer.TheVariants.{Unit, Reply}
+use Rattle.ftp_calls.specs.declared.exchange.Codes.{Codes}
+use Rattle.ftp_calls.specs.declared.exchange.Codes.TheVariants.{One, Either, Given, Features}
+use Rattle.ftp_calls.specs.declared.exchange.Ending.{Ending}
+use Rattle.ftp_calls.specs.declared.exchange.Ending.TheVariants as ending
+use Rattle.ftp_calls.specs.declared.exchange.Turn.TheVariants.{First}
+use Rattle.ftp_dialogue.specs.declared.state.State.{State}
+use Rattle.ftp_dialogue.specs.Coding.{Coding}
+use Rattle.ftp_dialogue.specs.Dialogue.{Tree, Say, Hear, Leaf, concluded, dialogue, expected_of, features_answer, later, line_answer, path_answer, size_answer, time_answer}
+use Rattle.ftp_session.specs.Trees.{cdup_tree, custom_tree, cwd_tree, eprt_tree, feat_tree, leading, login_tree, mdtm_tree, mkdir_tree, mlst_tree, noop_tree, opts_tree, pwd_tree, quit_tree, read_tree, rename_tree, replied, resume_tree, rm_tree, rmdir_tree, site_tree, size_tree, type_reply, type_tree, unit_reply, whole_reply}
+use Rattle.ftp_session.proofs.Commands.{IsCommand, IsOneCommand, StopsAtFaults}
+
+-- a command, and what is made of its reply
+abbrev pub said_and : Coding → Command → Codes → (Result Response FtpError → Tree) → Tree
+said_and coding command codes next = Say (wire coding.encode (text_of command)) (Hear (expected_of codes) next)
+
+same_next : (coding : Coding) (command : Command) (codes : Codes) (next other : Result Response FtpError → Tree) → ((heard : Result Response FtpError) → next heard ≡ other heard) → said_and coding command codes next ≡ said_and coding command codes other
+same_next coding command codes next other same = ap (said_and coding command codes) (λ i heard. same heard i)
+
+-- a call whose reply gives an answer
+replied_command : (coding : Coding) (call : Call) (command : Command) (codes : Codes) (how : Ending) (answer : Response → Answer) → IsOneCommand call → ((state : State) → dialogue coding call state ≡ said_and coding command codes (concluded coding how state (later coding call First))) → ((state : State) (l : State → Tree) (heard : Result Response FtpError) → concluded coding how state l heard ≡ replied answer state heard) → IsCommand coding call (λ state. said_and coding command codes (replied answer state))
+replied_command coding call command codes how answer sort is same = record {
+  sort = sort;
+  same = λ state. is state ∙ same_next coding command codes (concluded coding how state (later coding call First)) (replied answer state) (same state (later coding call First));
+  stops = λ state. (λ fault. (state, refl), λ reply. tt);
+}
+
+unit_replies : (coding : Coding) (state : State) (l : State → Tree) (heard : Result Response FtpError) → concluded coding ending.Done state l heard ≡ unit_reply state heard
+unit_replies coding state l (Ok reply) = refl
+unit_replies coding state l (Err fault) = refl
+
+whole_replies : (coding : Coding) (state : State) (l : State → Tree) (heard : Result Response FtpError) → concluded coding ending.GivesReply state l heard ≡ whole_reply state heard
+whole_replies coding state l (Ok reply) = refl
+whole_replies coding state l (Err fault) = refl
+
+-- Calls that give nothing
+
+unit_command : (coding : Coding) (call : Call) (command : Command) (codes : Codes) → IsOneCommand call → ((state : State) → dialogue coding call state ≡ said_and coding command codes (concluded coding ending.Done state (later coding call First))) → IsCommand coding call (λ state. said_and coding command codes (unit_reply state))
+unit_command coding call command codes sort is = replied_command coding call command codes ending.Done (λ reply. Unit) sort is (unit_replies coding)
+
+pub cwd_is : (coding : Coding) (path : List ℕ) → IsCommand coding (call.Cwd path) (cwd_tree coding path)
+cwd_is coding path = unit_command coding (call.Cwd path) (command.Cwd path) (Either CommandOk RequestedFileActionOk) (refl, refl, refl, refl, refl) (λ state. refl)
+
+pub cdup_is : (coding : Coding) → IsCommand coding call.Cdup (cdup_tree coding)
+cdup_is coding = unit_command coding call.Cdup command.Cdup (Either CommandOk RequestedFileActionOk) (refl, refl, refl, refl, refl) (λ state. refl)
+
+pub quit_is : (coding : Coding) → IsCommand coding call.Quit (quit_tree coding)
+quit_is coding = unit_command coding call.Quit command.Quit (One Closing) (refl, refl, refl, refl, refl) (λ state. refl)
+
+pub eprt_is : (coding : Coding) (address : SocketAddr) → IsCommand coding (call.Eprt address) (eprt_tree coding address)
+eprt_is coding address = unit_command coding (call.Eprt address) (command.Eprt address) (One CommandOk) (refl, refl, refl, refl, refl) (λ state. refl)
+
+pub noop_is : (coding : Coding) → IsCommand coding call.Noop (noop_tree coding)
+noop_is coding = unit_command coding call.Noop command.Noop (One CommandOk) (refl, refl, refl, refl, refl) (λ state. refl)
+
+pub opts_is : (coding : Coding) (name : List ℕ) (value : Option (List ℕ)) → IsCommand coding (call.Opts name value) (opts_tree coding name value)
+opts_is coding name value = unit_command coding (call.Opts name value) (command.Opts name value) (One CommandOk) (refl, refl, refl, refl, refl) (λ state. refl)
+
+pub mkdir_is : (coding : Coding) (path : List ℕ) → IsCommand coding (call.Mkdir path) (mkdir_tree coding path)
+mkdir_is coding path = unit_command coding (call.Mkdir path) (command.Mkd path) (Either PathCreated CommandOk) (refl, refl, refl, refl, refl) (λ state. refl)
+
+pub rmdir_is : (coding : Coding) (path : List ℕ) → IsCommand coding (call.Rmdir path) (rmdir_tree coding path)
+rmdir_is coding path = unit_command coding (call.Rmdir path) (command.Rmd path) (Either RequestedFileActionOk CommandOk) (refl, refl, refl, refl, refl) (λ state. refl)
+
+pub rm_is : (coding : Coding) (path : List ℕ) → IsCommand coding (call.Rm path) (rm_tree coding path)
+rm_is coding path = unit_command coding (call.Rm path) (command.Dele path) (Either RequestedFileActionOk CommandOk) (refl, refl, refl, refl, refl) (λ state. refl)
+
+-- Calls that give their reply
+
+reply_command : (coding : Coding) (call : Call) (command : Command) (codes : Codes) → IsOneCommand call → ((state : State) → dialogue coding call state ≡ said_and coding command codes (concluded coding ending.GivesReply state (later coding call First))) → IsCommand coding call (λ state. said_and coding command codes (whole_reply state))
+reply_command coding call command codes sort is = replied_command coding call command codes ending.GivesReply Reply sort is (whole_replies coding)
+
+pub site_is : (coding : Coding) (words : List ℕ) → IsCommand coding (call.Site words) (site_tree coding words)
+site_is coding words = reply_command coding (call.Site words) (command.Site words) (One CommandOk) (refl, refl, refl, refl, refl) (λ state. refl)
+
+pub custom_is : (coding : Coding) (line : List ℕ) (statuses : List Status) → IsCommand coding (call.CustomCommand line statuses) (custom_tree coding line statuses)
+custom_is coding line statuses = reply_command coding (call.CustomCommand line statuses) (command.Custom line) (Given statuses) (refl, refl, refl, refl, refl) (λ state. refl)
+
+-- Reads of one reply, and a setting
+
+read_is : (coding : Coding) (call : Call) (codes : Codes) → IsOneCommand call → ((state : State) → dialogue coding call state ≡ Hear (expected_of codes) (concluded coding ending.GivesReply state (later coding call First))) → IsCommand coding call (λ state. Hear (expected_of codes) (whole_reply state))
+read_is coding call codes sort is = record {
+  sort = sort;
+  same = λ state. is state ∙ ap (λ next. Hear (expected_of codes) next) (λ i heard. whole_replies coding state (later coding call First) heard i);
+  stops = λ state. (λ fault. (state, refl), λ reply. tt);
+}
+
+pub read_one_is : (coding : Coding) (status : Status) → IsCommand coding (call.ReadResponse status) (read_tree (status ∷ []))
+read_one_is coding status = read_is coding (call.ReadResponse status) (One status) (refl, refl, refl, refl, refl) (λ state. refl)
+
+pub read_in_is : (coding : Coding) (statuses : List Status) → IsCommand coding (call.ReadResponseIn statuses) (read_tree statuses)
+read_in_is coding statuses = read_is coding (call.ReadResponseIn statuses) (Given statuses) (refl, refl, refl, refl, refl) (λ state. refl)
+
+pub resume_is : (coding : Coding) (offset : ℕ) → IsCommand coding (call.ResumeTransfer offset) (resume_tree offset)
+resume_is coding offset = record { sort = (refl, refl, refl, refl, refl); same = λ state. refl; stops = λ state. tt }
+
+-- Calls whose answer is in the reply's text
+
+pub pwd_is : (coding : Coding) → IsCommand coding call.Pwd (pwd_tree coding)
+pwd_is coding = replied_command coding call.Pwd command.Pwd (One PathCreated) ending.GivesPath (λ reply. path_answer reply (path_of coding.decode reply.body)) (refl, refl, refl, refl, refl) (λ state. refl) replies
+  where
+    replies : (state : State) (l : State → Tree) (heard : Result Response FtpError) → concluded coding ending.GivesPath state l heard ≡ replied (λ reply. path_answer reply (path_of coding.decode reply.body)) state heard
+    replies state l (Ok reply) = refl
+    replies state l (Err fault) = refl
+
+pub mlst_is : (coding : Coding) (path : Option (List ℕ)) → IsCommand coding (call.Mlst path) (mlst_tree coding path)
+mlst_is coding path = replied_command coding (call.Mlst path) (command.Mlst path) (One RequestedFileActionOk) ending.GivesSecondLine (λ reply. line_answer (second_line_of coding.decode reply.body)) (refl, refl, refl, refl, refl) (λ state. refl) replies
+  where
+    replies : (state : State) (l : State → Tree) (heard : Result Response FtpError) → concluded coding ending.GivesSecondLine state l heard ≡ replied (λ reply. line_answer (second_line_of coding.decode reply.body)) state heard
+    replies state l (Ok reply) = refl
+    replies state l (Err fault) = refl
+
+pub mdtm_is : (coding : Coding) (path : List ℕ) → IsCommand coding (call.Mdtm path) (mdtm_tree coding path)
+mdtm_is coding path = replied_command coding (call.Mdtm path) (command.Mdtm path) (One File) ending.GivesTime (λ reply. time_answer (time_of reply.body)) (refl, refl, refl, refl, refl) (λ state. refl) replies
+  where
+    replies : (state : State) (l : State → Tree) (heard : Result Response FtpError) → concluded coding ending.GivesTime state l heard ≡ replied (λ reply. time_answer (time_of reply.body)) state heard
+    replies state l (Ok reply) = refl
+    replies state l (Err fault) = refl
+
+pub size_is : (coding : Coding) (path : List ℕ) → IsCommand coding (call.Size path) (size_tree coding path)
+size_is coding path = replied_command coding (call.Size path) (command.Size path) (One File) ending.GivesSize (λ reply. size_answer (size_of reply.body)) (refl, refl, refl, refl, refl) (λ state. refl) replies
+  where
+    replies : (state : State) (l : State → Tree) (heard : Result Response FtpError) → concluded coding ending.GivesSize state l heard ≡ replied (λ reply. size_answer (size_of reply.body)) state heard
+    replies state l (Ok reply) = refl
+    replies state l (Err fault) = refl
+
+pub feat_is : (coding : Coding) → IsCommand coding call.Feat (feat_tree coding)
+feat_is coding = replied_command coding call.Feat command.Feat Features ending.GivesFeatures (λ reply. features_answer (features_in reply.body)) (refl, refl, refl, refl, refl) (λ state. refl) replies
+  where
+    replies : (state : State) (l : State → Tree) (heard : Result Response FtpError) → concluded coding ending.GivesFeatures state l heard ≡ replied (λ reply. features_answer (features_in reply.body)) state heard
+    replies state l (Ok reply) = refl
+    replies state l (Err fault) = refl
+
+-- A type of data
+
+pub type_is : (coding : Coding) (kind : FileType) → IsCommand coding (call.TransferType kind) (type_tree coding kind)
+type_is coding kind = record {
+  sort = (refl, refl, refl, refl, refl);
+  same = λ state. same_next coding (command.TransferType kind) (One CommandOk) (concluded coding (ending.SetsText (is_ascii kind)) state (later coding (call.TransferType kind) First)) (type_reply kind state) (replies state (later coding (call.TransferType kind) First));
+  stops = λ state. (λ fault. (state, refl), λ reply. tt);
+}
+  where
+    replies : (state : State) (l : State → Tree) (heard : Result Response FtpError) → concluded coding (ending.SetsText (is_ascii kind)) state l heard ≡ type_reply kind state heard
+    replies state l (Ok reply) = refl
+    replies state l (Err fault) = refl
+
+-- Two commands, the second after a reply that leads to it
+
+leads : (coding : Coding) (status : Status) (state : State) (l : State → Tree) (next : Tree) → l state ≡ next → (heard : Result Response FtpError) → concluded coding (ending.GoesOn status) state l heard ≡ leading status next state heard
+leads coding status state l next same (Ok reply) = ap (λ tree. cond (eqb (code_of reply.status) (code_of status)) tree (Leaf Unit state)) same
+leads coding status state l next same (Err fault) = refl
+
+leading_command : (coding : Coding) (called : Call) (first second : Command) (codes last : Codes) (status : Status) → IsOneCommand called → ((state : State) → dialogue coding called state ≡ said_and coding first codes (concluded coding (ending.GoesOn status) state (later coding called First))) → ((state : State) → later coding called First state ≡ said_and coding second last (concluded coding ending.Done state (λ s. Leaf Unit s))) → IsCommand coding called (λ state. said_and coding first codes (leading status (said_and coding second last (unit_reply state)) state))
+leading_command coding called first second codes last status sort is then = record {
+  sort = sort;
+  same = λ state.
+      let next = then state ∙ same_next coding second last (concluded coding ending.Done state (λ s. Leaf Unit s)) (unit_reply state) (unit_replies coding state (λ s. Leaf Unit s)) in
+      is state ∙ same_next coding first codes (concluded coding (ending.GoesOn status) state (later coding called First)) (leading status (said_and coding second last (unit_reply state)) state) (leads coding status state (later coding called First) (said_and coding second last (unit_reply state)) next);
+  stops = λ state. (λ fault. (state, refl), λ reply. ends state (eqb (code_of reply.status) (code_of status)));
+}
+  where
+    ends : (state : State) (b : Bool) → StopsAtFaults (cond b (said_and coding second last (unit_reply state)) (Leaf Unit state))
+    ends state true = (λ fault. (state, refl), λ reply. tt)
+    ends state false = tt
+
+pub login_is : (coding : Coding) (user password : List ℕ) → IsCommand coding (call.Login user password) (login_tree coding user password)
+login_is coding user password = leading_command coding (call.Login user password) (command.User user) (command.Pass password) (Either LoggedIn NeedPassword) (One LoggedIn) NeedPassword (refl, refl, refl, refl, refl) (λ state. refl) (λ state. refl)
+
+pub rename_is : (coding : Coding) (one other : List ℕ) → IsCommand coding (call.Rename one other) (rename_tree coding one other)
+rename_is coding one other = leading_command coding (call.Rename one other) (command.RenameFrom one) (command.RenameTo other) (One RequestFilePending) (Either RequestedFileActionOk CommandOk) RequestFilePending (refl, refl, refl, refl, refl) (λ state. refl) (λ state. refl)
