@@ -49,8 +49,8 @@ Polls C = record { tells : Type 0; told : C → Told; end_faults : ErrorKind →
 abbrev pub blocking : {C : Type 0} → Blocks C → Link
 blocking c = link c.tells c.blocking_read_faults c.blocking_write_faults c.end_faults
 
-abbrev pub polled : {C : Type 0} → Polls C → Link
-polled c = link c.tells c.read_faults c.write_faults c.end_faults
+abbrev pub polling : {C : Type 0} → Polls C → Link
+polling c = link c.tells c.read_faults c.write_faults c.end_faults
 
 -- the same connection, beside a builder; its requests may wait, or not
 abbrev pub asking : Builds → Type 0 → Link → Link

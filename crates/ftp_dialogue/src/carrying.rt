@@ -8,7 +8,7 @@ ghost use Rattle.ftp_calls.specs.declared.exchange.Movement.TheVariants as movem
 ghost use Rattle.ftp_dialogue.specs.Coding.{Coding};
 ghost use Rattle.ftp_dialogue.specs.Deals.{MovementIs, ReadIs, WriteIs, answers};
 ghost use Rattle.ftp_dialogue.specs.Dialogue.{moved_answer, told_of_close};
-ghost use Rattle.ftp_dialogue.specs.Link.{asking, polled};
+ghost use Rattle.ftp_dialogue.specs.Link.{asking, polling};
 ghost use Rattle.ftp_dialogue.specs.Play.{Taken, lacks};
 ghost use Rattle.ftp_dialogue.specs.Promises.{IsRefused, LeavesIf, refusal_of};
 ghost use Rattle.ftp_dialogue.specs.Steps.Moving.{Carries, CarriesOut, Sets, Walks};
@@ -95,7 +95,7 @@ impl<Tr: Network> Machine<Tr> {
         requires finishes { finishes _call.now ≡ true }
         ensures end { self.new.channel.ended ≡ self.old.channel.ended }
         ensures walks { (coding : Coding) →
-            Walks (asking (A.builds _asker.now) A.may_wait (polled Tr.Conn.PollConn)) coding _call.now
+            Walks (asking (A.builds _asker.now) A.may_wait (polling Tr.Conn.PollConn)) coding _call.now
             Stage.Closing stage.new self.old self.new result }
     {
         let outcome = self.close_data();

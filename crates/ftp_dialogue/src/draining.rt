@@ -9,7 +9,7 @@ ghost use Rattle.futures.specs.declared.task.Poll.TheVariants as poll;
 ghost use Rattle.ftp_calls.specs.Exchanges.{is_local, negotiates, of_transfer};
 ghost use Rattle.ftp_dialogue.specs.Coding.{coding_of};
 ghost use Rattle.ftp_dialogue.specs.Dialogue.{expecting};
-ghost use Rattle.ftp_dialogue.specs.Link.{asking, blocking, polled};
+ghost use Rattle.ftp_dialogue.specs.Link.{asking, blocking, polling};
 ghost use Rattle.ftp_dialogue.specs.Play.{is_unit};
 ghost use Rattle.ftp_dialogue.specs.Promises.{GivesFault, due_of};
 ghost use Rattle.ftp_dialogue.specs.Reading.{PollsDrain, PollsRead, ReadsAlone, drain_told, due_before_read};
@@ -83,7 +83,7 @@ impl<Tr: Network> Machine<Tr> {
         ensures waits { result ≡ poll.Pending → Tr.Conn.may_wait }
         ensures fails { self.new.channel.failed ≡ true →
             (self.old.channel.failed ≡ true) ⊎ GivesFault result }
-        ensures reads { PollsRead (polled Tr.Conn.PollConn) (coding_of E.decoded E.encoded encoding.now) (expecting expected.now)
+        ensures reads { PollsRead (polling Tr.Conn.PollConn) (coding_of E.decoded E.encoded encoding.now) (expecting expected.now)
             self.old self.new result }
     {
         if self.is_due_before_read() {
@@ -114,7 +114,7 @@ impl<Tr: Network> Machine<Tr> {
         Tr::Conn: PollConn<W>,
         requires due { due_before_read self.old ≡ true }
         ensures waits { result ≡ poll.Pending → Tr.Conn.may_wait }
-        ensures drains { PollsDrain (polled Tr.Conn.PollConn) (coding_of E.decoded E.encoded encoding.now)
+        ensures drains { PollsDrain (polling Tr.Conn.PollConn) (coding_of E.decoded E.encoded encoding.now)
             self.old self.new result }
     {
         let mut stage = self.enter(&Call::Drain);
@@ -143,7 +143,7 @@ impl<Tr: Network> Machine<Tr> {
         ensures waits { result ≡ poll.Pending → Tr.Conn.may_wait }
         ensures fails { self.new.channel.failed ≡ true →
             (self.old.channel.failed ≡ true) ⊎ GivesFault result }
-        ensures reads { ReadsAlone (polled Tr.Conn.PollConn) (expecting expected.now)
+        ensures reads { ReadsAlone (polling Tr.Conn.PollConn) (expecting expected.now)
             self.old self.new result }
     {
         if self.channel.failed() {

@@ -11,7 +11,7 @@ ghost use Rattle.ftp_transport.specs.Told.{EndsAsTold};
 ghost use Rattle.ftp_dialogue.specs.Coding.{Coding, coding_of};
 ghost use Rattle.ftp_calls.specs.declared.exchange.Task.TheVariants as tasks;
 ghost use Rattle.ftp_dialogue.specs.Dialogue.{closed_as, fault_or, fetched, first_fault, too_long, unfetched};
-ghost use Rattle.ftp_dialogue.specs.Link.{asking, polled};
+ghost use Rattle.ftp_dialogue.specs.Link.{asking, polling};
 ghost use Rattle.ftp_dialogue.specs.Steps.Moving.{BreaksOff, EndsFetch, Follows, Grows};
 ghost use Rattle.ftp_dialogue.specs.Steps.Stages.{FetchOf, MayFetch};
 
@@ -59,7 +59,7 @@ impl<Tr: Network> Machine<Tr> {
         ensures waits { result ≡ Step.Pending → Tr.Conn.may_wait ⊎ A.may_wait }
         ensures end { Tr.Conn.tells → Tr.Conn.may_wait →
             EndsAsTold self.old.channel.ended self.new.channel.ended self.old.channel.told }
-        ensures breaks { BreaksOff (asking (A.builds asker.now) A.may_wait (polled Tr.Conn.PollConn)) (coding_of E.decoded E.encoded encoding.now) call.now
+        ensures breaks { BreaksOff (asking (A.builds asker.now) A.may_wait (polling Tr.Conn.PollConn)) (coding_of E.decoded E.encoded encoding.now) call.now
             (Stage.Fetching fetching) stage.new self.old self.new result }
     {
         match fetching {
@@ -99,7 +99,7 @@ impl<Tr: Network> Machine<Tr> {
         requires of { MayFetch _call.now form }
         ensures moves { result ≡ Step.Pending → ⊥ }
         ensures end { self.new.channel.ended ≡ self.old.channel.ended }
-        ensures breaks { (coding : Coding) → BreaksOff (asking (A.builds _asker.now) A.may_wait (polled Tr.Conn.PollConn)) coding _call.now
+        ensures breaks { (coding : Coding) → BreaksOff (asking (A.builds _asker.now) A.may_wait (polling Tr.Conn.PollConn)) coding _call.now
             (Stage.Fetching (Fetching.Starting (tasks.Fetch form))) stage.new self.old self.new result }
     {
         let none = Gathered::new(alloc);
@@ -130,7 +130,7 @@ impl<Tr: Network> Machine<Tr> {
         requires may { A.may_ask }
         ensures waits { result ≡ Step.Pending → A.may_wait }
         ensures end { self.new.channel.ended ≡ self.old.channel.ended }
-        ensures breaks { BreaksOff (asking (A.builds asker.now) A.may_wait (polled Tr.Conn.PollConn)) (coding_of E.decoded E.encoded encoding.now) _call.now
+        ensures breaks { BreaksOff (asking (A.builds asker.now) A.may_wait (polling Tr.Conn.PollConn)) (coding_of E.decoded E.encoded encoding.now) _call.now
             (Stage.Fetching (Fetching.Gathering form left gathered)) stage.new self.old self.new result }
     {
         if left == 0 {
@@ -178,7 +178,7 @@ impl<Tr: Network> Machine<Tr> {
         requires held { is_none self.old.net.data_conn ≡ false }
         requires may { A.may_ask }
         ensures end { self.new.channel.ended ≡ self.old.channel.ended }
-        ensures grows { Grows (asking (A.builds asker.now) A.may_wait (polled Tr.Conn.PollConn)) gathered.old gathered.new self.old self.new result }
+        ensures grows { Grows (asking (A.builds asker.now) A.may_wait (polling Tr.Conn.PollConn)) gathered.old gathered.new self.old self.new result }
     {
         let Some(conn) = &mut self.data_conn else {
             unreachable!();
@@ -201,7 +201,7 @@ impl<Tr: Network> Machine<Tr> {
         requires of { FetchOf _call.now (Fetching.Parting form answer) }
         ensures moves { result ≡ Step.Pending → ⊥ }
         ensures end { self.new.channel.ended ≡ self.old.channel.ended }
-        ensures breaks { (coding : Coding) → BreaksOff (asking (A.builds _asker.now) A.may_wait (polled Tr.Conn.PollConn)) coding _call.now
+        ensures breaks { (coding : Coding) → BreaksOff (asking (A.builds _asker.now) A.may_wait (polling Tr.Conn.PollConn)) coding _call.now
             (Stage.Fetching (Fetching.Parting form answer)) stage.new self.old self.new result }
     {
         let outcome = self.close_data();
@@ -232,7 +232,7 @@ impl<Tr: Network> Machine<Tr> {
         ensures waits { result ≡ Step.Pending → Tr.Conn.may_wait }
         ensures end { Tr.Conn.tells → Tr.Conn.may_wait →
             EndsAsTold self.old.channel.ended self.new.channel.ended self.old.channel.told }
-        ensures breaks { (coding : Coding) → BreaksOff (asking (A.builds asker.now) A.may_wait (polled Tr.Conn.PollConn)) coding _call.now
+        ensures breaks { (coding : Coding) → BreaksOff (asking (A.builds asker.now) A.may_wait (polling Tr.Conn.PollConn)) coding _call.now
             (Stage.Fetching (Fetching.Ending form answer)) stage.new self.old self.new result }
     {
         let codes = [Status::ClosingDataConnection, Status::RequestedFileActionOk];

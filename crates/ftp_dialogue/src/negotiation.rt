@@ -8,7 +8,7 @@ ghost use Rattle.std.specs.Prelude.{◌≡◌, true, false};
 ghost use Rattle.ftp_calls.specs.Exchanges.{negotiates};
 ghost use Rattle.ftp_dialogue.specs.Coding.{Coding};
 ghost use Rattle.ftp_dialogue.specs.Dialogue.{Here, There, at_port};
-ghost use Rattle.ftp_dialogue.specs.Link.{asking, polled};
+ghost use Rattle.ftp_dialogue.specs.Link.{asking, polling};
 ghost use Rattle.ftp_dialogue.specs.Promises.{failed_from};
 ghost use Rattle.ftp_dialogue.specs.Steps.Moving.{ConnectsTo, LetsIn, LooksUp, Meets, TurnsAway, Walks};
 ghost use Rattle.ftp_dialogue.specs.Steps.Stages.{OpeningOf, WayOf, first_by};
@@ -46,7 +46,7 @@ impl<Tr: Network> Machine<Tr> {
         requires way { WayOf call.now agreeing }
         ensures end { self.new.channel.ended ≡ self.old.channel.ended }
         ensures walks { (coding : Coding) →
-            Walks (asking (A.builds asker.now) A.may_wait (polled Tr.Conn.PollConn)) coding call.now
+            Walks (asking (A.builds asker.now) A.may_wait (polling Tr.Conn.PollConn)) coding call.now
             (Stage.Agreeing agreeing) stage.new self.old self.new result }
     {
         match agreeing {
@@ -83,7 +83,7 @@ impl<Tr: Network> Machine<Tr> {
         requires opens { negotiates call.now ≡ true }
         ensures end { self.new.channel.ended ≡ self.old.channel.ended }
         ensures walks { (coding : Coding) →
-            Walks (asking (A.builds _asker.now) A.may_wait (polled Tr.Conn.PollConn)) coding call.now
+            Walks (asking (A.builds _asker.now) A.may_wait (polling Tr.Conn.PollConn)) coding call.now
             (Stage.Agreeing (Agreeing.Negotiating offset)) stage.new self.old self.new result }
     {
         match self.state.counts.cannot_open() {
@@ -112,7 +112,7 @@ impl<Tr: Network> Machine<Tr> {
         requires opens { negotiates _call.now ≡ true }
         ensures end { self.new.channel.ended ≡ self.old.channel.ended }
         ensures walks { (coding : Coding) →
-            Walks (asking (A.builds asker.now) A.may_wait (polled Tr.Conn.PollConn)) coding _call.now
+            Walks (asking (A.builds asker.now) A.may_wait (polling Tr.Conn.PollConn)) coding _call.now
             (Stage.Agreeing (Agreeing.Locating offset)) stage.new self.old self.new result }
     {
         match self.look_here(asker, w) {
@@ -143,7 +143,7 @@ impl<Tr: Network> Machine<Tr> {
         requires may { A.may_ask }
         ensures end { self.new.channel.ended ≡ self.old.channel.ended }
         ensures walks { (coding : Coding) →
-            Walks (asking (A.builds asker.now) A.may_wait (polled Tr.Conn.PollConn)) coding _call.now
+            Walks (asking (A.builds asker.now) A.may_wait (polling Tr.Conn.PollConn)) coding _call.now
             (Stage.Agreeing (Agreeing.Binding local offset)) stage.new self.old self.new result }
     {
         match self.ask_to_listen(asker, at_port(0, local), w) {
@@ -178,7 +178,7 @@ impl<Tr: Network> Machine<Tr> {
         requires opens { negotiates _call.now ≡ true }
         ensures end { self.new.channel.ended ≡ self.old.channel.ended }
         ensures walks { (coding : Coding) →
-            Walks (asking (A.builds asker.now) A.may_wait (polled Tr.Conn.PollConn)) coding _call.now
+            Walks (asking (A.builds asker.now) A.may_wait (polling Tr.Conn.PollConn)) coding _call.now
             (Stage.Agreeing (Agreeing.Asking turn (Asking.PeerPort port))) stage.new self.old self.new result }
     {
         match self.look_there(asker, w) {
@@ -210,7 +210,7 @@ impl<Tr: Network> Machine<Tr> {
         requires may { A.may_ask }
         ensures end { self.new.channel.ended ≡ self.old.channel.ended }
         ensures walks { (coding : Coding) →
-            Walks (asking (A.builds asker.now) A.may_wait (polled Tr.Conn.PollConn)) coding call.now
+            Walks (asking (A.builds asker.now) A.may_wait (polling Tr.Conn.PollConn)) coding call.now
             (Stage.Agreeing (Agreeing.Asking turn (Asking.Connection address))) stage.new self.old self.new result }
     {
         if self.state.settings.stream_builder {
@@ -238,7 +238,7 @@ impl<Tr: Network> Machine<Tr> {
         requires alone { self.old.state.settings.stream_builder ≡ false }
         ensures end { self.new.channel.ended ≡ self.old.channel.ended }
         ensures walks { (coding : Coding) →
-            Walks (asking (A.builds asker.now) A.may_wait (polled Tr.Conn.PollConn)) coding call.now
+            Walks (asking (A.builds asker.now) A.may_wait (polling Tr.Conn.PollConn)) coding call.now
             (Stage.Agreeing (Agreeing.Asking turn (Asking.Connection address))) stage.new self.old self.new result }
     {
         match self.ask_to_connect(asker, address, w) {
@@ -272,7 +272,7 @@ impl<Tr: Network> Machine<Tr> {
         requires beside { self.old.state.settings.stream_builder ≡ true }
         ensures end { self.new.channel.ended ≡ self.old.channel.ended }
         ensures walks { (coding : Coding) →
-            Walks (asking (A.builds asker.now) A.may_wait (polled Tr.Conn.PollConn)) coding call.now
+            Walks (asking (A.builds asker.now) A.may_wait (polling Tr.Conn.PollConn)) coding call.now
             (Stage.Agreeing (Agreeing.Asking turn (Asking.Connection address))) stage.new self.old self.new result }
     {
         match self.ask_to_build(asker, address, w) {
@@ -299,7 +299,7 @@ impl<Tr: Network> Machine<Tr> {
         requires opened { OpeningOf _call.now opened }
         ensures end { self.new.channel.ended ≡ self.old.channel.ended }
         ensures walks { (coding : Coding) →
-            Walks (asking (A.builds asker.now) A.may_wait (polled Tr.Conn.PollConn)) coding _call.now
+            Walks (asking (A.builds asker.now) A.may_wait (polling Tr.Conn.PollConn)) coding _call.now
             (Stage.Agreeing (Agreeing.Asking turn (Asking.Peer opened))) stage.new self.old self.new result }
     {
         match self.look_there(asker, w) {
@@ -335,7 +335,7 @@ impl<Tr: Network> Machine<Tr> {
         requires opened { OpeningOf _call.now opened }
         ensures end { self.new.channel.ended ≡ self.old.channel.ended }
         ensures walks { (coding : Coding) →
-            Walks (asking (A.builds asker.now) A.may_wait (polled Tr.Conn.PollConn)) coding _call.now
+            Walks (asking (A.builds asker.now) A.may_wait (polling Tr.Conn.PollConn)) coding _call.now
             (Stage.Agreeing (Agreeing.Asking turn (Asking.Accepting peer left opened))) stage.new self.old self.new result }
     {
         match self.ask_to_accept(asker, w) {
@@ -438,7 +438,7 @@ impl<Tr: Network> Machine<Tr> {
         Tr::Conn: PollConn<W>,
         requires going { self.old.channel.failed ≡ false }
         ensures end { self.new.channel.ended ≡ self.old.channel.ended }
-        ensures looks { LooksUp (asking (A.builds _asker.now) A.may_wait (polled Tr.Conn.PollConn)) Here self.old self.new result }
+        ensures looks { LooksUp (asking (A.builds _asker.now) A.may_wait (polling Tr.Conn.PollConn)) Here self.old self.new result }
     {
         self.channel.local_addr()
     }
@@ -453,7 +453,7 @@ impl<Tr: Network> Machine<Tr> {
         Tr::Conn: PollConn<W>,
         requires going { self.old.channel.failed ≡ false }
         ensures end { self.new.channel.ended ≡ self.old.channel.ended }
-        ensures looks { LooksUp (asking (A.builds _asker.now) A.may_wait (polled Tr.Conn.PollConn)) There self.old self.new result }
+        ensures looks { LooksUp (asking (A.builds _asker.now) A.may_wait (polling Tr.Conn.PollConn)) There self.old self.new result }
     {
         self.channel.peer_addr()
     }

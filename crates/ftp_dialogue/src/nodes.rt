@@ -11,7 +11,7 @@ ghost use Rattle.ftp_transport.specs.Told.{EndsAsTold};
 ghost use Rattle.ftp_dialogue.specs.Coding.{Coding, coding_of};
 ghost use Rattle.ftp_dialogue.specs.Dialogue.{Tree, drain_answer, expected_of, expecting, opened_answer};
 ghost use Rattle.ftp_dialogue.specs.declared.state.State.{State as States};
-ghost use Rattle.ftp_dialogue.specs.Link.{asking, polled};
+ghost use Rattle.ftp_dialogue.specs.Link.{asking, polling};
 ghost use Rattle.ftp_dialogue.specs.Steps.Moving.{Accepts, AnswersAs, FaultLeaves, Hears, SaysNode, TakesLine, done_as, step_of, wants_memory};
 
 use super::answers::{features_answer, line_answer, path_answer, size_answer, time_answer};
@@ -47,9 +47,9 @@ impl<Tr: Network> Machine<Tr> {
             (fault : Faults) × (answer ≡ Answer.Fault fault) }
         ensures end { Tr.Conn.tells → Tr.Conn.may_wait →
             EndsAsTold self.old.channel.ended self.new.channel.ended self.old.channel.told }
-        ensures takes { TakesLine (asking (A.builds _asker.now) A.may_wait (polled Tr.Conn.PollConn)) line.old line.new self.old
+        ensures takes { TakesLine (asking (A.builds _asker.now) A.may_wait (polling Tr.Conn.PollConn)) line.old line.new self.old
             self.new result }
-        ensures says { SaysNode (asking (A.builds _asker.now) A.may_wait (polled Tr.Conn.PollConn)) line.old line.new self.old self.new result }
+        ensures says { SaysNode (asking (A.builds _asker.now) A.may_wait (polling Tr.Conn.PollConn)) line.old line.new self.old self.new result }
     {
         step_of(self.channel.poll_perform(line, w))
     }
@@ -74,7 +74,7 @@ impl<Tr: Network> Machine<Tr> {
         ensures end { Tr.Conn.tells → Tr.Conn.may_wait →
             EndsAsTold self.old.channel.ended self.new.channel.ended self.old.channel.told }
         ensures hears { (next : Result Heard Faults → Tree) →
-            Hears (asking (A.builds asker.now) A.may_wait (polled Tr.Conn.PollConn)) (expecting expected.now) next self.old self.new result }
+            Hears (asking (A.builds asker.now) A.may_wait (polling Tr.Conn.PollConn)) (expecting expected.now) next self.old self.new result }
     {
         self.hear_reply_of(asker, alloc, form_of(expected), expected, w)
     }
@@ -96,7 +96,7 @@ impl<Tr: Network> Machine<Tr> {
         ensures end { Tr.Conn.tells → Tr.Conn.may_wait →
             EndsAsTold self.old.channel.ended self.new.channel.ended self.old.channel.told }
         ensures hears { (next : Result Heard Faults → Tree) →
-            Hears (asking (A.builds _asker.now) A.may_wait (polled Tr.Conn.PollConn)) (record { form = form; statuses = expected.now })
+            Hears (asking (A.builds _asker.now) A.may_wait (polling Tr.Conn.PollConn)) (record { form = form; statuses = expected.now })
             next self.old self.new result }
     {
         self.channel.poll_read_reply(alloc, form, expected, w)
@@ -118,7 +118,7 @@ impl<Tr: Network> Machine<Tr> {
         ensures end { Tr.Conn.tells → Tr.Conn.may_wait →
             EndsAsTold self.old.channel.ended self.new.channel.ended self.old.channel.told }
         ensures hears { (next : Result Heard Faults → Tree) →
-            Hears (asking (A.builds asker.now) A.may_wait (polled Tr.Conn.PollConn)) (expected_of codes.now) next self.old self.new result }
+            Hears (asking (A.builds asker.now) A.may_wait (polling Tr.Conn.PollConn)) (expected_of codes.now) next self.old self.new result }
     {
         match codes {
             Codes::One(status) => self.hear(asker, alloc, &[*status], w),

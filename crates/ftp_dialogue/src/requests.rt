@@ -4,7 +4,7 @@
 
 ghost use Rattle.std.specs.Prelude.{◌≡◌, None};
 ghost use Rattle.ftp_transport.specs.declared.request.Request.TheVariants.{Accept, Connect, Listen};
-ghost use Rattle.ftp_dialogue.specs.Link.{asking, polled};
+ghost use Rattle.ftp_dialogue.specs.Link.{asking, polling};
 ghost use Rattle.ftp_dialogue.specs.Steps.Moving.{AsksFor, BuildsFor};
 
 use super::asks::Asks;
@@ -28,7 +28,7 @@ impl<Tr: Network> Machine<Tr> {
         Tr::Conn: PollConn<W>,
         requires may { A.may_ask }
         ensures end { self.new.channel.ended ≡ self.old.channel.ended }
-        ensures asks { AsksFor (asking (A.builds asker.now) A.may_wait (polled Tr.Conn.PollConn)) (Connect address None) self.old self.new result }
+        ensures asks { AsksFor (asking (A.builds asker.now) A.may_wait (polling Tr.Conn.PollConn)) (Connect address None) self.old self.new result }
     {
         if self.transport.make_room().is_err() {
             return Poll::Ready(Err(AllocError));
@@ -57,7 +57,7 @@ impl<Tr: Network> Machine<Tr> {
         Tr::Conn: PollConn<W>,
         requires may { A.may_ask }
         ensures end { self.new.channel.ended ≡ self.old.channel.ended }
-        ensures builds { BuildsFor (asking (A.builds asker.now) A.may_wait (polled Tr.Conn.PollConn)) address self.old self.new result }
+        ensures builds { BuildsFor (asking (A.builds asker.now) A.may_wait (polling Tr.Conn.PollConn)) address self.old self.new result }
     {
         if self.transport.make_room().is_err() {
             return Err(AllocError);
@@ -86,7 +86,7 @@ impl<Tr: Network> Machine<Tr> {
         Tr::Conn: PollConn<W>,
         requires may { A.may_ask }
         ensures end { self.new.channel.ended ≡ self.old.channel.ended }
-        ensures asks { AsksFor (asking (A.builds asker.now) A.may_wait (polled Tr.Conn.PollConn)) (Listen address) self.old self.new result }
+        ensures asks { AsksFor (asking (A.builds asker.now) A.may_wait (polling Tr.Conn.PollConn)) (Listen address) self.old self.new result }
     {
         match asker.listen(&mut self.transport, w, address) {
             Poll::Ready(Ok(Ok((listener, bound)))) => {
@@ -110,7 +110,7 @@ impl<Tr: Network> Machine<Tr> {
         Tr::Conn: PollConn<W>,
         requires may { A.may_ask }
         ensures end { self.new.channel.ended ≡ self.old.channel.ended }
-        ensures asks { AsksFor (asking (A.builds asker.now) A.may_wait (polled Tr.Conn.PollConn)) (Accept self.old.state.settings.active_deadline) self.old self.new result }
+        ensures asks { AsksFor (asking (A.builds asker.now) A.may_wait (polling Tr.Conn.PollConn)) (Accept self.old.state.settings.active_deadline) self.old self.new result }
     {
         let Some(listener) = &mut self.listener else {
             return Poll::Ready(Err(AllocError));

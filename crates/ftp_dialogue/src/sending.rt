@@ -7,7 +7,7 @@ ghost use Rattle.ftp_calls.specs.declared.exchange.Fetch.TheVariants.{Whole};
 ghost use Rattle.ftp_calls.specs.declared.exchange.Task.TheVariants.{Store};
 ghost use Rattle.ftp_dialogue.specs.Coding.{Coding};
 ghost use Rattle.ftp_dialogue.specs.Dialogue.{with_abandoned};
-ghost use Rattle.ftp_dialogue.specs.Link.{asking, polled};
+ghost use Rattle.ftp_dialogue.specs.Link.{asking, polling};
 ghost use Rattle.ftp_dialogue.specs.Steps.Moving.{BreaksOff, Sends};
 ghost use Rattle.ftp_dialogue.specs.Steps.Stages.{MayFetch};
 
@@ -38,7 +38,7 @@ impl<Tr: Network> Machine<Tr> {
         requires of { MayFetch _call.now Whole }
         ensures moves { result ≡ Step.Pending → ⊥ }
         ensures end { self.new.channel.ended ≡ self.old.channel.ended }
-        ensures breaks { (coding : Coding) → BreaksOff (asking (A.builds _asker.now) A.may_wait (polled Tr.Conn.PollConn)) coding _call.now
+        ensures breaks { (coding : Coding) → BreaksOff (asking (A.builds _asker.now) A.may_wait (polling Tr.Conn.PollConn)) coding _call.now
             (Stage.Fetching (Fetching.Starting (Store bytes))) stage.new self.old self.new result }
     {
         let text = self.state.settings.text;
@@ -73,7 +73,7 @@ impl<Tr: Network> Machine<Tr> {
         requires may { A.may_ask }
         ensures waits { result ≡ Step.Pending → A.may_wait }
         ensures end { self.new.channel.ended ≡ self.old.channel.ended }
-        ensures breaks { (coding : Coding) → BreaksOff (asking (A.builds asker.now) A.may_wait (polled Tr.Conn.PollConn)) coding _call.now
+        ensures breaks { (coding : Coding) → BreaksOff (asking (A.builds asker.now) A.may_wait (polling Tr.Conn.PollConn)) coding _call.now
             (Stage.Fetching (Fetching.Sending left total unsent)) stage.new self.old self.new result }
     {
         if unsent.is_empty() {
@@ -123,7 +123,7 @@ impl<Tr: Network> Machine<Tr> {
         requires may { A.may_ask }
         ensures end { self.new.channel.ended ≡ self.old.channel.ended }
         ensures state { self.new.state ≡ self.old.state }
-        ensures sends { Sends (asking (A.builds asker.now) A.may_wait (polled Tr.Conn.PollConn)) unsent.old unsent.new self.old self.new result }
+        ensures sends { Sends (asking (A.builds asker.now) A.may_wait (polling Tr.Conn.PollConn)) unsent.old unsent.new self.old self.new result }
     {
         let Some(conn) = &mut self.data_conn else {
             unreachable!();

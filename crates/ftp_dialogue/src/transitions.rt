@@ -9,7 +9,7 @@ ghost use Rattle.ftp_transport.specs.Told.{EndsAsTold};
 ghost use Rattle.ftp_dialogue.specs.Coding.{Coding, coding_of};
 ghost use Rattle.ftp_dialogue.specs.Dialogue.{Tree, armed, dialogue};
 ghost use Rattle.ftp_calls.specs.Exchanges.{finishes, is_local, is_read, negotiates};
-ghost use Rattle.ftp_dialogue.specs.Link.{asking, blocking, polled};
+ghost use Rattle.ftp_dialogue.specs.Link.{asking, blocking, polling};
 ghost use Rattle.ftp_dialogue.specs.Play.{Lacking};
 ghost use Rattle.ftp_dialogue.specs.Promises.{HasFault, Rests, begun_by, refusal_of};
 ghost use Rattle.ftp_dialogue.specs.Steps.Polls.{MayPollAt, RefusesFrom, StageIn, StartsTo, entered_at, entered_stage, entered_state, entered_tree, first_stage, is_first, polled_answer};
@@ -56,16 +56,16 @@ impl<Tr: Network> Machine<Tr> {
         ensures answers { StepAnswers call.now result }
         ensures fewer { result ≡ Step.Next → nodes_left stage.new < nodes_left stage.old }
         ensures steps { let coding = coding_of E.decoded E.encoded encoding.now in
-            Steps (asking (A.builds asker.now) A.may_wait (polled Tr.Conn.PollConn)) (begun_at stage.old)
+            Steps (asking (A.builds asker.now) A.may_wait (polling Tr.Conn.PollConn)) (begun_at stage.old)
             (remaining coding call.now self.old.state stage.old)
             (remaining coding call.now self.old.state stage.new) self.old self.new result }
-        ensures quiet { Quiet (asking (A.builds asker.now) A.may_wait (polled Tr.Conn.PollConn)) (coding_of E.decoded E.encoded encoding.now) call.now stage.old
+        ensures quiet { Quiet (asking (A.builds asker.now) A.may_wait (polling Tr.Conn.PollConn)) (coding_of E.decoded E.encoded encoding.now) call.now stage.old
             stage.new self.old self.new result }
         ensures begun { let coding = coding_of E.decoded E.encoded encoding.now in
-            Tracks (asking (A.builds asker.now) A.may_wait (polled Tr.Conn.PollConn)) (begun_at stage.old) (begun_at stage.new)
+            Tracks (asking (A.builds asker.now) A.may_wait (polling Tr.Conn.PollConn)) (begun_at stage.old) (begun_at stage.new)
             (remaining coding call.now self.old.state stage.old) self.old self.new result }
         ensures rests { result ≡ Step.Pending → is_read call.now ≡ true →
-            Rests (asking (A.builds asker.now) A.may_wait (polled Tr.Conn.PollConn)) self.old self.new }
+            Rests (asking (A.builds asker.now) A.may_wait (polling Tr.Conn.PollConn)) self.old self.new }
     {
         match mem::replace(stage, Stage::At(Turn::First)) {
             Stage::At(turn) => self.begin_exchange(alloc, encoding, call, turn, stage),
@@ -146,11 +146,11 @@ impl<Tr: Network> Machine<Tr> {
         ensures answers { (call : Call) → StepAnswers call result }
         ensures fewer { result ≡ Step.Next →
             nodes_left stage.new < nodes_left (Stage.Saying line awaits) }
-        ensures steps { (coding : Coding) (call : Call) → Steps (asking (A.builds asker.now) A.may_wait (polled Tr.Conn.PollConn))
+        ensures steps { (coding : Coding) (call : Call) → Steps (asking (A.builds asker.now) A.may_wait (polling Tr.Conn.PollConn))
             (begun_at (Stage.Saying line awaits)) (remaining coding call self.old.state (Stage.Saying line awaits))
             (remaining coding call self.old.state stage.new) self.old self.new result }
         ensures goes_on { result ≡ Step.Next → begun_at stage.new ≡ true }
-        ensures begun { (tree : Tree) → Tracks (asking (A.builds asker.now) A.may_wait (polled Tr.Conn.PollConn)) (begun_at (Stage.Saying line awaits))
+        ensures begun { (tree : Tree) → Tracks (asking (A.builds asker.now) A.may_wait (polling Tr.Conn.PollConn)) (begun_at (Stage.Saying line awaits))
             (begun_at stage.new) tree self.old self.new result }
     {
         match self.say(asker, &mut line, w) {
@@ -193,14 +193,14 @@ impl<Tr: Network> Machine<Tr> {
         ensures fewer { result ≡ Step.Next →
             nodes_left stage.new < nodes_left (Stage.Hearing awaits) }
         ensures steps { let coding = coding_of E.decoded E.encoded encoding.now in
-            Steps (asking (A.builds asker.now) A.may_wait (polled Tr.Conn.PollConn)) awaits.begun
+            Steps (asking (A.builds asker.now) A.may_wait (polling Tr.Conn.PollConn)) awaits.begun
             (remaining coding call.now self.old.state (Stage.Hearing awaits))
             (remaining coding call.now self.old.state stage.new) self.old self.new result }
         ensures goes_on { result ≡ Step.Next → begun_at stage.new ≡ true }
         ensures begun { let coding = coding_of E.decoded E.encoded encoding.now in
-            Tracks (asking (A.builds asker.now) A.may_wait (polled Tr.Conn.PollConn)) awaits.begun (begun_at stage.new)
+            Tracks (asking (A.builds asker.now) A.may_wait (polling Tr.Conn.PollConn)) awaits.begun (begun_at stage.new)
             (remaining coding call.now self.old.state (Stage.Hearing awaits)) self.old self.new result }
-        ensures rests { result ≡ Step.Pending → Rests (asking (A.builds asker.now) A.may_wait (polled Tr.Conn.PollConn)) self.old self.new }
+        ensures rests { result ≡ Step.Pending → Rests (asking (A.builds asker.now) A.may_wait (polling Tr.Conn.PollConn)) self.old self.new }
     {
         match self.hear_codes(asker, alloc, &awaits.hears, w) {
             Poll::Ready(Ok(reply)) => self.accept_reply(
@@ -300,13 +300,13 @@ impl<Tr: Network> Machine<Tr> {
             EndsAsTold self.old.channel.ended self.new.channel.ended self.old.channel.told }
         ensures answers { PollAnswers call.now result }
         ensures rests { result ≡ poll.Pending → is_read call.now ≡ true →
-            Rests (asking (A.builds asker.now) A.may_wait (polled Tr.Conn.PollConn)) self.old self.new }
+            Rests (asking (A.builds asker.now) A.may_wait (polling Tr.Conn.PollConn)) self.old self.new }
         ensures begun { result ≡ poll.Pending →
             let coding = coding_of E.decoded E.encoded encoding.now in
-            HasBegun (asking (A.builds asker.now) A.may_wait (polled Tr.Conn.PollConn)) (begun_at stage.old) (begun_at stage.new)
+            HasBegun (asking (A.builds asker.now) A.may_wait (polling Tr.Conn.PollConn)) (begun_at stage.old) (begun_at stage.new)
             (remaining coding call.now self.old.state stage.old) self.old self.new }
         ensures polls { let coding = coding_of E.decoded E.encoded encoding.now in
-            PollSteps (asking (A.builds asker.now) A.may_wait (polled Tr.Conn.PollConn)) (begun_at stage.old)
+            PollSteps (asking (A.builds asker.now) A.may_wait (polling Tr.Conn.PollConn)) (begun_at stage.old)
             (remaining coding call.now self.old.state stage.old)
             (remaining coding call.now self.old.state stage.new) self.old self.new result }
     {
@@ -419,7 +419,7 @@ impl<Tr: Network> Machine<Tr> {
         requires may { negotiates call.now ≡ true → A.may_ask }
         requires channel { is_local call.now ≡ false }
         ensures stage { result ≡ poll.Pending → StageOf call.now stage.new }
-        ensures starts { StartsTo (asking (A.builds asker.now) A.may_wait (polled Tr.Conn.PollConn)) Tr.Conn.may_wait (coding_of E.decoded E.encoded encoding.now) call.now stage.old
+        ensures starts { StartsTo (asking (A.builds asker.now) A.may_wait (polling Tr.Conn.PollConn)) Tr.Conn.may_wait (coding_of E.decoded E.encoded encoding.now) call.now stage.old
             stage.new self.old self.new result }
     {
         if let Some(answer) = self.refuse_at(call, stage) {
@@ -473,15 +473,15 @@ impl<Tr: Network> Machine<Tr> {
         requires going { self.old.channel.failed ≡ false }
         ensures stage { result ≡ poll.Pending → StageOf call.now stage.new }
         ensures polls { let coding = coding_of E.decoded E.encoded encoding.now in
-            PollsTo (asking (A.builds asker.now) A.may_wait (polled Tr.Conn.PollConn)) (begun_at stage.old)
+            PollsTo (asking (A.builds asker.now) A.may_wait (polling Tr.Conn.PollConn)) (begun_at stage.old)
             (entered_tree coding call.now stage.old self.old.state)
             (remaining coding call.now (entered_state call.now stage.old self.old.state) stage.new)
             (entered_at call.now stage.old self.old) self.new result }
         ensures rests { result ≡ poll.Pending → is_read call.now ≡ true →
-            Rests (asking (A.builds asker.now) A.may_wait (polled Tr.Conn.PollConn)) self.old self.new }
+            Rests (asking (A.builds asker.now) A.may_wait (polling Tr.Conn.PollConn)) self.old self.new }
         ensures begun { result ≡ poll.Pending →
             let coding = coding_of E.decoded E.encoded encoding.now in
-            HasBegun (asking (A.builds asker.now) A.may_wait (polled Tr.Conn.PollConn)) (begun_at stage.old) (begun_at stage.new)
+            HasBegun (asking (A.builds asker.now) A.may_wait (polling Tr.Conn.PollConn)) (begun_at stage.old) (begun_at stage.new)
             (entered_tree coding call.now stage.old self.old.state) (entered_at call.now stage.old self.old) self.new }
         ensures fails { self.new.channel.failed ≡ true → (self.old.channel.failed ≡ true) ⊎ HasFault (polled_answer result) }
         ensures end { Tr.Conn.tells → Tr.Conn.may_wait →

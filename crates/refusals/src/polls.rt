@@ -3,7 +3,7 @@
 ghost use Rattle.std.specs.Prelude.{◌≡◌, ◌⊎◌, IfOk, IfErr, OnErr};
 ghost use Rattle.ftp_dialogue.specs.Coding.{chosen};
 ghost use Rattle.ftp_session.specs.Handed.{LooksIf, as_seen, watches};
-ghost use Rattle.ftp_dialogue.specs.Link.{asking, built_by, polled};
+ghost use Rattle.ftp_dialogue.specs.Link.{asking, built_by, polling};
 ghost use Rattle.ftp_dialogue.specs.Promises.{FailsWith};
 ghost use Rattle.ftp_session.specs.Polled.{PollsCall};
 ghost use Rattle.ftp_runs.specs.Scripted.{IsScripted, Stops};
@@ -55,7 +55,7 @@ pub fn poll_call<Tr: Network, K: Drop, E: Encoding, B: PassiveStreamBuilder<Tr::
 where
     Tr: PollTransport<R, W>,
     Tr::Conn: PollConn<W>,
-    ensures polls { PollsCall (asking (built_by B.answers session.old.builder) (Tr.PollTransport.may_wait ⊎ Tr.Conn.PollConn.may_wait) (polled Tr.Conn.PollConn)) Tr.Conn.PollConn.may_wait (chosen E.decoded E.encoded session.old.encoding.0)
+    ensures polls { PollsCall (asking (built_by B.answers session.old.builder) (Tr.PollTransport.may_wait ⊎ Tr.Conn.PollConn.may_wait) (polling Tr.Conn.PollConn)) Tr.Conn.PollConn.may_wait (chosen E.decoded E.encoded session.old.encoding.0)
         polled.old polled.new session.old.mark session.new.mark session.old.machine session.new.machine result }
     ensures encoding { session.new.encoding ≡ session.old.encoding }
     ensures builder { session.new.builder ≡ session.old.builder }

@@ -2,8 +2,7 @@
 //!
 //! A method copies its texts into a `Call` and hands it to the machine; what the call says and hears is its row in
 //! `ftp_calls::exchange`. Where the copy finds no memory nothing has happened. The contract of each names its own
-//! dialogue, a tree of `specs/Trees.antt`: what is sent, which statuses are accepted, and what is made of the reply; and
-//! says that the method is this dialogue (`PlaysCommand`).
+//! dialogue, a tree of `specs/Trees.antt`, and says that the method is this dialogue (`PlaysCommand`).
 
 ghost use Rattle.std.specs.Prelude.{◌≡◌, [], ◌∷◌, IfOk, option_map};
 ghost use Rattle.ftp_calls.specs.declared.call.Answer.TheVariants.{Fault};

@@ -7,7 +7,7 @@
 ghost use Rattle.std.specs.Prelude.{◌≡◌, ◌⊎◌, Some, true, false};
 ghost use Rattle.futures.specs.declared.task.Poll.TheVariants as poll;
 ghost use Rattle.ftp_dialogue.specs.Coding.{chosen, coding_of};
-ghost use Rattle.ftp_dialogue.specs.Link.{asking, built_by, polled};
+ghost use Rattle.ftp_dialogue.specs.Link.{asking, built_by, polling};
 ghost use Rattle.ftp_dialogue.specs.Steps.Polls.{StageIn, StartsTo};
 ghost use Rattle.ftp_dialogue.specs.Steps.Stages.{StageOf};
 ghost use Rattle.ftp_calls.specs.Exchanges.{is_local};
@@ -111,7 +111,7 @@ impl<Tr: Network, K: Drop, E: Encoding, B: PassiveStreamBuilder<Tr::Conn>> Sessi
     where
         Tr: PollTransport<R, W>,
         Tr::Conn: PollConn<W>,
-        ensures polls { PollsCall (asking (built_by B.answers self.old.builder) (Tr.PollTransport.may_wait ⊎ Tr.Conn.PollConn.may_wait) (polled Tr.Conn.PollConn)) Tr.Conn.PollConn.may_wait (chosen E.decoded E.encoded self.old.encoding.0)
+        ensures polls { PollsCall (asking (built_by B.answers self.old.builder) (Tr.PollTransport.may_wait ⊎ Tr.Conn.PollConn.may_wait) (polling Tr.Conn.PollConn)) Tr.Conn.PollConn.may_wait (chosen E.decoded E.encoded self.old.encoding.0)
             polled.old polled.new self.old.mark self.new.mark self.old.machine self.new.machine result }
         ensures encoding { self.new.encoding ≡ self.old.encoding }
         ensures builder { self.new.builder ≡ self.old.builder }
@@ -183,7 +183,7 @@ where
     requires stage { StageIn (Some call.now) stage.old }
     requires channel { is_local call.now ≡ false }
     ensures stage { result ≡ poll.Pending → StageIn (Some call.now) stage.new }
-    ensures polls { PollsNext (asking (built_by B.answers builder.now) (Tr.PollTransport.may_wait ⊎ Tr.Conn.PollConn.may_wait) (polled Tr.Conn.PollConn)) Tr.Conn.PollConn.may_wait (coding_of E.decoded E.encoded encoding.now) call.now stage.old
+    ensures polls { PollsNext (asking (built_by B.answers builder.now) (Tr.PollTransport.may_wait ⊎ Tr.Conn.PollConn.may_wait) (polling Tr.Conn.PollConn)) Tr.Conn.PollConn.may_wait (coding_of E.decoded E.encoded encoding.now) call.now stage.old
         stage.new machine.old machine.new result }
 {
     if machine.is_due(call) {
@@ -211,7 +211,7 @@ fn poll_drain<Tr: Network, R, W, E: Encoding, B: PassiveStreamBuilder<Tr::Conn>>
 where
     Tr: PollTransport<R, W>,
     Tr::Conn: PollConn<W>,
-    ensures polls { (at : Stage) × StartsTo (asking (built_by B.answers builder.now) (Tr.PollTransport.may_wait ⊎ Tr.Conn.PollConn.may_wait) (polled Tr.Conn.PollConn)) Tr.Conn.PollConn.may_wait (coding_of E.decoded E.encoded encoding.now) Call.Drain
+    ensures polls { (at : Stage) × StartsTo (asking (built_by B.answers builder.now) (Tr.PollTransport.may_wait ⊎ Tr.Conn.PollConn.may_wait) (polling Tr.Conn.PollConn)) Tr.Conn.PollConn.may_wait (coding_of E.decoded E.encoded encoding.now) Call.Drain
         (Stage.At Turn.First) at machine.old machine.new result }
 {
     let mut stage = Stage::At(Turn::First);

@@ -7,7 +7,7 @@ ghost use Rattle.std.specs.Prelude.{◌⊎◌, ◌≡◌, true, [], ◌∷◌};
 ghost use Rattle.futures.specs.declared.task.Poll.TheVariants as poll;
 ghost use Rattle.ftp_dialogue.specs.Coding.{chosen};
 ghost use Rattle.ftp_dialogue.specs.Dialogue.{expecting};
-ghost use Rattle.ftp_dialogue.specs.Link.{polled};
+ghost use Rattle.ftp_dialogue.specs.Link.{polling};
 ghost use Rattle.ftp_dialogue.specs.Promises.{GivesFault};
 ghost use Rattle.ftp_session.specs.Handed.{ReadsSeen};
 
@@ -36,7 +36,7 @@ impl<Tr: Network, K: Drop, E: Encoding, B: Drop> Session<Tr, K, E, B> {
     ) -> Poll<FtpResult<Response>>
     where
         Tr::Conn: PollConn<W>,
-        ensures reads { ReadsSeen (polled Tr.Conn.PollConn) (chosen E.decoded E.encoded self.old.encoding.0) (expecting expected.now)
+        ensures reads { ReadsSeen (polling Tr.Conn.PollConn) (chosen E.decoded E.encoded self.old.encoding.0) (expecting expected.now)
             self.old.mark self.new.mark self.old.machine self.new.machine result }
         ensures waits { result ≡ poll.Pending → Tr.Conn.may_wait }
         ensures fails { self.new.machine.channel.failed ≡ true →
@@ -60,7 +60,7 @@ impl<Tr: Network, K: Drop, E: Encoding, B: Drop> Session<Tr, K, E, B> {
     ) -> Poll<FtpResult<Response>>
     where
         Tr::Conn: PollConn<W>,
-        ensures reads { ReadsSeen (polled Tr.Conn.PollConn) (chosen E.decoded E.encoded self.old.encoding.0) (expecting (expected ∷ []))
+        ensures reads { ReadsSeen (polling Tr.Conn.PollConn) (chosen E.decoded E.encoded self.old.encoding.0) (expecting (expected ∷ []))
             self.old.mark self.new.mark self.old.machine self.new.machine result }
         ensures waits { result ≡ poll.Pending → Tr.Conn.may_wait }
         ensures fails { self.new.machine.channel.failed ≡ true →
