@@ -3,9 +3,9 @@
 use ftp_base::types::ConnectionError;
 use ftp_transport::{Conn, Network, TcpConn, TcpConnListener, TcpTransport, Tells, Transport};
 use std::io::{ErrorKind, Write};
-use std::net::{Net, SocketAddr, TcpListener, TcpStream};
+use std::net::{Net, Shutdown, SocketAddr, TcpListener, TcpStream};
 use std::test::Fail;
-use std::time::{Clock, Duration};
+use std::time::{Clock, Duration, Instant};
 use std::{io, thread};
 
 /// A listener on the loopback address, at any port.
@@ -26,6 +26,16 @@ where
     stream.write_all(b"ping")?;
     let local = stream.local_addr()?;
     Ok((local, io::read_to_string(rt.alloc(), stream)?))
+}
+
+/// A peer that connects, says that it sends nothing, and reads to the end: what it read.
+fn half_close<R>(rt: &R, address: SocketAddr) -> io::Result<String>
+where
+    R: Net<Stream = TcpStream> + AllocGlobal,
+{
+    let stream = TcpStream::connect(rt, address)?;
+    stream.shutdown(Shutdown::Write)?;
+    io::read_to_string(rt.alloc(), stream)
 }
 
 #[test]
@@ -78,6 +88,48 @@ fn nobody_comes_before_the_deadline(rt: HostRuntime) -> Result<(), Fail> {
     let _late = TcpStream::connect(&rt, bound)?;
     let made = TcpTransport.accept(&rt, &mut listener, limit)?;
     assert_eq!(rt; made.err(), Some(ConnectionError::TimedOut));
+    Ok(())
+}
+
+#[test]
+fn a_deadline_is_counted_from_the_first_accept(rt: HostRuntime) -> Result<(), Fail> {
+    let (mut listener, bound) = listening(&rt)?;
+    let limit = Duration::from_millis(200);
+    let start = Instant::now(&rt)?;
+    let _first = TcpStream::connect(&rt, bound)?;
+    drop(TcpTransport.accept(&rt, &mut listener, limit)??);
+    thread::sleep(&rt, Duration::from_millis(150));
+    let made = TcpTransport.accept(&rt, &mut listener, limit)?;
+    let taken = start.elapsed(&rt)?;
+    assert_eq!(rt; made.err(), Some(ConnectionError::TimedOut));
+    assert!(rt; taken >= limit);
+    assert!(rt; taken < Duration::from_millis(340), "{taken:?}");
+    Ok(())
+}
+
+#[test]
+fn a_reset_is_an_error_and_no_end_of_data(rt: HostRuntime) -> Result<(), Fail> {
+    let (mut listener, bound) = listening(&rt)?;
+    let mut conn = TcpConn::new(TcpStream::connect(&rt, bound)?);
+    let (far, _peer) = TcpTransport.accept(&rt, &mut listener, Duration::from_secs(5))??;
+    assert_eq!(rt; conn.write(b"unread")?, 6);
+    // a socket that is closed with bytes unread resets its connection (RFC 9293, section 3.6.1)
+    drop(far);
+    let mut buffer = [0u8; 8];
+    assert_eq!(rt; conn.read(&mut buffer), Err(ErrorKind::ConnectionReset));
+    Ok(())
+}
+
+#[test]
+fn a_half_close_ends_the_input_and_lets_writes_go_on(rt: HostRuntime) -> Result<(), Fail> {
+    let (mut listener, bound) = listening(&rt)?;
+    let peer = thread::spawn(&rt, move || half_close(&rt, bound))?;
+    let (mut conn, _address) = TcpTransport.accept(&rt, &mut listener, Duration::from_secs(5))??;
+    let mut buffer = [0u8; 8];
+    assert_eq!(rt; conn.read(&mut buffer)?, 0);
+    assert_eq!(rt; conn.write(b"pong")?, 4);
+    conn.close()?;
+    assert_eq!(rt; peer.join(&rt)?.as_str(), "pong");
     Ok(())
 }
 

@@ -11,6 +11,7 @@ use std::io::{Read, Write};
 use std::net::{Net, TcpListener, TcpStream};
 use std::sync::Wait;
 use std::test::Fail;
+use std::thread::Threads;
 use std::time::Clock;
 use std::{io, thread};
 
@@ -119,6 +120,34 @@ fn an_upload_arrives_whole_and_lines_with_their_returns(rt: HostRuntime) -> Resu
         let arrived = serving.join(&rt)?;
         assert_eq!(rt; (answer, arrived), due, "{count} bytes");
     }
+    Ok(())
+}
+
+/// Receives a file to its end, and only then says that it has come.
+fn receive_first(data: &TcpListener, mut control: TcpStream) -> io::Result<usize> {
+    let count = receive(data)?;
+    control.write_all(b"226 done\r\n")?;
+    Ok(count)
+}
+
+/// What an upload of a few bytes answers whose server sends the last reply only once the data connection has ended.
+fn finished<R>(rt: &R, data: TcpListener, port: u16) -> Result<(u64, usize), Fail>
+where
+    R: Net<Listener = TcpListener, Stream = TcpStream> + Clock + Wait + Threads + AllocGlobal,
+{
+    let (high, low) = (port / 256, port % 256);
+    let told = format!(in rt.alloc(); "227 ok (127,0,0,2,{high},{low})\r\n150 ok\r\n")?;
+    let (mut session, server) = connected(rt, Mode::Passive, &told)?;
+    let serving = thread::spawn(rt, move || receive_first(&data, server))?;
+    let mut source = b"abc".as_slice();
+    let count = session.put_file(rt.alloc(), rt, "a", &mut source)?;
+    Ok((count, serving.join(rt)?))
+}
+
+#[test]
+fn an_upload_ends_its_data_before_its_last_reply_comes(rt: HostRuntime) -> Result<(), Fail> {
+    let (data, port) = data_listener(&rt)?;
+    assert_eq!(rt; finished(&rt, data, port)?, (3, 3));
     Ok(())
 }
 

@@ -75,3 +75,27 @@ fn a_closed_connection_is_not_connected(rt: HostRuntime) -> Result<(), Fail> {
     assert_eq!(rt; peer.read(&mut [0u8; 1])?, 0);
     Ok(())
 }
+
+#[test]
+fn a_reset_is_an_error_and_no_end_of_data(rt: HostRuntime) -> Result<(), Fail> {
+    let runtime = LocalRuntime::new(&rt)?;
+    let (mut conn, peer) = pair(&rt, runtime.handle().reactor())?;
+    assert_eq!(rt; conn.poll_write(&mut (), b"unread"), Ok(Poll::Ready(6)));
+    // a socket that is closed with bytes unread resets its connection (RFC 9293, section 3.6.1)
+    drop(peer);
+    let mut byte = [0u8; 1];
+    assert_eq!(rt;
+        conn.poll_read(&mut (), &mut byte),
+        Err(ErrorKind::ConnectionReset)
+    );
+    Ok(())
+}
+
+#[test]
+fn the_ends_of_a_connection_are_those_of_its_peer(rt: HostRuntime) -> Result<(), Fail> {
+    let runtime = LocalRuntime::new(&rt)?;
+    let (mut conn, peer) = pair(&rt, runtime.handle().reactor())?;
+    assert_eq!(rt; conn.local_addr(), Ok(peer.peer_addr()?));
+    assert_eq!(rt; conn.peer_addr(), Ok(peer.local_addr()?));
+    Ok(())
+}
