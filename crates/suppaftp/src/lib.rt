@@ -3,7 +3,7 @@
 //! [`FtpStream`] is the blocking client, a session under a lock, and is where to begin; [`AsyncFtpStream`] is the polled
 //! one, whose calls are futures; `session::Session` is the session itself, for a program of one thread. The other crates'
 //! modules are gathered here, each under its own name, so that a program needs one dependency: `list` reads the lines of
-//! listings, and `FtpError` is what calls fail with.
+//! listings, and `FtpError` is what calls fail with. What the crates below have for one another isn't given again.
 #![tactic(auto)]
 
 pub mod polled_ftp;
@@ -14,12 +14,11 @@ pub use ftp_answers as answers;
 pub use ftp_base::encoding::{Encoding, Utf8Encoding};
 pub use ftp_base::status::Status;
 pub use ftp_base::types::{ActivePeerCheck, FtpError, FtpResult, Mode, ReplyTooLarge};
-pub use ftp_base::{ascii, command, encoding, laws, retry, status, types};
-pub use ftp_calls::{active, call, exchange};
-pub use ftp_control::{control, plain};
+pub use ftp_base::{ascii, command, encoding, laws, status, types};
+pub use ftp_calls::call;
+pub use ftp_control::control;
 pub use ftp_list as list;
 pub use ftp_session::session::DownloadReader;
-pub use ftp_session::{laws as session_laws, model};
 pub use ftp_transfer::mark;
 pub use ftp_transport as transport;
 pub use ftp_transport::PassiveStreamBuilder;

@@ -5,6 +5,6 @@
 
 pub use ftp_runs::{Event, RunCalls, RunEvents};
 pub use ftp_session::session::{
-    Answer, Call, Chosen, Counts, DownloadReader, NewMark, NoStreamBuilder, NoTlsConnector, Owed,
-    PolledCall, Session, Setting, Settings, State,
+    Answer, Call, Counts, DownloadReader, NoStreamBuilder, NoTlsConnector, Owed, Session, Setting,
+    Settings, State,
 };
