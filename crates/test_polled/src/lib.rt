@@ -14,4 +14,6 @@ mod requests;
 #[cfg(test)]
 mod scene;
 #[cfg(test)]
+mod settings;
+#[cfg(test)]
 mod traffic;

@@ -1,7 +1,9 @@
 //! Copies of a text upload.
 
 use ftp_base::ascii::copy_crlf;
+use ftp_base::retry::write_all_retrying;
 use ftp_base::types::FtpError;
+use std::io::ErrorKind;
 use std::test::Fail;
 
 // The second arm is for a run in which an allocation of the copy is made to fail.
@@ -14,5 +16,18 @@ fn a_copy_is_whole_unless_an_allocation_fails(rt: HostRuntime) -> Result<(), Fai
         Err(fault) => assert!(rt; matches!(fault, FtpError::OutOfMemory), "{fault}"),
     }
     assert!(rt; b"a\r\nb".starts_with(written.as_slice()));
+    Ok(())
+}
+
+#[test]
+fn a_writer_that_takes_nothing_is_an_error_of_its_own(rt: HostRuntime) -> Result<(), Fail> {
+    let mut room = [0u8; 2];
+    let mut writer = room.as_mut_slice();
+    let made = write_all_retrying(&mut writer, b"abc");
+    assert_eq!(rt;
+        made.err().map(|error| error.kind()),
+        Some(ErrorKind::WriteZero)
+    );
+    assert_eq!(rt; room.as_slice(), b"ab".as_slice());
     Ok(())
 }
