@@ -10,6 +10,8 @@ mod clients;
 #[cfg(test)]
 mod connects;
 #[cfg(test)]
+mod counted;
+#[cfg(test)]
 mod requests;
 #[cfg(test)]
 mod scene;
