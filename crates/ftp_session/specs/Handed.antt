@@ -1,5 +1,5 @@
 -- A transfer that a session hands to its caller, and how the session learns that it was left: RFC 959, section 3.2.
-use Rattle.std.specs.Prelude.{◌≡◌, ◌⊎◌, ◌&&◌, ℕ, Bool, true, false, List, [], ◌∷◌, Option, Some, None, Result, Ok, Err, Contains, is_none, not}
+use Rattle.std.specs.Prelude.{◌≡◌, ◌⊎◌, ◌&&◌, ℕ, Bool, true, false, List, [], ◌∷◌, Option, Some, None, Result, Ok, Err, Contains, is_none, not, if◌then◌else◌}
 use Rattle.futures.specs.declared.task.Poll.{Poll}
 use Rattle.ftp_base.specs.declared.types.reply.Response.{Response}
 use Rattle.ftp_base.specs.declared.types.fault.FtpError.{FtpError}
@@ -189,10 +189,14 @@ pub record EndsWithout (mark after : Option End) (old new : SessionValue) (answe
   pub is : answer ≡ Fault (withheld old)
   pub left : new ≡ left_if true old
 
+-- why: no transfer of this number is live; a session that has failed says that first
+abbrev pub passed_over : SessionValue → FtpError
+passed_over v = if v.channel.failed then SessionFailed else ConnectionError NotOwed
+
 -- a transfer of another number is no concern of the session's
 pub record PassesOver (mark after : Option End) (old new : SessionValue) (answer : Answer) : Type 0 where
   pub mark_stays : after ≡ mark
-  pub is : answer ≡ Fault (ConnectionError NotOwed)
+  pub is : answer ≡ Fault (passed_over old)
   pub unchanged : new ≡ old
 
 abbrev pub BringsToEndIf : Bool → Link → Coding → Call → TransferValue → Option End → Option End → SessionValue → SessionValue → Answer → Type 0

@@ -311,6 +311,46 @@ fn a_receipt_is_settled_once(rt: HostRuntime) -> Result<(), Fail> {
     Ok(())
 }
 
+/// What this session answers that is to finish or abort a transfer.
+fn ended_by(
+    alloc: Global,
+    session: &mut MemorySession,
+    transfer: Transfer<MemoryConn>,
+    aborts: bool,
+) -> u8 {
+    if aborts {
+        number(session.abort(alloc, transfer))
+    } else {
+        number(session.finish(alloc, transfer))
+    }
+}
+
+/// What a session without replies answers to a command, and then where it is to finish or abort this transfer, which is
+/// another's.
+fn failed_elsewhere(
+    alloc: Global,
+    transfer: Transfer<MemoryConn>,
+    aborts: bool,
+) -> Result<(u8, u8), Fail> {
+    let mut other = greeted(alloc, "")?;
+    let failed = number(other.noop(alloc));
+    Ok((failed, ended_by(alloc, &mut other, transfer, aborts)))
+}
+
+#[test]
+fn a_failed_session_says_so_of_any_transfer(rt: HostRuntime) -> Result<(), Fail> {
+    let alloc = rt.alloc();
+    for aborts in [false, true] {
+        let mut session = greeted(alloc, DOWNLOAD)?;
+        let transfer = opened(alloc, &mut session)?;
+        let there = failed_elsewhere(alloc, transfer, aborts)?;
+        let after = number(session.noop(alloc));
+        drop(session);
+        assert_eq!(rt; (there, after), ((2, 14), 0), "{aborts}");
+    }
+    Ok(())
+}
+
 /// What another session answers that is to finish or abort this transfer, and its next command; and whether only that
 /// was sent.
 fn elsewhere(
@@ -319,11 +359,7 @@ fn elsewhere(
     aborts: bool,
 ) -> Result<(u8, u8, bool), Fail> {
     let mut other = greeted(alloc, "200 ok\r\n")?;
-    let refusal = if aborts {
-        number(other.abort(alloc, transfer))
-    } else {
-        number(other.finish(alloc, transfer))
-    };
+    let refusal = ended_by(alloc, &mut other, transfer, aborts);
     let after = number(other.noop(alloc));
     Ok((refusal, after, sent(&other) == b"NOOP\r\n".as_slice()))
 }

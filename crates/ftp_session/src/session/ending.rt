@@ -7,7 +7,7 @@ ghost use Rattle.std.specs.Prelude.{◌≡◌, OnErr, OnOk, Some, true};
 ghost use Rattle.ftp_transfer.specs.Mark.{loaded};
 ghost use Rattle.ftp_session.specs.Calls.{unit_answer};
 ghost use Rattle.ftp_dialogue.specs.Coding.{chosen};
-ghost use Rattle.ftp_session.specs.Handed.{BeginsToSettle, BringsToEnd, EndsOnly, Settles, TakesBack, left_if, with_data};
+ghost use Rattle.ftp_session.specs.Handed.{BeginsToSettle, BringsToEnd, EndsOnly, Settles, TakesBack, left_if, passed_over, with_data};
 ghost use Rattle.ftp_dialogue.specs.Link.{blocking};
 ghost use Rattle.ftp_dialogue.specs.Sound.{is_live, is_owed};
 
@@ -32,8 +32,8 @@ where
     /// # Errors
     /// Those of a read of one reply; before them, of an upload, the fault of the close. `NotOwed` where the session owes
     /// no transfer of this number: that is left, and nothing of the session changes. On a session that has failed
-    /// `SessionFailed`; where there is no memory for the record of the data connection `OutOfMemory`; the transfer is
-    /// left then.
+    /// `SessionFailed`, whichever transfer it is; where there is no memory for the record of the data connection
+    /// `OutOfMemory`; the transfer is left then.
     pub fn finish(&mut self, alloc: Global, transfer: Transfer<Tr::Conn>) -> FtpResult<()>
         ensures finishes { BringsToEnd (blocking Tr.Conn.Conn) (chosen E.decoded E.encoded self.old.encoding.0) Call.Finish transfer
             self.old.mark self.new.mark self.old.machine self.new.machine (unit_answer result) }
@@ -103,15 +103,15 @@ impl<Tr: Network, K: Drop, E: Encoding, B: Drop> Session<Tr, K, E, B> {
     /// Takes a transfer that is live back into the session, to be brought to its end. One of another number is left.
     ///
     /// # Errors
-    /// `NotOwed` for one of another number; `OutOfMemory`, or `SessionFailed` on a session that has failed, where there is
-    /// no memory for the record that a close will need, and the transfer is left.
+    /// `NotOwed` for one of another number, which is left; `OutOfMemory` where there is no memory for the record that a
+    /// close will need, and the transfer is left. On a session that has failed `SessionFailed` in both cases.
     pub fn take_back(&mut self, transfer: Transfer<Tr::Conn>) -> FtpResult<()>
         ensures takes { TakesBack transfer self.old.mark self.new.mark self.old.machine self.new.machine result }
         ensures encoding { self.new.encoding ≡ self.old.encoding }
         ensures builder { self.new.builder ≡ self.old.builder }
     {
         if !is_live(&self.machine, transfer.number()) {
-            return Err(FtpError::ConnectionError(ConnectionError::NotOwed));
+            return Err(passed_over(&self.machine));
         }
         match take_back(&mut self.machine, transfer) {
             Ok(()) => {
@@ -146,6 +146,17 @@ impl<Tr: Network, K: Drop, E: Encoding, B: Drop> Session<Tr, K, E, B> {
         }
         leave_behind(&mut self.machine);
         Ok(true)
+    }
+}
+
+/// Why a transfer of another number isn't brought to its end.
+fn passed_over<Tr: Network>(machine: &Machine<Tr>) -> FtpError
+    ensures { result ≡ passed_over machine.now }
+{
+    if has_failed(machine) {
+        FtpError::SessionFailed
+    } else {
+        FtpError::ConnectionError(ConnectionError::NotOwed)
     }
 }
 
