@@ -24,7 +24,7 @@ use Rattle.ftp_dialogue.specs.declared.model.DealOutcome.{DealOutcome}
 use Rattle.ftp_dialogue.specs.Link.{Builds, over_memory}
 use Rattle.ftp_dialogue.specs.Promises.{Aborts, FailsWith}
 use Rattle.ftp_runs.specs.Scripted.{AreRefused}
-use Rattle.ftp_runs.specs.Scripted.{EndsAt, HoldsAt, ScriptHolds, ScriptAborts, ScriptsHold, IsScripted, Stops, leaves_dropped}
+use Rattle.ftp_runs.specs.Scripted.{EndsAt, HoldsAt, ScriptHolds, ScriptAborts, ScriptsHold, IsScripted, StopsAtFeed, leaves_dropped}
 use Rattle.ftp_dialogue.specs.Steps.Stages.{begun_at}
 use Rattle.ftp_runs.specs.Following.{Attended, DropsCall, Grows, Follows, FailedStays, Happens, AbortsPart, IsFeed, at_rest, given_answer}
 use Rattle.ftp_runs.specs.declared.events.Course.{Course}
@@ -281,17 +281,17 @@ module _ (builds : Builds) (coding : Coding) where
     fails_by_then old answers fails = λ failed. fails (sym (ap (λ c. c.failed) end.channel) ∙ failed)
 
     -- memory ran out for the bytes of the next event
-    pub stops_at : (old : SessionValue) (events : List Event) (i : ℕ) (event : Event) (answers : List Answer) → i < length events → event ≡ get_or events i event → IsFeed event → ((depth : ℕ) → Happened depth old (take i events) v call stage course answers) → Stops builds coding old events new
+    pub stops_at : (old : SessionValue) (events : List Event) (i : ℕ) (event : Event) (answers : List Answer) → i < length events → event ≡ get_or events i event → IsFeed event → ((depth : ℕ) → Happened depth old (take i events) v call stage course answers) → StopsAtFeed builds coding old events new
     stops_at old events i event answers inside is feed so_far =
         let left : drop i events ≡ event ∷ drop (i + 1) events = drop_more events i event inside ∙ ap (λ e. e ∷ drop (i + 1) events) (sym is) in
-        inr (record {
+        record {
           before = take i events;
           bytes = feed.bytes;
           later = drop (i + 1) events;
           split = sym (take-append-drop i events) ∙ ap (λ l. take i events ++ l) (left ∙ ap (λ e. e ∷ drop (i + 1) events) feed.is);
           answers = answers;
           scripted = λ depth. happened_scripted depth old (take i events) answers (so_far depth);
-        })
+        }
 
   pub at_most_one : (answer : Option Answer) → length (given_answer answer) ≤ 1
   at_most_one None = omega arith
@@ -300,3 +300,8 @@ module _ (builds : Builds) (coding : Coding) where
   pub on_err : (T E : Type 0) (result : Result T E) (P : Type 0) → P → OnErr result P
   on_err T E (Ok value) P p = tt
   on_err T E (Err error) P p = p
+
+-- what holds where a call failed goes on to what follows from it
+pub where_failed : (T E A B : Type 0) (result : Result T E) → (A → B) → OnErr result A → OnErr result B
+where_failed T E A B (Ok value) more held = tt
+where_failed T E A B (Err error) more held = more held

@@ -235,6 +235,3 @@ pub record StopsAtFeed (builds : Builds) (coding : Coding) (old : SessionValue) 
   pub split : events ≡ before ++ Feed bytes ∷ later
   pub answers : List Answer
   pub scripted : IsScripted builds coding old before new answers
-
-abbrev pub Stops : Builds → Coding → SessionValue → List Event → SessionValue → Type 0
-Stops builds coding old events new = (new ≡ old) ⊎ StopsAtFeed builds coding old events new

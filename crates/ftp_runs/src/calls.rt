@@ -3,7 +3,7 @@
 //! A run stops at no fault: each call has its answer, and a session that has failed refuses the later ones. Its answers
 //! are those that the definition gives for all bytes of the server at once, however they came.
 
-ghost use Rattle.std.specs.Prelude.{◌≡◌, IfOk, IfErr, OnErr, length};
+ghost use Rattle.std.specs.Prelude.{◌≡◌, ◌≤◌, [], IfOk, IfErr, OnErr, OnOk, length, vec_capacity};
 ghost use Rattle.ftp_dialogue.specs.Coding.{chosen, coding_of};
 ghost use Rattle.ftp_session.specs.Handed.{LooksIf, as_seen, watches};
 ghost use Rattle.ftp_dialogue.specs.Link.{asking, blocking, built_by};
@@ -38,35 +38,39 @@ where
     /// once, before the first call.
     ///
     /// # Errors
-    /// `OutOfMemory` where there is no memory for the answers, and no call is made.
+    /// `OutOfMemory` where there is no memory for the answers, and nothing changes.
     fn run(&mut self, alloc: Global, rt: &R, calls: &[Call]) -> FtpResult<Vec<Answer>>
         ensures runs { IfOk result (λ answers.
             Runs (asking (built_by B.answers self.old.builder) ⊥ (blocking Tr.Conn.Conn)) (chosen E.decoded E.encoded self.old.encoding.0) calls.now
             (as_seen self.new.mark self.old.machine) self.new.machine answers.items) }
-        ensures looks { LooksIf (watches self.old.mark self.old.machine) self.old.mark self.new.mark }
+        ensures looks { OnOk result (LooksIf (watches self.old.mark self.old.machine) self.old.mark self.new.mark) }
         ensures count { IfOk result (λ answers. length answers.items ≡ length calls.now) }
         ensures fails { IfOk result (λ answers.
             FailsWith (as_seen self.new.mark self.old.machine) self.new.machine answers.items) }
         ensures encoding { self.new.encoding ≡ self.old.encoding }
         ensures builder { self.new.builder ≡ self.old.builder }
         ensures memory { IfErr result (λ fault. fault ≡ FtpError.OutOfMemory) }
-        ensures unchanged { OnErr result (self.new.machine ≡ as_seen self.new.mark self.old.machine) }
+        ensures unchanged { OnErr result (self.new ≡ self.old) }
         ensures sound { Sound Tr.Conn.tells self.new.machine.channel
             self.new.machine.state.counts }
     {
+        let Ok(answers) = Vec::with_capacity(alloc, calls.len()) else {
+            self.untaken();
+            return Err(FtpError::OutOfMemory);
+        };
         self.look();
         let Lent {
             machine,
             encoding,
             builder,
         } = self.lend();
-        let answers = run(machine, alloc, rt, builder, encoding, calls);
+        let answers = run(machine, alloc, rt, builder, encoding, calls, answers);
         machine.holds();
-        answers
+        Ok(answers)
     }
 }
 
-/// Makes these calls.
+/// Makes these calls, and adds their answers to a list that has room for them.
 fn run<Tr: Network, R, E: Encoding, B: PassiveStreamBuilder<Tr::Conn>>(
     machine: &mut Machine<Tr>,
     alloc: Global,
@@ -74,22 +78,21 @@ fn run<Tr: Network, R, E: Encoding, B: PassiveStreamBuilder<Tr::Conn>>(
     builder: &Option<B>,
     encoding: &E,
     calls: &[Call],
-) -> FtpResult<Vec<Answer>>
+    mut answers: Vec<Answer>,
+) -> Vec<Answer>
 where
     Tr::Conn: Conn,
     Tr: Transport<R>,
-    ensures runs { IfOk result (λ answers.
-        Runs (asking (built_by B.answers builder.now) ⊥ (blocking Tr.Conn.Conn)) (coding_of E.decoded E.encoded encoding.now) calls.now machine.old
-        machine.new answers.items) }
-    ensures fails { IfOk result (λ answers. FailsWith machine.old machine.new answers.items) }
-    ensures count { IfOk result (λ answers. length answers.items ≡ length calls.now) }
-    ensures memory { IfErr result (λ fault. fault ≡ FtpError.OutOfMemory) }
-    ensures unchanged { OnErr result (machine.new ≡ machine.old) }
+    requires none { answers.items ≡ [] }
+    requires room { length calls.now ≤ vec_capacity answers }
+    ensures runs { Runs (asking (built_by B.answers builder.now) ⊥ (blocking Tr.Conn.Conn)) (coding_of E.decoded E.encoded encoding.now) calls.now machine.old
+        machine.new result.items }
+    ensures fails { FailsWith machine.old machine.new result.items }
+    ensures count { length result.items ≡ length calls.now }
 {
-    let mut answers = Vec::with_capacity(alloc, calls.len())?;
     for call in calls {
         let answer = make(machine, alloc, rt, builder, encoding, call);
         answers.push(answer).unwrap();
     }
-    Ok(answers)
+    answers
 }

@@ -4,7 +4,7 @@
 //! the call is dropped and another begins. What a run comes to is defined by playing all calls anew at each poll, on
 //! all bytes that came by then; here each byte is read once.
 
-ghost use Rattle.std.specs.Prelude.{◌≡◌, ◌<◌, ◌≤◌, ◌++◌, IfOk, IfErr, OnErr, option_map, None, Some, vec_len, vec_capacity};
+ghost use Rattle.std.specs.Prelude.{◌≡◌, ◌⊎◌, ◌<◌, ◌≤◌, ◌++◌, [], IfOk, IfErr, OnErr, OnOk, length, option_map, None, Some, vec_len, vec_capacity};
 ghost use Rattle.futures.specs.declared.task.Poll.TheVariants as poll;
 ghost use Rattle.std.specs.Prelude.{true};
 ghost use Rattle.ftp_calls.specs.Exchanges.{is_local};
@@ -14,7 +14,7 @@ ghost use Rattle.ftp_dialogue.specs.Coding.{chosen, coding_of};
 ghost use Rattle.ftp_session.specs.Handed.{LooksIf, as_seen, watches};
 ghost use Rattle.ftp_dialogue.specs.Link.{built_by};
 ghost use Rattle.ftp_dialogue.specs.Promises.{FailsWith};
-ghost use Rattle.ftp_runs.specs.Scripted.{IsScripted, Stops};
+ghost use Rattle.ftp_runs.specs.Scripted.{IsScripted, StopsAtFeed};
 ghost use Rattle.ftp_dialogue.specs.Sound.{Sound, SoundCounts};
 ghost use Rattle.ftp_runs.specs.Following.{DropsCall, DropsEnd, FailedStays, Grows, Happens, HasLeft, HasLeftIf, IsFeed, LeavesNow, PollsHere, PollsNext, Starts, at_rest, given_answer};
 ghost use Rattle.ftp_dialogue.specs.Steps.Polls.{StageIn};
@@ -60,18 +60,23 @@ impl<K: Drop, E: Encoding, B: PassiveStreamBuilder<MemoryConn>> RunEvents
         ensures scripted { IfOk result (λ answers.
             IsScripted (built_by B.answers self.old.builder) (chosen E.decoded E.encoded self.old.encoding.0) (as_seen self.new.mark self.old.machine)
             events.now self.new.machine answers.items) }
-        ensures looks { LooksIf (watches self.old.mark self.old.machine) self.old.mark self.new.mark }
+        ensures looks { OnOk result (LooksIf (watches self.old.mark self.old.machine) self.old.mark self.new.mark) }
         ensures encoding { self.new.encoding ≡ self.old.encoding }
         ensures builder { self.new.builder ≡ self.old.builder }
         ensures memory { IfErr result (λ fault. fault ≡ FtpError.OutOfMemory) }
-        ensures stops { OnErr result (Stops (built_by B.answers self.old.builder) (chosen E.decoded E.encoded self.old.encoding.0)
-            (as_seen self.new.mark self.old.machine) events.now self.new.machine) }
+        ensures stops { OnErr result ((self.new ≡ self.old) ⊎ (LooksIf (watches self.old.mark self.old.machine) self.old.mark self.new.mark
+            × StopsAtFeed (built_by B.answers self.old.builder) (chosen E.decoded E.encoded self.old.encoding.0)
+            (as_seen self.new.mark self.old.machine) events.now self.new.machine)) }
         ensures grows { Grows (built_by B.answers self.old.builder) (as_seen self.new.mark self.old.machine) self.new.machine }
         ensures fails { IfOk result (λ answers.
             FailsWith (as_seen self.new.mark self.old.machine) self.new.machine answers.items) }
         ensures sound { Sound (Unit {0}) self.new.machine.channel
             self.new.machine.state.counts }
     {
+        let Ok(answers) = Vec::with_capacity(alloc, events.len()) else {
+            self.untaken();
+            return Err(FtpError::OutOfMemory);
+        };
         self.look();
         let Lent {
             machine,
@@ -79,7 +84,7 @@ impl<K: Drop, E: Encoding, B: PassiveStreamBuilder<MemoryConn>> RunEvents
             builder,
         } = self.lend();
         holds_memory(machine);
-        let answers = let_happen(machine, alloc, builder, encoding, events);
+        let answers = let_happen(machine, alloc, builder, encoding, events, answers);
         holds_memory(machine);
         answers
     }
@@ -92,7 +97,10 @@ fn let_happen<E: Encoding, B: PassiveStreamBuilder<MemoryConn>>(
     builder: &Option<B>,
     encoding: &E,
     events: &[Event],
+    mut answers: Vec<Answer>,
 ) -> FtpResult<Vec<Answer>>
+    requires none { answers.items ≡ [] }
+    requires room { length events.now ≤ vec_capacity answers }
     requires given { IsGiven machine.old.channel.told }
     requires sound { IsSound (Unit {0}) machine.old.channel }
     ensures scripted { IfOk result (λ answers.
@@ -101,10 +109,9 @@ fn let_happen<E: Encoding, B: PassiveStreamBuilder<MemoryConn>>(
     ensures grows { Grows (built_by B.answers builder.now) machine.old machine.new }
     ensures fails { IfOk result (λ answers. FailsWith machine.old machine.new answers.items) }
     ensures memory { IfErr result (λ fault. fault ≡ FtpError.OutOfMemory) }
-    ensures stops { OnErr result (Stops (built_by B.answers builder.now) (coding_of E.decoded E.encoded encoding.now) machine.old
+    ensures stops { OnErr result (StopsAtFeed (built_by B.answers builder.now) (coding_of E.decoded E.encoded encoding.now) machine.old
         events.now machine.new) }
 {
-    let mut answers = Vec::with_capacity(alloc, events.len())?;
     let mut under_way = None;
     let mut stage = Stage::At(Turn::First);
     let mut course = resting();

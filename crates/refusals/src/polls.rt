@@ -1,12 +1,12 @@
 //! Polled calls, and runs of events.
 
-ghost use Rattle.std.specs.Prelude.{◌≡◌, ◌⊎◌, IfOk, IfErr, OnErr};
+ghost use Rattle.std.specs.Prelude.{◌≡◌, ◌⊎◌, IfOk, IfErr, OnErr, OnOk};
 ghost use Rattle.ftp_dialogue.specs.Coding.{chosen};
 ghost use Rattle.ftp_session.specs.Handed.{LooksIf, as_seen, watches};
 ghost use Rattle.ftp_dialogue.specs.Link.{asking, built_by, polling};
 ghost use Rattle.ftp_dialogue.specs.Promises.{FailsWith};
 ghost use Rattle.ftp_session.specs.Polled.{PollsCall};
-ghost use Rattle.ftp_runs.specs.Scripted.{IsScripted, Stops};
+ghost use Rattle.ftp_runs.specs.Scripted.{IsScripted, StopsAtFeed};
 ghost use Rattle.ftp_dialogue.specs.Sound.{Sound};
 ghost use Rattle.ftp_runs.specs.Following.{Grows};
 
@@ -29,12 +29,13 @@ pub fn run_polled<K: Drop, E: Encoding, B: PassiveStreamBuilder<MemoryConn>>(
     ensures scripted { IfOk result (λ answers.
         IsScripted (built_by B.answers session.old.builder) (chosen E.decoded E.encoded session.old.encoding.0) (as_seen session.new.mark session.old.machine)
         events.now session.new.machine answers.items) }
-    ensures looks { LooksIf (watches session.old.mark session.old.machine) session.old.mark session.new.mark }
+    ensures looks { OnOk result (LooksIf (watches session.old.mark session.old.machine) session.old.mark session.new.mark) }
     ensures encoding { session.new.encoding ≡ session.old.encoding }
     ensures builder { session.new.builder ≡ session.old.builder }
     ensures memory { IfErr result (λ fault. fault ≡ FtpError.OutOfMemory) }
-    ensures stops { OnErr result (Stops (built_by B.answers session.old.builder) (chosen E.decoded E.encoded session.old.encoding.0)
-        (as_seen session.new.mark session.old.machine) events.now session.new.machine) }
+    ensures stops { OnErr result ((session.new ≡ session.old) ⊎ (LooksIf (watches session.old.mark session.old.machine) session.old.mark session.new.mark
+        × StopsAtFeed (built_by B.answers session.old.builder) (chosen E.decoded E.encoded session.old.encoding.0)
+        (as_seen session.new.mark session.old.machine) events.now session.new.machine)) }
     ensures grows { Grows (built_by B.answers session.old.builder) (as_seen session.new.mark session.old.machine) session.new.machine }
     ensures fails { IfOk result (λ answers.
         FailsWith (as_seen session.new.mark session.old.machine) session.new.machine answers.items) }

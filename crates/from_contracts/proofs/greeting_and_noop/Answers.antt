@@ -16,4 +16,4 @@ returns c =
     let unasked = subst R c.new.ensures c.in_ok-session.ensures.begins in
     let begins = subst P (c.in_ok-feed.ensures.ok ∙ ap (fed server) c.new-conn.ensures) unasked in
     let given = subst Q c.get_ref.ensures c.unread.ensures.given in
-    answered _ _ old c.run.new.self.machine _ begins given c.in_ok-answers.ensures.sound.channel (rw (c.in_ok-session.ensures.encoding, unmarked _ _ old c.in_ok-session.ensures.mark c.run.ensures.looks) at c.in_ok-answers.ensures.runs)
+    answered _ _ old c.run.new.self.machine _ begins given c.in_ok-answers.ensures.sound.channel (rw (c.in_ok-session.ensures.encoding, unmarked _ _ old c.in_ok-session.ensures.mark c.in_ok-answers.ensures.looks) at c.in_ok-answers.ensures.runs)

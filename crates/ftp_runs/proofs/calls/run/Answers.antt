@@ -5,8 +5,7 @@ use Rattle.ftp_runs.proofs.calls.run.Goals as goal
 
 pub loop-call-init : goal.loop-call-init
 loop-call-init g c =
-    let made = c.in_ok-answers.ensures in
-    record { so_far = inl (rw made.items (ran_nothing _ _ _ _)); fails = λ failed. inl failed; count = ap length made.items; room = made.capacity }
+    record { so_far = inl (rw c.requires.none (ran_nothing _ _ _ _)); fails = λ failed. inl failed; count = ap length c.requires.none; room = c.requires.room }
 
 pub loop-call-preserved : goal.loop-call-preserved
 loop-call-preserved g c =

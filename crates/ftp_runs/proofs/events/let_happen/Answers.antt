@@ -1,7 +1,6 @@
 use Rattle.std.proofs.Common.{None, inl, length, length-append, option_map, refl, ap, take, ◌∙◌, arith}
 use Rattle.ftp_dialogue.specs.Coding.{Coding, coding_of}
 use Rattle.ftp_runs.specs.Following.{given_answer}
-use Rattle.ftp_runs.proofs.EventLemmas.{grows_none}
 use Rattle.ftp_runs.proofs.Running.{fails_more}
 use Rattle.ftp_runs.proofs.Scripts.{at_end, starts_script, next_event, all_events, fails_by_then, has_grown, stops_at, at_most_one}
 use Rattle.ftp_runs.proofs.events.let_happen.Goals as goal
@@ -11,13 +10,12 @@ pub loop-event-init : goal.loop-event-init
 loop-event-init g c =
     let coding : Coding = coding_of g.E.Encoding.decoded g.E.Encoding.encoded c.args.encoding.now in
     let builds : Builds = built_by g.B.PassiveStreamBuilder.answers c.args.builder.now in
-    let made = c.in_ok-answers.ensures in
     record {
       stage = tt;
       fails = λ failed. inl failed;
-      count = omega (arith, ap length made.items);
-      room = made.capacity;
-      so_far = λ depth. rw made.items (starts_script builds coding depth c.args.machine.now None _ _ refl c.resting-course.ensures c.requires.given c.requires.sound);
+      count = omega (arith, ap length c.requires.none);
+      room = c.requires.room;
+      so_far = λ depth. rw c.requires.none (starts_script builds coding depth c.args.machine.now None _ _ refl c.resting-course.ensures c.requires.given c.requires.sound);
     }
 
 pub loop-event-preserved : goal.loop-event-preserved
@@ -77,6 +75,3 @@ returns-in-Err-clause-grows g c =
     let call = option_map (λ c'. c'.now) c.happen.new.under_way in
     let end = at_end builds coding c.happen.new.machine c.drop_call.new.machine call c.happen.new.stage c.happen.new.course c.drop_call.new.course c.drop_call.ensures.drops in
     has_grown builds coding c.happen.new.machine c.drop_call.new.machine call c.happen.new.stage c.happen.new.course end c.args.machine.now (take c.loop-event.event-index c.args.events.now) c.loop-event.answers.items (λ depth. rw (stopped.0, stopped.1, stopped.2, stopped.3) (c.loop-event.invariant.so_far depth))
-
-pub returns-in_err-answers-clause-grows : goal.returns-in_err-answers-clause-grows
-returns-in_err-answers-clause-grows g c = grows_none (built_by g.B.PassiveStreamBuilder.answers c.args.builder.now) c.args.machine.now

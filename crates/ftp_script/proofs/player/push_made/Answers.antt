@@ -10,7 +10,7 @@ returns-clause-makes c =
     let old = c.args.session.now.machine in
     let new = c.run.new.self.machine in
     let answer = c.index.result.now in
-    let r : Runs memory utf8 c.from_ref.result.now old new c.in-Ok.answers.items = rw (c.requires.encoding, c.requires.builder, unmarked _ _ c.args.session.now.machine c.requires.mark c.run.ensures.looks) at c.in-Ok.ensures.runs in
+    let r : Runs memory utf8 c.from_ref.result.now old new c.in-Ok.answers.items = rw (c.requires.encoding, c.requires.builder, unmarked _ _ c.args.session.now.machine c.requires.mark c.in-Ok.ensures.looks) at c.in-Ok.ensures.runs in
     let before : length c.sent-before.result.now ≡ length old.channel.told.sent = ap length (c.sent-before.ensures ∙ ap (λ t. t.sent) c.get_ref.ensures) in
     let sent : c.sent_after-sent.result.now ≡ drop (length old.channel.told.sent) new.channel.told.sent = c.sent_after-sent.ensures ∙ ap (λ n. drop n new.channel.told.sent) before in
     let asked_before : length c.asked-asked.result.now ≡ length old.net.asked = ap length (c.asked-asked.ensures ∙ c.transport.ensures.asked) in
@@ -20,4 +20,4 @@ returns-clause-makes c =
     (runs_same _ _ old new _ _ c.from_ref.ensures.value only r) c.push_call.ensures
 
 pub returns-clause-mark : goal.returns-clause-mark
-returns-clause-mark c = unmarked _ _ c.args.session.now.machine c.requires.mark c.run.ensures.looks
+returns-clause-mark c = unmarked _ _ c.args.session.now.machine c.requires.mark c.in-Ok.ensures.looks

@@ -1,0 +1,7 @@
+use Rattle.ftp_runs.proofs.calls.SessionRunCalls.run.Goals as goal
+
+pub returns-clause-runs : goal.returns-clause-runs
+returns-clause-runs g c =
+    let lent = c.lend-machine.ensures in
+    let seen = c.look.ensures in
+    rw (lent.machine, lent.builder, lent.encoding, seen.seen, seen.builder, seen.encoding) at c.run-answers.ensures.runs
