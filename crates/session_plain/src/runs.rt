@@ -16,7 +16,7 @@ use ftp_transport::Room;
 use std::alloc::{AllocError, Global};
 
 /// The calls in turn.
-#[tactic(auto, unfolding(ftp_dialogue::specs::Run::run))]
+#[tactic(auto, unfolding(ftp_runs::specs::Run::run))]
 pub fn run<E: Encoding>(
     alloc: Global,
     room: Room,
@@ -37,7 +37,7 @@ pub fn run<E: Encoding>(
 }
 
 /// The items in turn, and then a call.
-#[tactic(auto, unfolding(ftp_dialogue::specs::Run::replay))]
+#[tactic(auto, unfolding(ftp_runs::specs::Run::replay))]
 pub(crate) fn replay_then<E: Encoding>(
     alloc: Global,
     room: Room,
@@ -71,7 +71,7 @@ pub(crate) fn replay_then<E: Encoding>(
 }
 
 /// The last call of them.
-#[tactic(auto, unfolding(ftp_dialogue::specs::Run::replay))]
+#[tactic(auto, unfolding(ftp_runs::specs::Run::replay))]
 fn last<E: Encoding>(
     alloc: Global,
     room: Room,
