@@ -27,7 +27,7 @@ use Rattle.ftp_dialogue.specs.State.{SessionValue, LetsGo}
 use Rattle.ftp_dialogue.specs.Dialogue.{Tree, Say, Hear, Look, Ask, Build, Move, Leaf}
 use Rattle.ftp_dialogue.specs.Play.{ended, finally, play, fits, said_then}
 use Rattle.ftp_dialogue.specs.Resuming.{Resumes, Silent}
-use Rattle.ftp_dialogue.specs.Promises.{IsFault, However, SaidOrTaken, standing, Rests, Goes, Leads, Fails, Touched, Untouched, LacksMemory, Aborts, KeepsNoReply, failed_from}
+use Rattle.ftp_dialogue.specs.Promises.{IsFault, IsOf, However, SaidOrTaken, standing, Rests, Goes, Leads, Fails, Touched, Untouched, LacksMemory, Aborts, KeepsNoReply, failed_from}
 use Rattle.ftp_dialogue.specs.Within.{Within}
 use Rattle.ftp_dialogue.proofs.Places.{here, within_on}
 use Rattle.ftp_dialogue.specs.Steps.Moving.{NothingTouched, StillSays, HasGoneOut, Keeps, Shrinks, Calm, Moves, Advances, Ends, WaitsFor, Steps, TakesLine, after_line, step_of}
@@ -289,6 +289,7 @@ leaf_ends link tree answer old mid new moves fails channel net =
     let P : SessionValue → Type 0 = λ v. Ends link tree answer old v in
     subst P (sym same) (record {
       completes = record {
+        is_of = inr (new.state, moves.leads.within);
         came = moves.leads.came;
         answered = moves.leads.answered;
         goes = record { over = moves.leads.goes.over; received = moves.leads.goes.received; given = moves.leads.goes.given; failures = moves.leads.goes.failures; sent = moves.leads.goes.sent; said = moves.leads.goes.said; untaken = moves.leads.goes.untaken; at_hand = moves.leads.goes.at_hand; deals = moves.leads.goes.deals; rule = moves.leads.goes.rule };
@@ -311,6 +312,7 @@ leaf_ends link tree answer old mid new moves fails channel net =
 pub refused_line : (link : Link) (cause : Cause) (next : Tree) (v : SessionValue) → Ends link (Say (Err cause) next) (Fault (ConnectionError cause)) v v
 refused_line link cause next v = record {
   completes = record {
+    is_of = inl tt;
     came = [];
     answered = [];
     goes = nothing_goes link v;
@@ -481,6 +483,7 @@ module _ (link : Link) (tree tree' : Tree) (a b c : SessionValue) (first : Moves
   ends_on answer same second = record {
     fails = λ f. failing (second.fails f);
     completes = record {
+      is_of = leaf_on second.completes.is_of;
       came = first.leads.came ++ second.completes.came;
       answered = first.leads.answered ++ second.completes.answered;
       goes = joined_goes link first.leads.came second.completes.came first.leads.answered second.completes.answered a b c first.leads.goes second.completes.goes;
@@ -495,6 +498,10 @@ module _ (link : Link) (tree tree' : Tree) (a b c : SessionValue) (first : Moves
     gone = λ line next is h. out line h (first.says line next is h);
   }
     where
+      leaf_on : IsOf answer tree' → IsOf answer tree
+      leaf_on (inl fault) = inl fault
+      leaf_on (inr (state, within)) = inr (state, within_on (Leaf answer state) tree' tree within first.leads.within)
+
       out : (line : List ℕ) → link.tells → StillSays link tree tree' first.leads.came first.leads.answered line a b ⊎ HasGoneOut line a b → HasGoneOut line a c
       out line h (inl still) = omega (arith, second.gone still.rest still.next still.is h, still.count)
       out line h (inr gone) = omega (arith, gone, second.completes.goes.sent h)

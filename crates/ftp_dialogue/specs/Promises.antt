@@ -207,8 +207,13 @@ pub record Leads (link : Link) (tree tree' : Tree) (old new : SessionValue) : Ty
 abbrev pub KeepsNoReply : List ℕ → SessionValue → SessionValue → Type 0
 KeepsNoReply came old new = (new.channel.kept ≡ []) ⊎ ((new.channel.kept ≡ old.channel.kept) × (came ≡ []))
 
+-- an answer is a fault, or that of a leaf of the tree
+abbrev pub IsOf : Answer → Tree → Type 0
+IsOf answer tree = IsFault answer ⊎ ((state : State) × Within (Leaf answer state) tree)
+
 -- a tree comes to its answer
 pub record Completes (link : Link) (tree : Tree) (answer : Answer) (old new : SessionValue) : Type 0 where
+  pub is_of : IsOf answer tree
   pub came : List ℕ
   pub answered : List Deal
   pub goes : Goes link came answered old new
