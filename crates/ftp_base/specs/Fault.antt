@@ -5,7 +5,7 @@ use Rattle.std.specs.declared.io.ErrorKind.TheVariants as kind
 use Rattle.ftp_base.specs.declared.types.fault.FtpError.{FtpError}
 use Rattle.ftp_base.specs.declared.types.fault.FtpError.TheVariants.{ConnectionError as OfConnection, SecureError, UnexpectedResponse, BadResponse, DataConnectionAlreadyOpen, OutOfMemory, SessionFailed, InvalidAddress}
 use Rattle.ftp_base.specs.declared.types.fault.ConnectionError.{ConnectionError}
-use Rattle.ftp_base.specs.declared.types.fault.ConnectionError.TheVariants.{Io, UnexpectedEof, ReplyTooLarge, LineBreak, EncodedWithoutCrlf, EncodedLineBreak, Encoding, TimedOut, NoAddress, SourceTooLarge, NotOwed}
+use Rattle.ftp_base.specs.declared.types.fault.ConnectionError.TheVariants.{Io, UnexpectedEof, ReplyTooLarge, LineBreak, EncodedWithoutCrlf, EncodedLineBreak, Encoding, TimedOut, NoAddress, SourceTooLarge, NotOwed, AlreadyCompleted}
 
 -- the kind of a fault, in the standard library's words
 abbrev pub kind_of : ConnectionError → ErrorKind
@@ -20,6 +20,7 @@ kind_of TimedOut = kind.TimedOut
 kind_of NoAddress = kind.InvalidInput
 kind_of SourceTooLarge = kind.InvalidInput
 kind_of NotOwed = kind.InvalidInput
+kind_of AlreadyCompleted = kind.InvalidInput
 
 -- the text of a fault, but for one that ends in the text of a kind, which is the standard library's
 abbrev pub connection_text : ConnectionError → Option (List ℕ)
@@ -34,6 +35,7 @@ connection_text TimedOut = Some (codes "timed out")
 connection_text NoAddress = Some (codes "no address to connect to")
 connection_text SourceTooLarge = Some (codes "the source is too large")
 connection_text NotOwed = Some (codes "the transfer is not of this session")
+connection_text AlreadyCompleted = Some (codes "the call has completed")
 
 -- the number of a connection's fault
 abbrev pub connection_number : ConnectionError → ℕ
@@ -48,6 +50,7 @@ connection_number TimedOut = 8
 connection_number NoAddress = 16
 connection_number SourceTooLarge = 17
 connection_number NotOwed = 18
+connection_number AlreadyCompleted = 19
 
 -- the number of a fault
 abbrev pub number_of : FtpError → ℕ

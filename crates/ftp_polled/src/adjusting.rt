@@ -68,7 +68,7 @@ where
     Tr::Conn: TaskConn,
 {
     let (Hold::Has(session), Some(adjustment)) = (hold, adjustment) else {
-        return Err(FtpError::ConnectionError(ConnectionError::NotOwed));
+        return Err(FtpError::ConnectionError(ConnectionError::AlreadyCompleted));
     };
     match adjustment {
         Adjustment::Mode(mode) => session.set_mode(mode),

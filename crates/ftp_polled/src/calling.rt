@@ -8,7 +8,7 @@ use crate::hold::Hold;
 use crate::waiting::wait;
 use ftp_base::encoding::Encoding;
 use ftp_base::types::{ConnectionError, FtpError};
-use ftp_session::session::{Answer, Call, PolledCall, Session};
+use ftp_session::session::{Answer, Call, DropsCalls, PolledCall, PollsCalls, Session};
 use ftp_transport::{
     Network, PassiveStreamBuilder, PollConn, PollTransport, TaskConn, TaskTransport,
 };
@@ -51,7 +51,7 @@ where
     B: PassiveStreamBuilder<Tr::Conn>,
 {
     /// Goes on with the call, once the lock is held, and lets the lock go with its answer. A call that gave its answer
-    /// gives `NotOwed`.
+    /// gives `AlreadyCompleted`.
     pub(crate) fn poll_answer(&mut self, cx: &mut Context<'_>) -> Poll<Answer>
         ensures registered { OnPending result (IsArmed cx.new) }
         ensures kept { Keeps cx.old cx.new }
@@ -69,7 +69,9 @@ where
         ensures kept { Keeps cx.old cx.new }
     {
         let Hold::Has(session) = &mut self.hold else {
-            return Poll::Ready(Answer::Fault(FtpError::ConnectionError(ConnectionError::NotOwed)));
+            return Poll::Ready(Answer::Fault(FtpError::ConnectionError(
+                ConnectionError::AlreadyCompleted,
+            )));
         };
         let alloc = self.rt.alloc();
         let polled = match &mut self.call {

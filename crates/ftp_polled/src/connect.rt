@@ -8,7 +8,7 @@ use crate::outcome::Outcome;
 use crate::waiting::wait;
 use ftp_base::encoding::Encoding;
 use ftp_base::types::{ConnectionError, FtpError, FtpResult};
-use ftp_session::session::{Call, PolledCall, Session};
+use ftp_session::session::{Call, PolledCall, PollsCalls, Session};
 use ftp_transport::{
     PassiveStreamBuilder, PollConn, PollTransport, TaskConn, TaskTransport, Tried,
     poll_connect_in_turn,
@@ -110,7 +110,7 @@ where
         };
         let conn = made?;
         let Some(transport) = self.transport.take() else {
-            return Err(FtpError::ConnectionError(ConnectionError::NotOwed));
+            return Err(FtpError::ConnectionError(ConnectionError::AlreadyCompleted));
         };
         let session = Session::new(self.rt.alloc(), transport, conn)?;
         drop(mem::replace(&mut self.session, Some(session)));
@@ -126,7 +126,7 @@ where
         ensures kept { Keeps cx.old cx.new }
     {
         let Some(mut session) = self.session.take() else {
-            return Poll::Ready(Err(FtpError::ConnectionError(ConnectionError::NotOwed)));
+            return Poll::Ready(Err(FtpError::ConnectionError(ConnectionError::AlreadyCompleted)));
         };
         let alloc = self.rt.alloc();
         match session.poll_call(alloc, self.rt, &mut self.greeting, &mut ()) {

@@ -8,7 +8,7 @@ use crate::outcome::Outcome;
 use crate::waiting::wait;
 use ftp_base::encoding::Encoding;
 use ftp_base::types::{ConnectionError, FtpError, FtpResult};
-use ftp_session::session::{Call, PolledCall, Session};
+use ftp_session::session::{Call, PolledCall, PollsCalls, Session, take_back};
 use ftp_transfer::Transfer;
 use ftp_transport::{PassiveStreamBuilder, PollConn, PollTransport, TaskConn, TaskTransport};
 use futures::Future;
@@ -72,10 +72,10 @@ where
         ensures kept { Keeps cx.old cx.new }
     {
         let Hold::Has(session) = &mut self.hold else {
-            return Poll::Ready(Err(FtpError::ConnectionError(ConnectionError::NotOwed)));
+            return Poll::Ready(Err(FtpError::ConnectionError(ConnectionError::AlreadyCompleted)));
         };
         if let Some(transfer) = self.transfer.take() {
-            if let Err(fault) = session.take_back(transfer) {
+            if let Err(fault) = take_back(session, transfer) {
                 self.hold.let_go();
                 return Poll::Ready(Err(fault));
             }

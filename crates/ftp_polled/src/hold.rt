@@ -5,7 +5,7 @@ ghost use Rattle.futures.specs.Task.{IsArmed, Keeps};
 ghost use Rattle.tokio.specs.Locks.{CanLock};
 
 use ftp_base::encoding::Encoding;
-use ftp_session::session::{PolledCall, Session};
+use ftp_session::session::{DropsCalls, PolledCall, Session, WaitsInTask};
 use ftp_transport::{TaskConn, TaskTransport};
 use futures::Future;
 use futures::task::{Context, Poll};

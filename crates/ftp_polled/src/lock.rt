@@ -64,7 +64,7 @@ where
 /// The lock of a client is waited for.
 ///
 /// # Errors
-/// `OutOfMemory` where there is no memory to wait; `NotOwed` once it was given.
+/// `OutOfMemory` where there is no memory to wait; `AlreadyCompleted` once it was given.
 #[derive(Drop)]
 pub struct Lock<Tr: TaskTransport, K: Drop, E: Encoding, B: Drop>
 where
@@ -97,7 +97,7 @@ where
 {
     match hold {
         Hold::Has(session) => Ok(ControlSocket { session }),
-        _ => Err(FtpError::ConnectionError(ConnectionError::NotOwed)),
+        _ => Err(FtpError::ConnectionError(ConnectionError::AlreadyCompleted)),
     }
 }
 

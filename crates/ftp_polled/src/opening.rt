@@ -9,7 +9,9 @@ use crate::transfer_stream::TransferStream;
 use crate::waiting::wait;
 use ftp_base::encoding::Encoding;
 use ftp_base::types::{ConnectionError, FtpError, FtpResult, Response};
-use ftp_session::session::{Call, NewMark, PolledCall, Session};
+use ftp_session::session::{
+    Call, DropsCalls, HandsTransfers, NewMark, PolledCall, PollsCalls, Session, take_back,
+};
 use ftp_transfer::{Direction, Transfer};
 use ftp_transport::{PassiveStreamBuilder, PollConn, PollTransport, TaskConn, TaskTransport};
 use futures::Future;
@@ -78,7 +80,7 @@ where
     /// Leaves a transfer under the lock, hands its data connection back, closed, and lets the lock go.
     pub(crate) fn abandon(&mut self, transfer: Transfer<Tr::Conn>) {
         if let Hold::Has(session) = &mut self.hold {
-            if session.take_back(transfer).is_ok() {
+            if take_back(session, transfer).is_ok() {
                 let call = PolledCall::alone(Call::Finish);
                 session.drop_call(&call);
                 drop(call);
@@ -117,7 +119,7 @@ where
         ensures kept { Keeps cx.old cx.new }
     {
         let Hold::Has(session) = &mut self.hold else {
-            return Poll::Ready(Err(FtpError::ConnectionError(ConnectionError::NotOwed)));
+            return Poll::Ready(Err(FtpError::ConnectionError(ConnectionError::AlreadyCompleted)));
         };
         let Some(call) = &mut self.call else {
             return Poll::Ready(Err(session.withheld()));
@@ -223,7 +225,7 @@ where
         None => {
             drop(reply);
             drop(transfer);
-            Err(FtpError::ConnectionError(ConnectionError::NotOwed))
+            Err(FtpError::ConnectionError(ConnectionError::AlreadyCompleted))
         }
     }
 }
@@ -345,7 +347,7 @@ where
         Some(reply) => Ok((reply, stream)),
         None => {
             drop(stream);
-            Err(FtpError::ConnectionError(ConnectionError::NotOwed))
+            Err(FtpError::ConnectionError(ConnectionError::AlreadyCompleted))
         }
     }
 }

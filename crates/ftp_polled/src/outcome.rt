@@ -9,7 +9,7 @@ pub trait Outcome: Drop {
     /// The value of an answer.
     ///
     /// # Errors
-    /// The answer's fault; `NotOwed` where the answer has no such value, which no call comes to that gives one.
+    /// The answer's fault; `AlreadyCompleted` where the answer has no such value, which is none of a call that gives one.
     fn of(answer: Answer) -> FtpResult<Self>
     where
         Self: Sized;
@@ -19,7 +19,7 @@ pub trait Outcome: Drop {
 fn other<T>(answer: Answer) -> FtpResult<T> {
     match answer {
         Answer::Fault(fault) => Err(fault),
-        _ => Err(FtpError::ConnectionError(ConnectionError::NotOwed)),
+        _ => Err(FtpError::ConnectionError(ConnectionError::AlreadyCompleted)),
     }
 }
 

@@ -111,7 +111,7 @@ where
         ensures kept { Keeps cx.old cx.new }
     {
         let Some(ending) = &mut self.ending else {
-            return Poll::Ready(Err(FtpError::ConnectionError(ConnectionError::NotOwed)));
+            return Poll::Ready(Err(FtpError::ConnectionError(ConnectionError::AlreadyCompleted)));
         };
         match ending.poll_ended(cx) {
             Poll::Ready(Ok(())) => Poll::Ready(read_value(self.read.take())),
@@ -125,7 +125,7 @@ where
 fn read_value<T: Drop>(read: Option<T>) -> FtpResult<T> {
     match read {
         Some(read) => Ok(read),
-        None => Err(FtpError::ConnectionError(ConnectionError::NotOwed)),
+        None => Err(FtpError::ConnectionError(ConnectionError::AlreadyCompleted)),
     }
 }
 

@@ -9,7 +9,7 @@ use crate::outcome::Outcome;
 use crate::waiting::wait;
 use ftp_base::encoding::Encoding;
 use ftp_base::types::{ConnectionError, FtpError, FtpResult};
-use ftp_session::session::{Call, PolledCall, Session};
+use ftp_session::session::{Call, PolledCall, PollsCalls, Session, begin_settle};
 use ftp_transfer::mark::Left;
 use ftp_transport::{PassiveStreamBuilder, PollConn, PollTransport, TaskConn, TaskTransport};
 use futures::Future;
@@ -49,10 +49,10 @@ where
         ensures kept { Keeps cx.old cx.new }
     {
         let Hold::Has(session) = &mut self.hold else {
-            return Poll::Ready(Err(FtpError::ConnectionError(ConnectionError::NotOwed)));
+            return Poll::Ready(Err(FtpError::ConnectionError(ConnectionError::AlreadyCompleted)));
         };
         if self.call.is_none() {
-            match session.begin_settle(self.left) {
+            match begin_settle(session, self.left) {
                 Ok(true) => begin(&mut self.call),
                 Ok(false) => return Poll::Ready(Ok(())),
                 Err(fault) => return Poll::Ready(Err(fault)),

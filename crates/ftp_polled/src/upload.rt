@@ -105,7 +105,7 @@ where
         ensures kept { Keeps cx.old cx.new }
     {
         let Some(ending) = &mut self.ending else {
-            return Poll::Ready(Err(FtpError::ConnectionError(ConnectionError::NotOwed)));
+            return Poll::Ready(Err(FtpError::ConnectionError(ConnectionError::AlreadyCompleted)));
         };
         match ending.poll_ended(cx) {
             Poll::Ready(Ok(())) => Poll::Ready(Ok(self.copying.count())),

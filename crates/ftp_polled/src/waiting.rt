@@ -5,7 +5,7 @@ ghost use Rattle.futures.specs.Task.{IsArmed, Keeps};
 ghost use Rattle.futures.specs.declared.task.Poll.TheVariants as poll;
 
 use ftp_base::encoding::Encoding;
-use ftp_session::session::Session;
+use ftp_session::session::{Session, WaitsInTask};
 use ftp_transport::{TaskConn, TaskTransport};
 use futures::task::{Context, Poll};
 

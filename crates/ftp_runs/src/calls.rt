@@ -14,7 +14,7 @@ ghost use Rattle.ftp_dialogue.specs.Sound.{Sound};
 use ftp_base::encoding::Encoding;
 use ftp_base::types::{FtpError, FtpResult};
 use ftp_dialogue::machine::Machine;
-use ftp_session::session::{Answer, Call, Lent, Session, make};
+use ftp_session::session::{Answer, Call, LendsMachine, Lent, Session, make};
 use ftp_transport::{Conn, Network, PassiveStreamBuilder, Transport};
 use std::alloc::Global;
 
@@ -49,6 +49,7 @@ where
             FailsWith (as_seen self.new.mark self.old.machine) self.new.machine answers.items) }
         ensures encoding { self.new.encoding ≡ self.old.encoding }
         ensures builder { self.new.builder ≡ self.old.builder }
+        ensures former { self.new.former ≡ self.old.former }
         ensures memory { IfErr result (λ fault. fault ≡ FtpError.OutOfMemory) }
         ensures unchanged { OnErr result (self.new ≡ self.old) }
         ensures sound { Sound Tr.Conn.tells self.new.machine.channel

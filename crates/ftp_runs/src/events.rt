@@ -28,7 +28,7 @@ use ftp_dialogue::asks::By;
 use ftp_dialogue::machine::Machine;
 use ftp_dialogue::stage::Stage;
 use ftp_dialogue::unless_unit;
-use ftp_session::session::{Answer, Call, Lent, Session};
+use ftp_session::session::{Answer, Call, LendsMachine, Lent, Session};
 use ftp_transport::{MemoryConn, MemoryTransport, PassiveStreamBuilder};
 use futures::task::Poll;
 use std::alloc::{AllocError, Global};
@@ -63,6 +63,7 @@ impl<K: Drop, E: Encoding, B: PassiveStreamBuilder<MemoryConn>> RunEvents
         ensures looks { OnOk result (LooksIf (watches self.old.mark self.old.machine) self.old.mark self.new.mark) }
         ensures encoding { self.new.encoding ≡ self.old.encoding }
         ensures builder { self.new.builder ≡ self.old.builder }
+        ensures former { self.new.former ≡ self.old.former }
         ensures memory { IfErr result (λ fault. fault ≡ FtpError.OutOfMemory) }
         ensures stops { OnErr result ((self.new ≡ self.old) ⊎ (LooksIf (watches self.old.mark self.old.machine) self.old.mark self.new.mark
             × StopsAtFeed (built_by B.answers self.old.builder) (chosen E.decoded E.encoded self.old.encoding.0)

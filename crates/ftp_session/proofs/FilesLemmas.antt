@@ -15,17 +15,17 @@ use Rattle.ftp_transfer.specs.declared.direction.Direction.TheVariants.{Download
 
 module _ (opens ends : Link) (coding : Coding) (call : Call) (mark marked after former kept : Option End) (old given new : SessionValue) (transfer : TransferValue) where
   -- a call opened an upload, and a file went over it
-  pub puts_on : (source source' : Option (List ℕ)) (result : Result ℕ FtpError) → Opens opens coding call Upload mark marked former kept old given (Ok transfer) → Stores ends coding source source' transfer marked after given new result → Puts opens ends coding call source source' mark after former old new result
+  pub puts_on : (source source' : Option (List ℕ)) (result : Result ℕ FtpError) → Opens opens coding call Upload mark marked former kept old given (Ok transfer) → Stores ends coding source source' transfer marked after given new result → Puts opens ends coding call source source' mark after former kept old new result
   puts_on source source' result opened stores = record {
     between = opened.between;
     looks = opened.looks;
-    goes_on = inl (record { transfer = transfer; marked = marked; kept = kept; given = given; opened = opened.goes_on; stores = stores });
+    goes_on = inl (record { transfer = transfer; marked = marked; given = given; opened = opened.goes_on; stores = stores });
   }
 
   -- a call opened a download, and a reader was called on it
-  pub retrieves_on : {T : Type 0} (Reads : TransferValue → Result T FtpError → TransferValue → Type 0) (over : TransferValue) (read result : Result T FtpError) (ended : Result (Unit {0}) FtpError) → Opens opens coding call Download mark marked former kept old given (Ok transfer) → Reads transfer read over → BringsToEnd ends coding Finish over marked after given new (unit_answer ended) → result ≡ first_of read ended → Retrieves opens ends coding call Reads mark after former old new result
+  pub retrieves_on : {T : Type 0} (Reads : TransferValue → Result T FtpError → TransferValue → Type 0) (over : TransferValue) (read result : Result T FtpError) (ended : Result (Unit {0}) FtpError) → Opens opens coding call Download mark marked former kept old given (Ok transfer) → Reads transfer read over → BringsToEnd ends coding Finish over marked after given new (unit_answer ended) → result ≡ first_of read ended → Retrieves opens ends coding call Reads mark after former kept old new result
   retrieves_on Reads over read result ended opened reads ends_it is = record {
     between = opened.between;
     looks = opened.looks;
-    goes_on = inl (record { transfer = transfer; marked = marked; kept = kept; given = given; opened = opened.goes_on; over = over; read = read; reads = reads; ended = ended; ends_it = ends_it; is = is });
+    goes_on = inl (record { transfer = transfer; marked = marked; given = given; opened = opened.goes_on; over = over; read = read; reads = reads; ended = ended; ends_it = ends_it; is = is });
   }

@@ -14,7 +14,8 @@ use Rattle.ftp_transport.specs.Told.{Told}
 use Rattle.ftp_transfer.specs.Transfer.{TransferValue}
 use Rattle.ftp_transfer.specs.declared.direction.Direction.{Direction}
 use Rattle.ftp_dialogue.specs.Coding.{Coding}
-use Rattle.ftp_session.specs.Handed.{BeginsToSettle, BeginsToSettleIf, BeginsToSettleUnless, BringsToEnd, BringsToEndIf, TakesBack, TakesBackIf, ComesTo, GivesUp, HandsOut, IsOpening, LooksIf, ReadsSeen, OpensAs, OpensEither, OpensFrom, Opens, OpensReplied, PlaysSeen, Settles, SettlesIf, SettlesUnless, as_seen, found, left_if, opened_as, watches, with_data, with_reply, without_reply}
+use Rattle.ftp_session.specs.Polled.{HandsOver}
+use Rattle.ftp_session.specs.Handed.{BeginsToSettle, BeginsToSettleIf, BeginsToSettleUnless, BringsToEnd, BringsToEndIf, TakesBack, TakesBackIf, ComesTo, GivesUp, HandsOut, IsOpening, LooksIf, ReadsSeen, OpensAs, OpensEither, OpensFrom, Opens, OpensReplied, PlaysSeen, Settles, SettlesIf, Strays, SettlesUnless, as_seen, found, is_out, left_if, opened_as, watches, with_data, with_reply, without_reply}
 use Rattle.ftp_dialogue.specs.Link.{Link}
 use Rattle.ftp_dialogue.specs.Dialogue.{Expected}
 use Rattle.ftp_dialogue.specs.Promises.{GivesFault, IsFault, Plays, PlaysAlone}
@@ -64,7 +65,7 @@ copied_plays link coding call copy made mark after old new answer is same plays 
 -- a transfer that was taken back is brought to its end
 pub taken_back : (link : Link) (coding : Coding) (call : Call) (transfer : TransferValue) (mark after : Option End) (old middle new : SessionValue) (answer : Answer) → TakesBack transfer mark after old middle (Ok tt) → PlaysAlone link coding call middle new answer → BringsToEnd link coding call transfer mark after old new answer
 taken_back link coding call transfer mark after old middle new answer takes plays =
-    elim (is_live transfer.end.number old.state.counts.owed) as (λ b. TakesBackIf b transfer mark after old middle (Ok tt) → BringsToEndIf b link coding call transfer mark after old new answer) [
+    elim (is_out transfer.end.number mark old) as (λ b. TakesBackIf b transfer mark after old middle (Ok tt) → BringsToEndIf b link coding call transfer mark after old new answer) [
       | true ↦ λ taken. inl (record { mark = taken.0; made = (let P : SessionValue → Type 0 = λ v. PlaysAlone link coding call v new answer in subst P taken.1 plays) })
       | false ↦ λ none. absurd none
     ] takes
@@ -72,16 +73,16 @@ taken_back link coding call transfer mark after old middle new answer takes play
 -- one that wasn't
 pub not_taken_back : (link : Link) (coding : Coding) (call : Call) (transfer : TransferValue) (mark after : Option End) (old new : SessionValue) (fault : FtpError) → TakesBack transfer mark after old new (Err fault) → BringsToEnd link coding call transfer mark after old new (Fault fault)
 not_taken_back link coding call transfer mark after old new fault takes =
-    elim (is_live transfer.end.number old.state.counts.owed) as (λ b. TakesBackIf b transfer mark after old new (Err fault) → BringsToEndIf b link coding call transfer mark after old new (Fault fault)) [
+    elim (is_out transfer.end.number mark old) as (λ b. TakesBackIf b transfer mark after old new (Err fault) → BringsToEndIf b link coding call transfer mark after old new (Fault fault)) [
       | true ↦ λ without. inr without
       | false ↦ λ passes. passes
     ] takes
 
--- a transfer that is live is taken back
-pub takes_live : (transfer : TransferValue) (mark : Option End) (old middle : SessionValue) (number : ℕ) (live : Bool) → number ≡ transfer.end.number → live ≡ is_live number old.state.counts.owed → live ≡ true → middle ≡ with_data (Some transfer.told) old → TakesBack transfer mark None old middle (Ok tt)
-takes_live transfer mark old middle number live numbers is live_now taken =
+-- a transfer that was handed out and is live is taken back
+pub takes_out : (transfer : TransferValue) (mark : Option End) (old middle : SessionValue) (number : ℕ) (out : Bool) → number ≡ transfer.end.number → out ≡ is_out number mark old → out ≡ true → middle ≡ with_data (Some transfer.told) old → TakesBack transfer mark None old middle (Ok tt)
+takes_out transfer mark old middle number out numbers is out_now taken =
     let P : Bool → Type 0 = λ b. TakesBackIf b transfer mark None old middle (Ok tt) in
-    let held : is_live transfer.end.number old.state.counts.owed ≡ true = ap (λ n. is_live n old.state.counts.owed) (sym numbers) ∙ sym is ∙ live_now in
+    let held : is_out transfer.end.number mark old ≡ true = ap (λ n. is_out n mark old) (sym numbers) ∙ sym is ∙ out_now in
     subst P (sym held) (refl, taken)
 
 -- what follows once a receipt was looked at
@@ -152,53 +153,22 @@ pub opens_withheld : (link : Link) (coding : Coding) (call : Call) (replies : Bo
 opens_withheld link coding call replies direction mark former v opening =
     (refl, refl, record { answer = Fault (withheld v); given = v; plays = withheld_plays link coding call v opening.1 opening.2; ends = inl (refl, refl) })
 
--- a call opens no transfer
-pub opens_none : (link : Link) (coding : Coding) (call : Call) (replies : Bool) (direction : Direction) (mark former : Option End) (old given new : SessionValue) (answer : Answer) (result : Result (Option Response) (Option FtpError)) (fault : Option FtpError) (cause : FtpError) → Plays link coding call old given answer → ComesTo replies answer result → result ≡ Err fault → GivesUp fault cause given new → OpensEither link coding call replies direction mark mark former former old new (Err cause)
-opens_none link coding call replies direction mark former old given new answer result fault cause plays comes is gives =
-    let P : Result (Option Response) (Option FtpError) → Type 0 = λ r. ComesTo replies answer r in
-    go fault (subst P is comes) gives
+-- what an opening call returns, by what was handed over of its answer
+pub hands_opens : (link : Link) (coding : Coding) (call : Call) (replies : Bool) (direction : Direction) (end : End) (mark after former kept : Option End) (old given new : SessionValue) (answer : Answer) (result : Result (Option Response × TransferValue) FtpError) → end.number ≡ next_number old.state.counts → Plays link coding call old given answer → HandsOver replies direction end answer mark after former kept given new result → OpensEither link coding call replies direction mark after former kept old new result
+hands_opens link coding call replies direction end mark after former kept old given new answer (Ok opened) numbers plays hands =
+    let P : Answer → Type 0 = λ a. Plays link coding call old given a in
+    (hands.3, hands.1, record { given = given; plays = subst P hands.0 plays; hands = hands.4 })
+hands_opens link coding call replies direction end mark after former kept old given new answer (Err fault) numbers plays hands =
+    (hands.0, hands.1, record { answer = answer; given = given; plays = plays; ends = ends hands.2 })
   where
-    go : (f : Option FtpError) → ComesTo replies answer (Err f) → GivesUp f cause given new → OpensEither link coding call replies direction mark mark former former old new (Err cause)
-    go (Some f) failed gives = (refl, refl, record { answer = answer; given = given; plays = plays; ends = inl (failed ∙ ap Fault (sym gives.0), gives.1) })
-    go None other gives = (refl, refl, record { answer = answer; given = given; plays = plays; ends = inr (record { no_fault = other.0; lacks = λ opened. (let clash : true ≡ false = sym opened ∙ other.1 in cc); is = gives.0; left = gives.1 }) })
+    ends : ((answer ≡ Fault fault) × (new ≡ given)) ⊎ Strays replies end.number answer fault given new → ((answer ≡ Fault fault) × (new ≡ given)) ⊎ Strays replies (next_number old.state.counts) answer fault given new
+    ends (inl failed) = inl failed
+    ends (inr strays) = let P : ℕ → Type 0 = λ n. Strays replies n answer fault given new in inr (subst P numbers strays)
 
--- an answer that opened a transfer is no fault
-opened_no_fault : (reply : Option Response) → IsFault (opened_as reply) → ⊥
-opened_no_fault None fault = fault
-opened_no_fault (Some reply) fault = fault
-
--- a call opens a transfer that doesn't stand
-pub opens_stray : (link : Link) (coding : Coding) (call : Call) (replies : Bool) (direction : Direction) (mark former : Option End) (old given same new : SessionValue) (answer : Answer) (result : Result (Option Response) (Option FtpError)) (reply : Option Response) (number : ℕ) (cause : FtpError) → Plays link coding call old given answer → ComesTo replies answer result → result ≡ Ok reply → number ≡ next_number old.state.counts → (is_none given.net.data_conn ≡ true) ⊎ (is_live number given.state.counts.owed ≡ false) → same ≡ given → GivesUp None cause same new → OpensEither link coding call replies direction mark mark former former old new (Err cause)
-opens_stray link coding call replies direction mark former old given same new answer result reply number cause plays comes is numbers lacks stays gives =
-    let P : Result (Option Response) (Option FtpError) → Type 0 = λ r. ComesTo replies answer r in
-    let Q : Answer → Type 0 = λ a. IsFault a → ⊥ in
-    let N : ℕ → Type 0 = λ n. (is_none given.net.data_conn ≡ true) ⊎ (is_live n given.state.counts.owed ≡ false) in
-    let G : SessionValue → Type 0 = λ v. new ≡ left_if true v in
-    let opened : ComesTo replies answer (Ok reply) = subst P is comes in
-    (refl, refl, record { answer = answer; given = given; plays = plays; ends = inr (record { no_fault = subst Q (sym opened.1) (opened_no_fault reply); lacks = λ one. subst N numbers lacks; is = gives.0; left = subst G stays gives.1 }) })
-
--- the two ends of a mark that wasn't looked at
-same_end : (a b : End) → a.mark ≡ b.mark → a.number ≡ b.number → a.loads ≡ b.loads → a ≡ b
-same_end a b marks numbers loads =
-    ap (λ m. record a { mark = m }) marks ∙ ap (λ n. record a { mark = b.mark; number = n }) numbers ∙ ap (λ l. record b { loads = l }) loads
-
--- a transfer on the data connection, with its end of the mark
-pub handed_out : (direction : Direction) (given new : SessionValue) (transfer : TransferValue) (session_end transfer_end : End) (after : Option End) (told : Told) (number : ℕ) → after ≡ Some session_end → given.net.data_conn ≡ Some told → transfer.told ≡ told → transfer.end ≡ transfer_end → transfer.direction ≡ direction → is_live number given.state.counts.owed ≡ true → (session_end.number ≡ number) × (transfer_end.number ≡ number) → (session_end.loads ≡ []) × (transfer_end.loads ≡ []) → session_end.mark ≡ transfer_end.mark → new ≡ with_data None given → HandsOut direction given transfer after new
-handed_out direction given new transfer session_end transfer_end after told number now conn tells ends goes live numbers loads marks taken = record {
-  told = conn ∙ ap Some (sym tells);
-  live = ap (λ e. is_live e.number given.state.counts.owed) ends ∙ ap (λ n. is_live n given.state.counts.owed) numbers.1 ∙ live;
-  direction_is = goes;
-  mark = (ap (λ e. e.loads) ends ∙ loads.1, now ∙ ap Some (same_end session_end transfer_end marks (numbers.0 ∙ sym numbers.1) (loads.0 ∙ sym loads.1) ∙ sym ends));
-  new_is = taken;
-}
-
--- a call opens a transfer
-pub opens_transfer : (link : Link) (coding : Coding) (call : Call) (replies : Bool) (direction : Direction) (mark after former kept : Option End) (old given new : SessionValue) (answer : Answer) (result : Result (Option Response) (Option FtpError)) (reply : Option Response) (transfer : TransferValue) → kept ≡ mark → Plays link coding call old given answer → ComesTo replies answer result → result ≡ Ok reply → HandsOut direction given transfer after new → OpensEither link coding call replies direction mark after former kept old new (Ok (reply, transfer))
-opens_transfer link coding call replies direction mark after former kept old given new answer result reply transfer keeps plays comes is hands =
-    let P : Result (Option Response) (Option FtpError) → Type 0 = λ r. ComesTo replies answer r in
-    let Q : Answer → Type 0 = λ a. Plays link coding call old given a in
-    let opened : ComesTo replies answer (Ok reply) = subst P is comes in
-    (keeps, opened.0, record { given = given; plays = subst Q opened.1 plays; hands = hands })
+-- whether an opening call that returned a transfer returned its reply
+pub hands_reply : (replies : Bool) (direction : Direction) (end : End) (mark after former kept : Option End) (given new : SessionValue) (answer : Answer) (result : Result (Option Response × TransferValue) FtpError) → HandsOver replies direction end answer mark after former kept given new result → IfOk result (λ opened. is_none opened.0 ≡ not replies)
+hands_reply replies direction end mark after former kept given new answer (Ok opened) hands = hands.1
+hands_reply replies direction end mark after former kept given new answer (Err fault) hands = tt
 
 -- an opening call isn't made, after the look, since memory ran out
 pub opens_out : (link : Link) (coding : Coding) (call : Call) (replies : Bool) (direction : Direction) (mark after former : Option End) (old seen : SessionValue) → LooksIf (watches mark old) mark after → seen ≡ as_seen after old → IsOpening call → OpensAs link coding call replies direction mark after former former old seen (Err (withheld seen))

@@ -7,12 +7,11 @@ use Rattle.ftp_calls.specs.declared.call.Call.TheVariants.{Finish, Leave}
 use Rattle.ftp_transfer.specs.Mark.{End}
 use Rattle.ftp_dialogue.specs.Coding.{Coding}
 use Rattle.ftp_dialogue.specs.Link.{Link}
-use Rattle.ftp_dialogue.specs.Sound.{is_live}
 use Rattle.ftp_dialogue.specs.State.{SessionValue}
 use Rattle.ftp_dialogue.specs.Steps.Moving.{CarriesOut}
 use Rattle.ftp_session.specs.Calls.{unit_answer}
 use Rattle.ftp_session.specs.Copying.{Copies}
-use Rattle.ftp_session.specs.Handed.{BringsToEnd, OpensOne, SeesFirst, left_if, with_data}
+use Rattle.ftp_session.specs.Handed.{BringsToEnd, OpensOne, SeesFirst, is_out, left_if, with_data}
 use Rattle.ftp_transfer.specs.Transfer.{TransferValue}
 use Rattle.ftp_transfer.specs.declared.direction.Direction.{Direction}
 use Rattle.ftp_transfer.specs.declared.direction.Direction.TheVariants.{Download, Upload}
@@ -35,7 +34,7 @@ AbandonsIf true tells transfer mark after old new =
 AbandonsIf false tells transfer mark after old new = (after ≡ mark) × (new ≡ old)
 
 abbrev pub Abandons : Type 0 → TransferValue → Option End → Option End → SessionValue → SessionValue → Type 0
-Abandons tells transfer mark after old new = AbandonsIf (is_live transfer.end.number old.state.counts.owed) tells transfer mark after old new
+Abandons tells transfer mark after old new = AbandonsIf (is_out transfer.end.number mark old) tells transfer mark after old new
 
 -- a file was copied: its transfer is brought to its end, and the answer is how many bytes were written; or it wasn't, and
 -- the transfer is left
@@ -51,31 +50,25 @@ pub record Stores (link : Link) (coding : Coding) (source source' : Option (List
   pub ends : EndsUpload link coding sent mark after old new copied result
 
 -- a call opens a transfer, and a file goes over it; or it opens none, and nothing is read from the source
-pub record OpensAndStores (opens ends : Link) (coding : Coding) (call : Call) (source source' : Option (List ℕ)) (mark after former : Option End) (old new : SessionValue) (result : Result ℕ FtpError) : Type 0 where
+pub record OpensAndStores (opens ends : Link) (coding : Coding) (call : Call) (source source' : Option (List ℕ)) (mark after former kept : Option End) (old new : SessionValue) (result : Result ℕ FtpError) : Type 0 where
   pub transfer : TransferValue
   pub marked : Option End
-  pub kept : Option End
   pub given : SessionValue
   pub opened : OpensOne opens coding call Upload mark marked former kept old given (Ok transfer)
   pub stores : Stores ends coding source source' transfer marked after given new result
 
-pub record OpensNone (link : Link) (coding : Coding) (call : Call) (direction : Direction) (mark after former : Option End) (old new : SessionValue) (fault : FtpError) : Type 0 where
-  pub kept : Option End
-  pub fails : OpensOne link coding call direction mark after former kept old new (Err fault)
+abbrev pub PutsFrom : Link → Link → Coding → Call → Option (List ℕ) → Option (List ℕ) → Option End → Option End → Option End → Option End → SessionValue → SessionValue → Result ℕ FtpError → Type 0
+PutsFrom opens ends coding call source source' mark after former kept old new result =
+    OpensAndStores opens ends coding call source source' mark after former kept old new result
+    ⊎ ((fault : FtpError) × (result ≡ Err fault) × OpensOne opens coding call Upload mark after former kept old new (Err fault) × (source' ≡ source))
 
-abbrev pub PutsFrom : Link → Link → Coding → Call → Option (List ℕ) → Option (List ℕ) → Option End → Option End → Option End → SessionValue → SessionValue → Result ℕ FtpError → Type 0
-PutsFrom opens ends coding call source source' mark after former old new result =
-    OpensAndStores opens ends coding call source source' mark after former old new result
-    ⊎ ((fault : FtpError) × (result ≡ Err fault) × OpensNone opens coding call Upload mark after former old new fault × (source' ≡ source))
-
-abbrev pub Puts : Link → Link → Coding → Call → Option (List ℕ) → Option (List ℕ) → Option End → Option End → Option End → SessionValue → SessionValue → Result ℕ FtpError → Type 0
-Puts opens ends coding call source source' mark after former old new result = SeesFirst mark old (λ between seen. PutsFrom opens ends coding call source source' between after former seen new result)
+abbrev pub Puts : Link → Link → Coding → Call → Option (List ℕ) → Option (List ℕ) → Option End → Option End → Option End → Option End → SessionValue → SessionValue → Result ℕ FtpError → Type 0
+Puts opens ends coding call source source' mark after former kept old new result = SeesFirst mark old (λ between seen. PutsFrom opens ends coding call source source' between after former kept seen new result)
 
 -- a call opens a transfer, a reader is called once on it, and it is brought to its end; the reader's fault is told first
-pub record OpensAndReads {T : Type 0} (opens ends : Link) (coding : Coding) (call : Call) (Reads : TransferValue → Result T FtpError → TransferValue → Type 0) (mark after former : Option End) (old new : SessionValue) (result : Result T FtpError) : Type 0 where
+pub record OpensAndReads {T : Type 0} (opens ends : Link) (coding : Coding) (call : Call) (Reads : TransferValue → Result T FtpError → TransferValue → Type 0) (mark after former kept : Option End) (old new : SessionValue) (result : Result T FtpError) : Type 0 where
   pub transfer : TransferValue
   pub marked : Option End
-  pub kept : Option End
   pub given : SessionValue
   pub opened : OpensOne opens coding call Download mark marked former kept old given (Ok transfer)
   pub over : TransferValue
@@ -85,10 +78,10 @@ pub record OpensAndReads {T : Type 0} (opens ends : Link) (coding : Coding) (cal
   pub ends_it : BringsToEnd ends coding Finish over marked after given new (unit_answer ended)
   pub is : result ≡ first_of read ended
 
-abbrev pub RetrievesFrom : {T : Type 0} → Link → Link → Coding → Call → (TransferValue → Result T FtpError → TransferValue → Type 0) → Option End → Option End → Option End → SessionValue → SessionValue → Result T FtpError → Type 0
-RetrievesFrom opens ends coding call Reads mark after former old new result =
-    OpensAndReads opens ends coding call Reads mark after former old new result
-    ⊎ ((fault : FtpError) × (result ≡ Err fault) × OpensNone opens coding call Download mark after former old new fault)
+abbrev pub RetrievesFrom : {T : Type 0} → Link → Link → Coding → Call → (TransferValue → Result T FtpError → TransferValue → Type 0) → Option End → Option End → Option End → Option End → SessionValue → SessionValue → Result T FtpError → Type 0
+RetrievesFrom opens ends coding call Reads mark after former kept old new result =
+    OpensAndReads opens ends coding call Reads mark after former kept old new result
+    ⊎ ((fault : FtpError) × (result ≡ Err fault) × OpensOne opens coding call Download mark after former kept old new (Err fault))
 
-abbrev pub Retrieves : {T : Type 0} → Link → Link → Coding → Call → (TransferValue → Result T FtpError → TransferValue → Type 0) → Option End → Option End → Option End → SessionValue → SessionValue → Result T FtpError → Type 0
-Retrieves opens ends coding call Reads mark after former old new result = SeesFirst mark old (λ between seen. RetrievesFrom opens ends coding call Reads between after former seen new result)
+abbrev pub Retrieves : {T : Type 0} → Link → Link → Coding → Call → (TransferValue → Result T FtpError → TransferValue → Type 0) → Option End → Option End → Option End → Option End → SessionValue → SessionValue → Result T FtpError → Type 0
+Retrieves opens ends coding call Reads mark after former kept old new result = SeesFirst mark old (λ between seen. RetrievesFrom opens ends coding call Reads between after former kept seen new result)

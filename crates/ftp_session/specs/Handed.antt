@@ -1,5 +1,5 @@
 -- A transfer that a session hands to its caller, and how the session learns that it was left: RFC 959, section 3.2.
-use Rattle.std.specs.Prelude.{◌≡◌, ◌⊎◌, ◌&&◌, ℕ, Bool, true, false, List, [], ◌∷◌, Option, Some, None, Result, Ok, Err, Contains, is_none, not, if◌then◌else◌}
+use Rattle.std.specs.Prelude.{◌≡◌, ◌⊎◌, ◌&&◌, ◌==◌, ℕ, Bool, true, false, List, [], ◌∷◌, Option, Some, None, Result, Ok, Err, Contains, is_none, not, if◌then◌else◌}
 use Rattle.futures.specs.declared.task.Poll.{Poll}
 use Rattle.ftp_base.specs.declared.types.reply.Response.{Response}
 use Rattle.ftp_base.specs.declared.types.fault.FtpError.{FtpError}
@@ -172,6 +172,11 @@ with_reply (Err fault) = Err fault
 
 -- The end
 
+-- whether the transfer of this number was handed out, and is live
+unfoldable pub is_out : ℕ → Option End → SessionValue → Bool
+is_out number None v = false
+is_out number (Some end) v = is_live end.number v.state.counts.owed && (end.number == number)
+
 -- an answer of a call that brings a transfer to its end
 abbrev pub EndsOnly : Answer → Type 0
 EndsOnly Done = Unit {0}
@@ -189,7 +194,7 @@ pub record EndsWithout (mark after : Option End) (old new : SessionValue) (answe
   pub is : answer ≡ Fault (withheld old)
   pub left : new ≡ left_if true old
 
--- why: no transfer of this number is live; a session that has failed says that first
+-- why: no transfer of this number was handed out and is live; a session that has failed says that first
 abbrev pub passed_over : SessionValue → FtpError
 passed_over v = if v.channel.failed then SessionFailed else ConnectionError NotOwed
 
@@ -204,7 +209,7 @@ BringsToEndIf true link coding call transfer mark after old new answer = Ends li
 BringsToEndIf false link coding call transfer mark after old new answer = PassesOver mark after old new answer
 
 abbrev pub BringsToEnd : Link → Coding → Call → TransferValue → Option End → Option End → SessionValue → SessionValue → Answer → Type 0
-BringsToEnd link coding call transfer mark after old new answer = BringsToEndIf (is_live transfer.end.number old.state.counts.owed) link coding call transfer mark after old new answer
+BringsToEnd link coding call transfer mark after old new answer = BringsToEndIf (is_out transfer.end.number mark old) link coding call transfer mark after old new answer
 
 -- the data connection of a transfer that is live stands beside the control connection again, or it comes to the above
 abbrev pub TakesBackIf : Bool → TransferValue → Option End → Option End → SessionValue → SessionValue → Result (Unit {0}) FtpError → Type 0
@@ -214,7 +219,7 @@ TakesBackIf false transfer mark after old new (Ok done) = ⊥
 TakesBackIf false transfer mark after old new (Err fault) = PassesOver mark after old new (Fault fault)
 
 abbrev pub TakesBack : TransferValue → Option End → Option End → SessionValue → SessionValue → Result (Unit {0}) FtpError → Type 0
-TakesBack transfer mark after old new result = TakesBackIf (is_live transfer.end.number old.state.counts.owed) transfer mark after old new result
+TakesBack transfer mark after old new result = TakesBackIf (is_out transfer.end.number mark old) transfer mark after old new result
 
 -- the last reply of a transfer that was left, by its receipt, is read; one that is no longer owed asks nothing
 abbrev pub SettlesIf : Bool → Link → Coding → SessionValue → SessionValue → Answer → Type 0

@@ -6,7 +6,7 @@ use Rattle.futures.specs.declared.task.Poll.TheVariants.{Ready, Pending}
 use Rattle.ftp_base.specs.declared.types.reply.Response.{Response}
 use Rattle.ftp_base.specs.declared.types.fault.FtpError.{FtpError}
 use Rattle.ftp_base.specs.declared.types.fault.FtpError.TheVariants.{ConnectionError}
-use Rattle.ftp_base.specs.declared.types.fault.ConnectionError.TheVariants.{NotOwed}
+use Rattle.ftp_base.specs.declared.types.fault.ConnectionError.TheVariants.{AlreadyCompleted}
 use Rattle.ftp_calls.specs.declared.call.Answer.{Answer}
 use Rattle.ftp_calls.specs.declared.call.Answer.TheVariants.{Fault}
 use Rattle.ftp_calls.specs.declared.call.Call.{Call}
@@ -78,7 +78,7 @@ pub record PollsSeen (link : Link) (may_wait : Type 0) (coding : Coding) (p q : 
 
 -- a call that has its answer gives none a second time, and nothing happens
 pub record IsOver (p q : UnderWay) (mark after : Option End) (old new : SessionValue) (result : Poll Answer) : Type 0 where
-  pub is : result ≡ Ready (Fault (ConnectionError NotOwed))
+  pub is : result ≡ Ready (Fault (ConnectionError AlreadyCompleted))
   pub call_stays : q ≡ p
   pub mark_stays : after ≡ mark
   pub unchanged : new ≡ old

@@ -28,11 +28,13 @@ mod settings;
 
 pub use chosen::Chosen;
 pub use client::Session;
+pub use ending::{begin_settle, take_back};
 pub use files::DownloadReader;
 pub use ftp_calls::call::{Answer, Call, Setting};
 pub use ftp_dialogue::{Counts, Owed, Settings, State};
-pub use handing::NewMark;
-pub use lending::Lent;
+pub use handing::{HandsTransfers, NewMark};
+pub use lending::{LendsMachine, Lent};
 pub use making::make;
 pub use parameters::{NoStreamBuilder, NoTlsConnector};
-pub use polling::PolledCall;
+pub use polling::{DropsCalls, PolledCall, PollsCalls};
+pub use readiness::WaitsInTask;

@@ -10,4 +10,4 @@ pub mod mark;
 mod transfer;
 
 pub use direction::Direction;
-pub use transfer::Transfer;
+pub use transfer::{Transfer, TransferParts};

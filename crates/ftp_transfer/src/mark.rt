@@ -28,6 +28,11 @@ pub fn mark(alloc: Global, number: u64) -> Result<(SessionEnd, TransferEnd), All
     ensures one_mark { IfOk result (λ ends. ends.0.mark ≡ ends.1.mark) }
 {
     let mut transfer = TransferEnd::new(alloc, number)?;
-    let session = transfer.session_end()?;
-    Ok((session, transfer))
+    match transfer.session_end() {
+        Ok(session) => Ok((session, transfer)),
+        Err(error) => {
+            transfer.withdraw();
+            Err(error)
+        }
+    }
 }

@@ -7,13 +7,15 @@ ghost use Rattle.std.specs.Prelude.{◌≡◌, false, true};
 ghost use Rattle.ftp_transport.specs.Told.{after_close, before_fault};
 
 use crate::Direction;
-use crate::mark::{Left, TransferEnd};
+use crate::mark::Left;
 use ftp_transport::Tells;
 use held_end::HeldEnd;
+pub use parts::TransferParts;
 use std::marker::Model;
 
 mod blocking;
 mod held_end;
+mod parts;
 mod polled;
 mod streams;
 mod task;
@@ -43,19 +45,6 @@ impl<C: Tells + Drop> Transfer<C> {
     ghost use Rattle.std.specs.Borrow.{Lends, sem};
     ghost use Rattle.ftp_transfer.specs.contracts.transfer.Transfer.{the_row};
     ghost use Rattle.ftp_transfer.specs.Transfer.{looked, with_told};
-
-    /// A transfer on a data connection that stands.
-    pub fn new(conn: C, direction: Direction, end: TransferEnd) -> Transfer<C>
-        ensures told { result.told ≡ C.told conn }
-        ensures direction { result.direction ≡ direction }
-        ensures end { result.end ≡ end }
-    {
-        Transfer {
-            conn,
-            direction,
-            end: HeldEnd::new(end),
-        }
-    }
 
     /// The data connection.
     pub fn get_ref(&self) -> &C
@@ -108,20 +97,6 @@ impl<C: Tells + Drop> Transfer<C> {
         } = self;
         close(&mut conn);
         end.leave(conn)
-    }
-
-    /// The data connection, and this end of the mark: for the session that brings the transfer to its end. Nothing is
-    /// closed, and nothing is stored.
-    pub fn into_parts(self) -> (C, TransferEnd)
-        ensures told { C.told result.0 ≡ self.told }
-        ensures end { result.1 ≡ self.end }
-    {
-        let Transfer {
-            conn,
-            direction: _,
-            end,
-        } = self;
-        (conn, end.release())
     }
 }
 

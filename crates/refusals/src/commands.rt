@@ -25,6 +25,7 @@ where
         session.old.mark session.new.mark session.old.machine session.new.machine (unit_answer result) }
     ensures encoding { session.new.encoding ≡ session.old.encoding }
     ensures builder { session.new.builder ≡ session.old.builder }
+    ensures former { session.new.former ≡ session.old.former }
 {
     session.cwd(alloc, path)
 }
@@ -42,6 +43,7 @@ where
         session.old.mark session.new.mark session.old.machine session.new.machine (unit_answer result) }
     ensures encoding { session.new.encoding ≡ session.old.encoding }
     ensures builder { session.new.builder ≡ session.old.builder }
+    ensures former { session.new.former ≡ session.old.former }
 {
     session.login(alloc, user, password)
 }

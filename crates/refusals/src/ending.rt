@@ -27,6 +27,7 @@ where
         session.old.mark session.new.mark session.old.machine session.new.machine (unit_answer result) }
     ensures encoding { session.new.encoding ≡ session.old.encoding }
     ensures builder { session.new.builder ≡ session.old.builder }
+    ensures former { session.new.former ≡ session.old.former }
 {
     session.finish(alloc, transfer)
 }
@@ -43,6 +44,7 @@ where
         session.old.mark session.new.mark session.old.machine session.new.machine (unit_answer result) }
     ensures encoding { session.new.encoding ≡ session.old.encoding }
     ensures builder { session.new.builder ≡ session.old.builder }
+    ensures former { session.new.former ≡ session.old.former }
 {
     session.abort(alloc, transfer)
 }
@@ -61,6 +63,7 @@ where
     ensures mark { session.new.mark ≡ session.old.mark }
     ensures encoding { session.new.encoding ≡ session.old.encoding }
     ensures builder { session.new.builder ≡ session.old.builder }
+    ensures former { session.new.former ≡ session.old.former }
 {
     session.settle(alloc, left)
 }

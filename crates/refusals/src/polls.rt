@@ -13,7 +13,7 @@ ghost use Rattle.ftp_runs.specs.Following.{Grows};
 use ftp_base::encoding::Encoding;
 use ftp_base::types::{FtpError, FtpResult};
 use ftp_runs::{Event, RunEvents};
-use ftp_session::session::{Answer, PolledCall, Session};
+use ftp_session::session::{Answer, PolledCall, PollsCalls, Session};
 use ftp_transport::{
     MemoryConn, MemoryTransport, Network, PassiveStreamBuilder, PollConn, PollTransport,
 };
@@ -32,6 +32,7 @@ pub fn run_polled<K: Drop, E: Encoding, B: PassiveStreamBuilder<MemoryConn>>(
     ensures looks { OnOk result (LooksIf (watches session.old.mark session.old.machine) session.old.mark session.new.mark) }
     ensures encoding { session.new.encoding ≡ session.old.encoding }
     ensures builder { session.new.builder ≡ session.old.builder }
+    ensures former { session.new.former ≡ session.old.former }
     ensures memory { IfErr result (λ fault. fault ≡ FtpError.OutOfMemory) }
     ensures stops { OnErr result ((session.new ≡ session.old) ⊎ (LooksIf (watches session.old.mark session.old.machine) session.old.mark session.new.mark
         × StopsAtFeed (built_by B.answers session.old.builder) (chosen E.decoded E.encoded session.old.encoding.0)
@@ -46,7 +47,14 @@ pub fn run_polled<K: Drop, E: Encoding, B: PassiveStreamBuilder<MemoryConn>>(
 }
 
 /// `Session::poll_call`.
-pub fn poll_call<Tr: Network, K: Drop, E: Encoding, B: PassiveStreamBuilder<Tr::Conn>, R, W>(
+pub fn poll_call<
+    R,
+    W,
+    Tr: PollTransport<R, W>,
+    K: Drop,
+    E: Encoding,
+    B: PassiveStreamBuilder<Tr::Conn>,
+>(
     session: &mut Session<Tr, K, E, B>,
     alloc: Global,
     rt: &R,
@@ -54,12 +62,12 @@ pub fn poll_call<Tr: Network, K: Drop, E: Encoding, B: PassiveStreamBuilder<Tr::
     w: &mut W,
 ) -> Poll<Answer>
 where
-    Tr: PollTransport<R, W>,
     Tr::Conn: PollConn<W>,
     ensures polls { PollsCall (asking (built_by B.answers session.old.builder) (Tr.PollTransport.may_wait ⊎ Tr.Conn.PollConn.may_wait) (polling Tr.Conn.PollConn)) Tr.Conn.PollConn.may_wait (chosen E.decoded E.encoded session.old.encoding.0)
         polled.old polled.new session.old.mark session.new.mark session.old.machine session.new.machine result }
     ensures encoding { session.new.encoding ≡ session.old.encoding }
     ensures builder { session.new.builder ≡ session.old.builder }
+    ensures former { session.new.former ≡ session.old.former }
 {
     session.poll_call(alloc, rt, polled, w)
 }

@@ -67,6 +67,7 @@ where
         Whole session.old.mark session.new.mark session.old.machine session.new.machine (bytes_answer result) }
     ensures encoding { session.new.encoding ≡ session.old.encoding }
     ensures builder { session.new.builder ≡ session.old.builder }
+    ensures former { session.new.former ≡ session.old.former }
 {
     session.retr_as_buffer(alloc, rt, path)
 }
@@ -85,6 +86,7 @@ where
         Listed session.old.mark session.new.mark session.old.machine session.new.machine (lines_answer result) }
     ensures encoding { session.new.encoding ≡ session.old.encoding }
     ensures builder { session.new.builder ≡ session.old.builder }
+    ensures former { session.new.former ≡ session.old.former }
 {
     session.nlst(alloc, rt, path)
 }
@@ -109,7 +111,7 @@ where
     Tr::Conn: Conn,
     Tr: Transport<R>,
     ensures retrieves { Retrieves (asking (built_by B.answers session.old.builder) ⊥ (blocking Tr.Conn.Conn)) (blocking Tr.Conn.Conn) (chosen E.decoded E.encoded session.old.encoding.0) (Call.RetrAsStream path.now)
-        F.reads session.old.mark session.new.mark session.old.former session.old.machine session.new.machine result }
+        F.reads session.old.mark session.new.mark session.old.former session.new.former session.old.machine session.new.machine result }
     ensures encoding { session.new.encoding ≡ session.old.encoding }
     ensures builder { session.new.builder ≡ session.old.builder }
 {

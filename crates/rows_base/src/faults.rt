@@ -68,6 +68,7 @@ fn cause(name: &str) -> Result<ConnectionError, RowError> {
         "NoAddress" => Ok(ConnectionError::NoAddress),
         "SourceTooLarge" => Ok(ConnectionError::SourceTooLarge),
         "NotOwed" => Ok(ConnectionError::NotOwed),
+        "AlreadyCompleted" => Ok(ConnectionError::AlreadyCompleted),
         _ => Err(RowError::NotUnderstood),
     }
 }

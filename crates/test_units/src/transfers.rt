@@ -3,7 +3,7 @@
 ghost use Rattle.ftp_transport.specs.Memory.{fresh_memory};
 
 use ftp_transfer::mark::{SessionEnd, mark};
-use ftp_transfer::{Direction, Transfer};
+use ftp_transfer::{Direction, Transfer, TransferParts};
 use ftp_transport::{MemoryConn, PollConn, Tells};
 use futures::task::Poll;
 use std::alloc::Global;

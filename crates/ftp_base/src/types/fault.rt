@@ -93,6 +93,8 @@ pub enum ConnectionError {
     SourceTooLarge,
     /// The transfer isn't the one that the session owes.
     NotOwed,
+    /// A future was polled again after it had returned its result.
+    AlreadyCompleted,
 }
 
 impl ConnectionError {
@@ -112,6 +114,7 @@ impl ConnectionError {
             ConnectionError::NoAddress => ErrorKind::InvalidInput,
             ConnectionError::SourceTooLarge => ErrorKind::InvalidInput,
             ConnectionError::NotOwed => ErrorKind::InvalidInput,
+            ConnectionError::AlreadyCompleted => ErrorKind::InvalidInput,
         }
     }
 
@@ -131,6 +134,7 @@ impl ConnectionError {
             ConnectionError::NoAddress => 16,
             ConnectionError::SourceTooLarge => 17,
             ConnectionError::NotOwed => 18,
+            ConnectionError::AlreadyCompleted => 19,
         }
     }
 }
@@ -157,6 +161,7 @@ impl fmt::Display for ConnectionError {
             ConnectionError::NoAddress => f.write_str("no address to connect to"),
             ConnectionError::SourceTooLarge => f.write_str("the source is too large"),
             ConnectionError::NotOwed => f.write_str("the transfer is not of this session"),
+            ConnectionError::AlreadyCompleted => f.write_str("the call has completed"),
         }
     }
 }

@@ -110,6 +110,7 @@ impl<Tr: Network, K: Drop, E: Encoding, B: Drop> Session<Tr, K, E, B> {
             greeted_again (E.decoded encoding) self.old.machine) }
         ensures memory { IfErr result (λ fault. fault ≡ FtpError.OutOfMemory) }
         ensures builder { self.new.builder ≡ self.old.builder }
+        ensures former { self.new.former ≡ self.old.former }
         ensures mark { self.new.mark ≡ self.old.mark }
         ensures unchanged { OnErr result (self.new ≡ self.old) }
     {

@@ -5,6 +5,7 @@
 //! dialogue, a tree of `specs/Trees.antt`, and says that the method is this dialogue (`PlaysCommand`).
 
 ghost use Rattle.std.specs.Prelude.{◌≡◌, [], ◌∷◌, IfOk, option_map};
+ghost use Rattle.ftp_control.specs.Channel.{IsSound};
 ghost use Rattle.ftp_calls.specs.declared.call.Answer.TheVariants.{Fault};
 ghost use Rattle.ftp_calls.specs.declared.call.Call.{Call as Called};
 ghost use Rattle.ftp_session.specs.Calls.{reply_answer, unit_answer};
@@ -14,11 +15,11 @@ ghost use Rattle.ftp_session.specs.Commands.{PlaysCommand};
 ghost use Rattle.ftp_session.specs.Handed.{PlaysSeen};
 ghost use Rattle.ftp_session.specs.Trees.{cdup_tree, custom_tree, cwd_tree, eprt_tree, login_tree, mkdir_tree, noop_tree, opts_tree, quit_tree, read_tree, rename_tree, resume_tree, rm_tree, rmdir_tree, site_tree, type_tree};
 ghost use Rattle.ftp_dialogue.specs.Promises.{PlaysAlone};
-ghost use Rattle.ftp_dialogue.specs.Steps.Moving.{withheld};
 ghost use Rattle.ftp_dialogue.specs.Steps.Stages.{GivesNothing, GivesReply, IsPlain, MayAnswer};
 
 use super::client::Session;
 use super::looking::look;
+use super::polling::DropsCalls;
 use super::{Answer, Call};
 use ftp_base::encoding::Encoding;
 use ftp_base::status::Status;
@@ -36,14 +37,17 @@ where
     pub(super) fn greet(&mut self, alloc: Global) -> FtpResult<()>
         ensures encoding { self.new.encoding ≡ self.old.encoding }
         ensures builder { self.new.builder ≡ self.old.builder }
+        ensures former { self.new.former ≡ self.old.former }
         ensures mark { self.new.mark ≡ self.old.mark }
         ensures plays { PlaysAlone (blocking Tr.Conn.Conn) (chosen E.decoded E.encoded self.old.encoding.0) Call.Greet
             self.old.machine self.new.machine (unit_answer result) }
+        ensures sound { IsSound Tr.Conn.tells self.new.machine.channel }
     {
-        unit(
-            self.machine
-                .call_alone(&Nothing, alloc, &self.encoding, &Call::Greet),
-        )
+        let answer = self
+            .machine
+            .call_alone(&Nothing, alloc, &self.encoding, &Call::Greet);
+        self.machine.holds();
+        unit(answer)
     }
 
     /// Logs in: `USER` (230, 331), and where the server asks for a password `PASS` (230). The password is looked at
@@ -56,6 +60,7 @@ where
             self.old.mark self.new.mark self.old.machine self.new.machine (unit_answer result) }
         ensures encoding { self.new.encoding ≡ self.old.encoding }
         ensures builder { self.new.builder ≡ self.old.builder }
+        ensures former { self.new.former ≡ self.old.former }
     {
         self.perform(alloc, login_call(alloc, user, password))
     }
@@ -69,6 +74,7 @@ where
             self.old.mark self.new.mark self.old.machine self.new.machine (unit_answer result) }
         ensures encoding { self.new.encoding ≡ self.old.encoding }
         ensures builder { self.new.builder ≡ self.old.builder }
+        ensures former { self.new.former ≡ self.old.former }
     {
         self.perform(alloc, cwd_call(alloc, path))
     }
@@ -82,6 +88,7 @@ where
             self.old.mark self.new.mark self.old.machine self.new.machine (unit_answer result) }
         ensures encoding { self.new.encoding ≡ self.old.encoding }
         ensures builder { self.new.builder ≡ self.old.builder }
+        ensures former { self.new.former ≡ self.old.former }
     {
         unit(self.call(alloc, &Call::Cdup))
     }
@@ -95,6 +102,7 @@ where
             self.old.mark self.new.mark self.old.machine self.new.machine (unit_answer result) }
         ensures encoding { self.new.encoding ≡ self.old.encoding }
         ensures builder { self.new.builder ≡ self.old.builder }
+        ensures former { self.new.former ≡ self.old.former }
     {
         unit(self.call(alloc, &Call::Noop))
     }
@@ -108,6 +116,7 @@ where
             self.old.mark self.new.mark self.old.machine self.new.machine (unit_answer result) }
         ensures encoding { self.new.encoding ≡ self.old.encoding }
         ensures builder { self.new.builder ≡ self.old.builder }
+        ensures former { self.new.former ≡ self.old.former }
     {
         self.perform(alloc, Ok(Call::Eprt(address)))
     }
@@ -121,6 +130,7 @@ where
             self.old.mark self.new.mark self.old.machine self.new.machine (unit_answer result) }
         ensures encoding { self.new.encoding ≡ self.old.encoding }
         ensures builder { self.new.builder ≡ self.old.builder }
+        ensures former { self.new.former ≡ self.old.former }
     {
         self.perform(alloc, opts_call(alloc, option, value))
     }
@@ -134,6 +144,7 @@ where
             self.old.mark self.new.mark self.old.machine self.new.machine (reply_answer result) }
         ensures encoding { self.new.encoding ≡ self.old.encoding }
         ensures builder { self.new.builder ≡ self.old.builder }
+        ensures former { self.new.former ≡ self.old.former }
     {
         self.perform_for_reply(alloc, site_call(alloc, command))
     }
@@ -147,6 +158,7 @@ where
             self.old.mark self.new.mark self.old.machine self.new.machine (unit_answer result) }
         ensures encoding { self.new.encoding ≡ self.old.encoding }
         ensures builder { self.new.builder ≡ self.old.builder }
+        ensures former { self.new.former ≡ self.old.former }
     {
         self.perform(alloc, Ok(Call::TransferType(kind)))
     }
@@ -160,6 +172,7 @@ where
             self.old.mark self.new.mark self.old.machine self.new.machine (unit_answer result) }
         ensures encoding { self.new.encoding ≡ self.old.encoding }
         ensures builder { self.new.builder ≡ self.old.builder }
+        ensures former { self.new.former ≡ self.old.former }
     {
         self.perform(alloc, mkdir_call(alloc, path))
     }
@@ -173,6 +186,7 @@ where
             self.old.mark self.new.mark self.old.machine self.new.machine (unit_answer result) }
         ensures encoding { self.new.encoding ≡ self.old.encoding }
         ensures builder { self.new.builder ≡ self.old.builder }
+        ensures former { self.new.former ≡ self.old.former }
     {
         self.perform(alloc, rmdir_call(alloc, path))
     }
@@ -186,6 +200,7 @@ where
             self.old.mark self.new.mark self.old.machine self.new.machine (unit_answer result) }
         ensures encoding { self.new.encoding ≡ self.old.encoding }
         ensures builder { self.new.builder ≡ self.old.builder }
+        ensures former { self.new.former ≡ self.old.former }
     {
         self.perform(alloc, rm_call(alloc, path))
     }
@@ -199,6 +214,7 @@ where
             self.old.mark self.new.mark self.old.machine self.new.machine (unit_answer result) }
         ensures encoding { self.new.encoding ≡ self.old.encoding }
         ensures builder { self.new.builder ≡ self.old.builder }
+        ensures former { self.new.former ≡ self.old.former }
     {
         self.perform(alloc, rename_call(alloc, from, to))
     }
@@ -212,6 +228,7 @@ where
             self.old.mark self.new.mark self.old.machine self.new.machine (unit_answer result) }
         ensures encoding { self.new.encoding ≡ self.old.encoding }
         ensures builder { self.new.builder ≡ self.old.builder }
+        ensures former { self.new.former ≡ self.old.former }
     {
         unit(self.call(alloc, &Call::Quit))
     }
@@ -230,6 +247,7 @@ where
             self.old.mark self.new.mark self.old.machine self.new.machine (reply_answer result) }
         ensures encoding { self.new.encoding ≡ self.old.encoding }
         ensures builder { self.new.builder ≡ self.old.builder }
+        ensures former { self.new.former ≡ self.old.former }
     {
         self.perform_for_reply(alloc, custom_call(alloc, line, expected))
     }
@@ -243,6 +261,7 @@ where
             self.old.mark self.new.mark self.old.machine self.new.machine (reply_answer result) }
         ensures encoding { self.new.encoding ≡ self.old.encoding }
         ensures builder { self.new.builder ≡ self.old.builder }
+        ensures former { self.new.former ≡ self.old.former }
     {
         self.perform_for_reply(alloc, Ok(Call::ReadResponse(expected)))
     }
@@ -256,6 +275,7 @@ where
             self.old.mark self.new.mark self.old.machine self.new.machine (reply_answer result) }
         ensures encoding { self.new.encoding ≡ self.old.encoding }
         ensures builder { self.new.builder ≡ self.old.builder }
+        ensures former { self.new.former ≡ self.old.former }
     {
         self.perform_for_reply(alloc, read_call(alloc, expected))
     }
@@ -269,6 +289,7 @@ where
             self.old.mark self.new.mark self.old.machine self.new.machine (unit_answer result) }
         ensures encoding { self.new.encoding ≡ self.old.encoding }
         ensures builder { self.new.builder ≡ self.old.builder }
+        ensures former { self.new.former ≡ self.old.former }
     {
         self.perform(alloc, Ok(Call::ResumeTransfer(offset)))
     }
@@ -278,6 +299,7 @@ where
         requires { IsPlain call.now }
         ensures encoding { self.new.encoding ≡ self.old.encoding }
         ensures builder { self.new.builder ≡ self.old.builder }
+        ensures former { self.new.former ≡ self.old.former }
         ensures answers { MayAnswer call.now result }
         ensures plays { PlaysSeen (blocking Tr.Conn.Conn) (chosen E.decoded E.encoded self.old.encoding.0)
             call.now self.old.mark self.new.mark self.old.machine self.new.machine result }
@@ -291,6 +313,7 @@ where
         requires { IfOk call GivesNothing }
         ensures encoding { self.new.encoding ≡ self.old.encoding }
         ensures builder { self.new.builder ≡ self.old.builder }
+        ensures former { self.new.former ≡ self.old.former }
         ensures plays { (made : Called) → IsPlain made → IfOk call (λ c. c ≡ made) →
             PlaysSeen (blocking Tr.Conn.Conn) (chosen E.decoded E.encoded self.old.encoding.0) made
             self.old.mark self.new.mark self.old.machine self.new.machine (unit_answer result) }
@@ -314,6 +337,7 @@ where
         requires { IfOk call GivesReply }
         ensures encoding { self.new.encoding ≡ self.old.encoding }
         ensures builder { self.new.builder ≡ self.old.builder }
+        ensures former { self.new.former ≡ self.old.former }
         ensures plays { (made : Called) → IsPlain made → IfOk call (λ c. c ≡ made) →
             PlaysSeen (blocking Tr.Conn.Conn) (chosen E.decoded E.encoded self.old.encoding.0) made
             self.old.mark self.new.mark self.old.machine self.new.machine (reply_answer result) }
@@ -332,25 +356,13 @@ where
     pub(super) fn withheld_call(&mut self) -> FtpError
         ensures encoding { self.new.encoding ≡ self.old.encoding }
         ensures builder { self.new.builder ≡ self.old.builder }
+        ensures former { self.new.former ≡ self.old.former }
         ensures plays { (call : Called) → IsPlain call →
             PlaysSeen (blocking Tr.Conn.Conn) (chosen E.decoded E.encoded self.old.encoding.0) call
             self.old.mark self.new.mark self.old.machine self.new.machine (Fault result) }
     {
         look(&mut self.machine, &mut self.mark);
         self.withheld()
-    }
-}
-
-impl<Tr: Network, K: Drop, E: Encoding, B: Drop> Session<Tr, K, E, B> {
-    /// Why a call isn't made whose arguments found no memory.
-    pub fn withheld(&self) -> FtpError
-        ensures { result ≡ withheld self.now.machine }
-    {
-        if self.machine.channel.failed() {
-            FtpError::SessionFailed
-        } else {
-            FtpError::OutOfMemory
-        }
     }
 }
 

@@ -3,22 +3,23 @@
 //! A session knows transfers and receipts by number alone; that they are its own is the caller's care. A transfer of
 //! another number is left, and nothing of the session changes.
 
-ghost use Rattle.std.specs.Prelude.{◌≡◌, OnErr, OnOk, Some, true};
+ghost use Rattle.std.specs.Prelude.{◌≡◌, None, OnErr, OnOk, Some, true};
 ghost use Rattle.ftp_transfer.specs.Mark.{loaded};
 ghost use Rattle.ftp_session.specs.Calls.{unit_answer};
 ghost use Rattle.ftp_dialogue.specs.Coding.{chosen};
-ghost use Rattle.ftp_session.specs.Handed.{BeginsToSettle, BringsToEnd, EndsOnly, Settles, TakesBack, left_if, passed_over, with_data};
+ghost use Rattle.ftp_session.specs.Handed.{BeginsToSettle, BringsToEnd, EndsOnly, Settles, TakesBack, is_out, left_if, passed_over, with_data};
 ghost use Rattle.ftp_dialogue.specs.Link.{blocking};
-ghost use Rattle.ftp_dialogue.specs.Sound.{is_live, is_owed};
+ghost use Rattle.ftp_dialogue.specs.Sound.{is_owed};
 
 use super::client::Session;
+use super::polling::DropsCalls;
 use super::{Answer, Call};
 use ftp_base::encoding::Encoding;
 use ftp_base::types::{ConnectionError, FtpError, FtpResult};
 use ftp_dialogue::asks::Nothing;
 use ftp_dialogue::machine::Machine;
-use ftp_transfer::Transfer;
-use ftp_transfer::mark::Left;
+use ftp_transfer::mark::{Left, SessionEnd};
+use ftp_transfer::{Transfer, TransferParts};
 use ftp_transport::{Conn, Network};
 use std::alloc::Global;
 
@@ -39,8 +40,9 @@ where
             self.old.mark self.new.mark self.old.machine self.new.machine (unit_answer result) }
         ensures encoding { self.new.encoding ≡ self.old.encoding }
         ensures builder { self.new.builder ≡ self.old.builder }
+        ensures former { self.new.former ≡ self.old.former }
     {
-        match self.take_back(transfer) {
+        match take_back(self, transfer) {
             Ok(()) => ended(
                 self.machine
                     .call_alone(&Nothing, alloc, &self.encoding, &Call::Finish),
@@ -62,8 +64,9 @@ where
             self.old.mark self.new.mark self.old.machine self.new.machine (unit_answer result) }
         ensures encoding { self.new.encoding ≡ self.old.encoding }
         ensures builder { self.new.builder ≡ self.old.builder }
+        ensures former { self.new.former ≡ self.old.former }
     {
-        match self.take_back(transfer) {
+        match take_back(self, transfer) {
             Ok(()) => ended(
                 self.machine
                     .call_alone(&Nothing, alloc, &self.encoding, &Call::Abort),
@@ -84,8 +87,9 @@ where
         ensures mark { self.new.mark ≡ self.old.mark }
         ensures encoding { self.new.encoding ≡ self.old.encoding }
         ensures builder { self.new.builder ≡ self.old.builder }
+        ensures former { self.new.former ≡ self.old.former }
     {
-        let owed = match self.begin_settle(left) {
+        let owed = match begin_settle(self, left) {
             Ok(owed) => owed,
             Err(fault) => return Err(fault),
         };
@@ -99,54 +103,58 @@ where
     }
 }
 
-impl<Tr: Network, K: Drop, E: Encoding, B: Drop> Session<Tr, K, E, B> {
-    /// Takes a transfer that is live back into the session, to be brought to its end. One of another number is left.
-    ///
-    /// # Errors
-    /// `NotOwed` for one of another number, which is left; `OutOfMemory` where there is no memory for the record that a
-    /// close will need, and the transfer is left. On a session that has failed `SessionFailed` in both cases.
-    pub fn take_back(&mut self, transfer: Transfer<Tr::Conn>) -> FtpResult<()>
-        ensures takes { TakesBack transfer self.old.mark self.new.mark self.old.machine self.new.machine result }
-        ensures encoding { self.new.encoding ≡ self.old.encoding }
-        ensures builder { self.new.builder ≡ self.old.builder }
-    {
-        if !is_live(&self.machine, transfer.number()) {
-            return Err(passed_over(&self.machine));
-        }
-        match take_back(&mut self.machine, transfer) {
-            Ok(()) => {
-                self.mark = None;
-                Ok(())
-            }
-            Err(_transfer) => {
-                leave_behind(&mut self.machine);
-                Err(self.withheld())
-            }
+/// Takes a transfer that is live back into the session, to be brought to its end by a polled call. One of another number
+/// is left.
+///
+/// # Errors
+/// `NotOwed` for one of another number, which is left; `OutOfMemory` where there is no memory for the record that a
+/// close will need, and the transfer is left. On a session that has failed `SessionFailed` in both cases.
+pub fn take_back<Tr: Network, K: Drop, E: Encoding, B: Drop>(
+    session: &mut Session<Tr, K, E, B>,
+    transfer: Transfer<Tr::Conn>,
+) -> FtpResult<()>
+    ensures takes { TakesBack transfer session.old.mark session.new.mark session.old.machine session.new.machine result }
+    ensures encoding { session.new.encoding ≡ session.old.encoding }
+    ensures builder { session.new.builder ≡ session.old.builder }
+    ensures former { session.new.former ≡ session.old.former }
+{
+    if !is_out(&session.machine, &session.mark, transfer.number()) {
+        return Err(passed_over(&session.machine));
+    }
+    match put_back(&mut session.machine, &mut session.mark, transfer) {
+        Ok(()) => Ok(()),
+        Err(_transfer) => {
+            leave_behind(&mut session.machine);
+            Err(session.withheld())
         }
     }
+}
 
-    /// Looks at a receipt, and returns whether its transfer's last reply is still to be read, which `Call::Drain` does. The
-    /// transfer is left then.
-    ///
-    /// # Errors
-    /// `SessionFailed` on a session that has failed.
-    pub fn begin_settle(&mut self, left: &mut Left) -> FtpResult<bool>
-        ensures begins { BeginsToSettle left.old self.old.machine self.new.machine result }
-        ensures looks { left.new ≡ loaded true left.old }
-        ensures mark { self.new.mark ≡ self.old.mark }
-        ensures encoding { self.new.encoding ≡ self.old.encoding }
-        ensures builder { self.new.builder ≡ self.old.builder }
-    {
-        left.look_after();
-        if has_failed(&self.machine) {
-            return Err(FtpError::SessionFailed);
-        }
-        if !is_owed(&self.machine, left.number()) {
-            return Ok(false);
-        }
-        leave_behind(&mut self.machine);
-        Ok(true)
+/// Looks at a receipt, and returns whether its transfer's last reply is still to be read, which `Call::Drain` does. The
+/// transfer is left then.
+///
+/// # Errors
+/// `SessionFailed` on a session that has failed.
+pub fn begin_settle<Tr: Network, K: Drop, E: Encoding, B: Drop>(
+    session: &mut Session<Tr, K, E, B>,
+    left: &mut Left,
+) -> FtpResult<bool>
+    ensures begins { BeginsToSettle left.old session.old.machine session.new.machine result }
+    ensures looks { left.new ≡ loaded true left.old }
+    ensures mark { session.new.mark ≡ session.old.mark }
+    ensures encoding { session.new.encoding ≡ session.old.encoding }
+    ensures builder { session.new.builder ≡ session.old.builder }
+    ensures former { session.new.former ≡ session.old.former }
+{
+    left.look_after();
+    if has_failed(&session.machine) {
+        return Err(FtpError::SessionFailed);
     }
+    if !is_owed(&session.machine, left.number()) {
+        return Ok(false);
+    }
+    leave_behind(&mut session.machine);
+    Ok(true)
 }
 
 /// Why a transfer of another number isn't brought to its end.
@@ -167,11 +175,15 @@ fn has_failed<Tr: Network>(machine: &Machine<Tr>) -> bool
     machine.channel.failed()
 }
 
-/// Whether the transfer of this number is live.
-fn is_live<Tr: Network>(machine: &Machine<Tr>, number: u64) -> bool
-    ensures { result ≡ is_live number machine.now.state.counts.owed }
+/// Whether the transfer of this number was handed out, and is live.
+#[tactic(auto, unfolding(crate::specs::Handed::is_out))]
+fn is_out<Tr: Network>(machine: &Machine<Tr>, mark: &Option<SessionEnd>, number: u64) -> bool
+    ensures { result ≡ is_out number mark.now machine.now }
 {
-    machine.state.counts.is_live(number)
+    match mark {
+        Some(end) => machine.state.counts.is_live(end.number()) && end.number() == number,
+        None => false,
+    }
 }
 
 /// Whether the last reply of the transfer of this number is owed.
@@ -188,20 +200,25 @@ pub(super) fn leave_behind<Tr: Network>(machine: &mut Machine<Tr>)
     machine.state.counts.leave();
 }
 
-/// The data connection of a transfer stands beside the control connection again. Where there is no memory for the
-/// record that a close will need, the transfer is given back.
-fn take_back<Tr: Network>(
+/// The data connection of a transfer stands beside the control connection again, and its mark is given up. Where there
+/// is no memory for the record that a close will need, or no end of a mark, the transfer is given back.
+fn put_back<Tr: Network>(
     machine: &mut Machine<Tr>,
+    mark: &mut Option<SessionEnd>,
     transfer: Transfer<Tr::Conn>,
 ) -> Result<(), Transfer<Tr::Conn>>
     ensures taken { OnOk result (machine.new ≡ with_data (Some transfer.told) machine.old) }
+    ensures given_up { OnOk result (mark.new ≡ None) }
     ensures unchanged { OnErr result (machine.new ≡ machine.old) }
+    ensures mark_stays { OnErr result (mark.new ≡ mark.old) }
 {
     if machine.transport.make_room().is_err() {
         return Err(transfer);
     }
-    let (conn, _end) = transfer.into_parts();
-    machine.data_conn = Some(conn);
+    let Some(end) = mark.take() else {
+        return Err(transfer);
+    };
+    machine.data_conn = Some(transfer.into_conn(end));
     Ok(())
 }
 

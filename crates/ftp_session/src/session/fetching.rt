@@ -17,6 +17,7 @@ use super::client::Session;
 use super::commands::optional_text;
 use super::looking::look;
 use super::making::make;
+use super::polling::DropsCalls;
 use super::{Answer, Call};
 use ftp_base::encoding::Encoding;
 use ftp_base::types::{ConnectionError, FtpError, FtpResult, Text};
@@ -40,6 +41,7 @@ where
             Whole self.old.mark self.new.mark self.old.machine self.new.machine (bytes_answer result) }
         ensures encoding { self.new.encoding ≡ self.old.encoding }
         ensures builder { self.new.builder ≡ self.old.builder }
+        ensures former { self.new.former ≡ self.old.former }
     {
         bytes(self.fetch(alloc, rt, retr_call(alloc, path)))
     }
@@ -59,6 +61,7 @@ where
             Listed self.old.mark self.new.mark self.old.machine self.new.machine (lines_answer result) }
         ensures encoding { self.new.encoding ≡ self.old.encoding }
         ensures builder { self.new.builder ≡ self.old.builder }
+        ensures former { self.new.former ≡ self.old.former }
     {
         lines(self.fetch(alloc, rt, list_call(alloc, path)))
     }
@@ -74,6 +77,7 @@ where
             Listed self.old.mark self.new.mark self.old.machine self.new.machine (lines_answer result) }
         ensures encoding { self.new.encoding ≡ self.old.encoding }
         ensures builder { self.new.builder ≡ self.old.builder }
+        ensures former { self.new.former ≡ self.old.former }
     {
         lines(self.fetch(alloc, rt, nlst_call(alloc, path)))
     }
@@ -89,6 +93,7 @@ where
             Listed self.old.mark self.new.mark self.old.machine self.new.machine (lines_answer result) }
         ensures encoding { self.new.encoding ≡ self.old.encoding }
         ensures builder { self.new.builder ≡ self.old.builder }
+        ensures former { self.new.former ≡ self.old.former }
     {
         lines(self.fetch(alloc, rt, mlsd_call(alloc, path)))
     }
@@ -104,6 +109,7 @@ where
             self.old.mark self.new.mark self.old.machine self.new.machine result }
         ensures encoding { self.new.encoding ≡ self.old.encoding }
         ensures builder { self.new.builder ≡ self.old.builder }
+        ensures former { self.new.former ≡ self.old.former }
     {
         look(&mut self.machine, &mut self.mark);
         match call {

@@ -11,6 +11,7 @@ ghost use Rattle.ftp_session.specs.Files.{Abandons, Puts, Retrieves, Stores, fir
 
 use super::client::Session;
 use super::copying::copy;
+use super::ending::take_back;
 use super::{Answer, Call};
 use ftp_base::encoding::Encoding;
 use ftp_base::types::FtpResult;
@@ -62,7 +63,7 @@ where
     where
         Tr: Transport<R>,
         ensures puts { Puts (asking (built_by B.answers self.old.builder) ⊥ (blocking Tr.Conn.Conn)) (blocking Tr.Conn.Conn) (chosen E.decoded E.encoded self.old.encoding.0) (Call.PutWithStream path.now)
-            (S.remaining source.old) (S.remaining source.new) self.old.mark self.new.mark self.old.former self.old.machine self.new.machine result }
+            (S.remaining source.old) (S.remaining source.new) self.old.mark self.new.mark self.old.former self.new.former self.old.machine self.new.machine result }
         ensures encoding { self.new.encoding ≡ self.old.encoding }
         ensures builder { self.new.builder ≡ self.old.builder }
     {
@@ -86,7 +87,7 @@ where
     where
         Tr: Transport<R>,
         ensures puts { Puts (asking (built_by B.answers self.old.builder) ⊥ (blocking Tr.Conn.Conn)) (blocking Tr.Conn.Conn) (chosen E.decoded E.encoded self.old.encoding.0) (Call.AppendWithStream path.now)
-            (S.remaining source.old) (S.remaining source.new) self.old.mark self.new.mark self.old.former self.old.machine self.new.machine result }
+            (S.remaining source.old) (S.remaining source.new) self.old.mark self.new.mark self.old.former self.new.former self.old.machine self.new.machine result }
         ensures encoding { self.new.encoding ≡ self.old.encoding }
         ensures builder { self.new.builder ≡ self.old.builder }
     {
@@ -114,7 +115,7 @@ where
     where
         Tr: Transport<R>,
         ensures retrieves { Retrieves (asking (built_by B.answers self.old.builder) ⊥ (blocking Tr.Conn.Conn)) (blocking Tr.Conn.Conn) (chosen E.decoded E.encoded self.old.encoding.0) (Call.RetrAsStream path.now)
-            F.reads self.old.mark self.new.mark self.old.former self.old.machine self.new.machine result }
+            F.reads self.old.mark self.new.mark self.old.former self.new.former self.old.machine self.new.machine result }
         ensures encoding { self.new.encoding ≡ self.old.encoding }
         ensures builder { self.new.builder ≡ self.old.builder }
     {
@@ -138,6 +139,7 @@ where
             (S.remaining source.old) (S.remaining source.new) transfer self.old.mark self.new.mark self.old.machine self.new.machine result }
         ensures encoding { self.new.encoding ≡ self.old.encoding }
         ensures builder { self.new.builder ≡ self.old.builder }
+        ensures former { self.new.former ≡ self.old.former }
     {
         match copy(
             alloc,
@@ -158,8 +160,9 @@ where
         ensures abandons { Abandons Tr.Conn.tells transfer self.old.mark self.new.mark self.old.machine self.new.machine }
         ensures encoding { self.new.encoding ≡ self.old.encoding }
         ensures builder { self.new.builder ≡ self.old.builder }
+        ensures former { self.new.former ≡ self.old.former }
     {
-        if self.take_back(transfer).is_ok() {
+        if take_back(self, transfer).is_ok() {
             pass_over(self.machine.carry(alloc, &Call::Leave));
         }
     }

@@ -22,24 +22,34 @@ pub struct Lent<'a, Tr: Network, E: Encoding, B: Drop> {
     pub builder: &'a Option<B>,
 }
 
-impl<Tr: Network, K: Drop, E: Encoding, B: Drop> Session<Tr, K, E, B> {
+/// Looks at the mark, and lends the machine: for lists of calls.
+pub trait LendsMachine<Tr: Network, E: Encoding, B: Drop> {
+    /// Looks once whether the transfer that was handed out was left.
+    fn look(&mut self);
+
+    /// Lends the machine, with the encoding and the builder beside it.
+    fn lend(&mut self) -> Lent<'_, Tr, E, B>;
+}
+
+impl<Tr: Network, K: Drop, E: Encoding, B: Drop> LendsMachine<Tr, E, B> for Session<Tr, K, E, B> {
     ghost use Rattle.std.specs.Borrow.{Lends, sem};
     ghost use Rattle.ftp_session.specs.contracts.session.client.Session.{the_row};
     ghost use Rattle.ftp_dialogue.specs.contracts.machine.Machine.{the_row as machine_row};
 
     /// Looks once whether the transfer that was handed out was left, as the first step of a call does.
-    pub fn look(&mut self)
+    fn look(&mut self)
         ensures looks { LooksIf (watches self.old.mark self.old.machine) self.old.mark self.new.mark }
         ensures seen { self.new.machine ≡ as_seen self.new.mark self.old.machine }
         ensures encoding { self.new.encoding ≡ self.old.encoding }
         ensures builder { self.new.builder ≡ self.old.builder }
+        ensures former { self.new.former ≡ self.old.former }
     {
         look(&mut self.machine, &mut self.mark);
     }
 
     /// Lends the machine, with the encoding and the builder beside it. What the machine is afterwards, the session is;
     /// nothing else of it changes.
-    pub fn lend(&mut self) -> Lent<'_, Tr, E, B>
+    fn lend(&mut self) -> Lent<'_, Tr, E, B>
         ensures machine { result.machine.now ≡ self.old.machine }
         ensures encoding { result.encoding.now ≡ self.old.encoding }
         ensures builder { result.builder.now ≡ self.old.builder }

@@ -3,28 +3,25 @@
 //! The mark by which the session learns that the transfer was left is made before anything is said, so a transfer that
 //! stands always has one.
 
-ghost use Rattle.std.specs.Prelude.{◌≡◌, ◌⊎◌, IfOk, Some, None, true, false, is_none, not};
+ghost use Rattle.std.specs.Prelude.{◌≡◌, IfOk, false, is_none, not};
 ghost use Rattle.ftp_calls.specs.declared.call.Call.{Call as Called};
 ghost use Rattle.ftp_dialogue.specs.Coding.{chosen};
-ghost use Rattle.ftp_session.specs.Handed.{ComesTo, GivesUp, IsOpening, OpensAs, OpensEither, Opens, OpensReplied, with_data, with_reply, without_reply};
-ghost use Rattle.ftp_dialogue.specs.Sound.{is_live, next_number};
+ghost use Rattle.ftp_session.specs.Handed.{IsOpening, OpensAs, OpensEither, Opens, OpensReplied, with_reply, without_reply};
 ghost use Rattle.ftp_dialogue.specs.Link.{asking, blocking, built_by};
 ghost use Rattle.ftp_transfer.specs.declared.direction.Direction.TheVariants as directions;
 
 use super::client::Session;
-use super::ending::leave_behind;
+use super::handing::HandsTransfers;
 use super::looking::look;
 use super::making::make;
+use super::polling::DropsCalls;
 use super::{Answer, Call};
 use ftp_base::encoding::Encoding;
 use ftp_base::status::Status;
-use ftp_base::types::{ConnectionError, FtpError, FtpResult, Items, Response, Text};
-use ftp_dialogue::machine::Machine;
-use ftp_transfer::mark::mark;
+use ftp_base::types::{FtpResult, Items, Response, Text};
 use ftp_transfer::{Direction, Transfer};
 use ftp_transport::{Conn, Network, PassiveStreamBuilder, Tells, Transport};
 use std::alloc::{AllocError, Global};
-use std::mem;
 
 impl<Tr: Network, K: Drop, E: Encoding, B: PassiveStreamBuilder<Tr::Conn>> Session<Tr, K, E, B>
 where
@@ -181,9 +178,9 @@ where
         ensures encoding { self.new.encoding ≡ self.old.encoding }
         ensures builder { self.new.builder ≡ self.old.builder }
     {
-        let number = next_number(&self.machine);
-        let Ok((session_end, transfer_end)) = mark(alloc, number) else {
-            return Err(self.withheld());
+        let mark = match self.new_mark(alloc) {
+            Ok(mark) => mark,
+            Err(fault) => return Err(fault),
         };
         let answer = make(
             &mut self.machine,
@@ -193,68 +190,7 @@ where
             &self.encoding,
             call,
         );
-        let reply = match opened(answer, replies) {
-            Ok(reply) => reply,
-            Err(fault) => return Err(give_up(&mut self.machine, fault)),
-        };
-        match hand_out(&mut self.machine, number) {
-            Some(conn) => {
-                self.former = mem::replace(&mut self.mark, Some(session_end));
-                Ok((reply, Transfer::new(conn, direction, transfer_end)))
-            }
-            None => Err(give_up(&mut self.machine, None)),
-        }
-    }
-}
-
-/// Takes the data connection out of the session, where the transfer of this number is live on it.
-pub(super) fn hand_out<Tr: Network>(machine: &mut Machine<Tr>, number: u64) -> Option<Tr::Conn>
-    ensures told { (conn : Tr.Conn) → result ≡ Some conn → machine.old.net.data_conn ≡ Some (Tr.Conn.told conn) }
-    ensures live { is_none result ≡ false → is_live number machine.old.state.counts.owed ≡ true }
-    ensures taken { is_none result ≡ false → machine.new ≡ with_data None machine.old }
-    ensures lacks { is_none result ≡ true →
-        (is_none machine.old.net.data_conn ≡ true) ⊎ (is_live number machine.old.state.counts.owed ≡ false) }
-    ensures unchanged { is_none result ≡ true → machine.new ≡ machine.old }
-{
-    if !machine.state.counts.is_live(number) {
-        return None;
-    }
-    machine.data_conn.take()
-}
-
-/// The number that the next transfer has.
-pub(super) fn next_number<Tr: Network>(machine: &Machine<Tr>) -> u64
-    ensures { result ≡ next_number machine.now.state.counts }
-{
-    machine.state.counts.next_number()
-}
-
-/// Why no transfer is handed out. Where there is no fault, which no dialogue comes to, the transfer that is live is
-/// left, if there is one.
-pub(super) fn give_up<Tr: Network>(machine: &mut Machine<Tr>, fault: Option<FtpError>) -> FtpError
-    ensures { GivesUp fault result machine.old machine.new }
-{
-    match fault {
-        Some(fault) => fault,
-        None => {
-            leave_behind(machine);
-            FtpError::ConnectionError(ConnectionError::NotOwed)
-        }
-    }
-}
-
-/// What the answer of an opening call comes to: its reply, where that is part of it; or a fault, if it is one.
-pub(super) fn opened(answer: Answer, replies: bool) -> Result<Option<Response>, Option<FtpError>>
-    ensures { ComesTo replies answer result }
-{
-    match answer {
-        Answer::Opened if !replies => Ok(None),
-        Answer::OpenedWith(reply) if replies => Ok(Some(reply)),
-        Answer::Fault(fault) => Err(Some(fault)),
-        other => {
-            drop(other);
-            Err(None)
-        }
+        self.hand_over(mark, answer, replies, direction)
     }
 }
 

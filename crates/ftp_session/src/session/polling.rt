@@ -8,6 +8,7 @@ ghost use Rattle.std.specs.Prelude.{◌≡◌, ◌⊎◌, Some, true, false};
 ghost use Rattle.futures.specs.declared.task.Poll.TheVariants as poll;
 ghost use Rattle.ftp_dialogue.specs.Coding.{chosen, coding_of};
 ghost use Rattle.ftp_dialogue.specs.Link.{asking, built_by, polling};
+ghost use Rattle.ftp_dialogue.specs.Steps.Moving.{withheld};
 ghost use Rattle.ftp_dialogue.specs.Steps.Polls.{StageIn, StartsTo};
 ghost use Rattle.ftp_dialogue.specs.Steps.Stages.{StageOf};
 ghost use Rattle.ftp_calls.specs.Exchanges.{is_local};
@@ -28,6 +29,7 @@ use ftp_transport::{Network, PassiveStreamBuilder, PollConn, PollTransport};
 use futures::task::Poll;
 use std::alloc::Global;
 use std::marker::Model;
+use std::mem;
 
 /// A call under way, and where it stands.
 #[derive(Drop)]
@@ -96,28 +98,61 @@ impl PolledCall {
     }
 }
 
-impl<Tr: Network, K: Drop, E: Encoding, B: PassiveStreamBuilder<Tr::Conn>> Session<Tr, K, E, B> {
+/// Polls calls, over a transport that a runtime `R` serves and connections that wait through a `W`: for the clients that
+/// are made of a session.
+pub trait PollsCalls<R, W> {
+    /// Polls a call. A call that waits may be polled again, or dropped by `drop_call`; between its polls no other call may
+    /// be made.
+    fn poll_call(
+        &mut self,
+        alloc: Global,
+        rt: &R,
+        polled: &mut PolledCall,
+        w: &mut W,
+    ) -> Poll<Answer>;
+}
+
+/// Calls that are dropped, or not made: for the clients that are made of a session.
+pub trait DropsCalls {
+    /// Drops a call that waits. Nothing is sent or read.
+    fn drop_call(&mut self, polled: &PolledCall);
+
+    /// Why a call isn't made whose arguments found no memory.
+    fn withheld(&self) -> FtpError;
+}
+
+impl<
+    R,
+    W,
+    Tr: PollTransport<R, W>,
+    K: Drop,
+    E: Encoding,
+    B: PassiveStreamBuilder<Tr::Conn>,
+> PollsCalls<R, W> for Session<Tr, K, E, B>
+where
+    Tr::Conn: PollConn<W>,
+{
     /// Polls a call. The first poll looks at the mark; the last reply of a transfer that was left is polled before the
     /// call. A call that waits may be polled again, or dropped by `drop_call`; between its polls no other call may be made.
     ///
-    /// The answer is that of the call; `NotOwed` of a call that has its answer, and nothing happens.
-    pub fn poll_call<R, W>(
+    /// The answer is that of the call; `AlreadyCompleted` of a call that has its answer, and nothing happens.
+    fn poll_call(
         &mut self,
         alloc: Global,
         rt: &R,
         polled: &mut PolledCall,
         w: &mut W,
     ) -> Poll<Answer>
-    where
-        Tr: PollTransport<R, W>,
-        Tr::Conn: PollConn<W>,
         ensures polls { PollsCall (asking (built_by B.answers self.old.builder) (Tr.PollTransport.may_wait ⊎ Tr.Conn.PollConn.may_wait) (polling Tr.Conn.PollConn)) Tr.Conn.PollConn.may_wait (chosen E.decoded E.encoded self.old.encoding.0)
             polled.old polled.new self.old.mark self.new.mark self.old.machine self.new.machine result }
         ensures encoding { self.new.encoding ≡ self.old.encoding }
         ensures builder { self.new.builder ≡ self.old.builder }
+        ensures former { self.new.former ≡ self.old.former }
     {
         if polled.over {
-            return Poll::Ready(Answer::Fault(FtpError::ConnectionError(ConnectionError::NotOwed)));
+            return Poll::Ready(Answer::Fault(FtpError::ConnectionError(
+                ConnectionError::AlreadyCompleted,
+            )));
         }
         look_first(&mut self.machine, &mut self.mark, polled.looks);
         polled.looks = false;
@@ -132,7 +167,7 @@ impl<Tr: Network, K: Drop, E: Encoding, B: PassiveStreamBuilder<Tr::Conn>> Sessi
             w,
         ) {
             Poll::Ready(answer) => {
-                rest(&mut polled.stage);
+                drop(mem::replace(&mut polled.stage, Stage::At(Turn::First)));
                 polled.over = true;
                 Poll::Ready(answer)
             }
@@ -141,18 +176,30 @@ impl<Tr: Network, K: Drop, E: Encoding, B: PassiveStreamBuilder<Tr::Conn>> Sessi
     }
 }
 
-impl<Tr: Network, K: Drop, E: Encoding, B: Drop> Session<Tr, K, E, B> {
+impl<Tr: Network, K: Drop, E: Encoding, B: Drop> DropsCalls for Session<Tr, K, E, B> {
     /// Drops a call that waits. Nothing is sent or read: the unsent tail of a line goes out before any other byte, and
     /// what came of a reply is kept. A transfer that the call was to bring to its end is left, but for an abort whose
     /// `ABOR` has gone out whole; that of a whole file or listing is left, too. A call that has its answer leaves nothing.
-    pub fn drop_call(&mut self, polled: &PolledCall)
+    fn drop_call(&mut self, polled: &PolledCall)
         ensures drops { Drops Tr.Conn.tells polled.now self.old.machine self.new.machine }
         ensures encoding { self.new.encoding ≡ self.old.encoding }
         ensures builder { self.new.builder ≡ self.old.builder }
+        ensures former { self.new.former ≡ self.old.former }
         ensures mark { self.new.mark ≡ self.old.mark }
     {
         if !polled.over {
             self.machine.drop_call(&polled.call, &polled.stage);
+        }
+    }
+
+    /// Why a call isn't made whose arguments found no memory: the session has failed, or there is none.
+    fn withheld(&self) -> FtpError
+        ensures { result ≡ withheld self.now.machine }
+    {
+        if self.machine.channel.failed() {
+            FtpError::SessionFailed
+        } else {
+            FtpError::OutOfMemory
         }
     }
 }
@@ -223,16 +270,6 @@ where
         &mut stage,
         w,
     );
-    forget(stage);
+    drop(stage);
     drained
 }
-
-/// A call that has its answer stands nowhere: as one that wasn't begun.
-fn rest(stage: &mut Stage)
-    ensures { stage.new ≡ Stage.At Turn.First }
-{
-    *stage = Stage::At(Turn::First);
-}
-
-/// How far a call has come isn't asked any more.
-fn forget(_stage: Stage) {}

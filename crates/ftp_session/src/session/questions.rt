@@ -36,6 +36,7 @@ where
             self.old.mark self.new.mark self.old.machine self.new.machine (text_answer result) }
         ensures encoding { self.new.encoding ≡ self.old.encoding }
         ensures builder { self.new.builder ≡ self.old.builder }
+        ensures former { self.new.former ≡ self.old.former }
     {
         text(self.call(alloc, &Call::Pwd))
     }
@@ -50,6 +51,7 @@ where
             self.old.mark self.new.mark self.old.machine self.new.machine (text_answer result) }
         ensures encoding { self.new.encoding ≡ self.old.encoding }
         ensures builder { self.new.builder ≡ self.old.builder }
+        ensures former { self.new.former ≡ self.old.former }
     {
         match mlst_call(alloc, path) {
             Ok(call) => {
@@ -71,6 +73,7 @@ where
             self.old.mark self.new.mark self.old.machine self.new.machine (time_answer result) }
         ensures encoding { self.new.encoding ≡ self.old.encoding }
         ensures builder { self.new.builder ≡ self.old.builder }
+        ensures former { self.new.former ≡ self.old.former }
     {
         match mdtm_call(alloc, path) {
             Ok(call) => {
@@ -92,6 +95,7 @@ where
             self.old.mark self.new.mark self.old.machine self.new.machine (size_answer result) }
         ensures encoding { self.new.encoding ≡ self.old.encoding }
         ensures builder { self.new.builder ≡ self.old.builder }
+        ensures former { self.new.former ≡ self.old.former }
     {
         match size_call(alloc, path) {
             Ok(call) => {
@@ -114,6 +118,7 @@ where
             self.old.mark self.new.mark self.old.machine self.new.machine (features_answer result) }
         ensures encoding { self.new.encoding ≡ self.old.encoding }
         ensures builder { self.new.builder ≡ self.old.builder }
+        ensures former { self.new.former ≡ self.old.former }
     {
         features(self.call(alloc, &Call::Feat))
     }

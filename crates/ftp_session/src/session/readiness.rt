@@ -9,16 +9,26 @@ use ftp_base::encoding::Encoding;
 use ftp_transport::{TaskConn, TaskTransport, Waiting};
 use futures::task::Context;
 
-impl<Tr: TaskTransport, K: Drop, E: Encoding, B: Drop> Session<Tr, K, E, B>
+/// Waits in a task: for the clients that are made of a session.
+pub trait WaitsInTask {
+    /// Registers the task for what the last poll of a call waits for. Nothing of the session changes.
+    fn poll_ready(&mut self, cx: &mut Context<'_>) -> Waiting;
+
+    /// Gives up what the transport has begun for a call that was dropped.
+    fn forget_request(&mut self);
+}
+
+impl<Tr: TaskTransport, K: Drop, E: Encoding, B: Drop> WaitsInTask for Session<Tr, K, E, B>
 where
     Tr::Conn: TaskConn,
 {
     /// Registers the task for what the last poll of a call waits for. Nothing of the session changes.
-    pub fn poll_ready(&mut self, cx: &mut Context<'_>) -> Waiting
+    fn poll_ready(&mut self, cx: &mut Context<'_>) -> Waiting
         ensures same { self.new.machine ≡ self.old.machine }
         ensures mark { self.new.mark ≡ self.old.mark }
         ensures encoding { self.new.encoding ≡ self.old.encoding }
         ensures builder { self.new.builder ≡ self.old.builder }
+        ensures former { self.new.former ≡ self.old.former }
         ensures registered { result ≡ waits.Registered → IsArmed cx.new }
         ensures kept { Keeps cx.old cx.new }
     {
@@ -26,11 +36,12 @@ where
     }
 
     /// Gives up what the transport has begun for a call that was dropped.
-    pub fn forget_request(&mut self)
+    fn forget_request(&mut self)
         ensures same { self.new.machine ≡ self.old.machine }
         ensures mark { self.new.mark ≡ self.old.mark }
         ensures encoding { self.new.encoding ≡ self.old.encoding }
         ensures builder { self.new.builder ≡ self.old.builder }
+        ensures former { self.new.former ≡ self.old.former }
     {
         self.machine.forget_request();
     }

@@ -43,6 +43,7 @@ impl<Tr: Network, K: Drop, E: Encoding, B: Drop> Session<Tr, K, E, B> {
             (self.old.machine.channel.failed ≡ true) ⊎ GivesFault result }
         ensures encoding { self.new.encoding ≡ self.old.encoding }
         ensures builder { self.new.builder ≡ self.old.builder }
+        ensures former { self.new.former ≡ self.old.former }
     {
         look(&mut self.machine, &mut self.mark);
         self.machine.poll_read(alloc, &self.encoding, expected, w)
@@ -67,6 +68,7 @@ impl<Tr: Network, K: Drop, E: Encoding, B: Drop> Session<Tr, K, E, B> {
             (self.old.machine.channel.failed ≡ true) ⊎ GivesFault result }
         ensures encoding { self.new.encoding ≡ self.old.encoding }
         ensures builder { self.new.builder ≡ self.old.builder }
+        ensures former { self.new.former ≡ self.old.former }
     {
         self.poll_read_response_in(alloc, &[expected], w)
     }

@@ -21,6 +21,7 @@ impl<Tr: Network, K: Drop, E: Encoding, B: Drop> Session<Tr, K, E, B> {
         ensures encoding { self.new.encoding ≡ self.old.encoding }
         ensures mark { self.new.mark ≡ self.old.mark }
         ensures builder { self.new.builder ≡ self.old.builder }
+        ensures former { self.new.former ≡ self.old.former }
     {
         self.machine.state.settings.mode = mode;
     }
@@ -33,6 +34,7 @@ impl<Tr: Network, K: Drop, E: Encoding, B: Drop> Session<Tr, K, E, B> {
         ensures encoding { self.new.encoding ≡ self.old.encoding }
         ensures mark { self.new.mark ≡ self.old.mark }
         ensures builder { self.new.builder ≡ self.old.builder }
+        ensures former { self.new.former ≡ self.old.former }
     {
         self.machine.state.settings.passive_nat_workaround = enabled;
     }
@@ -44,6 +46,7 @@ impl<Tr: Network, K: Drop, E: Encoding, B: Drop> Session<Tr, K, E, B> {
         ensures encoding { self.new.encoding ≡ self.old.encoding }
         ensures mark { self.new.mark ≡ self.old.mark }
         ensures builder { self.new.builder ≡ self.old.builder }
+        ensures former { self.new.former ≡ self.old.former }
     {
         self.machine.state.settings.active_peer_check = check;
     }
@@ -55,6 +58,7 @@ impl<Tr: Network, K: Drop, E: Encoding, B: Drop> Session<Tr, K, E, B> {
         ensures encoding { self.new.encoding ≡ self.old.encoding }
         ensures mark { self.new.mark ≡ self.old.mark }
         ensures builder { self.new.builder ≡ self.old.builder }
+        ensures former { self.new.former ≡ self.old.former }
     {
         self.machine.state.settings.active_deadline = deadline;
     }
@@ -65,6 +69,7 @@ impl<Tr: Network, K: Drop, E: Encoding, B: Drop> Session<Tr, K, E, B> {
             with_settings (λ s. record s { mode = modes.Active; active_deadline = deadline }) self.machine }
         ensures encoding { result.encoding ≡ self.encoding }
         ensures mark { result.mark ≡ self.mark }
+        ensures former { result.former ≡ self.former }
         ensures builder { result.builder ≡ self.builder }
     {
         self.machine.state.settings.mode = Mode::Active;
@@ -80,6 +85,7 @@ impl<Tr: Network, K: Drop, E: Encoding, B: Drop> Session<Tr, K, E, B> {
         ensures builder { self.new.builder ≡ Some builder }
         ensures encoding { self.new.encoding ≡ self.old.encoding }
         ensures mark { self.new.mark ≡ self.old.mark }
+        ensures former { self.new.former ≡ self.old.former }
     {
         self.machine.state.settings.stream_builder = true;
         self.builder = Some(builder);
@@ -92,6 +98,7 @@ impl<Tr: Network, K: Drop, E: Encoding, B: Drop> Session<Tr, K, E, B> {
         ensures builder { result.builder ≡ Some builder }
         ensures encoding { result.encoding ≡ self.encoding }
         ensures mark { result.mark ≡ self.mark }
+        ensures former { result.former ≡ self.former }
     {
         self.machine.state.settings.stream_builder = true;
         self.builder = Some(builder);

@@ -3,6 +3,7 @@
 ghost use Rattle.std.specs.Prelude.{◌≡◌, true, Contains};
 ghost use Rattle.ftp_transfer.specs.Mark.{loaded};
 
+use super::TransferEnd;
 use super::word::Place;
 use std::marker::Model;
 
@@ -39,5 +40,12 @@ impl SessionEnd {
         ensures stays { Contains self.old.loads true → result ≡ true }
     {
         self.place.load()
+    }
+
+    /// Gives up the mark with both of its ends: of a transfer that was never handed out, or that its session has taken
+    /// back. Nothing is stored.
+    pub fn dissolve(self, end: TransferEnd) {
+        let TransferEnd { number: _, place } = end;
+        drop(place);
     }
 }

@@ -9,10 +9,12 @@ use std::alloc::{AllocError, Global};
 use std::marker::Model;
 
 /// The end that a transfer holds. As long as it stands the transfer isn't left.
-#[derive(Drop)]
+///
+/// It can't be dropped, or its session would never find the mark: it is left, or the session's end of the same mark takes
+/// it back ([`SessionEnd::dissolve`]).
 pub struct TransferEnd {
-    number: u64,
-    place: Place,
+    pub(super) number: u64,
+    pub(super) place: Place,
 }
 
 impl Model for TransferEnd {
@@ -50,6 +52,12 @@ impl TransferEnd {
             number: self.number,
             place,
         })
+    }
+
+    /// Gives up an end whose session's end couldn't be made.
+    pub(super) fn withdraw(self) {
+        let TransferEnd { number: _, place } = self;
+        drop(place);
     }
 
     /// The number of the transfer.

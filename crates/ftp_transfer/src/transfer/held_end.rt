@@ -1,17 +1,17 @@
 //! The end of the mark, as a transfer holds it.
 //!
-//! A [`TransferEnd`] may be dropped, and its session would then never find the mark. So a transfer holds it in a type
-//! that can't be dropped. The ways out are to leave, which needs a closed connection, and to hand the end to the session
-//! that brings the transfer to its end.
+//! Neither this nor a [`TransferEnd`] can be dropped: the session would then never find the mark. The ways out are to
+//! leave, which needs the closed connection, and to give the end up against the session's end of a mark, which only the
+//! session that brings the transfer to its end has.
 
 ghost use Rattle.std.specs.Prelude.{◌≡◌, false, true};
 ghost use Rattle.ftp_transfer.specs.Mark.{loaded};
 
-use crate::mark::{Left, TransferEnd};
+use crate::mark::{Left, SessionEnd, TransferEnd};
 use ftp_transport::Tells;
 use std::marker::Model;
 
-/// The end of a transfer's mark, which can be left and not dropped.
+/// The end of a transfer's mark, which is left only once the connection is closed.
 pub(super) struct HeldEnd {
     end: TransferEnd,
 }
@@ -47,15 +47,13 @@ impl HeldEnd {
         self.end.look_beside()
     }
 
-    /// The end itself, for the session that brings the transfer to its end.
-    pub(super) fn release(self) -> TransferEnd
-        ensures { result ≡ self }
-    {
+    /// Gives the mark up, for the session that brings the transfer to its end. Nothing is stored.
+    pub(super) fn dissolve(self, session: SessionEnd) {
         let HeldEnd { end } = self;
-        end
+        session.dissolve(end);
     }
 
-    /// Drops the closed connection, and then stores the mark.
+    /// Drops the connection, which is closed, and then stores the mark.
     pub(super) fn leave<C: Tells + Drop>(self, conn: C) -> Left
         requires { C.tells → (C.told conn).closed_here ≡ true }
         ensures { result ≡ self }

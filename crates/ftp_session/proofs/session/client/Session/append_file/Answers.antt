@@ -5,4 +5,4 @@ pub returns-in-Ok-clause-puts : goal.returns-in-Ok-clause-puts
 returns-in-Ok-clause-puts g c =
     let opened = rw c.in-Ok.is at c.append_with_stream.ensures.opens in
     let stores = rw c.append_with_stream.ensures.encoding at c.store.ensures.stores in
-    puts_on _ _ _ _ _ c.append_with_stream.new.self.mark _ _ c.append_with_stream.new.self.former _ c.append_with_stream.new.self.machine _ c.in-Ok.transfer _ _ _ opened stores
+    rw c.store.ensures.former (puts_on _ _ _ _ _ c.append_with_stream.new.self.mark _ _ c.append_with_stream.new.self.former _ c.append_with_stream.new.self.machine _ c.in-Ok.transfer _ _ _ opened stores)

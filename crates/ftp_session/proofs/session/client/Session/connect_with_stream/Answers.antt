@@ -4,10 +4,10 @@ pub returns-in-Ok-clause-connects : goal.returns-in-Ok-clause-connects
 returns-in-Ok-clause-connects g c =
     let begun = c.in_ok-session.ensures in
     let plays = rw begun.encoding at c.in-Ok.ensures.plays in
-    record { old = c.in_ok-session.session.machine; begins = begun.begins; greets = plays }
+    record { old = c.in_ok-session.session.machine; begins = begun.begins; greets = plays; sound = c.in-Ok.ensures.sound }
 
 pub returns-in-Err-clause-connects : goal.returns-in-Err-clause-connects
 returns-in-Err-clause-connects g c =
     let begun = c.in_ok-session.ensures in
     let plays = rw begun.encoding at c.in-Err.ensures.plays in
-    (c.greet.new.self.machine, record { old = c.in_ok-session.session.machine; begins = begun.begins; greets = plays })
+    (c.greet.new.self.machine, record { old = c.in_ok-session.session.machine; begins = begun.begins; greets = plays; sound = c.in-Err.ensures.sound })

@@ -1,7 +1,7 @@
 use Rattle.std.proofs.Common.{rules, refl}
 use Rattle.futures.specs.declared.task.Poll.TheVariants.{Ready, Pending}
 use Rattle.ftp_session.proofs.PolledLemmas.{polls_seen}
-use Rattle.ftp_session.proofs.session.client.Session.poll_call.Goals as goal
+use Rattle.ftp_session.proofs.session.polling.SessionPollsCalls.poll_call.Goals as goal
 
 pub returns-in-Ready-clause-polls : goal.returns-in-Ready-clause-polls
 returns-in-Ready-clause-polls g c =

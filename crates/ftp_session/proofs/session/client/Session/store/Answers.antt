@@ -1,0 +1,18 @@
+use Rattle.std.proofs.Common.{Ok, Err, refl, rules}
+use Rattle.ftp_session.proofs.session.client.Session.store.Goals as goal
+
+pub returns-in-Ok-clause-stores : goal.returns-in-Ok-clause-stores
+returns-in-Ok-clause-stores g c = record {
+  sent = c.copy.new.transfer;
+  copied = Ok c.in-Ok.count;
+  copies = search rules;
+  ends = (c.finish.result, c.finish.ensures.finishes, c.unless_failed.ensures);
+}
+
+pub returns-in-Err-clause-stores : goal.returns-in-Err-clause-stores
+returns-in-Err-clause-stores g c = record {
+  sent = c.copy.new.transfer;
+  copied = Err c.in-Err.fault;
+  copies = search rules;
+  ends = (c.abandon.ensures.abandons, refl);
+}
