@@ -1,5 +1,5 @@
 -- Lemmas on a source that is copied to a transfer.
-use Rattle.std.proofs.Common.{◌≡◌, ◌≤◌, ◌<◌, ◌+◌, ◌-◌, ◌⊎◌, ℕ, Bool, true, false, List, [], ◌∷◌, ◌++◌, Option, Result, Ok, Err, inl, inr, refl, ap, sym, subst, ◌∙◌, length, take, drop, arith, append_assoc, append-nil, take-append-drop}
+use Rattle.std.proofs.Common.{◌≡◌, ◌<◌, ◌+◌, ◌-◌, ◌⊎◌, ℕ, Bool, true, false, List, [], ◌++◌, Option, Result, Ok, Err, inl, inr, refl, ap, sym, subst, ◌∙◌, length, take, drop, arith, append_assoc, append-nil, take-append-drop}
 use Rattle.std.proofs.lemmas.List.{length-append, take_rest}
 use Rattle.std.proofs.KnownBytes.{Consumes-kept, Consumes-nil, Consumes-trans}
 use Rattle.std.specs.Io.KnownBytes.{Consumes, Keeps}
@@ -9,7 +9,6 @@ use Rattle.ftp_base.proofs.AsciiLemmas.{crlf-append}
 use Rattle.ftp_base.proofs.CopyLemmas.{added-all, added-length, length-converted}
 use Rattle.ftp_base.specs.declared.types.fault.FtpError.{FtpError}
 use Rattle.ftp_base.specs.declared.types.fault.FtpError.TheVariants.{OutOfMemory}
-use Rattle.ftp_transport.specs.Told.{Told}
 use Rattle.ftp_dialogue.specs.Dialogue.{wire_data}
 use Rattle.ftp_session.specs.Copying.{Adds, Copied, Copies, GaveUp, Hinders, HinderedPiece, SendsAll, SendsPiece, SentPiece, Wrote, WroteFront}
 use Rattle.ftp_transfer.specs.Transfer.{TransferValue, with_told}

@@ -1,5 +1,5 @@
 -- Lemmas on whole files, from a caller's source or to a caller's reader.
-use Rattle.std.proofs.Common.{◌≡◌, ℕ, List, Option, Result, Ok, Err, inl}
+use Rattle.std.proofs.Common.{◌≡◌, ℕ, List, Option, Result, Ok, inl}
 use Rattle.ftp_base.specs.declared.types.fault.FtpError.{FtpError}
 use Rattle.ftp_calls.specs.declared.call.Call.{Call}
 use Rattle.ftp_calls.specs.declared.call.Call.TheVariants.{Finish}

@@ -1,5 +1,5 @@
 -- Lemmas on the look, and on transfers that are handed out.
-use Rattle.std.proofs.Common.{◌≡◌, ℕ, [], Option, Some, None, Bool, true, false, Result, Ok, Err, inl, inr, ◌⊎◌, refl, ap, sym, ◌∙◌, subst}
+use Rattle.std.proofs.Common.{◌≡◌, ℕ, Option, Some, None, Bool, true, false, Result, Ok, Err, inl, inr, ◌⊎◌, refl, ap, sym, ◌∙◌, subst}
 use Rattle.std.specs.Prelude.{IfOk, ◌&&◌, not, is_none}
 use Rattle.futures.specs.declared.task.Poll.{Poll}
 use Rattle.std.specs.declared.alloc.AllocError.{AllocError}
@@ -10,17 +10,16 @@ use Rattle.ftp_calls.specs.declared.call.Answer.TheVariants.{Fault, Unit as Done
 use Rattle.ftp_calls.specs.declared.call.Call.{Call}
 use Rattle.ftp_calls.specs.declared.call.Call.TheVariants.{Drain}
 use Rattle.ftp_transfer.specs.Mark.{End}
-use Rattle.ftp_transport.specs.Told.{Told}
 use Rattle.ftp_transfer.specs.Transfer.{TransferValue}
 use Rattle.ftp_transfer.specs.declared.direction.Direction.{Direction}
 use Rattle.ftp_dialogue.specs.Coding.{Coding}
 use Rattle.ftp_session.specs.Polled.{HandsOver}
-use Rattle.ftp_session.specs.Handed.{BeginsToSettle, BeginsToSettleIf, BeginsToSettleUnless, BringsToEnd, BringsToEndIf, TakesBack, TakesBackIf, ComesTo, GivesUp, HandsOut, IsOpening, LooksIf, ReadsSeen, OpensAs, OpensEither, OpensFrom, Opens, OpensReplied, PlaysSeen, Settles, SettlesIf, Strays, SettlesUnless, as_seen, found, is_out, left_if, opened_as, watches, with_data, with_reply, without_reply}
+use Rattle.ftp_session.specs.Handed.{BeginsToSettle, BeginsToSettleIf, BeginsToSettleUnless, BringsToEnd, BringsToEndIf, TakesBack, TakesBackIf, IsOpening, LooksIf, ReadsSeen, OpensAs, OpensEither, OpensFrom, Opens, OpensReplied, PlaysSeen, Settles, SettlesIf, Strays, SettlesUnless, as_seen, found, is_out, left_if, watches, with_data, with_reply, without_reply}
 use Rattle.ftp_dialogue.specs.Link.{Link}
 use Rattle.ftp_dialogue.specs.Dialogue.{Expected}
-use Rattle.ftp_dialogue.specs.Promises.{GivesFault, IsFault, Plays, PlaysAlone}
+use Rattle.ftp_dialogue.specs.Promises.{GivesFault, Plays, PlaysAlone}
 use Rattle.ftp_dialogue.specs.Reading.{PollsRead}
-use Rattle.ftp_dialogue.specs.Sound.{is_live, is_owed, next_number}
+use Rattle.ftp_dialogue.specs.Sound.{is_owed, next_number}
 use Rattle.ftp_dialogue.specs.Steps.Moving.{withheld}
 use Rattle.ftp_dialogue.proofs.TransitionsLemmas.{withheld_plays}
 use Rattle.ftp_dialogue.specs.State.{SessionValue}

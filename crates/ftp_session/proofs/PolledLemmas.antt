@@ -1,5 +1,5 @@
 -- Lemmas on calls that are polled.
-use Rattle.std.proofs.Common.{◌≡◌, Bool, true, false, Option, refl, sym, ◌∙◌, subst}
+use Rattle.std.proofs.Common.{◌≡◌, Bool, true, false, Option, sym, subst}
 use Rattle.futures.specs.declared.task.Poll.{Poll}
 use Rattle.futures.specs.declared.task.Poll.TheVariants.{Ready, Pending}
 use Rattle.ftp_calls.specs.declared.call.Answer.{Answer}
@@ -15,7 +15,7 @@ use Rattle.ftp_dialogue.specs.State.{SessionValue}
 use Rattle.ftp_dialogue.specs.Steps.Polls.{StartsTo}
 use Rattle.ftp_dialogue.specs.declared.stage.Stage.{Stage}
 use Rattle.ftp_dialogue.specs.declared.stage.Stage.TheVariants.{At}
-use Rattle.ftp_session.specs.Polled.{DrainsFirst, IsOver, LooksFirst, PollsCall, PollsNext, PollsNextIf, PollsSeen, PollsUnless, ThenStartsIf, UnderWay, after_poll}
+use Rattle.ftp_session.specs.Polled.{DrainsFirst, IsOver, LooksFirst, PollsCall, PollsNext, PollsNextIf, PollsUnless, ThenStartsIf, UnderWay, after_poll}
 
 module _ (link : Link) (may_wait : Type 0) (coding : Coding) (call : Call) (stage stage' : Stage) (v w : SessionValue) (result : Poll Answer) where
   pub next_undue : due_of call v ≡ false → StartsTo link may_wait coding call stage stage' v w result → PollsNext link may_wait coding call stage stage' v w result

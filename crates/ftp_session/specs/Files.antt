@@ -13,7 +13,6 @@ use Rattle.ftp_session.specs.Calls.{unit_answer}
 use Rattle.ftp_session.specs.Copying.{Copies}
 use Rattle.ftp_session.specs.Handed.{BringsToEnd, OpensOne, SeesFirst, is_out, left_if, with_data}
 use Rattle.ftp_transfer.specs.Transfer.{TransferValue}
-use Rattle.ftp_transfer.specs.declared.direction.Direction.{Direction}
 use Rattle.ftp_transfer.specs.declared.direction.Direction.TheVariants.{Download, Upload}
 
 -- a value is returned unless a call after it failed

@@ -7,6 +7,7 @@
 #![tactic(auto)]
 
 mod commands;
+mod connecting;
 mod ending;
 mod machine;
 mod polls;

@@ -1,4 +1,4 @@
-use Rattle.std.proofs.Common.{◌≡◌, ◌≤◌, ◌+◌, inl, refl, length, take, sym, arith}
+use Rattle.std.proofs.Common.{◌≡◌, inl, refl, length, take, sym, arith}
 use Rattle.ftp_session.proofs.CopyingLemmas.{gives_up_as, piece_fails, so_far_kept, so_far_more, so_far_none, source_fails}
 use Rattle.ftp_session.proofs.session.copying.copy_through.Goals as goal
 

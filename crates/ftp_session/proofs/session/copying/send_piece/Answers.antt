@@ -1,4 +1,3 @@
-use Rattle.std.proofs.Common.{sym}
 use Rattle.ftp_session.proofs.CopyingLemmas.{adds_text, no_memory, text_sent}
 use Rattle.ftp_session.proofs.session.copying.send_piece.Goals as goal
 

@@ -1,4 +1,4 @@
-use Rattle.std.proofs.Common.{◌≡◌, ◌<◌, ◌++◌, ap, length, take}
+use Rattle.std.proofs.Common.{◌<◌, ◌++◌, ap, length, take}
 use Rattle.ftp_dialogue.proofs.UnsentLemmas.{length_some}
 use Rattle.ftp_session.specs.Copying.{Wrote}
 use Rattle.ftp_session.proofs.CopyingLemmas.{moves_front, wrote_more}

@@ -1,4 +1,4 @@
-use Rattle.std.proofs.Common.{true, refl}
+use Rattle.std.proofs.Common.{true}
 use Rattle.std.specs.Prelude.{Ok}
 use Rattle.ftp_dialogue.proofs.DrainingLemmas.{made_plays}
 use Rattle.ftp_session.proofs.Handed.{settles_by}

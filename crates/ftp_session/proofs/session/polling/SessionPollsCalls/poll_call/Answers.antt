@@ -1,4 +1,4 @@
-use Rattle.std.proofs.Common.{rules, refl}
+use Rattle.std.proofs.Common.{rules}
 use Rattle.futures.specs.declared.task.Poll.TheVariants.{Ready, Pending}
 use Rattle.ftp_session.proofs.PolledLemmas.{polls_seen}
 use Rattle.ftp_session.proofs.session.polling.SessionPollsCalls.poll_call.Goals as goal
