@@ -1,12 +1,12 @@
 //! What happens beside the control connection, over memory: what requests come to, and what is done on a data
 //! connection.
 
-use crate::setup::Setup;
 use ftp_base::types::Bytes;
 use ftp_runs::model::Script;
 use ftp_session::model::{DealOutcome, Dealings};
 use ftp_session::session::Call;
 use ftp_transport::{Request, RequestOutcome};
+use rows_plays::Setup;
 use rows_text::RowError;
 use std::alloc::{AllocError, Global};
 
@@ -37,9 +37,7 @@ pub fn next_outcomes(
     if is_whole(call) && dealings.data_conn.is_some() {
         return Ok(carried(alloc, setup, call, dealings)?);
     }
-    let mut outcomes = Vec::new(alloc);
-    outcomes.push(next_outcome(alloc, setup, call, dealings)?)?;
-    Ok(outcomes)
+    next_outcome(alloc, setup, call, dealings)
 }
 
 /// What becomes of a whole data connection.
@@ -81,29 +79,29 @@ fn fetched(
     Ok(outcomes)
 }
 
-/// The outcome that this call waits for. A read gives as much as is left and wanted, a write takes all bytes, and a close
-/// is done.
+/// The one outcome that this call waits for. A read gives as much as is left and wanted, a write takes all bytes, and a
+/// close is done.
 pub fn next_outcome(
     alloc: Global,
     setup: &Setup,
     call: &Call,
     dealings: &Dealings,
-) -> Result<DealOutcome, RowError> {
-    match call {
-        Call::Read(most) => Ok(DealOutcome::Read(unread(alloc, setup, *most, dealings)?)),
-        Call::Write(bytes) => Ok(DealOutcome::Wrote(bytes.as_slice().len())),
-        Call::Finish | Call::Abort | Call::Leave => Ok(DealOutcome::Closed),
-        _ => next_answer(alloc, setup, dealings.asked.as_slice()),
-    }
+) -> Result<Vec<DealOutcome>, RowError> {
+    let outcome = match call {
+        Call::Read(most) => DealOutcome::Read(unread(alloc, setup, *most, dealings)?),
+        Call::Write(bytes) => DealOutcome::Wrote(bytes.as_slice().len()),
+        Call::Finish | Call::Abort | Call::Leave => DealOutcome::Closed,
+        _ => next_answer(alloc, setup, dealings.asked.as_slice())?,
+    };
+    Ok(Vec::from_array(alloc, [outcome])?)
 }
 
 /// What the last of these requests comes to.
 fn next_answer(alloc: Global, setup: &Setup, asked: &[Request]) -> Result<DealOutcome, RowError> {
     if let Some(Request::Build(_)) = asked.last() {
-        return Ok(DealOutcome::Built(setup.fault_of_builder()?));
+        return Ok(DealOutcome::Built(setup.fault_of_builder()));
     }
-    let outcomes = setup.outcomes(alloc, asked)?;
-    match outcomes.last() {
+    match setup.outcomes(alloc, asked)?.last() {
         Some(outcome) => Ok(DealOutcome::Answered(*outcome)),
         None => Err(RowError::NotUnderstood),
     }
@@ -140,12 +138,10 @@ pub fn waiting<'a>(script: &'a Script, known: &[DealOutcome]) -> Option<&'a Call
 
 /// How many of these outcomes are those of requests, or a builder's answers.
 fn answered(outcomes: &[DealOutcome]) -> usize {
-    outcomes.iter().filter(|outcome| is_answer(outcome)).count()
-}
-
-/// Whether an outcome is one of a request, or a builder's answer.
-fn is_answer(outcome: &DealOutcome) -> bool {
-    matches!(outcome, DealOutcome::Answered(_) | DealOutcome::Built(_))
+    outcomes
+        .iter()
+        .filter(|outcome| matches!(outcome, DealOutcome::Answered(_) | DealOutcome::Built(_)))
+        .count()
 }
 
 /// Those of these outcomes that are requests'; a request of the builder is done, whatever it answered.

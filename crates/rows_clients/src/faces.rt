@@ -1,23 +1,15 @@
 //! The ways in which a row is played.
 
-mod client;
-mod definition;
-mod methods;
-mod session;
-mod states;
-mod transfers;
-
-use crate::play::Play;
-use crate::transcript::{Mark, Standing};
+use crate::{client, definition, script, states};
 use ftp_runs::Event;
+use rows_plays::{Mark, Play, Standing};
 use rows_text::RowError;
-pub use session::NamedSession;
 use std::alloc::{AllocError, Global};
 use std::random::RandomSource;
 use std::sync::Wait;
 
 /// A way in which a row is played.
-#[derive(Clone, Copy, Debug, PartialEq, Eq)]
+#[derive(Clone, Copy)]
 pub enum Face {
     /// What the definition of runs says.
     Definition,
@@ -44,15 +36,6 @@ pub struct Came {
     pub failed: bool,
     /// How many bytes of no reply were read, where the face tells.
     pub seen: Option<usize>,
-}
-
-impl Came {
-    /// Whether another face came to the same.
-    pub fn is_same(&self, other: &Came) -> bool {
-        self.transcript == other.transcript
-            && self.failed == other.failed
-            && self.seen == other.seen
-    }
 }
 
 /// What the faces of a row have told beside their transcripts.
@@ -134,7 +117,7 @@ impl Face {
     /// What is due of a row's transcript on it: a client doesn't tell what its transport was asked, nor on which data
     /// connections nothing was written, so where the row opens some the lines of that are left out.
     pub fn due(self, alloc: Global, play: &Play, due: &str) -> Result<String, AllocError> {
-        if self != Face::Client || !play.opens_data() {
+        if !matches!(self, Face::Client) || !play.opens_data() {
             return String::from_str(alloc, due);
         }
         let mut left = String::new(alloc);
@@ -155,9 +138,18 @@ impl Face {
     ) -> Result<Came, RowError> {
         let alloc = rt.alloc();
         let places = self.places(alloc, play)?;
-        let marks = self.marks(rt, play, &places)?;
-        let end = self.standing(rt, play, self.length(play))?;
-        came_to(alloc, &end, marks, places.len(), welcome)
+        let mut marks = self.marks(rt, play, &places)?;
+        let end = self.standing(rt, play, usize::MAX)?;
+        if marks.len() < places.len() {
+            marks.push(end.mark())?;
+        }
+        let mut transcript = end.transcript(alloc, &marks)?;
+        end.add_end(alloc, &mut transcript, welcome)?;
+        Ok(Came {
+            transcript,
+            failed: end.failed,
+            seen: end.seen,
+        })
     }
 
     /// How far the row has come at those of these places that are before its end.
@@ -167,44 +159,25 @@ impl Face {
         play: &Play,
         places: &[usize],
     ) -> Result<Vec<Mark>, RowError> {
+        let length = match self {
+            Face::Script | Face::Polled => play.events.len(),
+            _ => play.calls.len(),
+        };
         let mut marks = Vec::new(rt.alloc());
         for count in places {
-            if *count < self.length(play) {
-                marks.push(self.mark(rt, play, *count)?)?;
+            if *count < length {
+                marks.push(self.standing(rt, play, *count)?.mark())?;
             }
         }
         Ok(marks)
     }
 
-    /// How many calls or events the row has.
-    fn length(self, play: &Play) -> usize {
-        match self {
-            Face::Definition | Face::Run | Face::Methods | Face::Client | Face::States => {
-                play.calls.len()
-            }
-            Face::Script | Face::Polled => play.events.len(),
-        }
-    }
-
     /// After how many calls or events the transcript has its lines: after each call, or each poll.
     fn places(self, alloc: Global, play: &Play) -> Result<Vec<usize>, AllocError> {
         match self {
-            Face::Definition | Face::Run | Face::Methods | Face::Client | Face::States => ends(
-                alloc,
-                play.calls.len(),
-            ),
             Face::Script | Face::Polled => polls(alloc, &play.events),
+            _ => (1..=play.calls.len()).collect(alloc),
         }
-    }
-
-    /// How far the row has come after so many calls or events.
-    fn mark<R: Wait + RandomSource + AllocGlobal>(
-        self,
-        rt: &R,
-        play: &Play,
-        count: usize,
-    ) -> Result<Mark, RowError> {
-        Ok(self.standing(rt, play, count)?.mark())
     }
 
     /// Where the row stands after so many calls or events.
@@ -219,43 +192,14 @@ impl Face {
         let events = front(&play.events, count);
         match self {
             Face::Definition => definition::ran(alloc, calls, play),
-            Face::Script => definition::scripted(alloc, events, play),
-            Face::Run => session::ran(alloc, calls, play),
-            Face::Methods => methods::called(alloc, calls, play),
+            Face::Script => script::scripted(alloc, events, play),
+            Face::Run => rows_plays::ran(alloc, calls, play),
+            Face::Methods => rows_plays::called(rt, calls, play),
             Face::Client => client::called(rt, calls, play),
             Face::States => states::called(rt, calls, play),
-            Face::Polled => session::polled(alloc, events, play),
+            Face::Polled => rows_plays::polled(alloc, events, play),
         }
     }
-}
-
-/// What a row came to that ended here, and had come so far at those of so many places that are before its end.
-fn came_to(
-    alloc: Global,
-    end: &Standing,
-    mut marks: Vec<Mark>,
-    places: usize,
-    welcome: bool,
-) -> Result<Came, RowError> {
-    if marks.len() < places {
-        marks.push(end.mark())?;
-    }
-    let mut transcript = end.transcript(alloc, &marks)?;
-    end.add_end(alloc, &mut transcript, welcome)?;
-    Ok(Came {
-        transcript,
-        failed: end.failed,
-        seen: end.seen,
-    })
-}
-
-/// After how many calls each call is done.
-fn ends(alloc: Global, count: usize) -> Result<Vec<usize>, AllocError> {
-    let mut places = Vec::new(alloc);
-    for place in 0..count {
-        places.push(place + 1)?;
-    }
-    Ok(places)
 }
 
 /// After how many events each poll is done.

@@ -6,24 +6,14 @@
 //! no row is passed over.
 #![tactic(auto)]
 
-mod alphabet;
-mod answers;
 mod beside;
-mod builder;
-mod calls;
-mod dial;
-mod encodings;
+mod client;
+mod definition;
 mod faces;
-mod memory;
-mod play;
 mod reader;
-mod requests;
-mod row;
-mod settings;
-mod setup;
-mod step;
+mod script;
+mod states;
 mod tally;
-mod transcript;
 
 use anyhow::Result;
 use reader::Reader;

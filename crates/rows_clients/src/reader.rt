@@ -1,8 +1,8 @@
 //! Reads rows line by line, and has each played.
 
-use crate::row::Row;
 use crate::tally::Tally;
 use anyhow::{Context, Result};
+use rows_plays::Row;
 use rows_text::RowError;
 use std::random::RandomSource;
 use std::sync::Wait;

@@ -1,10 +1,8 @@
 //! The rows of a set that were played, and those that differed.
 
-use crate::alphabet::Lists;
 use crate::faces::{Agreement, Came, Face};
-use crate::play::Play;
-use crate::row::Row;
 use anyhow::Result;
+use rows_plays::{Lists, Play, Row};
 use rows_text::RowError;
 use std::fmt;
 use std::random::RandomSource;
@@ -51,37 +49,15 @@ impl<'a> Tally<'a> {
         row: &Row<'_>,
     ) -> Result<()> {
         self.rows = self.rows.saturating_add(1);
-        if let Some(longest) = row.lists() {
+        if let Some(longest) = row.lists {
             return self.play_lists(rt, row, longest);
         }
         for piece in PIECES {
-            self.play_in_pieces(rt, row, piece)?;
-        }
-        Ok(())
-    }
-
-    /// Plays a row whose bytes come in pieces of so many.
-    fn play_in_pieces<R: Wait + Print + RandomSource + AllocGlobal>(
-        &mut self,
-        rt: &R,
-        row: &Row<'_>,
-        piece: usize,
-    ) -> Result<()> {
-        let alloc = rt.alloc();
-        let play = Play::of(alloc, &row.steps, row.has_events(), piece)?;
-        self.play_on_all(rt, row, &play)
-    }
-
-    /// Plays a row on its faces.
-    fn play_on_all<R: Wait + Print + RandomSource + AllocGlobal>(
-        &mut self,
-        rt: &R,
-        row: &Row<'_>,
-        play: &Play,
-    ) -> Result<()> {
-        let mut agreement = Agreement::new();
-        for face in faces_of(row) {
-            self.play_on(rt, row, *face, play, &mut agreement)?;
+            let play = Play::of(rt.alloc(), &row.lines, row.has_events, piece)?;
+            let mut agreement = Agreement::new();
+            for face in faces_of(row) {
+                self.play_on(rt, row, *face, &play, &mut agreement)?;
+            }
         }
         Ok(())
     }
@@ -98,12 +74,13 @@ impl<'a> Tally<'a> {
         if !face.plays(play) {
             return Ok(());
         }
-        let came = face.play(rt, play, row.wants_welcome())?;
+        let came = face.play(rt, play, row.wants_welcome)?;
         let due = face.due(rt.alloc(), play, row.due()?)?;
         let agrees = agreement.agrees(&came) && came.transcript == due;
         self.count(agrees);
         if !agrees {
-            show(rt, row, face, play.piece, &due, &came)?;
+            println!(rt; "{}, in pieces of {}", face.name(), play.piece)?;
+            show(rt, row, &due, &came)?;
         }
         Ok(())
     }
@@ -136,12 +113,17 @@ impl<'a> Tally<'a> {
         row: &Row<'_>,
         lists: &Lists<'_>,
     ) -> Result<()> {
-        let due = play_list(rt, lists, Face::Script)?;
-        let came = play_list(rt, lists, Face::Polled)?;
-        let agrees = due.is_same(&came);
+        let lines = lists.lines(rt.alloc())?;
+        let play = Play::of(rt.alloc(), &lines, true, 1)?;
+        let due = Face::Script.play(rt, &play, false)?;
+        let came = Face::Polled.play(rt, &play, false)?;
+        let agrees = came.transcript == due.transcript
+            && came.failed == due.failed
+            && came.seen == due.seen;
         self.count(agrees);
         if !agrees {
-            show_list(rt, row, lists, &due, &came)?;
+            println!(rt; "{lines:?}, failed {}, seen {:?}", due.failed, due.seen)?;
+            show(rt, row, &due.transcript, &came)?;
         }
         Ok(())
     }
@@ -157,7 +139,7 @@ impl<'a> Tally<'a> {
 
 /// The faces that a row is played on.
 fn faces_of(row: &Row<'_>) -> &'static [Face] {
-    match (row.has_events(), row.is_of_sessions()) {
+    match (row.has_events, row.is_of_sessions) {
         (false, false) => &Face::OF_CALLS,
         (false, true) => &Face::SESSIONS_OF_CALLS,
         (true, false) => &Face::OF_EVENTS,
@@ -165,48 +147,11 @@ fn faces_of(row: &Row<'_>) -> &'static [Face] {
     }
 }
 
-/// What a list comes to on a face, its bytes one by one.
-fn play_list<R: Wait + RandomSource + AllocGlobal>(
-    rt: &R,
-    lists: &Lists<'_>,
-    face: Face,
-) -> Result<Came, RowError> {
-    let steps = lists.steps(rt.alloc())?;
-    let play = Play::of(rt.alloc(), &steps, true, 1)?;
-    face.play(rt, &play, false)
-}
-
-/// Prints a play that differs.
-fn show<R: Print>(
-    rt: &R,
-    row: &Row<'_>,
-    face: Face,
-    piece: usize,
-    due: &str,
-    came: &Came,
-) -> Result<()> {
-    let bytes = if piece == 1 { ", bytes one by one" } else { "" };
-    println!(rt; "{}: {} ({}{bytes})", row.set, row.title, face.name())?;
-    println!(rt; "due\n{due}came\n{}", came.transcript)?;
-    println!(rt; "failed {}, seen {:?}", came.failed, came.seen)?;
-    Ok(())
-}
-
-/// Prints a list that differs.
-fn show_list<R: Print + AllocGlobal>(
-    rt: &R,
-    row: &Row<'_>,
-    lists: &Lists<'_>,
-    due: &Came,
-    came: &Came,
-) -> Result<()> {
+/// Prints what was due of a play, and what came.
+fn show<R: Print>(rt: &R, row: &Row<'_>, due: &str, came: &Came) -> Result<()> {
     println!(rt;
-        "{}: {}, {:?}",
-        row.set,
-        row.title,
-        lists.steps(rt.alloc())?
+        "{}: {}\ndue\n{due}came\n{}failed {}, seen {:?}",
+        row.set, row.title, came.transcript, came.failed, came.seen
     )?;
-    println!(rt; "due\n{}came\n{}", due.transcript, came.transcript)?;
-    println!(rt; "failed {}, seen {:?}", came.failed, came.seen)?;
     Ok(())
 }

@@ -13,6 +13,7 @@ use std::io::Write;
 use std::net::{Net, TcpListener, TcpStream};
 use std::sync::Wait;
 use std::test::Fail;
+use std::thread::Threads;
 use std::{io, thread};
 
 /// A client over memory.
@@ -60,39 +61,78 @@ fn lent<R: Wait + AllocGlobal>(rt: &R, client: &MemoryClient) -> u8 {
     number(client.noop(rt))
 }
 
-/// A client over a loopback socket and the server's end of it. The server greets, and answers so many rounds in
-/// advance.
-fn connected<R>(rt: &R, round: &[u8], count: u32) -> Result<(Box<FtpStream>, TcpStream), Fail>
+/// A client over a loopback socket and the server's end of it.
+#[derive(Drop)]
+struct Pair {
+    client: FtpStream,
+    server: TcpStream,
+}
+
+/// Such a pair. The server greets, and answers so many rounds in advance.
+fn connected<R>(rt: &R, round: &[u8], count: u32) -> Result<Box<Pair>, Fail>
 where
     R: Net<Listener = TcpListener, Stream = TcpStream> + AllocGlobal,
 {
     let (near, mut server) = ends(rt, "127.0.0.1:0")?;
+    answer_in_advance(&mut server, round, count)?;
+    let client = FtpStream::connect_with_stream(rt, near)?;
+    Ok(boxed(rt.alloc(), Pair { client, server })?)
+}
+
+/// A server greets, and answers so many rounds in advance.
+fn answer_in_advance(server: &mut TcpStream, round: &[u8], count: u32) -> io::Result<()> {
     server.write_all(b"220 ready\r\n")?;
     for _ in 0..count {
         server.write_all(round)?;
     }
-    Ok((client_on(rt, near)?, server))
+    Ok(())
 }
 
-/// A client on a socket.
-fn client_on<R: AllocGlobal>(rt: &R, stream: TcpStream) -> FtpResult<Box<FtpStream>> {
-    boxed(rt.alloc(), FtpStream::connect_with_stream(rt, stream)?)
+/// What a thread does twenty times.
+#[derive(Clone, Copy)]
+enum Deed {
+    /// It sends NOOP.
+    Noop,
+    /// It renames a file.
+    Rename,
 }
 
-/// Sends NOOP twenty times; how often the answer is a fault.
-fn noops<R: Wait + AllocGlobal>(rt: &R, client: &FtpStream) -> usize {
-    (0..20).filter(|_| number(client.noop(rt)) != 0).count()
+/// Does so twenty times; how often the answer is a fault.
+fn faults<R: Wait + AllocGlobal>(rt: &R, client: &FtpStream, deed: Deed) -> usize {
+    let mut faults = 0usize;
+    for _ in 0..20 {
+        let answer = match deed {
+            Deed::Noop => client.noop(rt),
+            Deed::Rename => client.rename(rt, "a", "b"),
+        };
+        if number(answer) != 0 {
+            faults = faults.saturating_add(1);
+        }
+    }
+    faults
 }
 
-/// Renames a file twenty times; how often the answer is a fault.
-fn renames<R: Wait + AllocGlobal>(rt: &R, client: &FtpStream) -> usize {
-    (0..20)
-        .filter(|_| number(client.rename(rt, "a", "b")) != 0)
-        .count()
+/// What two threads come to that share a client, each with its deed: how often an answer is a fault, how often these
+/// lines stand in what the server received, and how many bytes that is.
+fn shared<R>(
+    rt: &R,
+    round: &[u8],
+    deed: Deed,
+    lines: &str,
+) -> Result<((usize, usize), (usize, usize)), Fail>
+where
+    R: Net<Listener = TcpListener, Stream = TcpStream> + Wait + Threads + Sync + AllocGlobal,
+{
+    let pair = connected(rt, round, 40)?;
+    let client = &pair.client;
+    let faults = thread::join(rt, || faults(rt, client, deed), || faults(rt, client, deed));
+    Ok((faults, rounds_received(rt.alloc(), pair, lines)?))
 }
 
-/// How often these lines stand in what the server received, and how many bytes that is.
-fn rounds_received(alloc: Global, server: TcpStream, lines: &str) -> io::Result<(usize, usize)> {
+/// How often these lines stand in what a server received whose client is gone, and how many bytes that is.
+fn rounds_received(alloc: Global, pair: Box<Pair>, lines: &str) -> io::Result<(usize, usize)> {
+    let Pair { client, server } = Box::into_inner(pair);
+    drop(client);
     let text = io::read_to_string(alloc, server)?;
     Ok((text.matches(lines).count(), text.len()))
 }
@@ -121,7 +161,7 @@ fn the_control_connection_is_lent(rt: HostRuntime) -> Result<(), Fail> {
 #[test]
 fn a_client_is_sent_to_a_thread_and_back(rt: HostRuntime) -> Result<(), Fail> {
     let client = client_of(rt.alloc(), b"220 r\r\n200 ok\r\n200 ok\r\n")?;
-    let child = thread::spawn(&rt, move || (number(client.noop(&rt)), client))?;
+    let child = thread::spawn(&rt, move || (lent(&rt, &client), client))?;
     let (answer, client) = child.join(&rt);
     assert_eq!(rt; (answer, lent(&rt, &client)), (0, 0));
     Ok(())
@@ -129,21 +169,16 @@ fn a_client_is_sent_to_a_thread_and_back(rt: HostRuntime) -> Result<(), Fail> {
 
 #[test]
 fn commands_of_two_threads_are_not_torn(rt: HostRuntime) -> Result<(), Fail> {
-    let (client, server) = connected(&rt, b"200 ok\r\n", 40)?;
-    let faults = thread::join(&rt, || noops(&rt, &client), || noops(&rt, &client));
-    drop(client);
-    let rounds = rounds_received(rt.alloc(), server, "NOOP\r\n")?;
-    assert_eq!(rt; (faults, rounds), ((0, 0), (40, 240)));
+    let came = shared(&rt, b"200 ok\r\n", Deed::Noop, "NOOP\r\n")?;
+    assert_eq!(rt; came, ((0, 0), (40, 240)));
     Ok(())
 }
 
 #[test]
 fn the_two_lines_of_a_rename_stay_together(rt: HostRuntime) -> Result<(), Fail> {
-    let (client, server) = connected(&rt, b"350 to?\r\n250 ok\r\n", 40)?;
-    let faults = thread::join(&rt, || renames(&rt, &client), || renames(&rt, &client));
-    drop(client);
-    let rounds = rounds_received(rt.alloc(), server, "RNFR a\r\nRNTO b\r\n")?;
-    assert_eq!(rt; (faults, rounds), ((0, 0), (40, 640)));
+    let lines = "RNFR a\r\nRNTO b\r\n";
+    let came = shared(&rt, b"350 to?\r\n250 ok\r\n", Deed::Rename, lines)?;
+    assert_eq!(rt; came, ((0, 0), (40, 640)));
     Ok(())
 }
 

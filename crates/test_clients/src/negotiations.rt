@@ -15,9 +15,15 @@ use std::{io, thread};
 /// A session over sockets.
 pub type SocketSession = Box<Session<TcpTransport>>;
 
-/// A session whose server greets and then sends this, and the server's end. The server has another address than the
-/// client.
-pub fn connected<R>(rt: &R, mode: Mode, replies: &str) -> Result<(SocketSession, TcpStream), Fail>
+/// A session over sockets, and the server's end of its control connection.
+#[derive(Drop)]
+pub struct Pair {
+    pub session: SocketSession,
+    pub server: TcpStream,
+}
+
+/// A session whose server greets and then sends this. The server has another address than the client.
+pub fn connected<R>(rt: &R, mode: Mode, replies: &str) -> Result<Box<Pair>, Fail>
 where
     R: Net<Listener = TcpListener, Stream = TcpStream> + AllocGlobal,
 {
@@ -26,7 +32,7 @@ where
     server.write_all(replies.as_bytes())?;
     let mut session = greeted(rt.alloc(), TcpConn::new(near))?;
     session.set_mode(mode);
-    Ok((session, server))
+    Ok(boxed(rt.alloc(), Pair { session, server })?)
 }
 
 /// A session on a socket, once the greeting was read.
@@ -38,11 +44,11 @@ fn greeted(alloc: Global, conn: TcpConn) -> FtpResult<SocketSession> {
 }
 
 /// Who accepts data connections for a server, and at which port.
-pub fn data_listener<R>(rt: &R) -> io::Result<(TcpListener, u16)>
+pub fn data_listener<R>(rt: &R) -> io::Result<(Box<TcpListener>, u16)>
 where
-    R: Net<Listener = TcpListener, Stream = TcpStream>,
+    R: Net<Listener = TcpListener, Stream = TcpStream> + AllocGlobal,
 {
-    let data = TcpListener::bind(rt, "127.0.0.2:0")?;
+    let data = Box::new(rt.alloc(), TcpListener::bind(rt, "127.0.0.2:0")?)?;
     let port = data.local_addr()?.port();
     Ok((data, port))
 }
@@ -170,21 +176,26 @@ where
 {
     let (_data, port) = data_listener(rt)?;
     let told = replies(rt.alloc(), Mode::Passive, 3, port)?;
-    let (mut session, _server) = connected(rt, Mode::Passive, &told)?;
-    session.set_passive_nat_workaround(workaround);
-    ran(rt, &mut session, opening(rt.alloc())?)
+    let mut pair = connected(rt, Mode::Passive, &told)?;
+    pair.session.set_passive_nat_workaround(workaround);
+    ran(rt, &mut pair.session, opening(rt.alloc())?)
 }
 
 #[test]
 fn behind_a_router_the_host_of_the_reply_is_not_connected_to(rt: HostRuntime) -> Result<(), Fail> {
-    assert_eq!(rt; behind_a_router(&rt, false)?.as_str(), "E1 ");
-    assert_eq!(rt; behind_a_router(&rt, true)?.as_str(), "open ");
+    let without = behind_a_router(&rt, false)?;
+    let with = behind_a_router(&rt, true)?;
+    assert_eq!(rt; (without.as_str(), with.as_str()), ("E1 ", "open "));
     Ok(())
 }
 
 #[test]
 fn a_listener_lets_in_who_may_come_for_a_whole_download(rt: HostRuntime) -> Result<(), Fail> {
-    let (mut session, server) = connected(&rt, Mode::Active, ACTIVE)?;
+    let pair = connected(&rt, Mode::Active, ACTIVE)?;
+    let Pair {
+        mut session,
+        server,
+    } = Box::into_inner(pair);
     let serving = thread::spawn(&rt, move || serve_file(&rt, server))?;
     let calls = downloading(rt.alloc())?;
     let answers = active(&rt, &mut session, ActivePeerCheck::Any, calls)?;
@@ -197,7 +208,11 @@ fn a_listener_lets_in_who_may_come_for_a_whole_download(rt: HostRuntime) -> Resu
 
 #[test]
 fn a_listener_drops_who_may_not_come(rt: HostRuntime) -> Result<(), Fail> {
-    let (mut session, server) = connected(&rt, Mode::Active, ACTIVE)?;
+    let pair = connected(&rt, Mode::Active, ACTIVE)?;
+    let Pair {
+        mut session,
+        server,
+    } = Box::into_inner(pair);
     let serving = thread::spawn(&rt, move || serve_file(&rt, server))?;
     let calls = opening(rt.alloc())?;
     let answers = active(&rt, &mut session, ActivePeerCheck::ControlPeer, calls)?;
@@ -212,7 +227,10 @@ fn refused<R>(rt: &R) -> Result<(String, bool), Fail>
 where
     R: Net<Listener = TcpListener, Stream = TcpStream> + Clock + AllocGlobal,
 {
-    let (mut session, server) = connected(rt, Mode::Active, "200 ok\r\n550 no\r\n")?;
+    let Pair {
+        mut session,
+        server,
+    } = Box::into_inner(connected(rt, Mode::Active, "200 ok\r\n550 no\r\n")?);
     let answer = ran(rt, &mut session, opening(rt.alloc())?)?;
     let (address, _control) = told(rt, server)?;
     Ok((answer, TcpStream::connect(rt, address).is_ok()))

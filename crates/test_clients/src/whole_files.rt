@@ -1,6 +1,6 @@
 //! Whole files over loopback sockets.
 
-use crate::negotiations::{SocketSession, connected, data_listener, replies};
+use crate::negotiations::{Pair, SocketSession, connected, data_listener, replies};
 use crate::scene::boxed;
 use ftp_base::types::{FtpResult, Mode};
 use ftp_blocking::{ImplFtpStream, Transfer};
@@ -34,8 +34,8 @@ where
     R: Net<Listener = TcpListener, Stream = TcpStream> + Clock + AllocGlobal,
 {
     let told = replies(rt.alloc(), Mode::Passive, 2, port)?;
-    let (mut session, _server) = connected(rt, Mode::Passive, &told)?;
-    let bytes = session.retr_as_buffer(rt.alloc(), rt, "a")?;
+    let mut pair = connected(rt, Mode::Passive, &told)?;
+    let bytes = pair.session.retr_as_buffer(rt.alloc(), rt, "a")?;
     Ok((bytes.len(), bytes.iter().all(|byte| *byte == 7)))
 }
 
@@ -72,7 +72,7 @@ where
     R: Net<Listener = TcpListener, Stream = TcpStream> + Clock + AllocGlobal,
 {
     let told = replies(rt.alloc(), Mode::Passive, 2, port)?;
-    let (session, server) = connected(rt, Mode::Passive, &told)?;
+    let Pair { session, server } = Box::into_inner(connected(rt, Mode::Passive, &told)?);
     Ok((boxed_client(rt.alloc(), session)?, server))
 }
 
@@ -131,13 +131,16 @@ fn receive_first(data: &TcpListener, mut control: TcpStream) -> io::Result<usize
 }
 
 /// What an upload of a few bytes answers whose server sends the last reply only once the data connection has ended.
-fn finished<R>(rt: &R, data: TcpListener, port: u16) -> Result<(u64, usize), Fail>
+fn finished<R>(rt: &R, data: Box<TcpListener>, port: u16) -> Result<(u64, usize), Fail>
 where
     R: Net<Listener = TcpListener, Stream = TcpStream> + Clock + Wait + Threads + AllocGlobal,
 {
     let (high, low) = (port / 256, port % 256);
     let told = format!(in rt.alloc(); "227 ok (127,0,0,2,{high},{low})\r\n150 ok\r\n")?;
-    let (mut session, server) = connected(rt, Mode::Passive, &told)?;
+    let Pair {
+        mut session,
+        server,
+    } = Box::into_inner(connected(rt, Mode::Passive, &told)?);
     let serving = thread::spawn(rt, move || receive_first(&data, server))?;
     let mut source = b"abc".as_slice();
     let count = session.put_file(rt.alloc(), rt, "a", &mut source)?;

@@ -8,13 +8,17 @@ use std::alloc::{AllocError, Global};
 use std::hash::{FoldHasher, Hash, Hasher};
 use std::test::Fail;
 
-fn some_file(alloc: Global) -> Result<File, Fail> {
+/// A file, in a box, which is dropped by one call.
+fn some_file(alloc: Global) -> Result<Box<File>, Fail> {
     let now = Timestamp::from_second(0)?;
-    Ok(File::from_line(alloc, "-rwxr-x--x 1 7 8 9 Jan 2 1970 name", now)?)
+    let file = File::from_line(alloc, "-rwxr-x--x 1 7 8 9 Jan 2 1970 name", now)?;
+    Ok(Box::new(alloc, file)?)
 }
 
-fn some_link(alloc: Global) -> Result<FileType, Fail> {
-    Ok(FileType::Symlink(Text::from_string(String::from_str(alloc, "to")?)))
+/// A link, in a box.
+fn some_link(alloc: Global) -> Result<Box<FileType>, AllocError> {
+    let text = Text::from_string(String::from_str(alloc, "to")?);
+    Ok(Box::new(alloc, FileType::Symlink(text))?)
 }
 
 /// The kind of a file's type, and what it leads to.
@@ -47,19 +51,20 @@ fn the_type_of_a_file(rt: HostRuntime) -> Result<(), Fail> {
 #[test]
 fn what_a_file_type_is(rt: HostRuntime) -> Result<(), Fail> {
     let link = some_link(rt.alloc())?;
-    for (kind_of, due) in [(&link, "link [to]"), (&FileType::Directory, "dir [-]")] {
-        let text = kind_text(rt.alloc(), kind_of)?;
-        assert_eq!(rt; text.as_str(), due);
-    }
+    let of_link = kind_text(rt.alloc(), &link)?;
+    let of_directory = kind_text(rt.alloc(), &FileType::Directory)?;
+    let texts = (of_link.as_str(), of_directory.as_str());
+    assert_eq!(rt; texts, ("link [to]", "dir [-]"));
     Ok(())
 }
 
 #[test]
 fn a_text_gives_its_string_back(rt: HostRuntime) -> Result<(), Fail> {
     let text = Text::from_string(String::from_str(rt.alloc(), "a")?);
-    assert_eq!(rt; text.as_str(), "a");
-    assert_eq!(rt; text.into_string().as_str(), "a");
-    assert!(rt; PosixPex::default() == PosixPex::from(7));
+    let lent = text.as_str() == "a";
+    let string = text.into_string();
+    let all = PosixPex::default() == PosixPex::from(7);
+    assert_eq!(rt; (lent, string.as_str(), all), (true, "a", true));
     Ok(())
 }
 
@@ -72,62 +77,51 @@ fn hash_of(file: &File) -> u64 {
 #[test]
 fn a_clone_is_equal_and_hashes_alike(rt: HostRuntime) -> Result<(), Fail> {
     let one = some_file(rt.alloc())?;
-    let same = one.clone()?;
-    assert!(rt; one == same);
-    assert_eq!(rt; hash_of(&one), hash_of(&same));
+    let same = Box::new(rt.alloc(), File::clone(&one)?)?;
+    let hashes = (hash_of(&one), hash_of(&same));
+    assert!(rt; *one == *same && hashes.0 == hashes.1);
     Ok(())
 }
 
 #[test]
 fn a_clone_of_a_link_is_equal(rt: HostRuntime) -> Result<(), Fail> {
     let link = some_link(rt.alloc())?;
-    assert!(rt; link.clone()? == link);
-    assert!(rt; link != FileType::File);
+    let copy = Box::new(rt.alloc(), FileType::clone(&link)?)?;
+    assert!(rt; *copy == *link && *link != FileType::File);
     Ok(())
 }
 
-/// A refusal, as it is shown to a user and to a programmer.
-fn refusal_text(alloc: Global, fault: &ParseError) -> Result<String, AllocError> {
-    format!(in alloc; "{fault}: {fault:?}")
-}
+/// Errors, and each as it is shown to a user and to a programmer.
+const ERRORS: [(ParseError, &str); 4] = [
+    (
+        ParseError::SyntaxError,
+        "syntax error in the listing line: SyntaxError",
+    ),
+    (
+        ParseError::InvalidDate,
+        "invalid date in the listing line: InvalidDate",
+    ),
+    (
+        ParseError::BadSize,
+        "invalid file size in the listing line: BadSize",
+    ),
+    (ParseError::OutOfMemory, "out of memory: OutOfMemory"),
+];
 
 #[test]
 fn texts_of_refusals(rt: HostRuntime) -> Result<(), Fail> {
-    for (fault, due) in [
-        (
-            &ParseError::SyntaxError,
-            "syntax error in the listing line: SyntaxError",
-        ),
-        (
-            &ParseError::InvalidDate,
-            "invalid date in the listing line: InvalidDate",
-        ),
-        (
-            &ParseError::BadSize,
-            "invalid file size in the listing line: BadSize",
-        ),
-        (&ParseError::OutOfMemory, "out of memory: OutOfMemory"),
-    ] {
-        let text = refusal_text(rt.alloc(), fault)?;
-        assert_eq!(rt; text.as_str(), due);
+    for (fault, due) in &ERRORS {
+        let text = format!(in rt.alloc(); "{fault}: {fault:?}")?;
+        assert_eq!(rt; text.as_str(), *due);
     }
     Ok(())
-}
-
-/// A file's type, a permission and its holder as debug text.
-fn debug_text(
-    alloc: Global,
-    kind_of: &FileType,
-    permission: PosixPex,
-    holder: PosixPexQuery,
-) -> Result<String, AllocError> {
-    format!(in alloc; "{kind_of:?}, {permission:?}, {holder:?}")
 }
 
 #[test]
 fn debug_texts(rt: HostRuntime) -> Result<(), Fail> {
     let link = some_link(rt.alloc())?;
-    let text = debug_text(rt.alloc(), &link, PosixPex::from(5), PosixPexQuery::Owner)?;
+    let permission = PosixPex::from(5);
+    let text = format!(in rt.alloc(); "{link:?}, {permission:?}, {:?}", PosixPexQuery::Owner)?;
     assert_eq!(rt;
         text.as_str(),
         "Symlink(\"to\"), PosixPex { read: true, write: false, execute: true }, Owner"

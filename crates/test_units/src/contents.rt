@@ -3,14 +3,14 @@
 use ftp_base::command::Command;
 use ftp_base::encoding::{Encoding, Utf8Encoding};
 use ftp_base::types::{Bytes, Items, Text};
+use std::alloc::{AllocError, Global};
 use std::test::Fail;
 
 #[test]
 fn bytes_are_read_as_a_slice(rt: HostRuntime) -> Result<(), Fail> {
     let bytes: Bytes = Vec::from_slice(rt.alloc(), b"200 ok")?.into();
-    assert_eq!(rt; bytes.len(), 6);
-    assert_eq!(rt; bytes[3], b' ');
-    assert!(rt; bytes.starts_with(b"200"));
+    let read = (bytes.len(), bytes[3], bytes.starts_with(b"200"));
+    assert_eq!(rt; read, (6, b' ', true));
     Ok(())
 }
 
@@ -19,9 +19,9 @@ fn bytes_grow_at_their_end(rt: HostRuntime) -> Result<(), Fail> {
     let mut bytes = Bytes::from_slice(rt.alloc(), b"2")?;
     bytes.push(b'2')?;
     bytes.extend_from_slice(b"6 x")?;
-    assert_eq!(rt; bytes.as_slice(), b"226 x".as_slice());
+    let grown = bytes.as_slice() == b"226 x".as_slice();
     bytes.clear();
-    assert!(rt; bytes == Bytes::new(rt.alloc()));
+    assert!(rt; grown && bytes == Bytes::new(rt.alloc()));
     Ok(())
 }
 
@@ -29,8 +29,8 @@ fn bytes_grow_at_their_end(rt: HostRuntime) -> Result<(), Fail> {
 fn a_clone_of_bytes_is_equal(rt: HostRuntime) -> Result<(), Fail> {
     let bytes = Bytes::from_slice(rt.alloc(), b"226")?;
     let copy = bytes.clone()?;
-    assert!(rt; copy == bytes);
-    assert_eq!(rt; copy.into_vec().as_slice(), b"226".as_slice());
+    let same = copy == bytes;
+    assert!(rt; same && copy.into_vec().as_slice() == b"226".as_slice());
     Ok(())
 }
 
@@ -45,8 +45,8 @@ fn a_text_is_read_as_a_str(rt: HostRuntime) -> Result<(), Fail> {
 fn a_text_is_shown_as_it_is(rt: HostRuntime) -> Result<(), Fail> {
     let text = Text::from_str(rt.alloc(), "a b")?;
     let shown = format!(in rt.alloc(); "{text}")?;
-    assert_eq!(rt; shown.as_str(), "a b");
-    assert!(rt; text.clone()? == text);
+    let copy = text.clone()?;
+    assert_eq!(rt; (shown.as_str(), copy == text), ("a b", true));
     Ok(())
 }
 
@@ -54,24 +54,30 @@ fn a_text_is_shown_as_it_is(rt: HostRuntime) -> Result<(), Fail> {
 fn a_list_is_made_from_a_vector(rt: HostRuntime) -> Result<(), Fail> {
     let list: Items<u8> = Vec::from_slice(rt.alloc(), b"ab")?.into();
     let copy = list.clone()?;
-    assert!(rt; copy == list);
-    assert_eq!(rt; copy.into_vec().as_slice(), b"ab".as_slice());
+    let same = copy == list;
+    assert!(rt; same && copy.into_vec().as_slice() == b"ab".as_slice());
     Ok(())
+}
+
+/// `CWD pub`, in a box, which is dropped by one call.
+fn command(alloc: Global) -> Result<Box<Command>, AllocError> {
+    let command = Command::Cwd(Text::from_str(alloc, "pub")?);
+    Ok(Box::new(alloc, command)?)
 }
 
 #[test]
 fn a_clone_of_a_command_is_equal(rt: HostRuntime) -> Result<(), Fail> {
-    let command = Command::Cwd(Text::from_str(rt.alloc(), "pub")?);
-    let copy = command.clone()?;
-    assert!(rt; copy == command);
+    let command = command(rt.alloc())?;
+    let copy = Box::new(rt.alloc(), Command::clone(&command)?)?;
+    assert!(rt; *copy == *command);
     Ok(())
 }
 
 #[test]
 fn utf_8_is_the_bytes_as_they_are(rt: HostRuntime) -> Result<(), Fail> {
     let bytes = Utf8Encoding.encode(rt.alloc(), "é")?;
-    assert_eq!(rt; bytes.as_slice(), b"\xc3\xa9".as_slice());
     let text = Utf8Encoding.decode(rt.alloc(), b"\xc3\xa9\xff")?;
-    assert_eq!(rt; text.as_str(), "é\u{fffd}");
+    let due = (b"\xc3\xa9".as_slice(), "é\u{fffd}");
+    assert_eq!(rt; (bytes.as_slice(), text.as_str()), due);
     Ok(())
 }

@@ -30,18 +30,18 @@ fn features_are_gone_through_by_their_names(rt: HostRuntime) -> Result<(), Fail>
 fn equal_features_have_the_same_names_and_values(rt: HostRuntime) -> Result<(), Fail> {
     let mut features = some_features(rt.alloc())?;
     let copy = features.clone()?;
-    assert!(rt; copy == features);
+    let before = copy == features;
     features.insert(String::from_str(rt.alloc(), "MLST")?, None)?;
-    assert!(rt; copy != features);
+    assert!(rt; before && copy != features);
     Ok(())
 }
 
 #[test]
 fn features_are_lent_and_given_away_as_a_map(rt: HostRuntime) -> Result<(), Fail> {
     let features = some_features(rt.alloc())?;
-    assert_eq!(rt; features.as_map().len(), 2);
-    assert!(rt; features.get("SIZE").is_some_and(|value| value.is_none()));
-    assert_eq!(rt; features.into_map().len(), 2);
+    let size = matches!(features.get("SIZE"), Some(None));
+    let lent = features.as_map().len();
+    assert_eq!(rt; (size, lent, features.into_map().len()), (true, 2, 2));
     Ok(())
 }
 

@@ -8,9 +8,10 @@ use std::test::Fail;
 #[test]
 fn an_empty_line_of_a_listing_is_left_out(rt: HostRuntime) -> Result<(), Fail> {
     let lines = read_listing(rt.alloc(), b"a\r\n\r\nb", &Utf8Encoding)?;
-    assert_eq!(rt; lines.len(), 2);
-    assert_eq!(rt; lines[0].as_str(), "a");
-    assert_eq!(rt; lines[1].as_str(), "b");
+    let [first, second] = &lines[..] else {
+        return Err(Fail::new(format_args!("two lines stand")));
+    };
+    assert_eq!(rt; (first.as_str(), second.as_str()), ("a", "b"));
     Ok(())
 }
 

@@ -20,9 +20,9 @@ fn the_body_of_a_reply_is_read_as_a_slice(rt: HostRuntime) -> Result<(), Fail> {
         Vec::from_slice(rt.alloc(), b"200 ok\r\n")?,
     );
     let copy = reply.clone()?;
-    assert_eq!(rt; copy.body.len(), 8);
-    assert_eq!(rt; copy.body[3], b' ');
-    assert!(rt; copy.body == reply.body);
+    let read = (copy.body.len(), copy.body.get(3).copied());
+    let same = copy.body == reply.body;
+    assert_eq!(rt; (read, same), ((8, Some(b' ')), true));
     Ok(())
 }
 
@@ -31,8 +31,8 @@ fn a_welcome_is_copied_with_its_text(rt: HostRuntime) -> Result<(), Fail> {
     let greeting = Bytes::from_slice(rt.alloc(), b"220 ready\r\n")?;
     let welcome = WelcomeMessage::new(rt.alloc(), greeting, &Utf8Encoding)?;
     let mut copy = welcome.clone()?;
-    assert_eq!(rt; copy.text(), "220 ready");
+    let before = copy.text() == "220 ready";
     copy.decode_again(rt.alloc(), &Utf8Encoding)?;
-    assert_eq!(rt; copy.text(), "220 ready");
+    assert_eq!(rt; (before, copy.text()), (true, "220 ready"));
     Ok(())
 }

@@ -6,7 +6,7 @@ use ftp_transfer::mark::{SessionEnd, mark};
 use ftp_transfer::{Direction, Transfer, TransferParts};
 use ftp_transport::{MemoryConn, PollConn, Tells};
 use futures::task::Poll;
-use std::alloc::Global;
+use std::alloc::{AllocError, Global};
 use std::io::{ErrorKind, Read, Write};
 use std::net::SocketAddr;
 use std::sync::Arc;
@@ -15,16 +15,31 @@ use std::sync::atomic::Ordering::SeqCst;
 use std::test::Fail;
 use std::thread;
 
+/// The same value in a box, which is dropped by one call.
+fn boxed<T: Drop>(alloc: Global, value: T) -> Result<Box<T>, AllocError> {
+    Ok(Box::new(alloc, value)?)
+}
+
+/// A session's end of a mark, and a transfer.
+type Ends<C> = (Box<SessionEnd>, Box<Transfer<C>>);
+
 /// A transfer with the number 7 on a connection that was fed these bytes, and its session's end of the mark.
-fn opened(
-    alloc: Global,
-    direction: Direction,
-    bytes: &[u8],
-) -> Result<(SessionEnd, Transfer<MemoryConn>), Fail> {
-    let mut conn = MemoryConn::new(alloc);
+fn opened(alloc: Global, direction: Direction, bytes: &[u8]) -> Result<Ends<MemoryConn>, Fail> {
+    let mut conn = boxed(alloc, MemoryConn::new(alloc))?;
     conn.feed(bytes)?;
+    on_conn(alloc, conn, direction)
+}
+
+/// A transfer with the number 7 on a connection, and its session's end of the mark.
+fn on_conn<C: Tells + Drop>(
+    alloc: Global,
+    conn: Box<C>,
+    direction: Direction,
+) -> Result<Ends<C>, Fail> {
     let (session, end) = mark(alloc, 7)?;
-    Ok((session, Transfer::new(conn, direction, end)))
+    let transfer = Transfer::new(Box::into_inner(conn), direction, end);
+    let transfer = boxed(alloc, transfer)?;
+    Ok((boxed(alloc, session)?, transfer))
 }
 
 /// A connection that shows another holder whether it was closed, and whose close fails.
@@ -57,62 +72,73 @@ impl Tells for Watched {
 }
 
 /// A transfer on a watched connection, and what shows whether that was closed.
-fn on_watched(alloc: Global) -> Result<(Arc<AtomicBool>, SessionEnd, Transfer<Watched>), Fail> {
+fn on_watched(alloc: Global) -> Result<(Arc<AtomicBool>, Ends<Watched>), Fail> {
     let closed = Arc::new(alloc, AtomicBool::new(false))?;
     let conn = Watched {
         closed: Arc::try_clone(&closed)?,
     };
-    let (session, end) = mark(alloc, 7)?;
-    Ok((closed, session, Transfer::new(conn, Direction::Upload, end)))
+    let conn = boxed(alloc, conn)?;
+    Ok((closed, on_conn(alloc, conn, Direction::Upload)?))
 }
 
 #[test]
 fn a_download_delivers_the_bytes_that_came(rt: HostRuntime) -> Result<(), Fail> {
     let (_session, mut transfer) = opened(rt.alloc(), Direction::Download, b"hello")?;
     let mut buffer = [0u8; 4];
-    assert_eq!(rt; transfer.read(&mut buffer), Ok(4));
-    assert_eq!(rt; &buffer[..], b"hell".as_slice());
-    assert_eq!(rt; transfer.read(&mut buffer), Ok(1));
-    assert_eq!(rt; transfer.read(&mut buffer), Ok(0));
+    let first = Transfer::read(&mut transfer, &mut buffer);
+    let front = buffer;
+    let others = (
+        Transfer::read(&mut transfer, &mut buffer),
+        Transfer::read(&mut transfer, &mut buffer),
+    );
+    assert_eq!(rt; (first, front, others), (Ok(4), *b"hell", (Ok(1), Ok(0))));
     Ok(())
 }
 
 #[test]
 fn an_upload_sends_the_bytes_it_is_given(rt: HostRuntime) -> Result<(), Fail> {
     let (_session, mut transfer) = opened(rt.alloc(), Direction::Upload, b"")?;
-    assert_eq!(rt; transfer.write(b"hel"), Ok(3));
-    assert_eq!(rt; transfer.write(b""), Ok(0));
-    assert_eq!(rt; transfer.write(b"lo"), Ok(2));
-    assert_eq!(rt; transfer.get_ref().sent(), b"hello".as_slice());
+    let writes = (
+        Transfer::write(&mut transfer, b"hel"),
+        Transfer::write(&mut transfer, b""),
+        Transfer::write(&mut transfer, b"lo"),
+    );
+    let sent = transfer.get_ref().sent();
+    assert_eq!(rt;
+        (writes, sent),
+        ((Ok(3), Ok(0), Ok(2)), b"hello".as_slice())
+    );
     Ok(())
 }
 
 #[test]
 fn an_empty_read_takes_no_byte(rt: HostRuntime) -> Result<(), Fail> {
     let (_session, mut transfer) = opened(rt.alloc(), Direction::Download, b"hello")?;
-    assert_eq!(rt; transfer.read(&mut []), Ok(0));
-    assert_eq!(rt; transfer.get_ref().unread(), 5);
+    let read = Transfer::read(&mut transfer, &mut []);
+    assert_eq!(rt; (read, transfer.get_ref().unread()), (Ok(0), 5));
     Ok(())
 }
 
 #[test]
 fn an_empty_read_at_the_end_is_not_the_end(rt: HostRuntime) -> Result<(), Fail> {
     let (_session, mut transfer) = opened(rt.alloc(), Direction::Download, b"")?;
-    assert_eq!(rt; transfer.read(&mut []), Ok(0));
+    let empty = Transfer::read(&mut transfer, &mut []);
     transfer.get_mut().feed(b"late")?;
-    let mut buffer = [0u8; 8];
-    assert_eq!(rt; transfer.read(&mut buffer), Ok(4));
+    let late = Transfer::read(&mut transfer, &mut [0u8; 8]);
+    assert_eq!(rt; (empty, late), (Ok(0), Ok(4)));
     Ok(())
 }
 
 #[test]
 fn an_upload_is_read_and_a_download_written(rt: HostRuntime) -> Result<(), Fail> {
     let (_session, mut upload) = opened(rt.alloc(), Direction::Upload, b"hello")?;
-    let mut buffer = [0u8; 8];
-    assert_eq!(rt; upload.read(&mut buffer), Ok(5));
     let (_session, mut download) = opened(rt.alloc(), Direction::Download, b"hello")?;
-    assert_eq!(rt; download.write(b"x\ny"), Ok(3));
-    assert_eq!(rt; download.get_ref().sent(), b"x\ny".as_slice());
+    let made = (
+        Transfer::read(&mut upload, &mut [0u8; 8]),
+        Transfer::write(&mut download, b"x\ny"),
+    );
+    let sent = download.get_ref().sent();
+    assert_eq!(rt; (made, sent), ((Ok(5), Ok(3)), b"x\ny".as_slice()));
     Ok(())
 }
 
@@ -120,10 +146,14 @@ fn an_upload_is_read_and_a_download_written(rt: HostRuntime) -> Result<(), Fail>
 fn a_write_without_room_fails(rt: HostRuntime) -> Result<(), Fail> {
     let (_session, mut transfer) = opened(rt.alloc(), Direction::Upload, b"")?;
     transfer.get_mut().allow(2);
-    assert_eq!(rt; transfer.write(b"hello"), Ok(2));
-    assert_eq!(rt; transfer.write(b"llo"), Err(ErrorKind::WouldBlock));
-    assert_eq!(rt; transfer.write(b""), Ok(0));
-    assert_eq!(rt; transfer.get_ref().sent(), b"he".as_slice());
+    let writes = (
+        Transfer::write(&mut transfer, b"hello"),
+        Transfer::write(&mut transfer, b"llo"),
+        Transfer::write(&mut transfer, b""),
+    );
+    let sent = transfer.get_ref().sent();
+    let due = (Ok(2), Err(ErrorKind::WouldBlock), Ok(0));
+    assert_eq!(rt; (writes, sent), (due, b"he".as_slice()));
     Ok(())
 }
 
@@ -131,11 +161,17 @@ fn a_write_without_room_fails(rt: HostRuntime) -> Result<(), Fail> {
 fn a_polled_transfer_waits_for_bytes_and_for_room(rt: HostRuntime) -> Result<(), Fail> {
     let (_session, mut transfer) = opened(rt.alloc(), Direction::Download, b"")?;
     transfer.get_mut().allow(2);
-    let mut buffer = [0u8; 8];
-    assert_eq!(rt; transfer.poll_read(&mut (), &mut buffer), Ok(Poll::Pending));
-    assert_eq!(rt; transfer.poll_read(&mut (), &mut []), Ok(Poll::Ready(0)));
-    assert_eq!(rt; transfer.poll_write(&mut (), b"hello"), Ok(Poll::Ready(2)));
-    assert_eq!(rt; transfer.poll_write(&mut (), b"llo"), Ok(Poll::Pending));
+    let reads = (
+        transfer.poll_read(&mut (), &mut [0u8; 8]),
+        transfer.poll_read(&mut (), &mut []),
+    );
+    let writes = (
+        transfer.poll_write(&mut (), b"hello"),
+        transfer.poll_write(&mut (), b"llo"),
+    );
+    let due_reads = (Ok(Poll::Pending), Ok(Poll::Ready(0)));
+    let due_writes = (Ok(Poll::Ready(2)), Ok(Poll::Pending));
+    assert_eq!(rt; (reads, writes), (due_reads, due_writes));
     Ok(())
 }
 
@@ -143,11 +179,11 @@ fn a_polled_transfer_waits_for_bytes_and_for_room(rt: HostRuntime) -> Result<(),
 fn a_transfer_is_a_stream_of_std(rt: HostRuntime) -> Result<(), Fail> {
     let (_session, mut transfer) = opened(rt.alloc(), Direction::Download, b"hello")?;
     let mut text = String::new(rt.alloc());
-    assert_eq!(rt; transfer.read_to_string(&mut text)?, 5);
-    assert_eq!(rt; text.as_str(), "hello");
+    let count = transfer.read_to_string(&mut text)?;
     transfer.write_all(b"hel")?;
     transfer.flush()?;
-    assert_eq!(rt; transfer.get_ref().sent(), b"hel".as_slice());
+    let came = (count, text.as_str(), transfer.get_ref().sent());
+    assert_eq!(rt; came, (5, "hello", b"hel".as_slice()));
     Ok(())
 }
 
@@ -155,10 +191,11 @@ fn a_transfer_is_a_stream_of_std(rt: HostRuntime) -> Result<(), Fail> {
 fn a_stream_of_std_fails_by_the_fault(rt: HostRuntime) -> Result<(), Fail> {
     let (_session, mut transfer) = opened(rt.alloc(), Direction::Upload, b"")?;
     transfer.get_mut().allow(0);
-    match transfer.write_all(b"hello") {
-        Ok(()) => assert!(rt; false),
-        Err(error) => assert_eq!(rt; error.kind(), ErrorKind::WouldBlock),
-    }
+    let kind = match transfer.write_all(b"hello") {
+        Ok(()) => None,
+        Err(error) => Some(error.kind()),
+    };
+    assert_eq!(rt; kind, Some(ErrorKind::WouldBlock));
     Ok(())
 }
 
@@ -166,9 +203,11 @@ fn a_stream_of_std_fails_by_the_fault(rt: HostRuntime) -> Result<(), Fail> {
 fn a_transfer_has_its_number_and_its_direction(rt: HostRuntime) -> Result<(), Fail> {
     let (session, download) = opened(rt.alloc(), Direction::Download, b"")?;
     let (_session, upload) = opened(rt.alloc(), Direction::Upload, b"")?;
-    assert_eq!(rt; download.number(), session.number());
-    assert_eq!(rt; download.direction(), Direction::Download);
-    assert_eq!(rt; upload.direction(), Direction::Upload);
+    let directions = (download.direction(), upload.direction());
+    assert_eq!(rt;
+        (download.number(), directions),
+        (session.number(), (Direction::Download, Direction::Upload))
+    );
     Ok(())
 }
 
@@ -176,29 +215,30 @@ fn a_transfer_has_its_number_and_its_direction(rt: HostRuntime) -> Result<(), Fa
 fn a_transfer_that_stands_is_not_left(rt: HostRuntime) -> Result<(), Fail> {
     let (mut session, mut transfer) = opened(rt.alloc(), Direction::Download, b"hello")?;
     let mut buffer = [0u8; 8];
-    assert_eq!(rt; transfer.read(&mut buffer), Ok(5));
-    assert_eq!(rt; transfer.read(&mut buffer), Ok(0));
-    assert!(rt; !transfer.look_beside());
-    assert!(rt; !session.look());
+    let reads = (
+        Transfer::read(&mut transfer, &mut buffer),
+        Transfer::read(&mut transfer, &mut buffer),
+    );
+    let looks = (transfer.look_beside(), session.look());
+    assert_eq!(rt; (reads, looks), ((Ok(5), Ok(0)), (false, false)));
     Ok(())
 }
 
 #[test]
 fn a_left_transfer_is_seen(rt: HostRuntime) -> Result<(), Fail> {
     let (mut session, transfer) = opened(rt.alloc(), Direction::Download, b"hello")?;
-    let mut receipt = transfer.leave();
-    assert!(rt; session.look());
-    assert!(rt; receipt.look_after());
-    assert_eq!(rt; receipt.number(), 7);
+    let mut receipt = boxed(rt.alloc(), Box::into_inner(transfer).leave())?;
+    let looks = (session.look(), receipt.look_after());
+    assert_eq!(rt; (looks, receipt.number()), ((true, true), 7));
     Ok(())
 }
 
 #[test]
 fn a_dropped_transfer_is_seen(rt: HostRuntime) -> Result<(), Fail> {
     let (mut session, transfer) = opened(rt.alloc(), Direction::Download, b"hello")?;
-    assert!(rt; !session.look());
+    let before = session.look();
     drop(transfer);
-    assert!(rt; session.look());
+    assert_eq!(rt; (before, session.look()), (false, true));
     Ok(())
 }
 
@@ -223,32 +263,28 @@ fn a_transfer_that_another_thread_drops_is_seen(rt: HostRuntime) -> Result<(), F
 #[test]
 fn a_receipt_is_settled_on_another_thread(rt: HostRuntime) -> Result<(), Fail> {
     let (mut session, transfer) = opened(rt.alloc(), Direction::Download, b"hello")?;
-    let mut receipt = transfer.leave();
-    let (seen, number) = thread::spawn(&rt, move || (receipt.look_after(), receipt.number()))?.join(
-        &rt,
-    );
-    assert!(rt; seen);
-    assert_eq!(rt; number, 7);
-    assert!(rt; session.look());
+    let mut receipt = boxed(rt.alloc(), Box::into_inner(transfer).leave())?;
+    let seen = thread::spawn(&rt, move || (receipt.look_after(), receipt.number()))?.join(&rt);
+    assert_eq!(rt; (seen, session.look()), ((true, 7), true));
     Ok(())
 }
 
 #[test]
 fn a_left_transfer_is_closed_even_where_that_fails(rt: HostRuntime) -> Result<(), Fail> {
-    let (closed, mut session, transfer) = on_watched(rt.alloc())?;
-    assert!(rt; !closed.load(SeqCst));
-    let _receipt = transfer.leave();
-    assert!(rt; closed.load(SeqCst));
-    assert!(rt; session.look());
+    let (closed, (mut session, transfer)) = on_watched(rt.alloc())?;
+    let before = closed.load(SeqCst);
+    let _receipt = boxed(rt.alloc(), Box::into_inner(transfer).leave())?;
+    let after = (closed.load(SeqCst), session.look());
+    assert_eq!(rt; (before, after), (false, (true, true)));
     Ok(())
 }
 
 #[test]
 fn a_dropped_transfer_is_closed_even_where_that_fails(rt: HostRuntime) -> Result<(), Fail> {
-    let (closed, mut session, transfer) = on_watched(rt.alloc())?;
-    assert!(rt; !closed.load(SeqCst));
+    let (closed, (mut session, transfer)) = on_watched(rt.alloc())?;
+    let before = closed.load(SeqCst);
     drop(transfer);
-    assert!(rt; closed.load(SeqCst));
-    assert!(rt; session.look());
+    let after = (closed.load(SeqCst), session.look());
+    assert_eq!(rt; (before, after), (false, (true, true)));
     Ok(())
 }

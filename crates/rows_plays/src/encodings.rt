@@ -3,7 +3,7 @@
 ghost use Rattle.std.specs.Prelude.{◌≡◌, ◌∷◌, ◌-◌, ◌==◌, IfOk, IfErr, Ok, length, map, slice_index, take};
 ghost use Rattle.std.specs.Str.{chars};
 ghost use Rattle.ftp_base.specs.Encoding.{IsRefusal};
-ghost use Rattle.rows_clients.specs.Encodings.{latin_1_bytes, feed_for_space, decoded_by, encoded_by};
+ghost use Rattle.rows_plays.specs.Encodings.{latin_1_bytes, feed_for_space, decoded_by, encoded_by};
 
 use ftp_base::encoding::{EncodeError, Encoding, Utf8Encoding};
 use rows_text::RowError;
@@ -11,7 +11,7 @@ use std::alloc::{AllocError, Global};
 use std::io::ErrorKind;
 
 /// An encoding by its name.
-#[derive(Clone, Copy, Debug, PartialEq, Eq)]
+#[derive(Clone, Copy)]
 pub enum Named {
     /// `utf8`.
     Utf8,

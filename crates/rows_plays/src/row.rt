@@ -1,8 +1,8 @@
 //! A row as it is written.
 
-use crate::step::Step;
+use crate::step::{Kind, Step};
 use rows_text::RowError;
-use std::alloc::{AllocError, Global};
+use std::alloc::Global;
 
 /// A row, as far as it was read.
 #[derive(Drop)]
@@ -11,14 +11,25 @@ pub struct Row<'a> {
     pub set: &'a str,
     /// What it shows.
     pub title: &'a str,
-    /// What happens.
-    pub steps: Vec<Step<'a>>,
+    /// The lines of what happens.
+    pub lines: Vec<&'a str>,
+    /// Whether it is a row of events.
+    pub has_events: bool,
+    /// Whether its transcript ends with the welcome text.
+    pub wants_welcome: bool,
+    /// Whether it is played on sessions alone.
+    pub is_of_sessions: bool,
+    /// How long the lists of its lines are, where it is a row of lists.
+    pub lists: Option<&'a str>,
     /// The lines of the transcript that is due; none before the line `--`.
     due: Option<String>,
 }
 
 impl<'a> Row<'a> {
     /// The row that a heading begins: `SET: TITLE`.
+    ///
+    /// # Errors
+    /// `NotUnderstood`.
     pub fn new(alloc: Global, heading: &'a str) -> Result<Row<'a>, RowError> {
         let Some((set, title)) = heading.split_once(": ") else {
             return Err(RowError::NotUnderstood);
@@ -26,12 +37,19 @@ impl<'a> Row<'a> {
         Ok(Row {
             set,
             title,
-            steps: Vec::new(alloc),
+            lines: Vec::new(alloc),
+            has_events: false,
+            wants_welcome: false,
+            is_of_sessions: false,
+            lists: None,
             due: None,
         })
     }
 
     /// Reads the next line.
+    ///
+    /// # Errors
+    /// `NotUnderstood`, `OutOfMemory`.
     pub fn read(&mut self, alloc: Global, line: &'a str) -> Result<(), RowError> {
         if let Some(due) = &mut self.due {
             due.push_str(line)?;
@@ -39,41 +57,30 @@ impl<'a> Row<'a> {
         } else if line == "--" {
             self.due = Some(String::new(alloc));
         } else {
-            self.steps.push(Step::of(line)?)?;
+            self.note(Step::of(line)?);
+            self.lines.push(line)?;
         }
         Ok(())
     }
 
+    /// Notes what a step says of its row.
+    fn note(&mut self, step: Step<'a>) {
+        match step.kind {
+            Kind::Welcome => self.wants_welcome = true,
+            Kind::Sessions => self.is_of_sessions = true,
+            Kind::Lists => self.lists = Some(step.argument),
+            _ => self.has_events = self.has_events || step.is_event(),
+        }
+    }
+
     /// The transcript that is due.
+    ///
+    /// # Errors
+    /// `NotUnderstood` where there is none.
     pub fn due(&self) -> Result<&str, RowError> {
         match &self.due {
             Some(due) => Ok(due.as_str()),
             None => Err(RowError::NotUnderstood),
         }
-    }
-
-    /// Whether it is a row of events.
-    pub fn has_events(&self) -> bool {
-        self.steps.iter().any(|step| step.is_event())
-    }
-
-    /// Whether its transcript ends with the welcome text.
-    pub fn wants_welcome(&self) -> bool {
-        self.steps.iter().any(|step| matches!(step, Step::Welcome))
-    }
-
-    /// Whether it is played on sessions alone.
-    pub fn is_of_sessions(&self) -> bool {
-        self.steps.iter().any(|step| matches!(step, Step::Sessions))
-    }
-
-    /// How long the lists of its steps are, where it is a row of lists.
-    pub fn lists(&self) -> Option<&'a str> {
-        for step in &self.steps {
-            if let Step::Lists(count) = step {
-                return Some(count);
-            }
-        }
-        None
     }
 }

@@ -1,5 +1,6 @@
 //! How a row's session comes to its connection, where the row says so.
 
+use crate::memory::ended;
 use ftp_base::types::ConnectionError;
 use ftp_transport::{MemoryConn, MemoryTransport, Request, RequestOutcome, Supply};
 use rows_text::{RowError, bytes_of, pair, value};
@@ -8,15 +9,6 @@ use std::io::ErrorKind;
 use std::net::SocketAddr;
 use std::time::Duration;
 
-/// What the server does where it is connected to.
-#[derive(Drop)]
-enum Host {
-    /// It connects, and sends this.
-    Sends(Vec<u8>),
-    /// It refuses.
-    Refuses,
-}
-
 /// The addresses that are connected to in turn, and what becomes of it.
 #[derive(Drop)]
 pub struct Dial {
@@ -24,7 +16,8 @@ pub struct Dial {
     pub addresses: Vec<SocketAddr>,
     /// How long each may take.
     pub limit: Option<Duration>,
-    hosts: Vec<Host>,
+    /// What the server at each of the addresses sends that connects; none where it refuses.
+    hosts: Vec<Option<Vec<u8>>>,
 }
 
 impl Dial {
@@ -39,24 +32,22 @@ impl Dial {
 
     /// Adds a server that connects and sends these bytes.
     pub fn add_host(&mut self, alloc: Global, bytes: &str) -> Result<(), RowError> {
-        self.hosts.push(Host::Sends(bytes_of(alloc, bytes)?))?;
+        self.hosts.push(Some(bytes_of(alloc, bytes)?))?;
         Ok(())
     }
 
     /// Adds a server that refuses.
     pub fn add_refusal(&mut self) -> Result<(), RowError> {
-        self.hosts.push(Host::Refuses)?;
+        self.hosts.push(None)?;
         Ok(())
     }
 
     /// The addresses are these: joined by commas, or `none`.
-    pub fn connect(&mut self, words: &str) -> Result<(), RowError> {
+    pub fn connect(&mut self, alloc: Global, words: &str) -> Result<(), RowError> {
         if words == "none" {
             return Ok(());
         }
-        for word in words.split(',') {
-            self.addresses.push(value(word)?)?;
-        }
+        self.addresses = words.split(',').map(value).try_collect(alloc)?;
         Ok(())
     }
 
@@ -68,17 +59,16 @@ impl Dial {
         Ok(())
     }
 
-    /// The bytes of the server that is connected to, if any.
-    pub fn input(&self, alloc: Global) -> Result<Option<Vec<u8>>, AllocError> {
-        if self.has_no_time() {
-            return Ok(None);
-        }
-        for (host, _address) in self.hosts.iter().zip(self.addresses.iter()) {
-            if let Host::Sends(bytes) = host {
-                return Ok(Some(Vec::from_slice(alloc, bytes)?));
+    /// The bytes of the server that is connected to; none where no server is.
+    pub fn input(&self, alloc: Global) -> Result<Vec<u8>, AllocError> {
+        if !self.has_no_time() {
+            for (host, _address) in self.hosts.iter().zip(self.addresses.iter()) {
+                if let Some(bytes) = host {
+                    return Vec::from_slice(alloc, bytes);
+                }
             }
         }
-        Ok(None)
+        Ok(Vec::new(alloc))
     }
 
     /// Whether there is a limit of no time.
@@ -103,13 +93,14 @@ impl Dial {
 
     /// What each address comes to.
     pub fn outcomes(&self, alloc: Global) -> Result<Vec<RequestOutcome>, AllocError> {
+        let refused = RequestOutcome::Refused(ConnectionError::Io(ErrorKind::ConnectionRefused));
         let mut outcomes = Vec::new(alloc);
         for place in 0..self.addresses.len() {
-            outcomes.push(match self.hosts.get(place) {
-                Some(Host::Sends(_)) => RequestOutcome::Done,
-                Some(Host::Refuses) | None => {
-                    RequestOutcome::Refused(ConnectionError::Io(ErrorKind::ConnectionRefused))
-                }
+            let connects = matches!(self.hosts.get(place), Some(Some(_)));
+            outcomes.push(if connects {
+                RequestOutcome::Done
+            } else {
+                refused
             })?;
         }
         Ok(outcomes)
@@ -126,40 +117,23 @@ impl Dial {
     /// The transport that leads to these servers, whose bytes come in pieces of so many.
     pub fn transport(&self, alloc: Global, piece: usize) -> Result<MemoryTransport, AllocError> {
         let mut transport = MemoryTransport::new(alloc);
-        for host in &self.hosts {
-            supply(alloc, &mut transport, host, piece)?;
-        }
+        self.supply(alloc, &mut transport, piece)?;
         Ok(transport)
     }
-}
 
-/// Supplies a transport with a host.
-fn supply(
-    alloc: Global,
-    transport: &mut MemoryTransport,
-    host: &Host,
-    piece: usize,
-) -> Result<(), AllocError> {
-    match host {
-        Host::Sends(bytes) => {
-            let conn = conn_with(alloc, bytes, piece)?;
-            transport.supply(Supply::Connects(conn))
+    /// Supplies a transport with these servers.
+    fn supply(
+        &self,
+        alloc: Global,
+        transport: &mut MemoryTransport,
+        piece: usize,
+    ) -> Result<(), AllocError> {
+        for host in &self.hosts {
+            transport.supply(match host {
+                Some(bytes) => { Supply::Connects(ended(MemoryConn::new(alloc), bytes, piece)?) }
+                None => Supply::Refuses(ErrorKind::ConnectionRefused),
+            })?;
         }
-        Host::Refuses => transport.supply(Supply::Refuses(ErrorKind::ConnectionRefused)),
+        Ok(())
     }
-}
-
-/// A connection that these bytes came on, in pieces of so many, and ended.
-fn conn_with(alloc: Global, bytes: &[u8], piece: usize) -> Result<MemoryConn, AllocError> {
-    let mut conn = fed(MemoryConn::new(alloc), bytes, piece)?;
-    conn.end();
-    Ok(conn)
-}
-
-/// A connection on which these bytes came besides, in pieces of so many.
-pub fn fed(mut conn: MemoryConn, bytes: &[u8], piece: usize) -> Result<MemoryConn, AllocError> {
-    for part in bytes.chunks(piece.max(1)) {
-        conn.feed(part)?;
-    }
-    Ok(conn)
 }

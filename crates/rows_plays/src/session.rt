@@ -1,16 +1,14 @@
 //! What a session does over memory: a run of calls, and a polled run.
 
-use super::definition::welcome;
 use crate::answers::texts_of;
 use crate::builder::RowBuilder;
-use crate::dial::fed;
 use crate::encodings::Named;
-use crate::memory::{boxed, had};
+use crate::memory::{boxed, ended, had};
 use crate::play::Play;
 use crate::requests::recorded;
 use crate::transcript::Standing;
 use ftp_runs::{Event, RunCalls, RunEvents};
-use ftp_session::session::{Answer, Call, NoTlsConnector, Session};
+use ftp_session::session::{Answer, Call, NoTlsConnector, Session, State};
 use ftp_transport::{MemoryConn, MemoryTransport};
 use rows_text::RowError;
 use std::alloc::{AllocError, Global};
@@ -26,27 +24,26 @@ fn bare(alloc: Global, play: &Play) -> MemoryConn {
 
 /// A connection that the server's bytes came on, in their pieces, and ended.
 pub fn conn_of(alloc: Global, play: &Play) -> Result<MemoryConn, AllocError> {
-    let mut conn = fed(bare(alloc, play), &play.input, play.piece)?;
-    conn.end();
-    Ok(conn)
+    ended(bare(alloc, play), &play.input, play.piece)
 }
 
-/// A session on the server's bytes, of which nothing was read.
+/// A session with the row's settings on the server's bytes, of which nothing was read.
 pub fn unread(alloc: Global, play: &Play) -> Result<Box<NamedSession>, RowError> {
     session_on(alloc, conn_of(alloc, play)?, play)
 }
 
 /// A session with the row's settings.
 fn session_on(alloc: Global, conn: MemoryConn, play: &Play) -> Result<Box<NamedSession>, RowError> {
-    let transport = play.setup.transport(alloc)?;
+    let transport = match play.setup.transport(alloc) {
+        Ok(transport) => transport,
+        Err(_) => {
+            drop(conn);
+            return Err(RowError::OutOfMemory);
+        }
+    };
     let mut session = boxed(alloc, had(Session::new(alloc, transport, conn))?)?;
     play.setup.set(&mut session)?;
     Ok(session)
-}
-
-/// Such a session with the row's encoding.
-fn begun(alloc: Global, conn: MemoryConn, play: &Play) -> Result<Box<NamedSession>, RowError> {
-    encoded(alloc, session_on(alloc, conn, play)?, play)
 }
 
 /// A session with the row's encoding.
@@ -55,37 +52,54 @@ pub fn encoded(
     mut session: Box<NamedSession>,
     play: &Play,
 ) -> Result<Box<NamedSession>, RowError> {
-    let Some(encoding) = play.encoding else {
-        return Ok(session);
-    };
-    had(session.set_encoding(alloc, encoding))?;
+    if let Some(encoding) = play.encoding {
+        had(session.set_encoding(alloc, encoding))?;
+    }
     Ok(session)
 }
 
 /// Where a run of these calls ends.
+///
+/// # Errors
+/// `OutOfMemory`.
 pub fn ran(alloc: Global, calls: &[Call], play: &Play) -> Result<Standing, RowError> {
-    let mut session = begun(alloc, conn_of(alloc, play)?, play)?;
+    let mut session = encoded(alloc, unread(alloc, play)?, play)?;
     let answers = had(session.run(alloc, &(), calls))?;
     stands(alloc, &session, &answers)
 }
 
-/// Where these events lead to, in runs that begin at these places.
+/// Where these events lead to, in runs that begin at the row's places.
+///
+/// # Errors
+/// `OutOfMemory`.
 pub fn polled(alloc: Global, events: &[Event], play: &Play) -> Result<Standing, RowError> {
-    let mut session = begun(alloc, bare(alloc, play), play)?;
+    let session = session_on(alloc, bare(alloc, play), play)?;
+    let mut session = encoded(alloc, session, play)?;
+    let answers = happened(alloc, &mut session, events, &play.runs)?;
+    let mut standing = stands(alloc, &session, &answers)?;
+    standing.seen = Some(session.untaken());
+    Ok(standing)
+}
+
+/// The answers of these events, in runs that begin at these places.
+fn happened(
+    alloc: Global,
+    session: &mut NamedSession,
+    events: &[Event],
+    places: &[usize],
+) -> Result<Vec<Answer>, RowError> {
     let mut answers = Vec::new(alloc);
     let mut before = 0;
-    for place in &play.runs {
+    for place in places {
         if let Some(run) = events.get(before..*place) {
-            happen(alloc, &mut session, run, &mut answers)?;
+            happen(alloc, session, run, &mut answers)?;
             before = *place;
         }
     }
     if let Some(run) = events.get(before..) {
-        happen(alloc, &mut session, run, &mut answers)?;
+        happen(alloc, session, run, &mut answers)?;
     }
-    let mut standing = stands(alloc, &session, &answers)?;
-    standing.seen = Some(session.untaken());
-    Ok(standing)
+    Ok(answers)
 }
 
 /// Lets these events happen in one run.
@@ -95,10 +109,8 @@ fn happen(
     events: &[Event],
     answers: &mut Vec<Answer>,
 ) -> Result<(), RowError> {
-    for answer in had(session.run_polled(alloc, events))? {
-        answers.push(answer)?;
-    }
-    Ok(())
+    let mut more = had(session.run_polled(alloc, events))?;
+    Ok(answers.append(&mut more)?)
 }
 
 /// Where a session stands that gave these answers.
@@ -108,22 +120,31 @@ pub fn stands(
     answers: &[Answer],
 ) -> Result<Standing, RowError> {
     let conn = session.get_ref();
-    let answers = texts_of(alloc, answers)?;
-    let welcome = welcome(alloc, session.state())?;
     Ok(Standing {
         asked: recorded(alloc, session.transport().asked())?,
         uploaded: uploaded(alloc, session.transport().uploaded())?,
         sent: Vec::from_slice(alloc, conn.sent())?,
-        answers,
+        answers: texts_of(alloc, answers)?,
         taken: conn.received().saturating_sub(session.untaken()),
         seen: None,
         failed: session.failed(),
-        welcome,
+        welcome: welcome(alloc, session.state())?,
     })
 }
 
+/// What the server greeted with.
+///
+/// # Errors
+/// `OutOfMemory`.
+pub fn welcome(alloc: Global, state: &State) -> Result<Option<String>, AllocError> {
+    match &state.welcome {
+        Some(welcome) => Ok(Some(String::from_str(alloc, welcome.text())?)),
+        None => Ok(None),
+    }
+}
+
 /// What was uploaded on these data connections, one after another.
-fn uploaded(alloc: Global, conns: &[MemoryConn]) -> Result<Vec<Vec<u8>>, AllocError> {
+pub fn uploaded(alloc: Global, conns: &[MemoryConn]) -> Result<Vec<Vec<u8>>, AllocError> {
     let mut uploaded = Vec::new(alloc);
     for conn in conns {
         uploaded.push(Vec::from_slice(alloc, conn.sent())?)?;

@@ -1,11 +1,12 @@
 //! The calls of a session, one after another.
 
-use super::session::{NamedSession, conn_of, encoded, stands, unread};
-use super::transfers::{Held, Transfers};
-use crate::answers::{bytes, features, lines, reply, size, text, time, unit};
+use crate::answers::{bytes, count, features, lines, reply, size, text, time, unit};
+use crate::dial::Dial;
 use crate::memory::boxed;
 use crate::play::Play;
+use crate::session::{NamedSession, conn_of, encoded, stands, unread};
 use crate::transcript::Standing;
+use crate::transfers::{Held, Transfers};
 use ftp_base::status::Status;
 use ftp_base::types::{FtpError, FtpResult, Text};
 use ftp_session::session::{Answer, Call, Session, Setting};
@@ -16,17 +17,34 @@ use rows_text::RowError;
 use std::alloc::{AllocError, Global};
 use std::io;
 use std::io::{Read, Write};
+use std::random::RandomSource;
+use std::sync::Wait;
 
-impl Held for Transfer<MemoryConn> {
-    fn sent(&self) -> &[u8] {
-        self.get_ref().sent()
+/// A transfer of a session over memory.
+type Live = Transfer<MemoryConn>;
+
+impl Held for Live {
+    type Stream = Live;
+
+    fn of(stream: Live) -> Live {
+        stream
     }
 
-    fn take_in(&mut self, buffer: &mut [u8]) -> io::Result<usize> {
+    fn conn(&self) -> &MemoryConn {
+        self.get_ref()
+    }
+
+    fn take_in<R>(&mut self, _rt: &R, buffer: &mut [u8]) -> io::Result<usize>
+    where
+        R: Wait + RandomSource + AllocGlobal,
+    {
         Read::read(self, buffer)
     }
 
-    fn put_out(&mut self, bytes: &[u8]) -> io::Result<usize> {
+    fn put_out<R>(&mut self, _rt: &R, bytes: &[u8]) -> io::Result<usize>
+    where
+        R: Wait + RandomSource + AllocGlobal,
+    {
         Write::write(self, bytes)
     }
 
@@ -47,6 +65,9 @@ pub struct Opening<'a> {
 }
 
 /// The session of these calls. A greeting that comes first is read by `connect_with_stream`.
+///
+/// # Errors
+/// `OutOfMemory`.
 pub fn greeted<'a>(alloc: Global, calls: &'a [Call], play: &Play) -> Result<Opening<'a>, RowError> {
     let Some((Call::Greet, others)) = calls.split_first() else {
         return Ok(Opening {
@@ -55,122 +76,27 @@ pub fn greeted<'a>(alloc: Global, calls: &'a [Call], play: &Play) -> Result<Open
             others: calls,
         });
     };
-    match connected(alloc, play)? {
-        Ok(session) => after_a_greeting(alloc, session, play, others),
-        Err(fault) => after_a_failed_greeting(alloc, fault, play, others),
+    match connected(alloc, play) {
+        Ok(session) => Ok(Opening {
+            session,
+            answers: first(alloc, Answer::Unit)?,
+            others,
+        }),
+        Err(fault) => Ok(Opening {
+            answers: first(alloc, Answer::Fault(fault))?,
+            session: again(alloc, play)?,
+            others,
+        }),
     }
 }
 
-/// A session that was greeted.
-fn after_a_greeting<'a>(
-    alloc: Global,
-    mut session: Box<NamedSession>,
-    play: &Play,
-    others: &'a [Call],
-) -> Result<Opening<'a>, RowError> {
-    play.setup.set(&mut session)?;
-    let answers = first(alloc, Answer::Unit)?;
-    Ok(Opening {
-        session,
-        answers,
-        others,
-    })
-}
-
 /// A session whose greeting failed is gone with its connection: another that reads the same bytes stands for it.
-fn after_a_failed_greeting<'a>(
-    alloc: Global,
-    fault: FtpError,
-    play: &Play,
-    others: &'a [Call],
-) -> Result<Opening<'a>, RowError> {
-    let answers = first(alloc, Answer::Fault(fault))?;
+fn again(alloc: Global, play: &Play) -> Result<Box<NamedSession>, RowError> {
     let mut session = unread(alloc, play)?;
     if play.dial.is_none() {
         drop(session.read_response(alloc, Status::Ready));
     }
-    Ok(Opening {
-        session,
-        answers,
-        others,
-    })
-}
-
-/// The session that connects as the row says: on the connection itself, or to addresses.
-fn connected(alloc: Global, play: &Play) -> Result<FtpResult<Box<NamedSession>>, RowError> {
-    let Some(dial) = &play.dial else {
-        let conn = conn_of(alloc, play)?;
-        let transport = play.setup.transport(alloc)?;
-        return Ok(in_box(alloc, Session::connect_with_stream(alloc, transport, conn)));
-    };
-    let transport = dial.transport(alloc, play.piece)?;
-    match (dial.limit, dial.addresses.first()) {
-        (Some(limit), Some(address)) => Ok(in_box(
-            alloc,
-            Session::connect_timeout(alloc, &(), transport, *address, limit),
-        )),
-        _ => Ok(in_box(
-            alloc,
-            Session::connect(alloc, &(), transport, &dial.addresses),
-        )),
-    }
-}
-
-/// The same session in a box.
-fn in_box(alloc: Global, outcome: FtpResult<NamedSession>) -> FtpResult<Box<NamedSession>> {
-    Ok(boxed(alloc, outcome?)?)
-}
-
-/// Where these calls lead to, each made by its method.
-pub fn called(alloc: Global, calls: &[Call], play: &Play) -> Result<Standing, RowError> {
-    let Opening {
-        session,
-        mut answers,
-        others,
-    } = greeted(alloc, calls, play)?;
-    let mut session = encoded(alloc, session, play)?;
-    made(alloc, &mut session, others, &mut answers)
-}
-
-/// Where a session stands that made these calls after those with these answers.
-fn made(
-    alloc: Global,
-    session: &mut NamedSession,
-    calls: &[Call],
-    answers: &mut Vec<Answer>,
-) -> Result<Standing, RowError> {
-    let mut transfers = Transfers::new(alloc);
-    stands_after(alloc, session, &mut transfers, calls, answers)
-}
-
-/// The same, of a session with these transfers.
-fn stands_after(
-    alloc: Global,
-    session: &mut NamedSession,
-    transfers: &mut Transfers<Transfer<MemoryConn>>,
-    calls: &[Call],
-    answers: &mut Vec<Answer>,
-) -> Result<Standing, RowError> {
-    for call in calls {
-        make_next(alloc, session, transfers, call, answers)?;
-    }
-    let mut end = stands(alloc, session, &answers[..])?;
-    end.uploaded = transfers.take_uploaded(alloc);
-    Ok(end)
-}
-
-/// Makes the next call, and notes its answer.
-fn make_next(
-    alloc: Global,
-    session: &mut NamedSession,
-    transfers: &mut Transfers<Transfer<MemoryConn>>,
-    call: &Call,
-    answers: &mut Vec<Answer>,
-) -> Result<(), RowError> {
-    let answer = make(alloc, session, transfers, call)?;
-    transfers.made(call, &answer);
-    answers.push(answer)?;
-    Ok(())
+    Ok(session)
 }
 
 /// A first answer.
@@ -180,13 +106,92 @@ fn first(alloc: Global, answer: Answer) -> Result<Vec<Answer>, AllocError> {
     Ok(answers)
 }
 
-/// Makes a call by its method.
-fn make(
-    alloc: Global,
+/// The session that connects as the row says: on the connection itself, or to addresses.
+fn connected(alloc: Global, play: &Play) -> FtpResult<Box<NamedSession>> {
+    let session = match &play.dial {
+        Some(dial) => dialled(alloc, dial, play.piece),
+        None => on_the_connection(alloc, play),
+    };
+    let mut session = session?;
+    play.setup.set(&mut session)?;
+    Ok(session)
+}
+
+/// The session on the connection itself, once the greeting was read.
+fn on_the_connection(alloc: Global, play: &Play) -> FtpResult<Box<NamedSession>> {
+    let transport = play.setup.transport(alloc)?;
+    let conn = match conn_of(alloc, play) {
+        Ok(conn) => conn,
+        Err(_) => {
+            drop(transport);
+            return Err(FtpError::OutOfMemory);
+        }
+    };
+    let session = Session::connect_with_stream(alloc, transport, conn)?;
+    Ok(boxed(alloc, session)?)
+}
+
+/// The session that connects to addresses.
+fn dialled(alloc: Global, dial: &Dial, piece: usize) -> FtpResult<Box<NamedSession>> {
+    let transport = dial.transport(alloc, piece)?;
+    let session = match (dial.limit, dial.addresses.first()) {
+        (Some(limit), Some(address)) => {
+            Session::connect_timeout(alloc, &(), transport, *address, limit)
+        }
+        _ => Session::connect(alloc, &(), transport, &dial.addresses),
+    };
+    Ok(boxed(alloc, session?)?)
+}
+
+/// Where these calls lead to, each made by its method.
+///
+/// # Errors
+/// `NotUnderstood`, `OutOfMemory`.
+pub fn called<R>(rt: &R, calls: &[Call], play: &Play) -> Result<Standing, RowError>
+where
+    R: Wait + RandomSource + AllocGlobal,
+{
+    let Opening {
+        session,
+        mut answers,
+        others,
+    } = greeted(rt.alloc(), calls, play)?;
+    let mut session = encoded(rt.alloc(), session, play)?;
+    let uploaded = made(rt, &mut session, others, &mut answers)?;
+    let mut end = stands(rt.alloc(), &session, &answers)?;
+    end.uploaded = uploaded;
+    Ok(end)
+}
+
+/// Makes these calls one after another, and adds their answers; what was written to the data connections that are over.
+fn made<R>(
+    rt: &R,
     session: &mut NamedSession,
-    transfers: &mut Transfers<Transfer<MemoryConn>>,
+    calls: &[Call],
+    answers: &mut Vec<Answer>,
+) -> Result<Vec<Vec<u8>>, RowError>
+where
+    R: Wait + RandomSource + AllocGlobal,
+{
+    let mut transfers = boxed(rt.alloc(), Transfers::new(rt.alloc()))?;
+    for call in calls {
+        let answer = make(rt, session, &mut transfers, call)?;
+        transfers.add(call, answer, answers)?;
+    }
+    Ok(transfers.take_uploaded(rt.alloc()))
+}
+
+/// Makes a call by its method.
+fn make<R>(
+    rt: &R,
+    session: &mut NamedSession,
+    transfers: &mut Transfers<Live>,
     call: &Call,
-) -> Result<Answer, RowError> {
+) -> Result<Answer, RowError>
+where
+    R: Wait + RandomSource + AllocGlobal,
+{
+    let alloc = rt.alloc();
     Ok(match call {
         Call::Greet => reply(session.read_response(alloc, Status::Ready)),
         Call::Login(user, password) => {
@@ -196,11 +201,7 @@ fn make(
         Call::Cdup => unit(session.cdup(alloc)),
         Call::Noop => unit(session.noop(alloc)),
         Call::Eprt(address) => unit(session.eprt(alloc, *address)),
-        Call::Opts(option, value) => unit(session.opts(
-            alloc,
-            option.as_str(),
-            value.as_ref().map(|value| value.as_str()),
-        )),
+        Call::Opts(option, value) => { unit(session.opts(alloc, option.as_str(), optional(value))) }
         Call::Site(command) => reply(session.site(alloc, command.as_str())),
         Call::TransferType(kind) => unit(session.transfer_type(alloc, kind.clone()?)),
         Call::Mkdir(path) => unit(session.mkdir(alloc, path.as_str())),
@@ -209,7 +210,7 @@ fn make(
         Call::Rename(from, to) => unit(session.rename(alloc, from.as_str(), to.as_str())),
         Call::Quit => unit(session.quit(alloc)),
         Call::Pwd => text(session.pwd(alloc)),
-        Call::Mlst(path) => { text(session.mlst(alloc, path.as_ref().map(|path| path.as_str()))) }
+        Call::Mlst(path) => text(session.mlst(alloc, optional(path))),
         Call::Mdtm(path) => time(session.mdtm(alloc, path.as_str())),
         Call::Size(path) => size(session.size(alloc, path.as_str())),
         Call::Feat => features(session.feat(alloc)),
@@ -230,8 +231,8 @@ fn make(
         | Call::PutFile(..)
         | Call::AppendFile(..) => carry(alloc, session, transfers, call)?,
         Call::Set(setting) => set(session, setting)?,
-        Call::Read(most) => transfers.receive(alloc, *most)?,
-        Call::Write(bytes) => transfers.send(bytes.as_slice()),
+        Call::Read(most) => transfers.receive(rt, *most)?,
+        Call::Write(bytes) => transfers.send(rt, bytes.as_slice()),
         Call::Leave => transfers.leave(alloc)?,
         Call::Finish | Call::Abort | Call::Drain => end(alloc, session, transfers, call)?,
     })
@@ -241,7 +242,7 @@ fn make(
 fn open(
     alloc: Global,
     session: &mut NamedSession,
-    transfers: &mut Transfers<Transfer<MemoryConn>>,
+    transfers: &mut Transfers<Live>,
     call: &Call,
 ) -> Result<Answer, RowError> {
     Ok(match call {
@@ -268,7 +269,7 @@ fn open(
 fn carry(
     alloc: Global,
     session: &mut NamedSession,
-    transfers: &mut Transfers<Transfer<MemoryConn>>,
+    transfers: &mut Transfers<Live>,
     call: &Call,
 ) -> Result<Answer, RowError> {
     let before = session.transport().uploaded().len();
@@ -283,11 +284,7 @@ fn carry(
         }
         _ => return Err(RowError::NotUnderstood),
     };
-    for conn in session.transport().uploaded().iter().skip(before) {
-        transfers
-            .uploaded
-            .push(Vec::from_slice(alloc, conn.sent())?)?;
-    }
+    transfers.note(alloc, session.transport().uploaded(), before)?;
     Ok(answer)
 }
 
@@ -304,10 +301,7 @@ fn upload(
     } else {
         session.put_file(alloc, &(), path, &mut bytes)
     };
-    match outcome {
-        Ok(count) => Answer::Count(count),
-        Err(fault) => Answer::Fault(fault),
-    }
+    count(outcome)
 }
 
 /// A path that may be left out.
@@ -319,7 +313,7 @@ pub fn optional(path: &Option<Text>) -> Option<&str> {
 fn end(
     alloc: Global,
     session: &mut NamedSession,
-    transfers: &mut Transfers<Transfer<MemoryConn>>,
+    transfers: &mut Transfers<Live>,
     call: &Call,
 ) -> Result<Answer, RowError> {
     if matches!(call, Call::Drain) {
@@ -335,11 +329,7 @@ fn end(
 }
 
 /// Reads the last reply of the transfer that was left.
-fn drain(
-    alloc: Global,
-    session: &mut NamedSession,
-    transfers: &mut Transfers<Transfer<MemoryConn>>,
-) -> Answer {
+fn drain(alloc: Global, session: &mut NamedSession, transfers: &mut Transfers<Live>) -> Answer {
     let Some(mut receipt) = transfers.receipt() else {
         return Answer::NoTransfer;
     };

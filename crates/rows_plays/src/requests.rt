@@ -2,7 +2,6 @@
 
 use ftp_transport::{Asked, Request, RequestOutcome};
 use std::alloc::{AllocError, Global};
-use std::net::SocketAddr;
 
 /// A line for each request that is shown, where this is what they came to.
 pub fn lines_of(
@@ -34,19 +33,12 @@ fn add_line(
     request: Request,
     outcome: RequestOutcome,
 ) -> Result<(), AllocError> {
-    if let Some((word, address)) = shown_of(request, outcome) {
-        lines.push(format!(in alloc; "{word}: {address}")?)?;
-    }
-    Ok(())
-}
-
-/// The word and the address that a request is shown with, if it is.
-fn shown_of(request: Request, outcome: RequestOutcome) -> Option<(&'static str, SocketAddr)> {
-    match (request, outcome) {
-        (Request::Connect(address, _limit), _) => Some(("D", address)),
-        (Request::Build(address), _) => Some(("B", address)),
-        (Request::Listen(address), _) => Some(("L", address)),
-        (Request::Accept(_), RequestOutcome::Address(from)) => Some(("P", from)),
-        (Request::Accept(_), _) => None,
-    }
+    let (word, address) = match (request, outcome) {
+        (Request::Connect(address, _limit), _) => ("D", address),
+        (Request::Build(address), _) => ("B", address),
+        (Request::Listen(address), _) => ("L", address),
+        (Request::Accept(_), RequestOutcome::Address(from)) => ("P", from),
+        (Request::Accept(_), _) => return Ok(()),
+    };
+    Ok(lines.push(format!(in alloc; "{word}: {address}")?)?)
 }

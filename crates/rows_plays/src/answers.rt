@@ -171,3 +171,11 @@ pub fn lines(outcome: FtpResult<Vec<String>>) -> Answer {
         Err(fault) => Answer::Fault(fault),
     }
 }
+
+/// The answer of a call that counts bytes.
+pub fn count(outcome: FtpResult<u64>) -> Answer {
+    match outcome {
+        Ok(count) => Answer::Count(count),
+        Err(fault) => Answer::Fault(fault),
+    }
+}

@@ -2,7 +2,8 @@
 //! its transport's requests come to.
 
 use crate::builder::RowBuilder;
-use crate::faces::NamedSession;
+use crate::memory::ended;
+use crate::session::NamedSession;
 use crate::settings::setting;
 use ftp_base::types::{ConnectionError, FtpError};
 use ftp_session::session::{Setting, Settings, State};
@@ -10,6 +11,7 @@ use ftp_transport::{MemoryConn, MemoryTransport, Request, RequestOutcome, Supply
 use rows_text::{RowError, bytes_of, value};
 use std::alloc::{AllocError, Global};
 use std::io::ErrorKind;
+use std::mem;
 use std::net::{Ipv4Addr, SocketAddr, SocketAddrV4};
 
 /// What the next request comes to that takes one.
@@ -31,7 +33,7 @@ pub struct Setup {
     peer: SocketAddr,
     port: u16,
     items: Vec<Item>,
-    builder: Option<RowBuilder>,
+    builder: Option<Box<RowBuilder>>,
 }
 
 impl Setup {
@@ -80,7 +82,7 @@ impl Setup {
     }
 
     /// The session has this builder of data connections.
-    pub fn has_builder(&mut self, builder: RowBuilder) {
+    pub fn has_builder(&mut self, builder: Box<RowBuilder>) {
         self.settings.stream_builder = true;
         self.builder = Some(builder);
     }
@@ -102,7 +104,7 @@ impl Setup {
     pub fn state(&self) -> Result<State, AllocError> {
         let settings = self.settings.clone()?;
         let mut state = State::new();
-        state.settings = settings;
+        drop(mem::replace(&mut state.settings, settings));
         Ok(state)
     }
 
@@ -122,10 +124,20 @@ impl Setup {
     pub fn transport(&self, alloc: Global) -> Result<MemoryTransport, AllocError> {
         let mut transport = MemoryTransport::new(alloc);
         transport.listens_on(self.port);
-        for item in &self.items {
-            supply(alloc, &mut transport, item)?;
-        }
+        self.supply(alloc, &mut transport)?;
         Ok(transport)
+    }
+
+    /// Supplies a transport with the items.
+    fn supply(&self, alloc: Global, transport: &mut MemoryTransport) -> Result<(), AllocError> {
+        for item in &self.items {
+            transport.supply(match item {
+                Item::Connects(bytes) => Supply::Connects(conn_of(alloc, bytes)?),
+                Item::Comes(address, bytes) => Supply::Peer(*address, conn_of(alloc, bytes)?),
+                Item::Refuses(kind) => Supply::Refuses(*kind),
+            })?;
+        }
+        Ok(())
     }
 
     /// What these requests come to, one after another.
@@ -146,11 +158,11 @@ impl Setup {
         Ok(outcomes)
     }
 
-    /// The fault that the builder gives, where it gives one.
-    pub fn fault_of_builder(&self) -> Result<Option<FtpError>, AllocError> {
+    /// The error that the builder gives, where it gives one.
+    pub fn fault_of_builder(&self) -> Option<FtpError> {
         match &self.builder {
             Some(builder) => builder.fault(),
-            None => Ok(None),
+            None => None,
         }
     }
 
@@ -173,21 +185,6 @@ impl Setup {
     }
 }
 
-/// Supplies a transport with an item.
-fn supply(alloc: Global, transport: &mut MemoryTransport, item: &Item) -> Result<(), AllocError> {
-    match item {
-        Item::Connects(bytes) => {
-            let conn = conn_of(alloc, bytes)?;
-            transport.supply(Supply::Connects(conn))
-        }
-        Item::Comes(address, bytes) => {
-            let conn = conn_of(alloc, bytes)?;
-            transport.supply(Supply::Peer(*address, conn))
-        }
-        Item::Refuses(kind) => transport.supply(Supply::Refuses(*kind)),
-    }
-}
-
 /// The bytes that come on the connection of an item.
 fn bytes_on(item: Option<&Item>) -> &[u8] {
     match item {
@@ -199,10 +196,7 @@ fn bytes_on(item: Option<&Item>) -> &[u8] {
 
 /// A connection on which these bytes came, and ended.
 fn conn_of(alloc: Global, bytes: &[u8]) -> Result<MemoryConn, AllocError> {
-    let mut conn = MemoryConn::new(alloc);
-    conn.feed(bytes)?;
-    conn.end();
-    Ok(conn)
+    ended(MemoryConn::new(alloc), bytes, usize::MAX)
 }
 
 /// What a request comes to where this is the next item, and whether it takes the item; listeners get this port.

@@ -1,23 +1,19 @@
 //! The calls of the blocking client, one after another.
 
-use super::methods::{Opening, greeted, optional};
-use super::transfers::{Held, Transfers};
-use crate::answers::{bytes, features, lines, reply, size, text, texts_of, time, unit};
-use crate::builder::RowBuilder;
-use crate::encodings::Named;
-use crate::memory::had;
-use crate::play::Play;
-use crate::requests::recorded;
-use crate::transcript::Standing;
 use ftp_base::types::{FtpError, FtpResult};
 use ftp_blocking::{ImplFtpStream, TransferStream};
 use ftp_session::session::{Answer, Call, NoTlsConnector, Setting};
 use ftp_transfer::mark::Left;
-use ftp_transport::MemoryTransport;
+use ftp_transport::{MemoryConn, MemoryTransport};
+use rows_plays::{
+    Held, Named, NamedSession, Opening, Play, RowBuilder, Standing, Transfers, boxed, bytes,
+    features, greeted, had, lines, optional, recorded, reply, size, text, texts_of, time, unit,
+};
 use rows_text::RowError;
 use std::alloc::{AllocError, Global};
 use std::io;
 use std::io::{Read, Write};
+use std::random::RandomSource;
 use std::sync::Wait;
 
 /// A blocking client over memory whose encoding a row may choose.
@@ -26,21 +22,40 @@ type Client = ImplFtpStream<MemoryTransport, NoTlsConnector, Named, RowBuilder>;
 /// A transfer of such a client.
 type Stream = TransferStream<MemoryTransport, NoTlsConnector, Named, RowBuilder>;
 
-impl Held for Stream {
-    fn sent(&self) -> &[u8] {
-        self.get_ref().sent()
+/// A transfer that a face holds.
+#[derive(Drop)]
+struct Live {
+    stream: Stream,
+}
+
+impl Held for Live {
+    type Stream = Stream;
+
+    fn of(stream: Stream) -> Live {
+        Live { stream }
     }
 
-    fn take_in(&mut self, buffer: &mut [u8]) -> io::Result<usize> {
-        Read::read(self, buffer)
+    fn conn(&self) -> &MemoryConn {
+        self.stream.get_ref()
     }
 
-    fn put_out(&mut self, bytes: &[u8]) -> io::Result<usize> {
-        Write::write(self, bytes)
+    fn take_in<R>(&mut self, _rt: &R, buffer: &mut [u8]) -> io::Result<usize>
+    where
+        R: Wait + RandomSource + AllocGlobal,
+    {
+        Read::read(&mut self.stream, buffer)
+    }
+
+    fn put_out<R>(&mut self, _rt: &R, bytes: &[u8]) -> io::Result<usize>
+    where
+        R: Wait + RandomSource + AllocGlobal,
+    {
+        Write::write(&mut self.stream, bytes)
     }
 
     fn left(self) -> Left {
-        self.leave()
+        let Live { stream } = self;
+        stream.leave()
     }
 }
 
@@ -68,99 +83,74 @@ fn is_apart(call: &Call) -> bool {
 }
 
 /// Where these calls lead to, each made by the client's method.
-pub fn called<R: Wait + AllocGlobal>(
-    rt: &R,
-    calls: &[Call],
-    play: &Play,
-) -> Result<Standing, RowError> {
+pub fn called<R>(rt: &R, calls: &[Call], play: &Play) -> Result<Standing, RowError>
+where
+    R: Wait + RandomSource + AllocGlobal,
+{
     let Opening {
         session,
         mut answers,
         others,
     } = greeted(rt.alloc(), calls, play)?;
-    let asked = recorded(rt.alloc(), session.transport().asked())?;
+    let asked = asked(rt.alloc(), &session, play)?;
     let client = had(ImplFtpStream::new(rt.alloc(), Box::into_inner(session)))?;
+    let client = boxed(rt.alloc(), client)?;
     if let Some(encoding) = play.encoding {
         had(client.set_encoding(rt, encoding))?;
     }
-    let mut end = made(rt, &client, others, &mut answers)?;
-    if !play.opens_data() {
-        end.asked = asked;
-    }
-    Ok(end)
-}
-
-/// Where a client stands that made these calls after those with these answers.
-fn made<R: Wait + AllocGlobal>(
-    rt: &R,
-    client: &Client,
-    calls: &[Call],
-    answers: &mut Vec<Answer>,
-) -> Result<Standing, RowError> {
-    let mut transfers = Transfers::new(rt.alloc());
-    stands_after(rt, client, &mut transfers, calls, answers)
-}
-
-/// The same, of a client with these transfers.
-fn stands_after<R: Wait + AllocGlobal>(
-    rt: &R,
-    client: &Client,
-    transfers: &mut Transfers<Stream>,
-    calls: &[Call],
-    answers: &mut Vec<Answer>,
-) -> Result<Standing, RowError> {
-    for call in calls {
-        make_next(rt, client, transfers, call, answers)?;
-    }
-    let uploaded = written(rt.alloc(), transfers.take_uploaded(rt.alloc()))?;
-    let mut end = stands(rt, client, &answers[..])?;
+    let uploaded = made(rt, &client, others, &mut answers)?;
+    let mut end = stands(rt, &client, &answers)?;
+    end.asked = asked;
     end.uploaded = uploaded;
     Ok(end)
 }
 
-/// What was written to data connections, but for those to which nothing was.
-fn written(alloc: Global, uploaded: Vec<Vec<u8>>) -> Result<Vec<Vec<u8>>, AllocError> {
-    let mut written = Vec::new(alloc);
-    for sent in uploaded {
-        if !sent.is_empty() {
-            written.push(sent)?;
-        }
+/// What the transport was asked until the client was made, which is all where no data connection is opened.
+fn asked(alloc: Global, session: &NamedSession, play: &Play) -> Result<Vec<String>, AllocError> {
+    if play.opens_data() {
+        return Ok(Vec::new(alloc));
     }
-    Ok(written)
+    recorded(alloc, session.transport().asked())
 }
 
-/// Makes the next call, and notes its answer.
-fn make_next<R: Wait + AllocGlobal>(
+/// Makes these calls one after another, and adds their answers; what was written to the data connections that are over,
+/// but for those to which nothing was.
+fn made<R>(
     rt: &R,
     client: &Client,
-    transfers: &mut Transfers<Stream>,
-    call: &Call,
+    calls: &[Call],
     answers: &mut Vec<Answer>,
-) -> Result<(), RowError> {
-    let answer = make(rt, client, transfers, call)?;
-    transfers.made(call, &answer);
-    answers.push(answer)?;
-    Ok(())
+) -> Result<Vec<Vec<u8>>, RowError>
+where
+    R: Wait + RandomSource + AllocGlobal,
+{
+    let mut transfers = boxed(rt.alloc(), Transfers::new(rt.alloc()))?;
+    for call in calls {
+        let answer = make(rt, client, &mut transfers, call)?;
+        transfers.add(call, answer, answers)?;
+    }
+    let mut uploaded = transfers.take_uploaded(rt.alloc());
+    uploaded.retain(|sent| !sent.is_empty());
+    Ok(uploaded)
 }
 
 /// Makes a call by its method.
-fn make<R: Wait + AllocGlobal>(
+fn make<R>(
     rt: &R,
     client: &Client,
-    transfers: &mut Transfers<Stream>,
+    transfers: &mut Transfers<Live>,
     call: &Call,
-) -> Result<Answer, RowError> {
+) -> Result<Answer, RowError>
+where
+    R: Wait + RandomSource + AllocGlobal,
+{
     Ok(match call {
         Call::Login(user, password) => unit(client.login(rt, user.as_str(), password.as_str())),
         Call::Cwd(path) => unit(client.cwd(rt, path.as_str())),
         Call::Cdup => unit(client.cdup(rt)),
         Call::Noop => unit(client.noop(rt)),
         Call::Eprt(address) => unit(client.eprt(rt, *address)),
-        Call::Opts(option, value) => unit(client.opts(
-            rt,
-            option.as_str(),
-            value.as_ref().map(|value| value.as_str()),
-        )),
+        Call::Opts(option, value) => unit(client.opts(rt, option.as_str(), optional(value))),
         Call::Site(command) => reply(client.site(rt, command.as_str())),
         Call::TransferType(kind) => unit(client.transfer_type(rt, kind.clone()?)),
         Call::Mkdir(path) => unit(client.mkdir(rt, path.as_str())),
@@ -169,7 +159,7 @@ fn make<R: Wait + AllocGlobal>(
         Call::Rename(from, to) => unit(client.rename(rt, from.as_str(), to.as_str())),
         Call::Quit => unit(client.quit(rt)),
         Call::Pwd => text(client.pwd(rt)),
-        Call::Mlst(path) => text(client.mlst(rt, path.as_ref().map(|path| path.as_str()))),
+        Call::Mlst(path) => text(client.mlst(rt, optional(path))),
         Call::Mdtm(path) => time(client.mdtm(rt, path.as_str())),
         Call::Size(path) => size(client.size(rt, path.as_str())),
         Call::Feat => features(client.feat(rt)),
@@ -193,8 +183,8 @@ fn make<R: Wait + AllocGlobal>(
         Call::Nlst(path) => lines(client.nlst(rt, optional(path))),
         Call::Mlsd(path) => lines(client.mlsd(rt, optional(path))),
         Call::Set(setting) => set(rt, client, setting)?,
-        Call::Read(most) => transfers.receive(rt.alloc(), *most)?,
-        Call::Write(bytes) => transfers.send(bytes.as_slice()),
+        Call::Read(most) => transfers.receive(rt, *most)?,
+        Call::Write(bytes) => transfers.send(rt, bytes.as_slice()),
         Call::Leave => transfers.leave(rt.alloc())?,
         Call::Finish | Call::Abort | Call::Drain => end(rt, client, transfers, call)?,
     })
@@ -204,7 +194,7 @@ fn make<R: Wait + AllocGlobal>(
 fn open<R: Wait + AllocGlobal>(
     rt: &R,
     client: &Client,
-    transfers: &mut Transfers<Stream>,
+    transfers: &mut Transfers<Live>,
     call: &Call,
 ) -> Result<Answer, RowError> {
     Ok(match call {
@@ -226,18 +216,18 @@ fn open<R: Wait + AllocGlobal>(
 fn end<R: Wait + AllocGlobal>(
     rt: &R,
     client: &Client,
-    transfers: &mut Transfers<Stream>,
+    transfers: &mut Transfers<Live>,
     call: &Call,
 ) -> Result<Answer, RowError> {
     if matches!(call, Call::Drain) {
         return Ok(drain(rt, client, transfers));
     }
-    let Some(transfer) = transfers.take(rt.alloc())? else {
+    let Some(Live { stream }) = transfers.take(rt.alloc())? else {
         return Ok(Answer::NoTransfer);
     };
     Ok(unit(match call {
-        Call::Abort => transfer.abort(rt),
-        _ => transfer.finish(rt),
+        Call::Abort => stream.abort(rt),
+        _ => stream.finish(rt),
     }))
 }
 
@@ -245,7 +235,7 @@ fn end<R: Wait + AllocGlobal>(
 fn drain<R: Wait + AllocGlobal>(
     rt: &R,
     client: &Client,
-    transfers: &mut Transfers<Stream>,
+    transfers: &mut Transfers<Live>,
 ) -> Answer {
     let Some(mut receipt) = transfers.receipt() else {
         return Answer::NoTransfer;
@@ -274,25 +264,24 @@ fn stands<R: Wait + AllocGlobal>(
     client: &Client,
     answers: &[Answer],
 ) -> Result<Standing, RowError> {
-    let answers = texts_of(rt.alloc(), answers)?;
-    let welcome = had(client.get_welcome_msg(rt))?;
     let (sent, taken) = traffic(rt, client)?;
-    let failed = is_failed(&client.noop(rt));
     Ok(Standing {
         asked: Vec::new(rt.alloc()),
         uploaded: Vec::new(rt.alloc()),
         sent,
-        answers,
+        answers: texts_of(rt.alloc(), answers)?,
         taken,
         seen: None,
-        failed,
-        welcome,
+        welcome: had(client.get_welcome_msg(rt))?,
+        failed: has_failed(client.noop(rt)),
     })
 }
 
 /// Whether a session has failed: a client doesn't tell, but its next call does.
-fn is_failed(answer: &FtpResult<()>) -> bool {
-    matches!(answer, Err(FtpError::SessionFailed))
+fn has_failed(answer: FtpResult<()>) -> bool {
+    let has_failed = matches!(&answer, Err(FtpError::SessionFailed));
+    drop(answer);
+    has_failed
 }
 
 /// What was sent, and how many bytes were taken: a call that blocks receives none beyond its reply.

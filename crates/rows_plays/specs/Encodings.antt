@@ -4,8 +4,8 @@ use Rattle.std.specs.Str.{chars}
 use Rattle.std.specs.Str.Lossy.{utf8_lossy}
 use Rattle.std.specs.declared.io.ErrorKind.{ErrorKind}
 use Rattle.std.specs.declared.io.ErrorKind.TheVariants.{InvalidData}
-use Rattle.rows_clients.specs.declared.encodings.Named.{Named}
-use Rattle.rows_clients.specs.declared.encodings.Named.TheVariants.{Utf8, Latin1, SpaceToLf, CrFirst, DropsCrlf, Empty, RefusesA}
+use Rattle.rows_plays.specs.declared.encodings.Named.{Named}
+use Rattle.rows_plays.specs.declared.encodings.Named.TheVariants.{Utf8, Latin1, SpaceToLf, CrFirst, DropsCrlf, Empty, RefusesA}
 
 -- a byte before bytes, where there are some
 abbrev pub onto_bytes : ℕ → Result (List ℕ) ErrorKind → Result (List ℕ) ErrorKind

@@ -1,23 +1,18 @@
 //! The calls of the polled client, one after another, each polled to its answer.
 
-use super::methods::{Opening, greeted, optional};
-use super::transfers::{Held, Transfers};
-use crate::answers::{bytes, features, lines, reply, size, text, texts_of, time, unit};
-use crate::builder::RowBuilder;
-use crate::encodings::Named;
-use crate::memory::had;
-use crate::play::Play;
-use crate::requests::recorded;
-use crate::transcript::Standing;
 use ftp_base::status::Status;
-use ftp_base::types::{FtpError, FtpResult, Response};
+use ftp_base::types::{FtpError, FtpResult};
 use ftp_polled::{ImplAsyncFtpStream, TransferStream};
 use ftp_session::session::{Answer, Call, NoTlsConnector, Setting};
 use ftp_transfer::mark::Left;
-use ftp_transport::MemoryTransport;
+use ftp_transport::{MemoryConn, MemoryTransport};
 use futures::Future;
 use futures::executor::block_on;
 use futures::task::{Context, Poll};
+use rows_plays::{
+    Held, Named, Opening, Play, RowBuilder, Standing, Transfers, boxed, bytes, count, features,
+    greeted, had, lines, optional, recorded, reply, size, text, texts_of, time, unit,
+};
 use rows_text::RowError;
 use std::alloc::{AllocError, Global};
 use std::io;
@@ -82,36 +77,41 @@ impl Future for Sending<'_> {
     }
 }
 
-/// A transfer, and the runtime that its reads and writes are polled by.
+/// A transfer that a face holds.
 #[derive(Drop)]
-struct Carried<'r, R> {
-    rt: &'r R,
+struct Live {
     stream: Stream,
 }
 
-impl<R: Wait + RandomSource + AllocGlobal> Held for Carried<'_, R> {
-    fn sent(&self) -> &[u8] {
-        self.stream.get_ref().sent()
+impl Held for Live {
+    type Stream = Stream;
+
+    fn of(stream: Stream) -> Live {
+        Live { stream }
     }
 
-    fn take_in(&mut self, buffer: &mut [u8]) -> io::Result<usize> {
-        let receiving = Receiving {
-            stream: &mut self.stream,
-            buffer,
-        };
-        moved(block_on(self.rt, receiving))
+    fn conn(&self) -> &MemoryConn {
+        self.stream.get_ref()
     }
 
-    fn put_out(&mut self, bytes: &[u8]) -> io::Result<usize> {
-        let sending = Sending {
-            stream: &mut self.stream,
-            bytes,
-        };
-        moved(block_on(self.rt, sending))
+    fn take_in<R>(&mut self, rt: &R, buffer: &mut [u8]) -> io::Result<usize>
+    where
+        R: Wait + RandomSource + AllocGlobal,
+    {
+        let stream = &mut self.stream;
+        moved(block_on(rt, Receiving { stream, buffer }))
+    }
+
+    fn put_out<R>(&mut self, rt: &R, bytes: &[u8]) -> io::Result<usize>
+    where
+        R: Wait + RandomSource + AllocGlobal,
+    {
+        let stream = &mut self.stream;
+        moved(block_on(rt, Sending { stream, bytes }))
     }
 
     fn left(self) -> Left {
-        let Carried { rt: _, stream } = self;
+        let Live { stream } = self;
         stream.leave()
     }
 }
@@ -126,59 +126,50 @@ fn moved(outcome: io::Result<Result<usize, ErrorKind>>) -> io::Result<usize> {
 }
 
 /// Where these calls lead to, each made by the client's state.
-pub fn called<R: Wait + RandomSource + AllocGlobal>(
-    rt: &R,
-    calls: &[Call],
-    play: &Play,
-) -> Result<Standing, RowError> {
+pub fn called<R>(rt: &R, calls: &[Call], play: &Play) -> Result<Standing, RowError>
+where
+    R: Wait + RandomSource + AllocGlobal,
+{
     let Opening {
         session,
         mut answers,
         others,
     } = greeted(rt.alloc(), calls, play)?;
     let client = had(ImplAsyncFtpStream::new(rt.alloc(), Box::into_inner(session)))?;
+    let client = boxed(rt.alloc(), client)?;
     if let Some(encoding) = play.encoding {
         had(done(rt, client.set_encoding(rt, encoding)))?;
     }
-    let mut transfers = Transfers::new(rt.alloc());
-    stands_after(rt, &client, &mut transfers, others, &mut answers)
-}
-
-/// Where a client with these transfers stands that made these calls after those with these answers.
-fn stands_after<'r, R: Wait + RandomSource + AllocGlobal>(
-    rt: &'r R,
-    client: &Client,
-    transfers: &mut Transfers<Carried<'r, R>>,
-    calls: &[Call],
-    answers: &mut Vec<Answer>,
-) -> Result<Standing, RowError> {
-    for call in calls {
-        make_next(rt, client, transfers, call, answers)?;
-    }
-    let mut end = stands(rt, client, &answers[..])?;
-    end.uploaded = transfers.take_uploaded(rt.alloc());
+    let uploaded = made(rt, &client, others, &mut answers)?;
+    let mut end = told(rt, &client, &answers)?;
+    end.failed = has_failed(done(rt, client.noop(rt)));
+    end.uploaded = uploaded;
     Ok(end)
 }
 
-/// Makes the next call, and notes its answer.
-fn make_next<'r, R: Wait + RandomSource + AllocGlobal>(
-    rt: &'r R,
+/// Makes these calls one after another, and adds their answers; what was written to the data connections that are over.
+fn made<R>(
+    rt: &R,
     client: &Client,
-    transfers: &mut Transfers<Carried<'r, R>>,
-    call: &Call,
+    calls: &[Call],
     answers: &mut Vec<Answer>,
-) -> Result<(), RowError> {
-    let answer = make(rt, client, transfers, call)?;
-    transfers.made(call, &answer);
-    answers.push(answer)?;
-    Ok(())
+) -> Result<Vec<Vec<u8>>, RowError>
+where
+    R: Wait + RandomSource + AllocGlobal,
+{
+    let mut transfers = boxed(rt.alloc(), Transfers::new(rt.alloc()))?;
+    for call in calls {
+        let answer = make(rt, client, &mut transfers, call)?;
+        transfers.add(call, answer, answers)?;
+    }
+    Ok(transfers.take_uploaded(rt.alloc()))
 }
 
 /// Makes a call by its state.
-fn make<'r, R: Wait + RandomSource + AllocGlobal>(
-    rt: &'r R,
+fn make<R: Wait + RandomSource + AllocGlobal>(
+    rt: &R,
     client: &Client,
-    transfers: &mut Transfers<Carried<'r, R>>,
+    transfers: &mut Transfers<Live>,
     call: &Call,
 ) -> Result<Answer, RowError> {
     Ok(match call {
@@ -227,72 +218,63 @@ fn make<'r, R: Wait + RandomSource + AllocGlobal>(
         | Call::PutFile(..)
         | Call::AppendFile(..) => carry(rt, client, transfers, call)?,
         Call::Set(setting) => unit(set(rt, client, setting)?),
-        Call::Read(most) => transfers.receive(rt.alloc(), *most)?,
-        Call::Write(bytes) => transfers.send(bytes.as_slice()),
+        Call::Read(most) => transfers.receive(rt, *most)?,
+        Call::Write(bytes) => transfers.send(rt, bytes.as_slice()),
         Call::Leave => transfers.leave(rt.alloc())?,
         Call::Finish | Call::Abort | Call::Drain => end(rt, client, transfers, call)?,
     })
 }
 
 /// Opens a transfer.
-fn open<'r, R: Wait + RandomSource + AllocGlobal>(
-    rt: &'r R,
+fn open<R: Wait + RandomSource + AllocGlobal>(
+    rt: &R,
     client: &Client,
-    transfers: &mut Transfers<Carried<'r, R>>,
+    transfers: &mut Transfers<Live>,
     call: &Call,
 ) -> Result<Answer, RowError> {
     Ok(match call {
         Call::RetrAsStream(path) => {
-            transfers.opened(with_runtime(rt, done(rt, client.retr_as_stream(rt, path.as_str()))))
+            transfers.opened(done(rt, client.retr_as_stream(rt, path.as_str())))
         }
         Call::PutWithStream(path) => {
-            transfers.opened(with_runtime(rt, done(rt, client.put_with_stream(rt, path.as_str()))))
+            transfers.opened(done(rt, client.put_with_stream(rt, path.as_str())))
         }
         Call::AppendWithStream(path) => {
-            transfers.opened(with_runtime(
-                rt,
-                done(rt, client.append_with_stream(rt, path.as_str())),
-            ))
+            transfers.opened(done(rt, client.append_with_stream(rt, path.as_str())))
         }
-        Call::CustomDataCommand(line, codes) => transfers.opened_with(with_runtime_and_reply(
+        Call::CustomDataCommand(line, codes) => transfers.opened_with(done(
             rt,
-            done(
-                rt,
-                client.custom_data_command(rt, line.as_str(), codes.as_slice()),
-            ),
+            client.custom_data_command(rt, line.as_str(), codes.as_slice()),
         )),
         _ => return Err(RowError::NotUnderstood),
     })
 }
 
-/// A transfer that was opened, with its runtime.
-fn with_runtime<'r, R>(rt: &'r R, opened: FtpResult<Stream>) -> FtpResult<Carried<'r, R>> {
-    match opened {
-        Ok(stream) => Ok(Carried { rt, stream }),
-        Err(fault) => Err(fault),
-    }
-}
-
-/// A transfer that was opened with its reply, with its runtime.
-fn with_runtime_and_reply<'r, R>(
-    rt: &'r R,
-    opened: FtpResult<(Response, Stream)>,
-) -> FtpResult<(Response, Carried<'r, R>)> {
-    match opened {
-        Ok((reply, stream)) => Ok((reply, Carried { rt, stream })),
-        Err(fault) => Err(fault),
-    }
-}
-
 /// Carries a whole file or listing, and notes what was written to its data connection once it is over.
-fn carry<'r, R: Wait + RandomSource + AllocGlobal>(
-    rt: &'r R,
+fn carry<R: Wait + RandomSource + AllocGlobal>(
+    rt: &R,
     client: &Client,
-    transfers: &mut Transfers<Carried<'r, R>>,
+    transfers: &mut Transfers<Live>,
     call: &Call,
 ) -> Result<Answer, RowError> {
     let before = over(rt, client)?;
-    let answer = match call {
+    let answer = carried(rt, client, call)?;
+    match note(rt, client, transfers, before) {
+        Ok(()) => Ok(answer),
+        Err(fault) => {
+            drop(answer);
+            Err(fault)
+        }
+    }
+}
+
+/// The answer of a call that carries a whole file or listing.
+fn carried<R: Wait + RandomSource + AllocGlobal>(
+    rt: &R,
+    client: &Client,
+    call: &Call,
+) -> Result<Answer, RowError> {
+    Ok(match call {
         Call::Retr(path) => bytes(done(rt, client.retr_as_buffer(rt, path.as_str()))),
         Call::List(path) => lines(done(rt, client.list(rt, optional(path)))),
         Call::Nlst(path) => lines(done(rt, client.nlst(rt, optional(path)))),
@@ -304,14 +286,18 @@ fn carry<'r, R: Wait + RandomSource + AllocGlobal>(
             count(done(rt, client.append_file(rt, path.as_str(), bytes.as_slice())))
         }
         _ => return Err(RowError::NotUnderstood),
-    };
+    })
+}
+
+/// Notes what was written to the data connections that are over, but for so many of them.
+fn note<R: Wait + RandomSource + AllocGlobal>(
+    rt: &R,
+    client: &Client,
+    transfers: &mut Transfers<Live>,
+    noted: usize,
+) -> Result<(), RowError> {
     let control = had(done(rt, client.get_ref()))?;
-    for conn in control.transport().uploaded().iter().skip(before) {
-        transfers
-            .uploaded
-            .push(Vec::from_slice(rt.alloc(), conn.sent())?)?;
-    }
-    Ok(answer)
+    Ok(transfers.note(rt.alloc(), control.transport().uploaded(), noted)?)
 }
 
 /// How many data connections are over.
@@ -320,38 +306,30 @@ fn over<R: Wait + RandomSource + AllocGlobal>(rt: &R, client: &Client) -> Result
     Ok(control.transport().uploaded().len())
 }
 
-/// The answer of an upload.
-fn count(outcome: FtpResult<u64>) -> Answer {
-    match outcome {
-        Ok(count) => Answer::Count(count),
-        Err(fault) => Answer::Fault(fault),
-    }
-}
-
 /// Brings a transfer to its end.
-fn end<'r, R: Wait + RandomSource + AllocGlobal>(
-    rt: &'r R,
+fn end<R: Wait + RandomSource + AllocGlobal>(
+    rt: &R,
     client: &Client,
-    transfers: &mut Transfers<Carried<'r, R>>,
+    transfers: &mut Transfers<Live>,
     call: &Call,
 ) -> Result<Answer, RowError> {
     if matches!(call, Call::Drain) {
         return Ok(drain(rt, client, transfers));
     }
-    let Some(transfer) = transfers.take(rt.alloc())? else {
+    let Some(Live { stream }) = transfers.take(rt.alloc())? else {
         return Ok(Answer::NoTransfer);
     };
     Ok(unit(match call {
-        Call::Abort => done(rt, transfer.stream.abort(rt)),
-        _ => done(rt, transfer.stream.finish(rt)),
+        Call::Abort => done(rt, stream.abort(rt)),
+        _ => done(rt, stream.finish(rt)),
     }))
 }
 
 /// Reads the last reply of the transfer that was left.
-fn drain<'r, R: Wait + RandomSource + AllocGlobal>(
-    rt: &'r R,
+fn drain<R: Wait + RandomSource + AllocGlobal>(
+    rt: &R,
     client: &Client,
-    transfers: &mut Transfers<Carried<'r, R>>,
+    transfers: &mut Transfers<Live>,
 ) -> Answer {
     let Some(mut receipt) = transfers.receipt() else {
         return Answer::NoTransfer;
@@ -379,43 +357,37 @@ fn set<R: Wait + RandomSource + AllocGlobal>(
     })
 }
 
-/// Where a client stands that gave these answers.
-fn stands<R: Wait + RandomSource + AllocGlobal>(
-    rt: &R,
-    client: &Client,
-    answers: &[Answer],
-) -> Result<Standing, RowError> {
-    let answers = texts_of(rt.alloc(), answers)?;
-    let mut end = told(rt, client, answers)?;
-    end.failed = is_failed(&done(rt, client.noop(rt)));
-    Ok(end)
-}
-
 /// What a client that gave these answers tells under its lock.
 fn told<R: Wait + RandomSource + AllocGlobal>(
     rt: &R,
     client: &Client,
-    answers: Vec<String>,
+    answers: &[Answer],
 ) -> Result<Standing, RowError> {
     let alloc = rt.alloc();
     let control = had(done(rt, client.get_ref()))?;
-    let welcome = match control.get_welcome_msg() {
-        Some(text) => Some(String::from_str(alloc, text)?),
-        None => None,
-    };
     Ok(Standing {
         asked: recorded(alloc, control.transport().asked())?,
         uploaded: Vec::new(alloc),
         sent: Vec::from_slice(alloc, control.socket().sent())?,
-        answers,
+        answers: texts_of(alloc, answers)?,
         taken: control.socket().received(),
         seen: None,
         failed: false,
-        welcome,
+        welcome: copied(alloc, control.get_welcome_msg())?,
     })
 }
 
+/// The same text, where there is one.
+fn copied(alloc: Global, text: Option<&str>) -> Result<Option<String>, AllocError> {
+    match text {
+        Some(text) => Ok(Some(String::from_str(alloc, text)?)),
+        None => Ok(None),
+    }
+}
+
 /// Whether a session has failed: a client doesn't tell, but its next call does.
-fn is_failed(answer: &FtpResult<()>) -> bool {
-    matches!(answer, Err(FtpError::SessionFailed))
+fn has_failed(answer: FtpResult<()>) -> bool {
+    let has_failed = matches!(&answer, Err(FtpError::SessionFailed));
+    drop(answer);
+    has_failed
 }

@@ -1,0 +1,39 @@
+//! Worked rows of the client, which the program `rows_clients` plays: how they are read, and what a session comes to on
+//! them.
+//!
+//! A row is a heading `== SET: TITLE`, what happens line by line, a line `--`, and the transcript that is due; an
+//! empty line ends it. docs/ROWS.md has the words.
+#![tactic(auto)]
+
+mod alphabet;
+mod answers;
+mod builder;
+mod calls;
+mod dial;
+mod encodings;
+mod memory;
+mod methods;
+mod play;
+mod requests;
+mod row;
+mod session;
+mod settings;
+mod setup;
+mod step;
+mod transcript;
+mod transfers;
+
+pub use alphabet::Lists;
+pub use answers::{bytes, count, features, lines, reply, size, text, texts_of, time, unit};
+pub use builder::RowBuilder;
+pub use dial::Dial;
+pub use encodings::Named;
+pub use memory::{boxed, had};
+pub use methods::{Opening, called, greeted, optional};
+pub use play::Play;
+pub use requests::{lines_of, recorded};
+pub use row::Row;
+pub use session::{NamedSession, polled, ran, welcome};
+pub use setup::Setup;
+pub use transcript::{Mark, Standing};
+pub use transfers::{Held, Transfers};
