@@ -1,7 +1,7 @@
 //! Transfers that a session hands out, over memory: their bytes, their end, and their leaving.
 
 use crate::counts::text_of;
-use crate::scene::{MemorySession, greeted, number, opened, sent};
+use crate::scene::{Live, MemorySession, greeted, number, opened, sent};
 use ftp_base::status::Status;
 use ftp_base::types::FtpResult;
 use ftp_runs::RunCalls;
@@ -102,10 +102,10 @@ enum Step {
 }
 
 /// The transfers that are held.
-type Held = Vec<Transfer<MemoryConn>>;
+type Held = Vec<Live>;
 
 /// Holds a transfer; the number of the refusal where there is none.
-fn hold(held: &mut Held, made: FtpResult<Transfer<MemoryConn>>) -> Result<u8, AllocError> {
+fn hold(held: &mut Held, made: FtpResult<Live>) -> Result<u8, AllocError> {
     match made {
         Ok(transfer) => {
             held.push(transfer)?;
@@ -136,8 +136,8 @@ fn ended(alloc: Global, session: &mut MemorySession, held: &mut Held, step: Step
         return 255;
     };
     match step {
-        Step::Finish => number(session.finish(alloc, transfer)),
-        Step::Abort => number(session.abort(alloc, transfer)),
+        Step::Finish => number(session.finish(alloc, Box::into_inner(transfer))),
+        Step::Abort => number(session.abort(alloc, Box::into_inner(transfer))),
         _ => {
             drop(transfer);
             0
@@ -202,16 +202,15 @@ fn a_download_is_handed_out_read_and_finished(rt: HostRuntime) -> Result<(), Fai
     let mut session = greeted(alloc, DOWNLOAD)?;
     let mut transfer = opened(alloc, &mut session)?;
     let came = read(&mut transfer);
-    let finished = number(session.finish(alloc, transfer));
+    let finished = number(session.finish(alloc, Box::into_inner(transfer)));
     let counts = text_of(alloc, session.counts())?;
     let after = number(session.noop(alloc));
     let same = sent(&session) == b"PASV\r\nRETR a\r\nNOOP\r\n".as_slice();
     drop(session);
     assert_eq!(rt;
-        (came, counts.as_str()),
-        ((1, true, true), "1 1 0 0 Nothing")
+        (came, counts.as_str(), finished, after, same),
+        ((1, true, true), "1 1 0 0 Nothing", 0, 0, true)
     );
-    assert_eq!(rt; (finished, after, same), (0, 0, true));
     Ok(())
 }
 
@@ -296,7 +295,8 @@ fn a_line_of_the_callers_gives_its_reply(rt: HostRuntime) -> Result<(), Fail> {
 /// after them, and the counts after the first.
 fn settled(alloc: Global) -> Result<(u8, u8, u8, String), Fail> {
     let mut session = greeted(alloc, DOWNLOAD)?;
-    let mut left = opened(alloc, &mut session)?.leave();
+    let transfer = opened(alloc, &mut session)?;
+    let mut left = Box::new(alloc, Box::into_inner(transfer).leave())?;
     let first = number(session.settle(alloc, &mut left));
     let counts = text_of(alloc, session.counts())?;
     let second = number(session.settle(alloc, &mut left));
@@ -312,12 +312,8 @@ fn a_receipt_is_settled_once(rt: HostRuntime) -> Result<(), Fail> {
 }
 
 /// What this session answers that is to finish or abort a transfer.
-fn ended_by(
-    alloc: Global,
-    session: &mut MemorySession,
-    transfer: Transfer<MemoryConn>,
-    aborts: bool,
-) -> u8 {
+fn ended_by(alloc: Global, session: &mut MemorySession, transfer: Live, aborts: bool) -> u8 {
+    let transfer = Box::into_inner(transfer);
     if aborts {
         number(session.abort(alloc, transfer))
     } else {
@@ -327,11 +323,7 @@ fn ended_by(
 
 /// What a session without replies answers to a command, and then where it is to finish or abort this transfer, which is
 /// another's.
-fn failed_elsewhere(
-    alloc: Global,
-    transfer: Transfer<MemoryConn>,
-    aborts: bool,
-) -> Result<(u8, u8), Fail> {
+fn failed_elsewhere(alloc: Global, transfer: Live, aborts: bool) -> Result<(u8, u8), Fail> {
     let mut other = greeted(alloc, "")?;
     let failed = number(other.noop(alloc));
     Ok((failed, ended_by(alloc, &mut other, transfer, aborts)))
@@ -353,11 +345,7 @@ fn a_failed_session_says_so_of_any_transfer(rt: HostRuntime) -> Result<(), Fail>
 
 /// What another session answers that is to finish or abort this transfer, and its next command; and whether only that
 /// was sent.
-fn elsewhere(
-    alloc: Global,
-    transfer: Transfer<MemoryConn>,
-    aborts: bool,
-) -> Result<(u8, u8, bool), Fail> {
+fn elsewhere(alloc: Global, transfer: Live, aborts: bool) -> Result<(u8, u8, bool), Fail> {
     let mut other = greeted(alloc, "200 ok\r\n")?;
     let refusal = ended_by(alloc, &mut other, transfer, aborts);
     let after = number(other.noop(alloc));
@@ -374,8 +362,11 @@ fn a_transfer_of_another_number_is_left(rt: HostRuntime) -> Result<(), Fail> {
         let after = number(session.noop(alloc));
         let counts = text_of(alloc, session.counts())?;
         drop(session);
-        assert_eq!(rt; there, (18, 0, true), "{aborts}");
-        assert_eq!(rt; (after, counts.as_str()), (0, "1 0 0 1 Nothing"));
+        assert_eq!(rt;
+            (there, after, counts.as_str()),
+            ((18, 0, true), 0, "1 0 0 1 Nothing"),
+            "{aborts}"
+        );
     }
     Ok(())
 }

@@ -45,9 +45,13 @@ pub fn session_on(
     Ok(Box::new(alloc, Session::new(alloc, transport, conn)?)?)
 }
 
+/// A transfer over memory, in a box, which is dropped by one call.
+pub type Live = Box<Transfer<MemoryConn>>;
+
 /// Opens a download.
-pub fn opened(alloc: Global, session: &mut MemorySession) -> FtpResult<Transfer<MemoryConn>> {
-    session.retr_as_stream(alloc, &(), "a")
+pub fn opened(alloc: Global, session: &mut MemorySession) -> FtpResult<Live> {
+    let transfer = session.retr_as_stream(alloc, &(), "a")?;
+    Ok(Box::new(alloc, transfer)?)
 }
 
 /// What was sent on the control connection.

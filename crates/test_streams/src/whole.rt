@@ -55,7 +55,7 @@ fn a_listing_that_takes_two_reads_comes_whole(rt: HostRuntime) -> Result<(), Fai
     let data = repeated(rt.alloc(), 20_000, b"line\r\n")?;
     let mut session = session_on(rt.alloc(), &data)?;
     let lines = session.list(rt.alloc(), &(), None)?;
-    assert_eq!(rt; lines.len(), 20_000usize);
-    assert!(rt; lines.iter().all(|line| line.as_str() == "line"));
+    let whole = lines.iter().all(|line| line.as_str() == "line");
+    assert_eq!(rt; (lines.len(), whole), (20_000, true));
     Ok(())
 }
