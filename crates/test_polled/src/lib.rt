@@ -18,6 +18,4 @@ mod scene;
 #[cfg(test)]
 mod settings;
 #[cfg(test)]
-mod threads;
-#[cfg(test)]
 mod traffic;
