@@ -1,135 +1,90 @@
--- Which calls open a data connection.
-use Rattle.std.proofs.Common.{◌≡◌, Bool, true, false, ◌&&◌, refl}
+-- What the rows of a call have in common: the last is of the sort of the first, one that opens a data connection is no read,
+-- and one that reads the last reply of a transfer that was left says nothing.
+use Rattle.std.proofs.Common.{◌≡◌, Bool, true, false, not, ◌&&◌, ◌||◌, is_none, refl, ap}
 use Rattle.ftp_calls.specs.declared.call.Call.{Call}
-use Rattle.ftp_calls.specs.declared.call.Call.TheVariants.{Greet, Login, Cwd, Cdup, Pwd, Noop, Eprt, Opts, Site, TransferType, Mkdir, Rmdir, Rm, Rename, Quit, Mlst, Mdtm, Size, Feat, CustomCommand, ReadResponse, ReadResponseIn, ResumeTransfer, RetrAsStream, PutWithStream, AppendWithStream, CustomDataCommand, Retr, List as Listing, Nlst, Mlsd, PutFile, AppendFile, Set, Read, Write, Finish, Abort, Leave, Drain}
-use Rattle.ftp_calls.specs.declared.exchange.Turn.TheVariants.{Second}
-use Rattle.ftp_calls.specs.Exchanges.{drains, is_read, negotiates, opens, row_of}
+use Rattle.ftp_calls.specs.declared.exchange.Ending.{Ending}
+use Rattle.ftp_calls.specs.declared.exchange.Ending.TheVariants.{Done, GivesReply, Greets, GivesPath, GivesSecondLine, GivesTime, GivesSize, GivesFeatures, SetsText, GoesOn, Continues, GivesAddress, GivesPort, Opens, Performs, Finishes, Drains, Stops}
+use Rattle.ftp_calls.specs.declared.exchange.Row.{Row}
+use Rattle.ftp_calls.specs.declared.exchange.Row.TheVariants.{Exchanges, Arms, Sets, Moves}
+use Rattle.ftp_calls.specs.declared.exchange.Turn.TheVariants.{First, Second}
+use Rattle.ftp_calls.specs.Exchanges.{Own, Once, Twice, at_turn, draining_row, drains, gives_reply, is_draining, is_local, is_negotiating, is_opening, is_own, is_read, local_row, negotiates, only_reads, opens, own, own_row, reads, row_of}
 
--- the last turn of a call opens a data connection where the first does
+-- the last row of a call opens a data connection where the first does
+own_opens : (o : Own) → opens (at_turn o false) ≡ opens (at_turn o true)
+own_opens (Once row is) = refl
+own_opens (Twice command codes status next last) = refl
+
 pub opens_alike : (call : Call) → opens (row_of call Second) ≡ negotiates call
-opens_alike Greet = refl
-opens_alike (Login u p) = refl
-opens_alike (Cwd p) = refl
-opens_alike Cdup = refl
-opens_alike Pwd = refl
-opens_alike Noop = refl
-opens_alike (Eprt a) = refl
-opens_alike (Opts n v) = refl
-opens_alike (Site w) = refl
-opens_alike (TransferType k) = refl
-opens_alike (Mkdir p) = refl
-opens_alike (Rmdir p) = refl
-opens_alike (Rm p) = refl
-opens_alike (Rename a b) = refl
-opens_alike Quit = refl
-opens_alike (Mlst p) = refl
-opens_alike (Mdtm p) = refl
-opens_alike (Size p) = refl
-opens_alike Feat = refl
-opens_alike (CustomCommand l c) = refl
-opens_alike (ReadResponse s) = refl
-opens_alike (ReadResponseIn c) = refl
-opens_alike (ResumeTransfer o) = refl
-opens_alike (RetrAsStream p) = refl
-opens_alike (PutWithStream p) = refl
-opens_alike (AppendWithStream p) = refl
-opens_alike (CustomDataCommand l c) = refl
-opens_alike (Retr p) = refl
-opens_alike (Listing p) = refl
-opens_alike (Nlst p) = refl
-opens_alike (Mlsd p) = refl
-opens_alike (PutFile p b) = refl
-opens_alike (AppendFile p b) = refl
-opens_alike (Set s) = refl
-opens_alike (Read n) = refl
-opens_alike (Write b) = refl
-opens_alike Finish = refl
-opens_alike Abort = refl
-opens_alike Leave = refl
-opens_alike Drain = refl
+opens_alike call = own_opens (own call)
 
--- a plain read opens none
+-- it changes a setting or moves bytes where the first does
+own_local : (o : Own) → local_row (at_turn o false) ≡ local_row (at_turn o true)
+own_local (Once row is) = refl
+own_local (Twice command codes status next last) = refl
+
+pub local_alike : (call : Call) → local_row (row_of call Second) ≡ is_local call
+local_alike call = own_local (own call)
+
+-- and hears the end of a transfer that was left where it does
+own_drains : (o : Own) → draining_row (at_turn o false) ≡ draining_row (at_turn o true)
+own_drains (Once row is) = refl
+own_drains (Twice command codes status next last) = refl
+
+pub drains_alike : (call : Call) → draining_row (row_of call Second) ≡ drains call
+drains_alike call = own_drains (own call)
+
+-- each row of a call's own is one that a call may have
+turn_is_own : (o : Own) (first : Bool) → is_own (at_turn o first) ≡ true
+turn_is_own (Once row is) first = is
+turn_is_own (Twice command codes status next last) true = refl
+turn_is_own (Twice command codes status next last) false = refl
+
+pub row_is_own : (call : Call) (first : Bool) → is_own (own_row call first) ≡ true
+row_is_own call first = turn_is_own (own call) first
+
+-- a plain read opens no data connection
+ending_opens_none : (e : Ending) → is_opening e ≡ true → only_reads e ≡ false
+ending_opens_none Done is = refl
+ending_opens_none GivesReply is = let clash : false ≡ true = is in cc
+ending_opens_none Greets is = refl
+ending_opens_none GivesPath is = refl
+ending_opens_none GivesSecondLine is = refl
+ending_opens_none GivesTime is = refl
+ending_opens_none GivesSize is = refl
+ending_opens_none GivesFeatures is = refl
+ending_opens_none (SetsText text) is = refl
+ending_opens_none (GoesOn status) is = refl
+ending_opens_none Continues is = refl
+ending_opens_none GivesAddress is = refl
+ending_opens_none GivesPort is = refl
+ending_opens_none (Opens replies) is = refl
+ending_opens_none (Performs task) is = refl
+ending_opens_none (Finishes close) is = refl
+ending_opens_none Drains is = let clash : false ≡ true = is in cc
+ending_opens_none Stops is = refl
+
+row_opens_none : (r : Row) → opens r ≡ true → reads r ≡ false
+row_opens_none (Exchanges exchange) is = ap (λ b. b && is_none exchange.says) (ending_opens_none exchange.ending is)
+row_opens_none (Arms offset) is = refl
+row_opens_none (Sets setting) is = refl
+row_opens_none (Moves movement) is = refl
+
 pub read_opens_none : (call : Call) → negotiates call ≡ true → is_read call ≡ false
-read_opens_none Greet opens = let clash : false ≡ true = opens in cc
-read_opens_none (Login u p) opens = let clash : false ≡ true = opens in cc
-read_opens_none (Cwd p) opens = let clash : false ≡ true = opens in cc
-read_opens_none Cdup opens = let clash : false ≡ true = opens in cc
-read_opens_none Pwd opens = let clash : false ≡ true = opens in cc
-read_opens_none Noop opens = let clash : false ≡ true = opens in cc
-read_opens_none (Eprt a) opens = let clash : false ≡ true = opens in cc
-read_opens_none (Opts n v) opens = let clash : false ≡ true = opens in cc
-read_opens_none (Site w) opens = let clash : false ≡ true = opens in cc
-read_opens_none (TransferType k) opens = let clash : false ≡ true = opens in cc
-read_opens_none (Mkdir p) opens = let clash : false ≡ true = opens in cc
-read_opens_none (Rmdir p) opens = let clash : false ≡ true = opens in cc
-read_opens_none (Rm p) opens = let clash : false ≡ true = opens in cc
-read_opens_none (Rename a b) opens = let clash : false ≡ true = opens in cc
-read_opens_none Quit opens = let clash : false ≡ true = opens in cc
-read_opens_none (Mlst p) opens = let clash : false ≡ true = opens in cc
-read_opens_none (Mdtm p) opens = let clash : false ≡ true = opens in cc
-read_opens_none (Size p) opens = let clash : false ≡ true = opens in cc
-read_opens_none Feat opens = let clash : false ≡ true = opens in cc
-read_opens_none (CustomCommand l c) opens = let clash : false ≡ true = opens in cc
-read_opens_none (ReadResponse s) opens = let clash : false ≡ true = opens in cc
-read_opens_none (ReadResponseIn c) opens = let clash : false ≡ true = opens in cc
-read_opens_none (ResumeTransfer o) opens = let clash : false ≡ true = opens in cc
-read_opens_none (RetrAsStream p) opens = refl
-read_opens_none (PutWithStream p) opens = refl
-read_opens_none (AppendWithStream p) opens = refl
-read_opens_none (CustomDataCommand l c) opens = refl
-read_opens_none (Retr p) opens = refl
-read_opens_none (Listing p) opens = refl
-read_opens_none (Nlst p) opens = refl
-read_opens_none (Mlsd p) opens = refl
-read_opens_none (PutFile p b) opens = refl
-read_opens_none (AppendFile p b) opens = refl
-read_opens_none (Set s) opens = let clash : false ≡ true = opens in cc
-read_opens_none (Read n) opens = let clash : false ≡ true = opens in cc
-read_opens_none (Write b) opens = let clash : false ≡ true = opens in cc
-read_opens_none Finish opens = let clash : false ≡ true = opens in cc
-read_opens_none Abort opens = let clash : false ≡ true = opens in cc
-read_opens_none Leave opens = let clash : false ≡ true = opens in cc
-read_opens_none Drain opens = let clash : false ≡ true = opens in cc
+read_opens_none call is = row_opens_none (row_of call First) is
 
 -- a call that reads the last reply of a transfer that was left is a plain read
+alone : (negotiates drains gives says_none : Bool) → not negotiates && (not drains || says_none) ≡ true → drains ≡ true → (gives || drains) && says_none ≡ true
+alone true drains gives says_none own is = let clash : false ≡ true = own in cc
+alone false false gives says_none own is = let clash : false ≡ true = is in cc
+alone false true gives false own is = let clash : false ≡ true = own in cc
+alone false true true true own is = refl
+alone false true false true own is = refl
+
+row_draining_reads : (r : Row) → is_own r ≡ true → draining_row r ≡ true → reads r ≡ true
+row_draining_reads (Exchanges e) own is = alone (is_negotiating e.ending) (is_draining e.ending) (gives_reply e.ending) (is_none e.says) own is
+row_draining_reads (Arms offset) own is = let clash : false ≡ true = is in cc
+row_draining_reads (Sets setting) own is = let clash : false ≡ true = is in cc
+row_draining_reads (Moves movement) own is = let clash : false ≡ true = is in cc
+
 pub draining_reads : (call : Call) → drains call ≡ true → is_read call ≡ true
-draining_reads Greet is = let clash : false ≡ true = is in cc
-draining_reads (Login u p) is = let clash : false ≡ true = is in cc
-draining_reads (Cwd p) is = let clash : false ≡ true = is in cc
-draining_reads Cdup is = let clash : false ≡ true = is in cc
-draining_reads Pwd is = let clash : false ≡ true = is in cc
-draining_reads Noop is = let clash : false ≡ true = is in cc
-draining_reads (Eprt a) is = let clash : false ≡ true = is in cc
-draining_reads (Opts n v) is = let clash : false ≡ true = is in cc
-draining_reads (Site w) is = let clash : false ≡ true = is in cc
-draining_reads (TransferType k) is = let clash : false ≡ true = is in cc
-draining_reads (Mkdir p) is = let clash : false ≡ true = is in cc
-draining_reads (Rmdir p) is = let clash : false ≡ true = is in cc
-draining_reads (Rm p) is = let clash : false ≡ true = is in cc
-draining_reads (Rename a b) is = let clash : false ≡ true = is in cc
-draining_reads Quit is = let clash : false ≡ true = is in cc
-draining_reads (Mlst p) is = let clash : false ≡ true = is in cc
-draining_reads (Mdtm p) is = let clash : false ≡ true = is in cc
-draining_reads (Size p) is = let clash : false ≡ true = is in cc
-draining_reads Feat is = let clash : false ≡ true = is in cc
-draining_reads (CustomCommand l c) is = let clash : false ≡ true = is in cc
-draining_reads (ReadResponse s) is = let clash : false ≡ true = is in cc
-draining_reads (ReadResponseIn c) is = let clash : false ≡ true = is in cc
-draining_reads (ResumeTransfer o) is = let clash : false ≡ true = is in cc
-draining_reads (RetrAsStream p) is = let clash : false ≡ true = is in cc
-draining_reads (PutWithStream p) is = let clash : false ≡ true = is in cc
-draining_reads (AppendWithStream p) is = let clash : false ≡ true = is in cc
-draining_reads (CustomDataCommand l c) is = let clash : false ≡ true = is in cc
-draining_reads (Retr p) is = let clash : false ≡ true = is in cc
-draining_reads (Listing p) is = let clash : false ≡ true = is in cc
-draining_reads (Nlst p) is = let clash : false ≡ true = is in cc
-draining_reads (Mlsd p) is = let clash : false ≡ true = is in cc
-draining_reads (PutFile p b) is = let clash : false ≡ true = is in cc
-draining_reads (AppendFile p b) is = let clash : false ≡ true = is in cc
-draining_reads (Set s) is = let clash : false ≡ true = is in cc
-draining_reads (Read n) is = let clash : false ≡ true = is in cc
-draining_reads (Write b) is = let clash : false ≡ true = is in cc
-draining_reads Finish is = let clash : false ≡ true = is in cc
-draining_reads Abort is = let clash : false ≡ true = is in cc
-draining_reads Leave is = let clash : false ≡ true = is in cc
-draining_reads Drain is = refl
+draining_reads call is = row_draining_reads (row_of call First) (row_is_own call true) is

@@ -1,7 +1,7 @@
 -- What each call says and hears, one row an exchange: RFC 959, sections 4.1, 5.4 and 6; RFC 2389, sections
 -- 3 (FEAT) and 4 (OPTS); RFC 2428, sections 2 (EPRT) and 3 (EPSV); RFC 3659, sections 3 (MDTM), 4 (SIZE), 5 (REST) and 7
 -- (MLST). All that a call does follows from its rows.
-use Rattle.std.specs.Prelude.{Bool, true, false, ◌&&◌, ◌||◌, nat_lt, ℕ, if◌then◌else◌, List, [], ◌∷◌, Option, Some, None, is_none}
+use Rattle.std.specs.Prelude.{◌≡◌, refl, Bool, true, false, not, ◌&&◌, ◌||◌, nat_lt, ℕ, if◌then◌else◌, List, [], ◌∷◌, Option, Some, None, is_none}
 use Rattle.ftp_base.specs.declared.status.Status.{Status}
 use Rattle.ftp_base.specs.declared.status.Status.TheVariants.{AlreadyOpen, AboutToSend, CommandOk, System, File, Ready, Closing, ClosingDataConnection, TransferAborted, PassiveMode, ExtendedPassiveMode, LoggedIn, RequestedFileActionOk, PathCreated, NeedPassword, RequestFilePending}
 use Rattle.ftp_base.specs.declared.types.file_type.FileType.{FileType}
@@ -55,50 +55,81 @@ is_ascii Image = false
 is_ascii Binary = false
 is_ascii (Local bits) = false
 
--- what a call does by itself, at its first turn and at its last: an exchange, or a change of settings
+-- the end of a transfer that was left is heard
+abbrev pub is_draining : Ending → Bool
+is_draining Drains = true
+is_draining other = false
+
+-- a reply is a step of negotiation
+abbrev pub is_negotiating : Ending → Bool
+is_negotiating Continues = true
+is_negotiating GivesAddress = true
+is_negotiating GivesPort = true
+is_negotiating other = false
+
+-- what a call may do by itself: it is no step of negotiation, and the end of a transfer that was left is heard alone
+abbrev pub is_own : Row → Bool
+is_own (Exchanges exchange) = not (is_negotiating exchange.ending) && (not (is_draining exchange.ending) || is_none exchange.says)
+is_own (Arms offset) = true
+is_own (Sets setting) = true
+is_own (Moves movement) = true
+
+-- a call does one thing by itself, or says a command, and after a reply of this status another
+pub data Own : Type 0 where
+  Once : (row : Row) → is_own row ≡ true → Own
+  Twice : Command → Codes → Status → Command → Codes → Own
+
+-- what each call does by itself
+abbrev pub own : Call → Own
+own Greet = Once (hears (One Ready) Greets) refl
+own (Login user password) = Twice (command.User user) (Either LoggedIn NeedPassword) NeedPassword (command.Pass password) (One LoggedIn)
+own (Cwd directory) = Once (says (command.Cwd directory) (Either CommandOk RequestedFileActionOk) Done) refl
+own Cdup = Once (says command.Cdup (Either CommandOk RequestedFileActionOk) Done) refl
+own Pwd = Once (says command.Pwd (One PathCreated) GivesPath) refl
+own Noop = Once (says command.Noop (One CommandOk) Done) refl
+own (Eprt address) = Once (says (command.Eprt address) (One CommandOk) Done) refl
+own (Opts name value) = Once (says (command.Opts name value) (One CommandOk) Done) refl
+own (Site words) = Once (says (command.Site words) (One CommandOk) GivesReply) refl
+own (TransferType kind) = Once (says (command.TransferType kind) (One CommandOk) (SetsText (is_ascii kind))) refl
+own (Mkdir path) = Once (says (command.Mkd path) (Either PathCreated CommandOk) Done) refl
+own (Rmdir path) = Once (says (command.Rmd path) (Either RequestedFileActionOk CommandOk) Done) refl
+own (Rm path) = Once (says (command.Dele path) (Either RequestedFileActionOk CommandOk) Done) refl
+own (Rename one other) = Twice (command.RenameFrom one) (One RequestFilePending) RequestFilePending (command.RenameTo other) (Either RequestedFileActionOk CommandOk)
+own Quit = Once (says command.Quit (One Closing) Done) refl
+own (Mlst path) = Once (says (command.Mlst path) (One RequestedFileActionOk) GivesSecondLine) refl
+own (Mdtm path) = Once (says (command.Mdtm path) (One File) GivesTime) refl
+own (Size path) = Once (says (command.Size path) (One File) GivesSize) refl
+own Feat = Once (says command.Feat Features GivesFeatures) refl
+own (CustomCommand line codes) = Once (says (command.Custom line) (Given codes) GivesReply) refl
+own (ReadResponse status) = Once (hears (One status) GivesReply) refl
+own (ReadResponseIn codes) = Once (hears (Given codes) GivesReply) refl
+own (ResumeTransfer offset) = Once (Arms offset) refl
+own (RetrAsStream path) = Once (says (command.Retr path) (Either AboutToSend AlreadyOpen) (Opens false)) refl
+own (PutWithStream path) = Once (says (command.Store path) (Either AlreadyOpen AboutToSend) (Opens false)) refl
+own (AppendWithStream path) = Once (says (command.Appe path) (Either AlreadyOpen AboutToSend) (Opens false)) refl
+own (CustomDataCommand line codes) = Once (says (command.Custom line) (Given codes) (Opens true)) refl
+own (Retr path) = Once (fetches (command.Retr path) Whole) refl
+own (Listing path) = Once (fetches (command.List path) Listed) refl
+own (Nlst path) = Once (fetches (command.Nlst path) Listed) refl
+own (Mlsd path) = Once (fetches (command.Mlsd path) Listed) refl
+own (PutFile path bytes) = Once (stores (command.Store path) bytes) refl
+own (AppendFile path bytes) = Once (stores (command.Appe path) bytes) refl
+own (Set setting) = Once (Sets setting) refl
+own (Read most) = Once (Moves (movement.Read most)) refl
+own (Write bytes) = Once (Moves (movement.Write bytes)) refl
+own Finish = Once (hears (Either ClosingDataConnection RequestedFileActionOk) (Finishes None)) refl
+own Abort = Once (hears (One ClosingDataConnection) Stops) refl
+own Leave = Once (Moves movement.Close) refl
+own Drain = Once (hears (Either ClosingDataConnection RequestedFileActionOk) Drains) refl
+
+-- at its first turn and at its last
+abbrev pub at_turn : Own → Bool → Row
+at_turn (Once row is) first = row
+at_turn (Twice command codes status next last) true = says command codes (GoesOn status)
+at_turn (Twice command codes status next last) false = says next last Done
+
 abbrev pub own_row : Call → Bool → Row
-own_row Greet first = hears (One Ready) Greets
-own_row (Login user password) true = says (command.User user) (Either LoggedIn NeedPassword) (GoesOn NeedPassword)
-own_row (Login user password) false = says (command.Pass password) (One LoggedIn) Done
-own_row (Cwd directory) first = says (command.Cwd directory) (Either CommandOk RequestedFileActionOk) Done
-own_row Cdup first = says command.Cdup (Either CommandOk RequestedFileActionOk) Done
-own_row Pwd first = says command.Pwd (One PathCreated) GivesPath
-own_row Noop first = says command.Noop (One CommandOk) Done
-own_row (Eprt address) first = says (command.Eprt address) (One CommandOk) Done
-own_row (Opts name value) first = says (command.Opts name value) (One CommandOk) Done
-own_row (Site words) first = says (command.Site words) (One CommandOk) GivesReply
-own_row (TransferType kind) first = says (command.TransferType kind) (One CommandOk) (SetsText (is_ascii kind))
-own_row (Mkdir path) first = says (command.Mkd path) (Either PathCreated CommandOk) Done
-own_row (Rmdir path) first = says (command.Rmd path) (Either RequestedFileActionOk CommandOk) Done
-own_row (Rm path) first = says (command.Dele path) (Either RequestedFileActionOk CommandOk) Done
-own_row (Rename one other) true = says (command.RenameFrom one) (One RequestFilePending) (GoesOn RequestFilePending)
-own_row (Rename one other) false = says (command.RenameTo other) (Either RequestedFileActionOk CommandOk) Done
-own_row Quit first = says command.Quit (One Closing) Done
-own_row (Mlst path) first = says (command.Mlst path) (One RequestedFileActionOk) GivesSecondLine
-own_row (Mdtm path) first = says (command.Mdtm path) (One File) GivesTime
-own_row (Size path) first = says (command.Size path) (One File) GivesSize
-own_row Feat first = says command.Feat Features GivesFeatures
-own_row (CustomCommand line codes) first = says (command.Custom line) (Given codes) GivesReply
-own_row (ReadResponse status) first = hears (One status) GivesReply
-own_row (ReadResponseIn codes) first = hears (Given codes) GivesReply
-own_row (ResumeTransfer offset) first = Arms offset
-own_row (RetrAsStream path) first = says (command.Retr path) (Either AboutToSend AlreadyOpen) (Opens false)
-own_row (PutWithStream path) first = says (command.Store path) (Either AlreadyOpen AboutToSend) (Opens false)
-own_row (AppendWithStream path) first = says (command.Appe path) (Either AlreadyOpen AboutToSend) (Opens false)
-own_row (CustomDataCommand line codes) first = says (command.Custom line) (Given codes) (Opens true)
-own_row (Retr path) first = fetches (command.Retr path) Whole
-own_row (Listing path) first = fetches (command.List path) Listed
-own_row (Nlst path) first = fetches (command.Nlst path) Listed
-own_row (Mlsd path) first = fetches (command.Mlsd path) Listed
-own_row (PutFile path bytes) first = stores (command.Store path) bytes
-own_row (AppendFile path bytes) first = stores (command.Appe path) bytes
-own_row (Set setting) first = Sets setting
-own_row (Read most) first = Moves (movement.Read most)
-own_row (Write bytes) first = Moves (movement.Write bytes)
-own_row Finish first = hears (Either ClosingDataConnection RequestedFileActionOk) (Finishes None)
-own_row Abort first = hears (One ClosingDataConnection) Stops
-own_row Leave first = Moves movement.Close
-own_row Drain first = hears (Either ClosingDataConnection RequestedFileActionOk) Drains
+own_row call first = at_turn (own call) first
 
 -- what a call does at this turn. Before the command that opens a data connection the server is asked where to connect,
 -- or told where the client listens, and told the offset; after a data connection was closed the transfer's last reply
@@ -176,11 +207,6 @@ gives_reply (Performs task) = false
 gives_reply (Finishes fault) = false
 gives_reply Drains = false
 gives_reply Stops = false
-
--- the end of a transfer that was left is heard
-abbrev pub is_draining : Ending → Bool
-is_draining Drains = true
-is_draining other = false
 
 -- the ending of a row that is an exchange
 abbrev pub ending_of : Row → Option Ending

@@ -1,2 +1,3 @@
 pub mod Active
 pub mod Exchanges
+pub mod Kinds

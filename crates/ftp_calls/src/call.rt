@@ -3,13 +3,27 @@
 //! A call is a value with its arguments, so that a list of calls can be played by the definition and by a session, and
 //! the two compared. Events are what a polled run is made of: the server's bytes come, a call begins, is polled, is
 //! dropped.
+//!
+//! Beside each call stand what it does by itself, and the function that makes it with texts of its own.
 
+ghost use Rattle.std.specs.Prelude.{◌≡◌, IfOk};
+ghost use Rattle.std.specs.Option.{option_map};
+ghost use Rattle.ftp_calls.specs.Exchanges.{own_row};
+ghost use Rattle.ftp_calls.specs.Kinds.{GivesNothing, GivesReply, GivesSize, GivesText, GivesTime, IsOpening};
+
+use crate::exchange::{Codes, Ending, Fetch, Movement, Row};
 use crate::lines::Lines;
+use crate::row::{
+    custom, done_or_ok, ended, ended_alone, fetched, hears, last_reply, login, ok, ok_or_done,
+    rename, says, sent, stored, stored_whole, transfer_type,
+};
+use ftp_base::command::Command;
 use ftp_base::status::Status;
 use ftp_base::types::{
     ActivePeerCheck, Bytes, Features, FileType, FtpError, Items, Mode, Response, Text,
 };
 use jiff::civil::DateTime;
+use std::alloc::{AllocError, Global};
 use std::net::SocketAddr;
 use std::time::Duration;
 
@@ -27,7 +41,7 @@ pub enum Setting {
 }
 
 /// A call of a session, with its arguments.
-#[derive(Clone, Drop)]
+#[derive(Drop)]
 pub enum Call {
     /// The greeting is read (220).
     Greet,
@@ -113,6 +127,338 @@ pub enum Call {
     Leave,
     /// The last reply of a transfer that was left is read (226, 250); a reply of another status ends it as well.
     Drain,
+}
+
+impl Call {
+    /// The same call, with texts of its own.
+    ///
+    /// # Errors
+    /// No memory for the texts.
+    pub fn copied(&self) -> Result<Call, AllocError>
+        ensures { IfOk result (λ copy. copy ≡ self.now) }
+    {
+        match self {
+            Call::Greet => Ok(Call::Greet),
+            Call::Login(user, password) => Ok(Call::Login(user.clone()?, password.clone()?)),
+            Call::Cwd(path) => Ok(Call::Cwd(path.clone()?)),
+            Call::Cdup => Ok(Call::Cdup),
+            Call::Pwd => Ok(Call::Pwd),
+            Call::Noop => Ok(Call::Noop),
+            Call::Eprt(address) => Ok(Call::Eprt(*address)),
+            Call::Opts(name, value) => Ok(Call::Opts(name.clone()?, value.clone()?)),
+            Call::Site(words) => Ok(Call::Site(words.clone()?)),
+            Call::TransferType(kind) => Ok(Call::TransferType(kind.clone()?)),
+            Call::Mkdir(path) => Ok(Call::Mkdir(path.clone()?)),
+            Call::Rmdir(path) => Ok(Call::Rmdir(path.clone()?)),
+            Call::Rm(path) => Ok(Call::Rm(path.clone()?)),
+            Call::Rename(from, to) => Ok(Call::Rename(from.clone()?, to.clone()?)),
+            Call::Quit => Ok(Call::Quit),
+            Call::Mlst(path) => Ok(Call::Mlst(path.clone()?)),
+            Call::Mdtm(path) => Ok(Call::Mdtm(path.clone()?)),
+            Call::Size(path) => Ok(Call::Size(path.clone()?)),
+            Call::Feat => Ok(Call::Feat),
+            Call::CustomCommand(line, codes) => {
+                Ok(Call::CustomCommand(line.clone()?, codes.clone()?))
+            }
+            Call::ReadResponse(status) => Ok(Call::ReadResponse(*status)),
+            Call::ReadResponseIn(codes) => Ok(Call::ReadResponseIn(codes.clone()?)),
+            Call::ResumeTransfer(offset) => Ok(Call::ResumeTransfer(*offset)),
+            Call::RetrAsStream(path) => Ok(Call::RetrAsStream(path.clone()?)),
+            Call::PutWithStream(path) => Ok(Call::PutWithStream(path.clone()?)),
+            Call::AppendWithStream(path) => Ok(Call::AppendWithStream(path.clone()?)),
+            Call::CustomDataCommand(line, codes) => {
+                Ok(Call::CustomDataCommand(line.clone()?, codes.clone()?))
+            }
+            Call::Retr(path) => Ok(Call::Retr(path.clone()?)),
+            Call::List(path) => Ok(Call::List(path.clone()?)),
+            Call::Nlst(path) => Ok(Call::Nlst(path.clone()?)),
+            Call::Mlsd(path) => Ok(Call::Mlsd(path.clone()?)),
+            Call::PutFile(path, bytes) => Ok(Call::PutFile(path.clone()?, bytes.clone()?)),
+            Call::AppendFile(path, bytes) => Ok(Call::AppendFile(path.clone()?, bytes.clone()?)),
+            Call::Set(setting) => Ok(Call::Set(setting.clone()?)),
+            Call::Read(most) => Ok(Call::Read(*most)),
+            Call::Write(bytes) => Ok(Call::Write(bytes.clone()?)),
+            Call::Finish => Ok(Call::Finish),
+            Call::Abort => Ok(Call::Abort),
+            Call::Leave => Ok(Call::Leave),
+            Call::Drain => Ok(Call::Drain),
+        }
+    }
+}
+
+/// What a call does by itself, at its first turn or at its last, with texts of its own.
+///
+/// # Errors
+/// No memory for the texts.
+pub(crate) fn own_row(call: &Call, first: bool) -> Result<Row, AllocError>
+    ensures { IfOk result (λ row. row ≡ own_row call.now first) }
+{
+    match call {
+        Call::Greet => Ok(hears(Codes::One(Status::Ready), Ending::Greets)),
+        Call::Login(user, password) => login(user, password, first),
+        Call::Cwd(path) => Ok(says(Command::Cwd(path.clone()?), ok_or_done(), Ending::Done)),
+        Call::Cdup => Ok(says(Command::Cdup, ok_or_done(), Ending::Done)),
+        Call::Pwd => {
+            let codes = Codes::One(Status::PathCreated);
+            Ok(says(Command::Pwd, codes, Ending::GivesPath))
+        }
+        Call::Noop => Ok(says(Command::Noop, ok(), Ending::Done)),
+        Call::Eprt(address) => Ok(says(Command::Eprt(*address), ok(), Ending::Done)),
+        Call::Opts(name, value) => {
+            let (name, value) = (name.clone()?, value.clone()?);
+            Ok(says(Command::Opts(name, value), ok(), Ending::Done))
+        }
+        Call::Site(words) => Ok(says(Command::Site(words.clone()?), ok(), Ending::GivesReply)),
+        Call::TransferType(kind) => transfer_type(kind, first),
+        Call::Mkdir(path) => {
+            let codes = Codes::Either(Status::PathCreated, Status::CommandOk);
+            Ok(says(Command::Mkd(path.clone()?), codes, Ending::Done))
+        }
+        Call::Rmdir(path) => Ok(says(Command::Rmd(path.clone()?), done_or_ok(), Ending::Done)),
+        Call::Rm(path) => Ok(says(Command::Dele(path.clone()?), done_or_ok(), Ending::Done)),
+        Call::Rename(from, to) => rename(from, to, first),
+        Call::Quit => Ok(says(Command::Quit, Codes::One(Status::Closing), Ending::Done)),
+        Call::Mlst(path) => {
+            let codes = Codes::One(Status::RequestedFileActionOk);
+            Ok(says(Command::Mlst(path.clone()?), codes, Ending::GivesSecondLine))
+        }
+        Call::Mdtm(path) => {
+            let codes = Codes::One(Status::File);
+            Ok(says(Command::Mdtm(path.clone()?), codes, Ending::GivesTime))
+        }
+        Call::Size(path) => {
+            let codes = Codes::One(Status::File);
+            Ok(says(Command::Size(path.clone()?), codes, Ending::GivesSize))
+        }
+        Call::Feat => Ok(says(Command::Feat, Codes::Features, Ending::GivesFeatures)),
+        Call::CustomCommand(line, codes) => custom(line, codes, Ending::GivesReply),
+        Call::ReadResponse(status) => Ok(hears(Codes::One(*status), Ending::GivesReply)),
+        Call::ReadResponseIn(codes) => Ok(hears(Codes::Given(codes.clone()?), Ending::GivesReply)),
+        Call::ResumeTransfer(offset) => Ok(Row::Arms(*offset)),
+        Call::RetrAsStream(path) => {
+            Ok(says(Command::Retr(path.clone()?), sent(), Ending::Opens(false)))
+        }
+        Call::PutWithStream(path) => {
+            Ok(says(
+                Command::Store(path.clone()?),
+                stored(),
+                Ending::Opens(false),
+            ))
+        }
+        Call::AppendWithStream(path) => {
+            Ok(says(Command::Appe(path.clone()?), stored(), Ending::Opens(false)))
+        }
+        Call::CustomDataCommand(line, codes) => custom(line, codes, Ending::Opens(true)),
+        Call::Retr(path) => Ok(fetched(Command::Retr(path.clone()?), Fetch::Whole)),
+        Call::List(path) => Ok(fetched(Command::List(path.clone()?), Fetch::Listed)),
+        Call::Nlst(path) => Ok(fetched(Command::Nlst(path.clone()?), Fetch::Listed)),
+        Call::Mlsd(path) => Ok(fetched(Command::Mlsd(path.clone()?), Fetch::Listed)),
+        Call::PutFile(path, bytes) => {
+            let (path, bytes) = (path.clone()?, bytes.clone()?);
+            Ok(stored_whole(Command::Store(path), bytes))
+        }
+        Call::AppendFile(path, bytes) => {
+            let (path, bytes) = (path.clone()?, bytes.clone()?);
+            Ok(stored_whole(Command::Appe(path), bytes))
+        }
+        Call::Set(setting) => Ok(Row::Sets(setting.clone()?)),
+        Call::Read(most) => Ok(Row::Moves(Movement::Read(*most))),
+        Call::Write(bytes) => Ok(Row::Moves(Movement::Write(bytes.clone()?))),
+        Call::Finish => Ok(last_reply(None)),
+        Call::Abort => Ok(hears(ended_alone(), Ending::Stops)),
+        Call::Leave => Ok(Row::Moves(Movement::Close)),
+        Call::Drain => Ok(hears(ended(), Ending::Drains)),
+    }
+}
+
+/// `CWD` as a call.
+pub fn cwd_call(alloc: Global, path: &str) -> Result<Call, AllocError>
+    ensures call { IfOk result (λ call. call ≡ Call.Cwd path.now) }
+    ensures kind { IfOk result GivesNothing }
+{
+    Ok(Call::Cwd(Text::from_str(alloc, path)?))
+}
+
+/// `SITE` as a call.
+pub fn site_call(alloc: Global, command: &str) -> Result<Call, AllocError>
+    ensures call { IfOk result (λ call. call ≡ Call.Site command.now) }
+    ensures kind { IfOk result GivesReply }
+{
+    Ok(Call::Site(Text::from_str(alloc, command)?))
+}
+
+/// `MKD` as a call.
+pub fn mkdir_call(alloc: Global, path: &str) -> Result<Call, AllocError>
+    ensures call { IfOk result (λ call. call ≡ Call.Mkdir path.now) }
+    ensures kind { IfOk result GivesNothing }
+{
+    Ok(Call::Mkdir(Text::from_str(alloc, path)?))
+}
+
+/// `RMD` as a call.
+pub fn rmdir_call(alloc: Global, path: &str) -> Result<Call, AllocError>
+    ensures call { IfOk result (λ call. call ≡ Call.Rmdir path.now) }
+    ensures kind { IfOk result GivesNothing }
+{
+    Ok(Call::Rmdir(Text::from_str(alloc, path)?))
+}
+
+/// `DELE` as a call.
+pub fn rm_call(alloc: Global, path: &str) -> Result<Call, AllocError>
+    ensures call { IfOk result (λ call. call ≡ Call.Rm path.now) }
+    ensures kind { IfOk result GivesNothing }
+{
+    Ok(Call::Rm(Text::from_str(alloc, path)?))
+}
+
+/// A login as a call.
+pub fn login_call(alloc: Global, user: &str, password: &str) -> Result<Call, AllocError>
+    ensures call { IfOk result (λ call. call ≡ Call.Login user.now password.now) }
+    ensures kind { IfOk result GivesNothing }
+{
+    let user = Text::from_str(alloc, user)?;
+    let password = Text::from_str(alloc, password)?;
+    Ok(Call::Login(user, password))
+}
+
+/// A renaming as a call.
+pub fn rename_call(alloc: Global, from: &str, to: &str) -> Result<Call, AllocError>
+    ensures call { IfOk result (λ call. call ≡ Call.Rename from.now to.now) }
+    ensures kind { IfOk result GivesNothing }
+{
+    let from = Text::from_str(alloc, from)?;
+    let to = Text::from_str(alloc, to)?;
+    Ok(Call::Rename(from, to))
+}
+
+/// `OPTS` as a call.
+pub fn opts_call(alloc: Global, option: &str, value: Option<&str>) -> Result<Call, AllocError>
+    ensures call { IfOk result (λ call. call ≡
+        Call.Opts option.now (option_map (λ text. text.now) value.entry)) }
+    ensures kind { IfOk result GivesNothing }
+{
+    let option = Text::from_str(alloc, option)?;
+    let value = optional_text(alloc, value)?;
+    Ok(Call::Opts(option, value))
+}
+
+/// A caller-supplied line as a call.
+pub fn custom_call(alloc: Global, line: &str, expected: &[Status]) -> Result<Call, AllocError>
+    ensures call { IfOk result (λ call. call ≡ Call.CustomCommand line.now expected.now) }
+    ensures kind { IfOk result GivesReply }
+{
+    let line = Text::from_str(alloc, line)?;
+    let expected = Items::from_vec(Vec::from_slice(alloc, expected)?);
+    Ok(Call::CustomCommand(line, expected))
+}
+
+/// A read as a call.
+pub fn read_call(alloc: Global, expected: &[Status]) -> Result<Call, AllocError>
+    ensures call { IfOk result (λ call. call ≡ Call.ReadResponseIn expected.now) }
+    ensures kind { IfOk result GivesReply }
+{
+    let expected = Items::from_vec(Vec::from_slice(alloc, expected)?);
+    Ok(Call::ReadResponseIn(expected))
+}
+
+/// `MLST` as a call.
+pub fn mlst_call(alloc: Global, path: Option<&str>) -> Result<Call, AllocError>
+    ensures call { IfOk result (λ call. call ≡ Call.Mlst (option_map (λ text. text.now) path.entry)) }
+    ensures kind { IfOk result GivesText }
+{
+    Ok(Call::Mlst(optional_text(alloc, path)?))
+}
+
+/// `MDTM` as a call.
+pub fn mdtm_call(alloc: Global, path: &str) -> Result<Call, AllocError>
+    ensures call { IfOk result (λ call. call ≡ Call.Mdtm path.now) }
+    ensures kind { IfOk result GivesTime }
+{
+    Ok(Call::Mdtm(Text::from_str(alloc, path)?))
+}
+
+/// `SIZE` as a call.
+pub fn size_call(alloc: Global, path: &str) -> Result<Call, AllocError>
+    ensures call { IfOk result (λ call. call ≡ Call.Size path.now) }
+    ensures kind { IfOk result GivesSize }
+{
+    Ok(Call::Size(Text::from_str(alloc, path)?))
+}
+
+/// `RETR` of a whole file, as a call.
+pub fn retr_call(alloc: Global, path: &str) -> Result<Call, AllocError>
+    ensures call { IfOk result (λ call. call ≡ Call.Retr path.now) }
+    ensures kind { IfOk result IsOpening }
+{
+    Ok(Call::Retr(Text::from_str(alloc, path)?))
+}
+
+/// `LIST` as a call.
+pub fn list_call(alloc: Global, path: Option<&str>) -> Result<Call, AllocError>
+    ensures call { IfOk result (λ call. call ≡ Call.List (option_map (λ text. text.now) path.entry)) }
+    ensures kind { IfOk result IsOpening }
+{
+    Ok(Call::List(optional_text(alloc, path)?))
+}
+
+/// `NLST` as a call.
+pub fn nlst_call(alloc: Global, path: Option<&str>) -> Result<Call, AllocError>
+    ensures call { IfOk result (λ call. call ≡ Call.Nlst (option_map (λ text. text.now) path.entry)) }
+    ensures kind { IfOk result IsOpening }
+{
+    Ok(Call::Nlst(optional_text(alloc, path)?))
+}
+
+/// `MLSD` as a call.
+pub fn mlsd_call(alloc: Global, path: Option<&str>) -> Result<Call, AllocError>
+    ensures call { IfOk result (λ call. call ≡ Call.Mlsd (option_map (λ text. text.now) path.entry)) }
+    ensures kind { IfOk result IsOpening }
+{
+    Ok(Call::Mlsd(optional_text(alloc, path)?))
+}
+
+/// `RETR` as a call.
+pub fn retr_stream_call(alloc: Global, path: &str) -> Result<Call, AllocError>
+    ensures call { IfOk result (λ call. call ≡ Call.RetrAsStream path.now) }
+    ensures kind { IfOk result IsOpening }
+{
+    Ok(Call::RetrAsStream(Text::from_str(alloc, path)?))
+}
+
+/// `STOR` as a call.
+pub fn put_call(alloc: Global, path: &str) -> Result<Call, AllocError>
+    ensures call { IfOk result (λ call. call ≡ Call.PutWithStream path.now) }
+    ensures kind { IfOk result IsOpening }
+{
+    Ok(Call::PutWithStream(Text::from_str(alloc, path)?))
+}
+
+/// `APPE` as a call.
+pub fn append_call(alloc: Global, path: &str) -> Result<Call, AllocError>
+    ensures call { IfOk result (λ call. call ≡ Call.AppendWithStream path.now) }
+    ensures kind { IfOk result IsOpening }
+{
+    Ok(Call::AppendWithStream(Text::from_str(alloc, path)?))
+}
+
+/// A caller-supplied line that opens a data connection, as a call.
+pub fn custom_data_call(alloc: Global, line: &str, expected: &[Status]) -> Result<Call, AllocError>
+    ensures call { IfOk result (λ call. call ≡ Call.CustomDataCommand line.now expected.now) }
+    ensures kind { IfOk result IsOpening }
+{
+    let line = Text::from_str(alloc, line)?;
+    let expected = Items::from_vec(Vec::from_slice(alloc, expected)?);
+    Ok(Call::CustomDataCommand(line, expected))
+}
+
+/// A text that may be left out.
+fn optional_text(alloc: Global, text: Option<&str>) -> Result<Option<Text>, AllocError>
+    ensures { IfOk result (λ copy. copy ≡ option_map (λ text. text.now) text.entry) }
+{
+    match text {
+        Some(text) => Ok(Some(Text::from_str(alloc, text)?)),
+        None => Ok(None),
+    }
 }
 
 /// The answer of a call in a run.

@@ -1,17 +1,17 @@
 //! What each call says and hears (RFC 959, sections 4.1, 5.4 and 6): one row a turn, which is an exchange or a change
 //! of settings. A call that opens a data connection negotiates before its own row.
 //!
-//! All that the machine does with a call follows from its row. A new call of one command and one reply is a variant
-//! of `Call`, a row of `own_row`, and its row in the definition.
+//! All that the machine does with a call follows from its row.
 
-ghost use Rattle.std.specs.Prelude.{◌≡◌, Bool, IfOk};
-ghost use Rattle.ftp_calls.specs.Exchanges.{aborts, drains, drains_first, finishes, fetches, hears, is_local, negotiates, next_turn, of_transfer, own_row, restarted, restarts, row_of, says, stores, uploads};
+ghost use Rattle.std.specs.Prelude.{◌≡◌, IfOk};
+ghost use Rattle.ftp_calls.specs.Exchanges.{aborts, drains, drains_first, finishes, is_local, negotiates, next_turn, of_transfer, restarted, restarts, row_of, uploads};
 
 use crate::active::port_command;
-use crate::call::{Call, Setting};
+use crate::call::{Call, Setting, own_row};
+use crate::row::{aborted, hears, last_reply, ok, says};
 use ftp_base::command::Command;
 use ftp_base::status::Status;
-use ftp_base::types::{FileType, Items, Text};
+use ftp_base::types::Items;
 use std::alloc::{AllocError, Global};
 use std::io::ErrorKind;
 use std::net::SocketAddr;
@@ -152,8 +152,8 @@ pub fn row_at(alloc: Global, call: &Call, turn: Turn) -> Result<Row, AllocError>
     ensures { IfOk result (λ row. row ≡ row_of call.now turn) }
 {
     match turn {
-        Turn::First => own_row_at(call, true),
-        Turn::Second => own_row_at(call, false),
+        Turn::First => own_row(call, true),
+        Turn::Second => own_row(call, false),
         Turn::Passive(_offset) => {
             let codes = Codes::One(Status::PassiveMode);
             Ok(says(Command::Pasv, codes, Ending::GivesAddress))
@@ -173,13 +173,6 @@ pub fn row_at(alloc: Global, call: &Call, turn: Turn) -> Result<Row, AllocError>
         Turn::Closed(fault) => Ok(last_reply(fault)),
         Turn::Aborted => Ok(hears(aborted(), Ending::Stops)),
     }
-}
-
-/// What a call does by itself, with texts of its own.
-fn own_row_at(call: &Call, first: bool) -> Result<Row, AllocError>
-    ensures { IfOk result (λ row. row ≡ own_row call.now first) }
-{
-    Ok(own_row(call.clone()?, first))
 }
 
 /// Whether a call opens a data connection, and so negotiates first.
@@ -304,223 +297,4 @@ fn restarts(call: &Call) -> bool
             | Call::PutFile(..)
             | Call::AppendFile(..)
     )
-}
-
-/// What a call does by itself, at its first turn or at its last.
-fn own_row(call: Call, first: bool) -> Row
-    ensures { result ≡ own_row call first }
-{
-    match call {
-        Call::Greet => hears(Codes::One(Status::Ready), Ending::Greets),
-        Call::Login(user, password) => login(user, password, first),
-        Call::Cwd(directory) => says(Command::Cwd(directory), ok_or_done(), Ending::Done),
-        Call::Cdup => says(Command::Cdup, ok_or_done(), Ending::Done),
-        Call::Pwd => says(
-            Command::Pwd,
-            Codes::One(Status::PathCreated),
-            Ending::GivesPath,
-        ),
-        Call::Noop => says(Command::Noop, ok(), Ending::Done),
-        Call::Eprt(address) => says(Command::Eprt(address), ok(), Ending::Done),
-        Call::Opts(name, value) => says(Command::Opts(name, value), ok(), Ending::Done),
-        Call::Site(words) => says(Command::Site(words), ok(), Ending::GivesReply),
-        Call::TransferType(kind) => transfer_type(kind),
-        Call::Mkdir(path) => {
-            let codes = Codes::Either(Status::PathCreated, Status::CommandOk);
-            says(Command::Mkd(path), codes, Ending::Done)
-        }
-        Call::Rmdir(path) => says(Command::Rmd(path), done_or_ok(), Ending::Done),
-        Call::Rm(path) => says(Command::Dele(path), done_or_ok(), Ending::Done),
-        Call::Rename(from, to) => rename(from, to, first),
-        Call::Quit => says(Command::Quit, Codes::One(Status::Closing), Ending::Done),
-        Call::Mlst(path) => {
-            let codes = Codes::One(Status::RequestedFileActionOk);
-            says(Command::Mlst(path), codes, Ending::GivesSecondLine)
-        }
-        Call::Mdtm(path) => says(
-            Command::Mdtm(path),
-            Codes::One(Status::File),
-            Ending::GivesTime,
-        ),
-        Call::Size(path) => says(
-            Command::Size(path),
-            Codes::One(Status::File),
-            Ending::GivesSize,
-        ),
-        Call::Feat => says(Command::Feat, Codes::Features, Ending::GivesFeatures),
-        Call::CustomCommand(line, codes) => {
-            says(
-                Command::Custom(line),
-                Codes::Given(codes),
-                Ending::GivesReply,
-            )
-        }
-        Call::ReadResponse(status) => hears(Codes::One(status), Ending::GivesReply),
-        Call::ReadResponseIn(codes) => hears(Codes::Given(codes), Ending::GivesReply),
-        Call::ResumeTransfer(offset) => Row::Arms(offset),
-        Call::RetrAsStream(path) => says(Command::Retr(path), sent(), Ending::Opens(false)),
-        Call::PutWithStream(path) => says(Command::Store(path), stored(), Ending::Opens(false)),
-        Call::AppendWithStream(path) => says(Command::Appe(path), stored(), Ending::Opens(false)),
-        Call::CustomDataCommand(line, codes) => {
-            says(
-                Command::Custom(line),
-                Codes::Given(codes),
-                Ending::Opens(true),
-            )
-        }
-        Call::Retr(path) => fetched(Command::Retr(path), Fetch::Whole),
-        Call::List(path) => fetched(Command::List(path), Fetch::Listed),
-        Call::Nlst(path) => fetched(Command::Nlst(path), Fetch::Listed),
-        Call::Mlsd(path) => fetched(Command::Mlsd(path), Fetch::Listed),
-        Call::PutFile(path, bytes) => stored_whole(Command::Store(path), bytes),
-        Call::AppendFile(path, bytes) => stored_whole(Command::Appe(path), bytes),
-        Call::Set(setting) => Row::Sets(setting),
-        Call::Read(most) => Row::Moves(Movement::Read(most)),
-        Call::Write(bytes) => Row::Moves(Movement::Write(bytes)),
-        Call::Finish => last_reply(None),
-        Call::Abort => hears(ended_alone(), Ending::Stops),
-        Call::Leave => Row::Moves(Movement::Close),
-        Call::Drain => hears(ended(), Ending::Drains),
-    }
-}
-
-/// The last reply of a transfer (226, 250), after this fault of the close, if it failed.
-fn last_reply(fault: Option<ErrorKind>) -> Row
-    ensures { result ≡ row_of Call.Finish (Turn.Closed fault) }
-{
-    hears(ended(), Ending::Finishes(fault))
-}
-
-/// 226 or 426.
-fn aborted() -> Codes
-    ensures { result ≡ Codes.Either Status.ClosingDataConnection Status.TransferAborted }
-{
-    Codes::Either(Status::ClosingDataConnection, Status::TransferAborted)
-}
-
-/// 226.
-fn ended_alone() -> Codes
-    ensures { result ≡ Codes.One Status.ClosingDataConnection }
-{
-    Codes::One(Status::ClosingDataConnection)
-}
-
-/// 226 or 250.
-fn ended() -> Codes
-    ensures { result ≡ Codes.Either Status.ClosingDataConnection Status.RequestedFileActionOk }
-{
-    Codes::Either(Status::ClosingDataConnection, Status::RequestedFileActionOk)
-}
-
-/// `USER`, and after 331 `PASS`.
-fn login(user: Text, password: Text, first: bool) -> Row
-    ensures { result ≡ own_row (Call.Login user password) first }
-{
-    if first {
-        says(
-            Command::User(user),
-            Codes::Either(Status::LoggedIn, Status::NeedPassword),
-            Ending::GoesOn(Status::NeedPassword),
-        )
-    } else {
-        says(
-            Command::Pass(password),
-            Codes::One(Status::LoggedIn),
-            Ending::Done,
-        )
-    }
-}
-
-/// `RNFR`, and after 350 `RNTO`.
-fn rename(from: Text, to: Text, first: bool) -> Row
-    ensures { result ≡ own_row (Call.Rename from to) first }
-{
-    if first {
-        says(
-            Command::RenameFrom(from),
-            Codes::One(Status::RequestFilePending),
-            Ending::GoesOn(Status::RequestFilePending),
-        )
-    } else {
-        says(Command::RenameTo(to), done_or_ok(), Ending::Done)
-    }
-}
-
-/// `TYPE`: transfers are of text where the type is ASCII.
-fn transfer_type(kind: FileType) -> Row
-    ensures { (first : Bool) → result ≡ own_row (Call.TransferType kind) first }
-{
-    let text = matches!(kind, FileType::Ascii(_));
-    says(Command::TransferType(kind), ok(), Ending::SetsText(text))
-}
-
-/// A command (150, 125) whose data are read whole.
-fn fetched(command: Command, form: Fetch) -> Row
-    ensures { result ≡ fetches command form }
-{
-    says(command, sent(), Ending::Performs(Task::Fetch(form)))
-}
-
-/// A command (125, 150) whose data are these bytes.
-fn stored_whole(command: Command, bytes: Items<u8>) -> Row
-    ensures { result ≡ stores command bytes }
-{
-    says(command, stored(), Ending::Performs(Task::Store(bytes)))
-}
-
-/// 150 or 125.
-fn sent() -> Codes
-    ensures { result ≡ Codes.Either Status.AboutToSend Status.AlreadyOpen }
-{
-    Codes::Either(Status::AboutToSend, Status::AlreadyOpen)
-}
-
-/// 125 or 150.
-fn stored() -> Codes
-    ensures { result ≡ Codes.Either Status.AlreadyOpen Status.AboutToSend }
-{
-    Codes::Either(Status::AlreadyOpen, Status::AboutToSend)
-}
-
-/// 200.
-fn ok() -> Codes
-    ensures { result ≡ Codes.One Status.CommandOk }
-{
-    Codes::One(Status::CommandOk)
-}
-
-/// 200 or 250.
-fn ok_or_done() -> Codes
-    ensures { result ≡ Codes.Either Status.CommandOk Status.RequestedFileActionOk }
-{
-    Codes::Either(Status::CommandOk, Status::RequestedFileActionOk)
-}
-
-/// 250 or 200.
-fn done_or_ok() -> Codes
-    ensures { result ≡ Codes.Either Status.RequestedFileActionOk Status.CommandOk }
-{
-    Codes::Either(Status::RequestedFileActionOk, Status::CommandOk)
-}
-
-/// A command and its reply.
-fn says(command: Command, codes: Codes, ending: Ending) -> Row
-    ensures { result ≡ says command codes ending }
-{
-    Row::Exchanges(Exchange {
-        says: Some(command),
-        hears: codes,
-        ending,
-    })
-}
-
-/// A reply alone.
-fn hears(codes: Codes, ending: Ending) -> Row
-    ensures { result ≡ hears codes ending }
-{
-    Row::Exchanges(Exchange {
-        says: None,
-        hears: codes,
-        ending,
-    })
 }

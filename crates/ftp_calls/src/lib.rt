@@ -8,3 +8,4 @@ pub mod active;
 pub mod call;
 pub mod exchange;
 pub mod lines;
+mod row;

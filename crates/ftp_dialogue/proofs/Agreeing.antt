@@ -1,74 +1,59 @@
 -- Which exchanges lead to a data connection.
-use Rattle.std.proofs.Common.{◌≡◌, ◌<◌, ◌-◌, ◌+◌, Bool, true, false, Option, Some, None, inl, inr, ◌⊎◌, refl, ap, sym, ◌∙◌, subst, arith}
-use Rattle.ftp_calls.proofs.Openings.{opens_alike}
+use Rattle.std.proofs.Common.{◌≡◌, ◌<◌, ◌-◌, ◌+◌, Bool, true, false, not, ◌&&◌, ◌||◌, is_none, Option, Some, None, inl, inr, ◌⊎◌, refl, ap, sym, ◌∙◌, subst, arith}
+use Rattle.ftp_calls.proofs.Openings.{opens_alike, row_is_own}
 use Rattle.ftp_calls.specs.declared.call.Answer.{Answer}
 use Rattle.ftp_calls.specs.declared.call.Call.{Call}
-use Rattle.ftp_calls.specs.declared.call.Call.TheVariants.{Greet, Login, Cwd, Cdup, Pwd, Noop, Eprt, Opts, Site, TransferType, Mkdir, Rmdir, Rm, Rename, Quit, Mlst, Mdtm, Size, Feat, CustomCommand, ReadResponse, ReadResponseIn, ResumeTransfer, RetrAsStream, PutWithStream, AppendWithStream, CustomDataCommand, Retr, List as Listing, Nlst, Mlsd, PutFile, AppendFile, Set, Read, Write, Finish, Abort, Leave, Drain}
 use Rattle.ftp_calls.specs.declared.exchange.Ending.{Ending}
-use Rattle.ftp_calls.specs.declared.exchange.Ending.TheVariants.{Finishes, Stops}
+use Rattle.ftp_calls.specs.declared.exchange.Ending.TheVariants.{Done, GivesReply, Greets, GivesPath, GivesSecondLine, GivesTime, GivesSize, GivesFeatures, SetsText, GoesOn, Continues, GivesAddress, GivesPort, Opens, Performs, Finishes, Drains, Stops}
 use Rattle.ftp_dialogue.proofs.Sorts.{finishing_moves, aborts_finish}
 use Rattle.ftp_calls.specs.declared.exchange.Task.{Task}
 use Rattle.ftp_calls.specs.declared.exchange.Row.{Row}
 use Rattle.ftp_calls.specs.declared.exchange.Row.TheVariants.{Exchanges, Arms, Sets, Moves}
 use Rattle.ftp_calls.specs.declared.exchange.Turn.{Turn}
 use Rattle.ftp_calls.specs.declared.exchange.Turn.TheVariants.{First, Second, Passive, ExtendedPassive, Active, Restart, Closed, Aborted}
-use Rattle.ftp_calls.specs.Exchanges.{Kind, ending_of, given_by, kind_of, kind_of_task, negotiates, opens, own_row, row_of}
+use Rattle.ftp_calls.specs.Exchanges.{Kind, ending_of, given_by, is_draining, is_negotiating, is_opening, is_own, kind_of, kind_of_task, negotiates, opens, own_row, row_of}
+use Rattle.ftp_calls.specs.Kinds.{Gives}
 use Rattle.ftp_dialogue.specs.declared.stage.Asking.{Asking}
 use Rattle.ftp_dialogue.specs.declared.stage.Asking.TheVariants.{PeerPort, Connection, Peer, Accepting}
 use Rattle.ftp_dialogue.specs.declared.stage.Opened.TheVariants.{Gives as GivesAnswer, Performs as PerformsAll}
 use Rattle.ftp_dialogue.specs.Dialogue.{most_reads, strangers}
 use Rattle.ftp_dialogue.specs.Promises.{IsFault}
 use Rattle.ftp_dialogue.specs.Steps.Moving.{AskingAnswers, agrees}
-use Rattle.ftp_dialogue.specs.Steps.Stages.{AnswersKind, AskingOf, Gives, MayAnswer, MayPerform, TurnOf, nodes_asked, nodes_from}
+use Rattle.ftp_dialogue.specs.Steps.Stages.{AnswersKind, AskingOf, MayAnswer, MayPerform, TurnOf, nodes_asked, nodes_from}
 
 abbrev pub row_agrees : Option Ending → Bool
 row_agrees None = false
 row_agrees (Some ending) = agrees ending
 
 -- of a call's own rows only that which opens a data connection leads to one
+ending_agrees : (e : Ending) (rest : Bool) → not (is_negotiating e) && rest ≡ true → agrees e ≡ is_opening e
+ending_agrees Done rest own = refl
+ending_agrees GivesReply rest own = refl
+ending_agrees Greets rest own = refl
+ending_agrees GivesPath rest own = refl
+ending_agrees GivesSecondLine rest own = refl
+ending_agrees GivesTime rest own = refl
+ending_agrees GivesSize rest own = refl
+ending_agrees GivesFeatures rest own = refl
+ending_agrees (SetsText text) rest own = refl
+ending_agrees (GoesOn status) rest own = refl
+ending_agrees Continues rest own = let clash : false ≡ true = own in cc
+ending_agrees GivesAddress rest own = let clash : false ≡ true = own in cc
+ending_agrees GivesPort rest own = let clash : false ≡ true = own in cc
+ending_agrees (Opens replies) rest own = refl
+ending_agrees (Performs task) rest own = refl
+ending_agrees (Finishes close) rest own = refl
+ending_agrees Drains rest own = refl
+ending_agrees Stops rest own = refl
+
+row_own_agrees : (row : Row) → is_own row ≡ true → row_agrees (ending_of row) ≡ opens row
+row_own_agrees (Exchanges exchange) own = ending_agrees exchange.ending (not (is_draining exchange.ending) || is_none exchange.says) own
+row_own_agrees (Arms offset) own = refl
+row_own_agrees (Sets setting) own = refl
+row_own_agrees (Moves movement) own = refl
+
 pub own_agrees : (call : Call) (first : Bool) → row_agrees (ending_of (own_row call first)) ≡ opens (own_row call first)
-own_agrees Greet first = refl
-own_agrees (Login u p) true = refl
-own_agrees (Login u p) false = refl
-own_agrees (Cwd p) first = refl
-own_agrees Cdup first = refl
-own_agrees Pwd first = refl
-own_agrees Noop first = refl
-own_agrees (Eprt a) first = refl
-own_agrees (Opts n v) first = refl
-own_agrees (Site w) first = refl
-own_agrees (TransferType k) first = refl
-own_agrees (Mkdir p) first = refl
-own_agrees (Rmdir p) first = refl
-own_agrees (Rm p) first = refl
-own_agrees (Rename a b) true = refl
-own_agrees (Rename a b) false = refl
-own_agrees Quit first = refl
-own_agrees (Mlst p) first = refl
-own_agrees (Mdtm p) first = refl
-own_agrees (Size p) first = refl
-own_agrees Feat first = refl
-own_agrees (CustomCommand l c) first = refl
-own_agrees (ReadResponse s) first = refl
-own_agrees (ReadResponseIn c) first = refl
-own_agrees (ResumeTransfer o) first = refl
-own_agrees (RetrAsStream p) first = refl
-own_agrees (PutWithStream p) first = refl
-own_agrees (AppendWithStream p) first = refl
-own_agrees (CustomDataCommand l c) first = refl
-own_agrees (Retr p) first = refl
-own_agrees (Listing p) first = refl
-own_agrees (Nlst p) first = refl
-own_agrees (Mlsd p) first = refl
-own_agrees (PutFile p b) first = refl
-own_agrees (AppendFile p b) first = refl
-own_agrees (Set s) first = refl
-own_agrees (Read n) first = refl
-own_agrees (Write b) first = refl
-own_agrees Finish first = refl
-own_agrees Abort first = refl
-own_agrees Leave first = refl
-own_agrees Drain first = refl
+own_agrees call first = row_own_agrees (own_row call first) (row_is_own call first)
 
 unfoldable some_ending : Ending → Option Ending → Ending
 some_ending other None = other

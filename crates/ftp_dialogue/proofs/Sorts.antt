@@ -1,7 +1,7 @@
 -- Which calls go over the control connection, which open a data connection, and which bring a transfer to its end.
 use Rattle.std.proofs.Common.{◌≡◌, ◌⊎◌, inl, inr, Bool, true, false, ◌&&◌, ◌||◌, is_none, refl, ap, sym, ◌∙◌}
+use Rattle.ftp_calls.proofs.Openings.{local_alike}
 use Rattle.ftp_calls.specs.declared.call.Call.{Call}
-use Rattle.ftp_calls.specs.declared.call.Call.TheVariants.{Greet, Login, Cwd, Cdup, Pwd, Noop, Eprt, Opts, Site, TransferType, Mkdir, Rmdir, Rm, Rename, Quit, Mlst, Mdtm, Size, Feat, CustomCommand, ReadResponse, ReadResponseIn, ResumeTransfer, RetrAsStream, PutWithStream, AppendWithStream, CustomDataCommand, Retr, List as Listing, Nlst, Mlsd, PutFile, AppendFile, Set, Read, Write, Finish, Abort, Leave, Drain}
 use Rattle.ftp_calls.specs.declared.exchange.Ending.{Ending}
 use Rattle.ftp_calls.specs.declared.exchange.Ending.TheVariants.{Done, GivesReply, Greets, GivesPath, GivesSecondLine, GivesTime, GivesSize, GivesFeatures, SetsText, GoesOn, Continues, GivesAddress, GivesPort, Opens, Performs, Finishes, Drains, Stops}
 use Rattle.ftp_calls.specs.declared.exchange.Row.{Row}
@@ -282,92 +282,6 @@ stage_no_local call (Aborting abort) of = finishing_no_local call (aborts_finish
 stage_no_local call (Fetching fetching) of = opens_no_local call (fetch_opens call fetching of)
 
 -- Rows of calls that are none of the control connection
-
--- the last row of a call is of the sort of its first
-local_alike : (call : Call) → local_row (row_of call Second) ≡ is_local call
-local_alike Greet = refl
-local_alike (Login u p) = refl
-local_alike (Cwd p) = refl
-local_alike Cdup = refl
-local_alike Pwd = refl
-local_alike Noop = refl
-local_alike (Eprt a) = refl
-local_alike (Opts n v) = refl
-local_alike (Site w) = refl
-local_alike (TransferType k) = refl
-local_alike (Mkdir p) = refl
-local_alike (Rmdir p) = refl
-local_alike (Rm p) = refl
-local_alike (Rename a b) = refl
-local_alike Quit = refl
-local_alike (Mlst p) = refl
-local_alike (Mdtm p) = refl
-local_alike (Size p) = refl
-local_alike Feat = refl
-local_alike (CustomCommand l c) = refl
-local_alike (ReadResponse s) = refl
-local_alike (ReadResponseIn c) = refl
-local_alike (ResumeTransfer o) = refl
-local_alike (RetrAsStream p) = refl
-local_alike (PutWithStream p) = refl
-local_alike (AppendWithStream p) = refl
-local_alike (CustomDataCommand l c) = refl
-local_alike (Retr p) = refl
-local_alike (Listing p) = refl
-local_alike (Nlst p) = refl
-local_alike (Mlsd p) = refl
-local_alike (PutFile p b) = refl
-local_alike (AppendFile p b) = refl
-local_alike (Set s) = refl
-local_alike (Read n) = refl
-local_alike (Write b) = refl
-local_alike Finish = refl
-local_alike Abort = refl
-local_alike Leave = refl
-local_alike Drain = refl
-
--- and hears the end of a transfer that was left where it does
-pub drains_alike : (call : Call) → draining_row (row_of call Second) ≡ drains call
-drains_alike Greet = refl
-drains_alike (Login u p) = refl
-drains_alike (Cwd p) = refl
-drains_alike Cdup = refl
-drains_alike Pwd = refl
-drains_alike Noop = refl
-drains_alike (Eprt a) = refl
-drains_alike (Opts n v) = refl
-drains_alike (Site w) = refl
-drains_alike (TransferType k) = refl
-drains_alike (Mkdir p) = refl
-drains_alike (Rmdir p) = refl
-drains_alike (Rm p) = refl
-drains_alike (Rename a b) = refl
-drains_alike Quit = refl
-drains_alike (Mlst p) = refl
-drains_alike (Mdtm p) = refl
-drains_alike (Size p) = refl
-drains_alike Feat = refl
-drains_alike (CustomCommand l c) = refl
-drains_alike (ReadResponse s) = refl
-drains_alike (ReadResponseIn c) = refl
-drains_alike (ResumeTransfer o) = refl
-drains_alike (RetrAsStream p) = refl
-drains_alike (PutWithStream p) = refl
-drains_alike (AppendWithStream p) = refl
-drains_alike (CustomDataCommand l c) = refl
-drains_alike (Retr p) = refl
-drains_alike (Listing p) = refl
-drains_alike (Nlst p) = refl
-drains_alike (Mlsd p) = refl
-drains_alike (PutFile p b) = refl
-drains_alike (AppendFile p b) = refl
-drains_alike (Set s) = refl
-drains_alike (Read n) = refl
-drains_alike (Write b) = refl
-drains_alike Finish = refl
-drains_alike Abort = refl
-drains_alike Leave = refl
-drains_alike Drain = refl
 
 -- a turn of a call that goes over the control connection changes no setting, and moves no bytes
 pub turn_abroad : (call : Call) (turn : Turn) (row : Row) → row_of call turn ≡ row → local_row row ≡ true → TurnOf call turn → ⊥

@@ -33,7 +33,7 @@ use Rattle.ftp_calls.specs.declared.exchange.Row.{Row}
 use Rattle.ftp_calls.specs.declared.exchange.Row.TheVariants.{Exchanges, Arms, Sets, Moves}
 use Rattle.ftp_calls.specs.Exchanges.{draining_row, drains, ending_of, finishes, is_draining, negotiates, row_of}
 use Rattle.ftp_dialogue.proofs.Faults.{told_undrained}
-use Rattle.ftp_dialogue.proofs.Sorts.{drains_alike}
+use Rattle.ftp_calls.proofs.Openings.{drains_alike}
 use Rattle.ftp_dialogue.proofs.Agreeing.{first_plain, row_agrees, second_plain}
 use Rattle.ftp_dialogue.specs.Steps.Moving.{agrees}
 use Rattle.ftp_calls.specs.declared.exchange.Movement.{Movement}

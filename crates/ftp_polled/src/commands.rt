@@ -6,11 +6,11 @@ use crate::dialogue::{Dialogue, ReadReply};
 use ftp_base::encoding::Encoding;
 use ftp_base::status::Status;
 use ftp_base::types::{Features, FileType, Response};
-use ftp_session::session::Call;
-use ftp_session::session::calls::{
+use ftp_calls::call::{
     custom_call, cwd_call, login_call, mdtm_call, mkdir_call, mlst_call, opts_call, read_call,
     rename_call, rm_call, rmdir_call, site_call, size_call,
 };
+use ftp_session::session::Call;
 use ftp_transport::{TaskConn, TaskTransport};
 use jiff::civil::DateTime;
 use std::alloc::AllocError;

@@ -8,7 +8,7 @@ use crate::ending::Ending;
 use crate::opening::Opening;
 use ftp_base::encoding::Encoding;
 use ftp_base::types::{ConnectionError, FtpError, FtpResult};
-use ftp_session::session::calls::retr_stream_call;
+use ftp_calls::call::retr_stream_call;
 use ftp_transfer::{Direction, Transfer};
 use ftp_transport::{PassiveStreamBuilder, PollConn, PollTransport, TaskConn, TaskTransport};
 use futures::Future;

@@ -10,11 +10,11 @@ use crate::opening::{OpenTransfer, OpenWithReply, Opening};
 use crate::transfer_stream::TransferStream;
 use ftp_base::encoding::Encoding;
 use ftp_base::status::Status;
-use ftp_session::session::Call;
-use ftp_session::session::calls::{
+use ftp_calls::call::{
     append_call, custom_data_call, list_call, mlsd_call, nlst_call, put_call, retr_call,
     retr_stream_call,
 };
+use ftp_session::session::Call;
 use ftp_transfer::Direction;
 use ftp_transport::{TaskConn, TaskTransport};
 use std::alloc::AllocError;

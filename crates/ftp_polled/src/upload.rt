@@ -10,7 +10,7 @@ use crate::opening::Opening;
 use ftp_base::encoding::Encoding;
 use ftp_base::types::{ConnectionError, FtpError, FtpResult};
 use ftp_session::session::Call;
-use ftp_session::session::calls::{append_call, put_call};
+use ftp_calls::call::{append_call, put_call};
 use ftp_transfer::{Direction, Transfer};
 use ftp_transport::{PassiveStreamBuilder, PollConn, PollTransport, TaskConn, TaskTransport};
 use futures::Future;

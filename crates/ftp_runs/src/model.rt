@@ -19,7 +19,7 @@ pub enum Ran {
 }
 
 /// A call of a script that is done.
-#[derive(Clone, Drop)]
+#[derive(Drop)]
 pub enum Item {
     /// Its answer is one of the script's.
     Shown(Call),

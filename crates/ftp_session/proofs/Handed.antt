@@ -14,7 +14,8 @@ use Rattle.ftp_transfer.specs.Transfer.{TransferValue}
 use Rattle.ftp_transfer.specs.declared.direction.Direction.{Direction}
 use Rattle.ftp_dialogue.specs.Coding.{Coding}
 use Rattle.ftp_session.specs.Polled.{HandsOver}
-use Rattle.ftp_session.specs.Handed.{BeginsToSettle, BeginsToSettleIf, BeginsToSettleUnless, BringsToEnd, BringsToEndIf, TakesBack, TakesBackIf, IsOpening, LooksIf, ReadsSeen, OpensAs, OpensEither, OpensFrom, Opens, OpensReplied, PlaysSeen, Settles, SettlesIf, Strays, SettlesUnless, as_seen, found, is_out, left_if, watches, with_data, with_reply, without_reply}
+use Rattle.ftp_calls.specs.Kinds.{IsOpening}
+use Rattle.ftp_session.specs.Handed.{BeginsToSettle, BeginsToSettleIf, BeginsToSettleUnless, BringsToEnd, BringsToEndIf, TakesBack, TakesBackIf, LooksIf, ReadsSeen, OpensAs, OpensEither, OpensFrom, Opens, OpensReplied, PlaysSeen, Settles, SettlesIf, Strays, SettlesUnless, as_seen, found, is_out, left_if, watches, with_data, with_reply, without_reply}
 use Rattle.ftp_dialogue.specs.Link.{Link}
 use Rattle.ftp_dialogue.specs.Dialogue.{Expected}
 use Rattle.ftp_dialogue.specs.Promises.{GivesFault, Plays, PlaysAlone}

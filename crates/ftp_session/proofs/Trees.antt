@@ -13,7 +13,7 @@ use Rattle.ftp_base.specs.Command.{text_of}
 use Rattle.ftp_base.specs.Wire.{wire}
 use Rattle.ftp_answers.specs.Answers.{path_of, second_line_of, size_of, features_in}
 use Rattle.ftp_answers.specs.Times.{time_of}
-use Rattle.ftp_calls.specs.Exchanges.{is_ascii}
+use Rattle.ftp_calls.specs.Exchanges.{drained_row, finishes, finishing_row, is_ascii, local_row, moving_row, negotiates, opens, own_row, says}
 use Rattle.ftp_calls.specs.declared.call.Call.{Call}
 use Rattle.ftp_calls.specs.declared.call.Call.TheVariants as call
 use Rattle.ftp_calls.specs.declared.call.Answer.{Answer}
@@ -25,8 +25,8 @@ use Rattle.ftp_calls.specs.declared.exchange.Ending.TheVariants as ending
 use Rattle.ftp_calls.specs.declared.exchange.Turn.TheVariants.{First}
 use Rattle.ftp_dialogue.specs.declared.state.State.{State}
 use Rattle.ftp_dialogue.specs.Coding.{Coding}
-use Rattle.ftp_dialogue.specs.Dialogue.{Tree, Say, Hear, Leaf, concluded, dialogue, expected_of, features_answer, later, line_answer, path_answer, size_answer, time_answer}
-use Rattle.ftp_session.specs.Trees.{cdup_tree, custom_tree, cwd_tree, eprt_tree, feat_tree, leading, login_tree, mdtm_tree, mkdir_tree, mlst_tree, noop_tree, opts_tree, pwd_tree, quit_tree, read_tree, rename_tree, replied, resume_tree, rm_tree, rmdir_tree, site_tree, size_tree, type_reply, type_tree, unit_reply, whole_reply}
+use Rattle.ftp_dialogue.specs.Dialogue.{Tree, Say, Hear, Leaf, concluded, dialogue, doing, expected_of, features_answer, from_turn, later, line_answer, negotiating, opened_from, parting, path_answer, size_answer, time_answer, with_left}
+use Rattle.ftp_session.specs.Trees.{feat_tree, leading, login_tree, mdtm_tree, mlst_tree, pwd_tree, read_tree, rename_tree, replied, reply_tree, resume_tree, size_tree, type_reply, type_tree, unit_reply, unit_tree, whole_reply}
 use Rattle.ftp_session.proofs.Commands.{IsCommand, IsOneCommand, StopsAtFaults}
 
 -- a command, and what is made of its reply
@@ -52,48 +52,28 @@ whole_replies : (coding : Coding) (state : State) (l : State → Tree) (heard : 
 whole_replies coding state l (Ok reply) = refl
 whole_replies coding state l (Err fault) = refl
 
--- Calls that give nothing
+-- A call of one command and one reply
 
-unit_command : (coding : Coding) (call : Call) (command : Command) (codes : Codes) → IsOneCommand call → ((state : State) → dialogue coding call state ≡ said_and coding command codes (concluded coding ending.Done state (later coding call First))) → IsCommand coding call (λ state. said_and coding command codes (unit_reply state))
-unit_command coding call command codes sort is = replied_command coding call command codes ending.Done (λ reply. Unit) sort is (unit_replies coding)
+-- its dialogue is that of its row
+said_once : (coding : Coding) (call : Call) (command : Command) (codes : Codes) (how : Ending) (state : State) → negotiates call ≡ false → finishes call ≡ false → own_row call true ≡ says command codes how → dialogue coding call state ≡ said_and coding command codes (concluded coding how state (later coding call First))
+said_once coding call command codes how state none goes_on is =
+    ap (λ b. cond b (negotiating coding call state.settings.restart_offset (opened_from call state)) (cond (finishes call) (parting coding call (with_left state)) (from_turn coding call First state))) none
+    ∙ ap (λ b. cond b (parting coding call (with_left state)) (from_turn coding call First state)) goes_on
+    ∙ ap (λ row. doing coding row state (later coding call First)) is
 
-pub cwd_is : (coding : Coding) (path : List ℕ) → IsCommand coding (call.Cwd path) (cwd_tree coding path)
-cwd_is coding path = unit_command coding (call.Cwd path) (command.Cwd path) (Either CommandOk RequestedFileActionOk) (refl, refl, refl, refl, refl) (λ state. refl)
+-- it gives nothing
+pub unit_is : (coding : Coding) (call : Call) (command : Command) (codes : Codes) → own_row call true ≡ says command codes ending.Done → IsCommand coding call (unit_tree coding command codes)
+unfolding unit_tree
+unit_is coding call command codes is =
+    replied_command coding call command codes ending.Done (λ reply. Unit) (ap opens is, ap local_row is, ap moving_row is, ap finishing_row is, ap drained_row is)
+    (λ state. said_once coding call command codes ending.Done state (ap opens is) (ap finishing_row is) is) (unit_replies coding)
 
-pub cdup_is : (coding : Coding) → IsCommand coding call.Cdup (cdup_tree coding)
-cdup_is coding = unit_command coding call.Cdup command.Cdup (Either CommandOk RequestedFileActionOk) (refl, refl, refl, refl, refl) (λ state. refl)
-
-pub quit_is : (coding : Coding) → IsCommand coding call.Quit (quit_tree coding)
-quit_is coding = unit_command coding call.Quit command.Quit (One Closing) (refl, refl, refl, refl, refl) (λ state. refl)
-
-pub eprt_is : (coding : Coding) (address : SocketAddr) → IsCommand coding (call.Eprt address) (eprt_tree coding address)
-eprt_is coding address = unit_command coding (call.Eprt address) (command.Eprt address) (One CommandOk) (refl, refl, refl, refl, refl) (λ state. refl)
-
-pub noop_is : (coding : Coding) → IsCommand coding call.Noop (noop_tree coding)
-noop_is coding = unit_command coding call.Noop command.Noop (One CommandOk) (refl, refl, refl, refl, refl) (λ state. refl)
-
-pub opts_is : (coding : Coding) (name : List ℕ) (value : Option (List ℕ)) → IsCommand coding (call.Opts name value) (opts_tree coding name value)
-opts_is coding name value = unit_command coding (call.Opts name value) (command.Opts name value) (One CommandOk) (refl, refl, refl, refl, refl) (λ state. refl)
-
-pub mkdir_is : (coding : Coding) (path : List ℕ) → IsCommand coding (call.Mkdir path) (mkdir_tree coding path)
-mkdir_is coding path = unit_command coding (call.Mkdir path) (command.Mkd path) (Either PathCreated CommandOk) (refl, refl, refl, refl, refl) (λ state. refl)
-
-pub rmdir_is : (coding : Coding) (path : List ℕ) → IsCommand coding (call.Rmdir path) (rmdir_tree coding path)
-rmdir_is coding path = unit_command coding (call.Rmdir path) (command.Rmd path) (Either RequestedFileActionOk CommandOk) (refl, refl, refl, refl, refl) (λ state. refl)
-
-pub rm_is : (coding : Coding) (path : List ℕ) → IsCommand coding (call.Rm path) (rm_tree coding path)
-rm_is coding path = unit_command coding (call.Rm path) (command.Dele path) (Either RequestedFileActionOk CommandOk) (refl, refl, refl, refl, refl) (λ state. refl)
-
--- Calls that give their reply
-
-reply_command : (coding : Coding) (call : Call) (command : Command) (codes : Codes) → IsOneCommand call → ((state : State) → dialogue coding call state ≡ said_and coding command codes (concluded coding ending.GivesReply state (later coding call First))) → IsCommand coding call (λ state. said_and coding command codes (whole_reply state))
-reply_command coding call command codes sort is = replied_command coding call command codes ending.GivesReply Reply sort is (whole_replies coding)
-
-pub site_is : (coding : Coding) (words : List ℕ) → IsCommand coding (call.Site words) (site_tree coding words)
-site_is coding words = reply_command coding (call.Site words) (command.Site words) (One CommandOk) (refl, refl, refl, refl, refl) (λ state. refl)
-
-pub custom_is : (coding : Coding) (line : List ℕ) (statuses : List Status) → IsCommand coding (call.CustomCommand line statuses) (custom_tree coding line statuses)
-custom_is coding line statuses = reply_command coding (call.CustomCommand line statuses) (command.Custom line) (Given statuses) (refl, refl, refl, refl, refl) (λ state. refl)
+-- its reply is its answer
+pub reply_is : (coding : Coding) (call : Call) (command : Command) (codes : Codes) → own_row call true ≡ says command codes ending.GivesReply → IsCommand coding call (reply_tree coding command codes)
+unfolding reply_tree
+reply_is coding call command codes is =
+    replied_command coding call command codes ending.GivesReply Reply (ap opens is, ap local_row is, ap moving_row is, ap finishing_row is, ap drained_row is)
+    (λ state. said_once coding call command codes ending.GivesReply state (ap opens is) (ap finishing_row is) is) (whole_replies coding)
 
 -- Reads of one reply, and a setting
 

@@ -5,7 +5,6 @@ use Rattle.ftp_base.specs.declared.types.reply.Response.{Response}
 use Rattle.ftp_base.specs.declared.types.fault.FtpError.{FtpError}
 use Rattle.ftp_base.specs.declared.types.fault.FtpError.TheVariants.{ConnectionError, SessionFailed}
 use Rattle.ftp_base.specs.declared.types.fault.ConnectionError.TheVariants.{NotOwed}
-use Rattle.ftp_calls.specs.Exchanges.{is_local, negotiates, of_transfer}
 use Rattle.ftp_calls.specs.declared.call.Call.{Call}
 use Rattle.ftp_calls.specs.declared.call.Call.TheVariants.{Drain}
 use Rattle.ftp_calls.specs.declared.call.Answer.{Answer}
@@ -84,10 +83,6 @@ pub record HandsOut (direction : Direction) (given : SessionValue) (transfer : T
   pub direction_is : transfer.direction ≡ direction
   pub mark : IsMarkOf transfer after
   pub new_is : new ≡ with_data None given
-
--- a call that opens a data connection goes over the control connection, and is none of a transfer
-abbrev pub IsOpening : Call → Type 0
-IsOpening call = (negotiates call ≡ true) × (is_local call ≡ false) × (of_transfer call ≡ false)
 
 -- what a call that opened a transfer answers: with its reply, or without
 abbrev pub opened_as : Option Response → Answer

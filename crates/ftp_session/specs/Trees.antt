@@ -15,11 +15,12 @@ use Rattle.ftp_control.specs.declared.control.form.ReplyForm.TheVariants.{Featur
 use Rattle.ftp_answers.specs.Answers.{path_of, second_line_of, size_of, features_in}
 use Rattle.ftp_answers.specs.Times.{time_of}
 use Rattle.ftp_calls.specs.Exchanges.{is_ascii}
+use Rattle.ftp_calls.specs.declared.exchange.Codes.{Codes}
 use Rattle.ftp_calls.specs.declared.call.Answer.{Answer}
 use Rattle.ftp_calls.specs.declared.call.Answer.TheVariants.{Unit, Reply, Fault}
 use Rattle.ftp_dialogue.specs.declared.state.State.{State}
 use Rattle.ftp_dialogue.specs.Coding.{Coding}
-use Rattle.ftp_dialogue.specs.Dialogue.{Tree, Say, Hear, Leaf, armed, drain_answer, expecting, features_answer, line_answer, path_answer, size_answer, time_answer, with_drained}
+use Rattle.ftp_dialogue.specs.Dialogue.{Tree, Say, Hear, Leaf, armed, drain_answer, expected_of, expecting, features_answer, line_answer, path_answer, size_answer, time_answer, with_drained}
 
 -- an accepted reply gives this answer, a fault is the answer; the state stays
 abbrev pub replied : (Response → Answer) → State → Result Response FtpError → Tree
@@ -42,6 +43,13 @@ leading status next state (Err fault) = Leaf (Fault fault) state
 abbrev pub command_tree : Coding → Command → List Status → (Result Response FtpError → Tree) → Tree
 command_tree coding command statuses next = Say (wire coding.encode (text_of command)) (Hear (expecting statuses) next)
 
+-- a command and one reply, which gives nothing, or is the answer
+unfoldable pub unit_tree : Coding → Command → Codes → State → Tree
+unit_tree coding command codes state = Say (wire coding.encode (text_of command)) (Hear (expected_of codes) (unit_reply state))
+
+unfoldable pub reply_tree : Coding → Command → Codes → State → Tree
+reply_tree coding command codes state = Say (wire coding.encode (text_of command)) (Hear (expected_of codes) (whole_reply state))
+
 -- the last reply of a transfer that was left, 226 or 250; one of another status ends it as well: RFC 959, section 5.4
 abbrev pub drain_reply : State → Result Response FtpError → Tree
 drain_reply state (Ok reply) = Leaf Unit (with_drained state)
@@ -60,18 +68,6 @@ abbrev pub login_tree : Coding → List ℕ → List ℕ → State → Tree
 login_tree coding user password state =
     command_tree coding (command.User user) (LoggedIn ∷ NeedPassword ∷ []) (leading NeedPassword (pass_tree coding password state) state)
 
--- CWD, 200 or 250
-abbrev pub cwd_tree : Coding → List ℕ → State → Tree
-cwd_tree coding path state = command_tree coding (command.Cwd path) (CommandOk ∷ RequestedFileActionOk ∷ []) (unit_reply state)
-
--- CDUP, 200 or 250
-abbrev pub cdup_tree : Coding → State → Tree
-cdup_tree coding state = command_tree coding command.Cdup (CommandOk ∷ RequestedFileActionOk ∷ []) (unit_reply state)
-
--- QUIT, 221
-abbrev pub quit_tree : Coding → State → Tree
-quit_tree coding state = command_tree coding command.Quit (Closing ∷ []) (unit_reply state)
-
 -- Transfer parameters: RFC 959, section 4.1.2; RFC 2428, section 2
 
 -- TYPE, 200; after it transfers are of text where the type is ASCII
@@ -82,35 +78,7 @@ type_reply kind state (Err fault) = Leaf (Fault fault) state
 abbrev pub type_tree : Coding → FileType → State → Tree
 type_tree coding kind state = command_tree coding (command.TransferType kind) (CommandOk ∷ []) (type_reply kind state)
 
--- EPRT, 200
-abbrev pub eprt_tree : Coding → SocketAddr → State → Tree
-eprt_tree coding address state = command_tree coding (command.Eprt address) (CommandOk ∷ []) (unit_reply state)
-
 -- Services: RFC 959, section 4.1.3; RFC 2389, sections 3 and 4; RFC 3659, sections 3, 4, 5 and 7
-
--- NOOP, 200
-abbrev pub noop_tree : Coding → State → Tree
-noop_tree coding state = command_tree coding command.Noop (CommandOk ∷ []) (unit_reply state)
-
--- SITE, 200
-abbrev pub site_tree : Coding → List ℕ → State → Tree
-site_tree coding words state = command_tree coding (command.Site words) (CommandOk ∷ []) (whole_reply state)
-
--- OPTS, 200
-abbrev pub opts_tree : Coding → List ℕ → Option (List ℕ) → State → Tree
-opts_tree coding name value state = command_tree coding (command.Opts name value) (CommandOk ∷ []) (unit_reply state)
-
--- MKD, 257 or 200
-abbrev pub mkdir_tree : Coding → List ℕ → State → Tree
-mkdir_tree coding path state = command_tree coding (command.Mkd path) (PathCreated ∷ CommandOk ∷ []) (unit_reply state)
-
--- RMD, 250 or 200
-abbrev pub rmdir_tree : Coding → List ℕ → State → Tree
-rmdir_tree coding path state = command_tree coding (command.Rmd path) (RequestedFileActionOk ∷ CommandOk ∷ []) (unit_reply state)
-
--- DELE, 250 or 200
-abbrev pub rm_tree : Coding → List ℕ → State → Tree
-rm_tree coding path state = command_tree coding (command.Dele path) (RequestedFileActionOk ∷ CommandOk ∷ []) (unit_reply state)
 
 -- RNTO, 250 or 200; and before it RNFR, 350
 abbrev pub rename_to_tree : Coding → List ℕ → State → Tree
@@ -148,10 +116,6 @@ abbrev pub resume_tree : ℕ → State → Tree
 resume_tree offset state = Leaf Unit (armed offset state)
 
 -- The caller's lines and reads
-
--- a line, and one reply of these statuses
-abbrev pub custom_tree : Coding → List ℕ → List Status → State → Tree
-custom_tree coding line statuses state = command_tree coding (command.Custom line) statuses (whole_reply state)
 
 -- one reply of these statuses; nothing is sent
 abbrev pub read_tree : List Status → State → Tree

@@ -5,7 +5,6 @@
 //! holds a `Session`, which is that machine, the encoding of its texts, the builder of its passive data connections and
 //! its end of the mark of the transfer that it handed out.
 
-pub mod calls;
 mod chosen;
 mod client;
 mod commands;

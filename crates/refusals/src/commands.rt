@@ -5,10 +5,13 @@ ghost use Rattle.ftp_session.specs.Calls.{unit_answer};
 ghost use Rattle.ftp_dialogue.specs.Coding.{chosen};
 ghost use Rattle.ftp_dialogue.specs.Link.{blocking};
 ghost use Rattle.ftp_session.specs.Commands.{PlaysCommand};
-ghost use Rattle.ftp_session.specs.Trees.{cwd_tree, login_tree};
+ghost use Rattle.ftp_session.specs.Trees.{login_tree, unit_tree};
 
+use ftp_base::command::Command;
 use ftp_base::encoding::Encoding;
+use ftp_base::status::Status;
 use ftp_base::types::FtpResult;
+use ftp_calls::exchange::Codes;
 use ftp_session::session::Session;
 use ftp_transport::{Conn, Network};
 use std::alloc::Global;
@@ -21,7 +24,9 @@ pub fn cwd<Tr: Network, K: Drop, E: Encoding, B: Drop>(
 ) -> FtpResult<()>
 where
     Tr::Conn: Conn,
-    ensures plays { PlaysCommand (blocking Tr.Conn.Conn) (cwd_tree (chosen E.decoded E.encoded session.old.encoding.0) path.now)
+    ensures plays { PlaysCommand (blocking Tr.Conn.Conn)
+        (unit_tree (chosen E.decoded E.encoded session.old.encoding.0)
+            (Command.Cwd path.now) (Codes.Either Status.CommandOk Status.RequestedFileActionOk))
         session.old.mark session.new.mark session.old.machine session.new.machine (unit_answer result) }
     ensures encoding { session.new.encoding ≡ session.old.encoding }
     ensures builder { session.new.builder ≡ session.old.builder }

@@ -7,7 +7,8 @@ use ftp_transfer::mark::Left;
 use ftp_transport::{MemoryConn, MemoryTransport};
 use rows_plays::{
     Held, Named, NamedSession, Opening, Play, RowBuilder, Standing, Transfers, boxed, bytes,
-    features, greeted, had, lines, optional, recorded, reply, size, text, texts_of, time, unit,
+    features, greeted, had, lines, made_by_method, optional, recorded, reply, size, text, texts_of,
+    time, unit,
 };
 use rows_text::RowError;
 use std::alloc::{AllocError, Global};
@@ -134,6 +135,11 @@ where
     Ok(uploaded)
 }
 
+/// What a call returned that blocks.
+fn done<R, T>(_rt: &R, outcome: FtpResult<T>) -> FtpResult<T> {
+    outcome
+}
+
 /// Makes a call by its method.
 fn make<R>(
     rt: &R,
@@ -144,29 +150,7 @@ fn make<R>(
 where
     R: Wait + RandomSource + AllocGlobal,
 {
-    Ok(match call {
-        Call::Login(user, password) => unit(client.login(rt, user.as_str(), password.as_str())),
-        Call::Cwd(path) => unit(client.cwd(rt, path.as_str())),
-        Call::Cdup => unit(client.cdup(rt)),
-        Call::Noop => unit(client.noop(rt)),
-        Call::Eprt(address) => unit(client.eprt(rt, *address)),
-        Call::Opts(option, value) => unit(client.opts(rt, option.as_str(), optional(value))),
-        Call::Site(command) => reply(client.site(rt, command.as_str())),
-        Call::TransferType(kind) => unit(client.transfer_type(rt, kind.clone()?)),
-        Call::Mkdir(path) => unit(client.mkdir(rt, path.as_str())),
-        Call::Rmdir(path) => unit(client.rmdir(rt, path.as_str())),
-        Call::Rm(path) => unit(client.rm(rt, path.as_str())),
-        Call::Rename(from, to) => unit(client.rename(rt, from.as_str(), to.as_str())),
-        Call::Quit => unit(client.quit(rt)),
-        Call::Pwd => text(client.pwd(rt)),
-        Call::Mlst(path) => text(client.mlst(rt, optional(path))),
-        Call::Mdtm(path) => time(client.mdtm(rt, path.as_str())),
-        Call::Size(path) => size(client.size(rt, path.as_str())),
-        Call::Feat => features(client.feat(rt)),
-        Call::ResumeTransfer(offset) => unit(client.resume_transfer(rt, *offset)),
-        Call::CustomCommand(line, codes) => {
-            reply(client.custom_command(rt, line.as_str(), codes.as_slice()))
-        }
+    Ok(made_by_method!(call, client, rt, done(rt), {
         Call::Greet
         | Call::ReadResponse(_)
         | Call::ReadResponseIn(_)
@@ -187,7 +171,7 @@ where
         Call::Write(bytes) => transfers.send(rt, bytes.as_slice()),
         Call::Leave => transfers.leave(rt.alloc())?,
         Call::Finish | Call::Abort | Call::Drain => end(rt, client, transfers, call)?,
-    })
+    }))
 }
 
 /// Opens a transfer.

@@ -11,7 +11,8 @@ use futures::executor::block_on;
 use futures::task::{Context, Poll};
 use rows_plays::{
     Held, Named, Opening, Play, RowBuilder, Standing, Transfers, boxed, bytes, count, features,
-    greeted, had, lines, optional, recorded, reply, size, text, texts_of, time, unit,
+    greeted, had, lines, made_by_method, optional, recorded, reply, size, text, texts_of, time,
+    unit,
 };
 use rows_text::RowError;
 use std::alloc::{AllocError, Global};
@@ -172,37 +173,8 @@ fn make<R: Wait + RandomSource + AllocGlobal>(
     transfers: &mut Transfers<Live>,
     call: &Call,
 ) -> Result<Answer, RowError> {
-    Ok(match call {
+    Ok(made_by_method!(call, client, rt, done(rt), {
         Call::Greet => reply(done(rt, client.read_response(rt, Status::Ready))),
-        Call::Login(user, password) => {
-            unit(done(rt, client.login(rt, user.as_str(), password.as_str())))
-        }
-        Call::Cwd(path) => unit(done(rt, client.cwd(rt, path.as_str()))),
-        Call::Cdup => unit(done(rt, client.cdup(rt))),
-        Call::Noop => unit(done(rt, client.noop(rt))),
-        Call::Eprt(address) => unit(done(rt, client.eprt(rt, *address))),
-        Call::Opts(option, value) => {
-            unit(done(rt, client.opts(rt, option.as_str(), optional(value))))
-        }
-        Call::Site(command) => reply(done(rt, client.site(rt, command.as_str()))),
-        Call::TransferType(kind) => unit(done(rt, client.transfer_type(rt, kind.clone()?))),
-        Call::Mkdir(path) => unit(done(rt, client.mkdir(rt, path.as_str()))),
-        Call::Rmdir(path) => unit(done(rt, client.rmdir(rt, path.as_str()))),
-        Call::Rm(path) => unit(done(rt, client.rm(rt, path.as_str()))),
-        Call::Rename(from, to) => unit(done(rt, client.rename(rt, from.as_str(), to.as_str()))),
-        Call::Quit => unit(done(rt, client.quit(rt))),
-        Call::Pwd => text(done(rt, client.pwd(rt))),
-        Call::Mlst(path) => text(done(rt, client.mlst(rt, optional(path)))),
-        Call::Mdtm(path) => time(done(rt, client.mdtm(rt, path.as_str()))),
-        Call::Size(path) => size(done(rt, client.size(rt, path.as_str()))),
-        Call::Feat => features(done(rt, client.feat(rt))),
-        Call::ResumeTransfer(offset) => unit(done(rt, client.resume_transfer(rt, *offset))),
-        Call::CustomCommand(line, codes) => {
-            reply(done(
-                rt,
-                client.custom_command(rt, line.as_str(), codes.as_slice()),
-            ))
-        }
         Call::ReadResponse(status) => reply(done(rt, client.read_response(rt, *status))),
         Call::ReadResponseIn(codes) => {
             reply(done(rt, client.read_response_in(rt, codes.as_slice())))
@@ -222,7 +194,7 @@ fn make<R: Wait + RandomSource + AllocGlobal>(
         Call::Write(bytes) => transfers.send(rt, bytes.as_slice()),
         Call::Leave => transfers.leave(rt.alloc())?,
         Call::Finish | Call::Abort | Call::Drain => end(rt, client, transfers, call)?,
-    })
+    }))
 }
 
 /// Opens a transfer.

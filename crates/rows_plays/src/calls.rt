@@ -1,4 +1,4 @@
-//! Calls in words.
+//! Calls in words, and each call of a command by its method.
 
 use crate::settings::setting;
 use ftp_base::status::Status;
@@ -6,6 +6,50 @@ use ftp_base::types::{Items, Text};
 use ftp_session::session::Call;
 use rows_text::{RowError, bytes_of, file_type, pair, text, value};
 use std::alloc::Global;
+
+/// The answer of a call, by the method of that name: of a session, with its allocator, or of a client, with its runtime.
+/// `$done` gives the result of what the method returned. Calls that are no commands are the arms that are handed in.
+#[macro_export]
+macro_rules! made_by_method {
+    ($call:expr, $target:expr, $memory:expr, $done:ident($rt:expr), { $($others:tt)* }) => {
+        match $call {
+            Call::Login(user, password) => {
+                unit($done($rt, $target.login($memory, user.as_str(), password.as_str())))
+            }
+            Call::Cwd(path) => unit($done($rt, $target.cwd($memory, path.as_str()))),
+            Call::Cdup => unit($done($rt, $target.cdup($memory))),
+            Call::Noop => unit($done($rt, $target.noop($memory))),
+            Call::Eprt(address) => unit($done($rt, $target.eprt($memory, *address))),
+            Call::Opts(option, value) => {
+                unit($done($rt, $target.opts($memory, option.as_str(), optional(value))))
+            }
+            Call::Site(command) => reply($done($rt, $target.site($memory, command.as_str()))),
+            Call::TransferType(kind) => {
+                unit($done($rt, $target.transfer_type($memory, kind.clone()?)))
+            }
+            Call::Mkdir(path) => unit($done($rt, $target.mkdir($memory, path.as_str()))),
+            Call::Rmdir(path) => unit($done($rt, $target.rmdir($memory, path.as_str()))),
+            Call::Rm(path) => unit($done($rt, $target.rm($memory, path.as_str()))),
+            Call::Rename(from, to) => {
+                unit($done($rt, $target.rename($memory, from.as_str(), to.as_str())))
+            }
+            Call::Quit => unit($done($rt, $target.quit($memory))),
+            Call::Pwd => text($done($rt, $target.pwd($memory))),
+            Call::Mlst(path) => text($done($rt, $target.mlst($memory, optional(path)))),
+            Call::Mdtm(path) => time($done($rt, $target.mdtm($memory, path.as_str()))),
+            Call::Size(path) => size($done($rt, $target.size($memory, path.as_str()))),
+            Call::Feat => features($done($rt, $target.feat($memory))),
+            Call::ResumeTransfer(offset) => {
+                unit($done($rt, $target.resume_transfer($memory, *offset)))
+            }
+            Call::CustomCommand(line, codes) => {
+                let made = $target.custom_command($memory, line.as_str(), codes.as_slice());
+                reply($done($rt, made))
+            }
+            $($others)*
+        }
+    };
+}
 
 /// The call that words write: its name, and what it takes.
 pub fn call(alloc: Global, words: &str) -> Result<Call, RowError> {

@@ -2,6 +2,7 @@
 
 use crate::answers::{bytes, count, features, lines, reply, size, text, time, unit};
 use crate::dial::Dial;
+use crate::made_by_method;
 use crate::memory::boxed;
 use crate::play::Play;
 use crate::session::{NamedSession, conn_of, encoded, stands, unread};
@@ -181,6 +182,11 @@ where
     Ok(transfers.take_uploaded(rt.alloc()))
 }
 
+/// What a call returned that blocks.
+fn done<T>(_blocking: (), outcome: FtpResult<T>) -> FtpResult<T> {
+    outcome
+}
+
 /// Makes a call by its method.
 fn make<R>(
     rt: &R,
@@ -192,32 +198,8 @@ where
     R: Wait + RandomSource + AllocGlobal,
 {
     let alloc = rt.alloc();
-    Ok(match call {
+    Ok(made_by_method!(call, session, alloc, done(()), {
         Call::Greet => reply(session.read_response(alloc, Status::Ready)),
-        Call::Login(user, password) => {
-            unit(session.login(alloc, user.as_str(), password.as_str()))
-        }
-        Call::Cwd(path) => unit(session.cwd(alloc, path.as_str())),
-        Call::Cdup => unit(session.cdup(alloc)),
-        Call::Noop => unit(session.noop(alloc)),
-        Call::Eprt(address) => unit(session.eprt(alloc, *address)),
-        Call::Opts(option, value) => { unit(session.opts(alloc, option.as_str(), optional(value))) }
-        Call::Site(command) => reply(session.site(alloc, command.as_str())),
-        Call::TransferType(kind) => unit(session.transfer_type(alloc, kind.clone()?)),
-        Call::Mkdir(path) => unit(session.mkdir(alloc, path.as_str())),
-        Call::Rmdir(path) => unit(session.rmdir(alloc, path.as_str())),
-        Call::Rm(path) => unit(session.rm(alloc, path.as_str())),
-        Call::Rename(from, to) => unit(session.rename(alloc, from.as_str(), to.as_str())),
-        Call::Quit => unit(session.quit(alloc)),
-        Call::Pwd => text(session.pwd(alloc)),
-        Call::Mlst(path) => text(session.mlst(alloc, optional(path))),
-        Call::Mdtm(path) => time(session.mdtm(alloc, path.as_str())),
-        Call::Size(path) => size(session.size(alloc, path.as_str())),
-        Call::Feat => features(session.feat(alloc)),
-        Call::ResumeTransfer(offset) => unit(session.resume_transfer(alloc, *offset)),
-        Call::CustomCommand(line, codes) => {
-            reply(session.custom_command(alloc, line.as_str(), codes.as_slice()))
-        }
         Call::ReadResponse(status) => reply(session.read_response(alloc, *status)),
         Call::ReadResponseIn(codes) => reply(session.read_response_in(alloc, codes.as_slice())),
         Call::RetrAsStream(_)
@@ -235,7 +217,7 @@ where
         Call::Write(bytes) => transfers.send(rt, bytes.as_slice()),
         Call::Leave => transfers.leave(alloc)?,
         Call::Finish | Call::Abort | Call::Drain => end(alloc, session, transfers, call)?,
-    })
+    }))
 }
 
 /// Opens a transfer.

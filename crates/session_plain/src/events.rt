@@ -8,7 +8,6 @@ ghost use Rattle.ftp_runs.specs.declared.model.Ran.TheVariants.{Finished, Waitin
 ghost use Rattle.ftp_calls.specs.declared.call.Answer.{Answer as Answers};
 
 use crate::draining::{is_due, succeeded};
-use crate::exchange::copy_of;
 use crate::leaving::{drop_call, leave_now, poll_event};
 use crate::runs::replay_then;
 use ftp_base::encoding::Encoding;
@@ -92,7 +91,7 @@ fn start(here: &mut Script, call: &Call) -> Result<(), AllocError>
     ensures { OnOk result (here.new ≡ start_script call.now here.old.call here.old) }
 {
     if here.call.is_none() {
-        let copy = copy_of(call)?;
+        let copy = call.copied()?;
         drop(mem::replace(&mut here.call, Some(copy)));
         here.polled = false;
         here.heard = false;

@@ -84,13 +84,6 @@ fn exchange<E: Encoding>(
     }
 }
 
-/// A call again.
-pub(crate) fn copy_of(call: &Call) -> Result<Call, AllocError>
-    ensures { IfOk result (λ copy. copy ≡ call.now) }
-{
-    call.clone()
-}
-
 /// A command is said, where there is one.
 #[tactic(auto, unfolding(ftp_dialogue::specs::Play::play))]
 pub(crate) fn say<E: Encoding>(

@@ -40,7 +40,7 @@ use Rattle.ftp_dialogue.specs.declared.stage.Step.TheVariants as step
 use Rattle.ftp_dialogue.specs.Coding.{Coding}
 use Rattle.ftp_dialogue.specs.Promises.{IsFault}
 use Rattle.ftp_calls.specs.declared.exchange.Row.TheVariants.{Arms}
-use Rattle.ftp_calls.specs.Exchanges.{row_of, aborts, finishes, is_local, is_read, negotiates, next_turn, of_transfer, Movements, Listings, Kind, kind_of_fetch, kind_of_task, Nothing, Replies, Texts, Times, Sizes, Lists, Connections, ending_of, given_by, says_of}
+use Rattle.ftp_calls.specs.Exchanges.{row_of, aborts, finishes, is_local, is_read, negotiates, next_turn, Movements, Listings, Kind, kind_of_fetch, kind_of_task, Nothing, Replies, Texts, Times, Sizes, Lists, Connections, ending_of, given_by, says_of}
 use Rattle.ftp_dialogue.specs.Dialogue.{expected_of, Tree, Say, Look, There, Leaf, armed, awaiting, aborting, breaking_off, closing, later, from_turn, negotiating, listening, listening_at, connecting_to, connecting_to_peer, accepting, fetch_ending, fetch_parting, gathering, most_reads, performing, sending, strangers, with_transfer}
 
 -- an exchange was made before
@@ -304,32 +304,6 @@ StepAnswers call (step.Done answer) = MayAnswer call answer
 abbrev pub PollAnswers : Call → Poll Answer → Type 0
 PollAnswers call (Ready answer) = MayAnswer call answer
 PollAnswers call Pending = Unit {0}
-
--- a call says and hears, and needs no data connection
-abbrev pub IsPlain : Call → Type 0
-IsPlain call = (negotiates call ≡ false) × (is_local call ≡ false) × (of_transfer call ≡ false)
-
--- each exchange of a call gives this, and no data connection is needed
-abbrev pub Gives : Kind → Call → Type 0
-Gives kind call = (given_by (row_of call First) ≡ kind) × (given_by (row_of call Second) ≡ kind) × IsPlain call
-
-abbrev pub GivesNothing : Call → Type 0
-GivesNothing call = Gives Nothing call
-
-abbrev pub GivesReply : Call → Type 0
-GivesReply call = Gives Replies call
-
-abbrev pub GivesText : Call → Type 0
-GivesText call = Gives Texts call
-
-abbrev pub GivesTime : Call → Type 0
-GivesTime call = Gives Times call
-
-abbrev pub GivesSize : Call → Type 0
-GivesSize call = Gives Sizes call
-
-abbrev pub GivesFeatures : Call → Type 0
-GivesFeatures call = Gives Lists call
 
 -- an exchange begins: its first node, or the refusal of its line
 pub record Begun (coding : Coding) (call : Call) (turn : Turn) (stage : Stage) : Type 0 where

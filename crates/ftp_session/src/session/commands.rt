@@ -4,26 +4,36 @@
 //! `ftp_calls::exchange`. Where the copy finds no memory nothing has happened. The contract of each names its own
 //! dialogue, a tree of `specs/Trees.antt`, and says that the method is this dialogue (`PlaysCommand`).
 
-ghost use Rattle.std.specs.Prelude.{◌≡◌, [], ◌∷◌, IfOk, option_map};
+ghost use Rattle.std.specs.Prelude.{◌≡◌, [], ◌∷◌, IfOk, option_map, true};
 ghost use Rattle.ftp_control.specs.Channel.{IsSound};
 ghost use Rattle.ftp_calls.specs.declared.call.Answer.TheVariants.{Fault};
+ghost use Rattle.ftp_base.specs.declared.command.Command.{Command as Said};
 ghost use Rattle.ftp_calls.specs.declared.call.Call.{Call as Called};
+ghost use Rattle.ftp_calls.specs.declared.exchange.Codes.{Codes as Accepted};
+ghost use Rattle.ftp_calls.specs.Exchanges.{own_row, says};
 ghost use Rattle.ftp_session.specs.Calls.{reply_answer, unit_answer};
 ghost use Rattle.ftp_dialogue.specs.Coding.{chosen};
 ghost use Rattle.ftp_dialogue.specs.Link.{blocking};
 ghost use Rattle.ftp_session.specs.Commands.{PlaysCommand};
 ghost use Rattle.ftp_session.specs.Handed.{PlaysSeen};
-ghost use Rattle.ftp_session.specs.Trees.{cdup_tree, custom_tree, cwd_tree, eprt_tree, login_tree, mkdir_tree, noop_tree, opts_tree, quit_tree, read_tree, rename_tree, resume_tree, rm_tree, rmdir_tree, site_tree, type_tree};
+ghost use Rattle.ftp_session.specs.Trees.{login_tree, read_tree, rename_tree, reply_tree, resume_tree, type_tree, unit_tree};
 ghost use Rattle.ftp_dialogue.specs.Promises.{PlaysAlone};
-ghost use Rattle.ftp_dialogue.specs.Steps.Stages.{GivesNothing, GivesReply, IsPlain, MayAnswer};
+ghost use Rattle.ftp_calls.specs.Kinds.{GivesNothing, GivesReply, IsPlain};
+ghost use Rattle.ftp_dialogue.specs.Steps.Stages.{MayAnswer};
 
 use super::client::Session;
 use super::looking::look;
 use super::polling::DropsCalls;
 use super::{Answer, Call};
+use ftp_base::command::Command;
 use ftp_base::encoding::Encoding;
 use ftp_base::status::Status;
-use ftp_base::types::{FileType, FtpError, FtpResult, Items, Response, Text};
+use ftp_base::types::{FileType, FtpError, FtpResult, Response};
+use ftp_calls::call::{
+    custom_call, cwd_call, login_call, mkdir_call, opts_call, read_call, rename_call, rm_call,
+    rmdir_call, site_call,
+};
+use ftp_calls::exchange::{Codes, Ending};
 use ftp_dialogue::asks::Nothing;
 use ftp_transport::{Conn, Network};
 use std::alloc::{AllocError, Global};
@@ -70,7 +80,9 @@ where
     /// # Errors
     /// Those of a command and its reply.
     pub fn cwd(&mut self, alloc: Global, path: &str) -> FtpResult<()>
-        ensures plays { PlaysCommand (blocking Tr.Conn.Conn) (cwd_tree (chosen E.decoded E.encoded self.old.encoding.0) path.now)
+        ensures plays { PlaysCommand (blocking Tr.Conn.Conn)
+            (unit_tree (chosen E.decoded E.encoded self.old.encoding.0)
+            (Command.Cwd path.now) (Codes.Either Status.CommandOk Status.RequestedFileActionOk))
             self.old.mark self.new.mark self.old.machine self.new.machine (unit_answer result) }
         ensures encoding { self.new.encoding ≡ self.old.encoding }
         ensures builder { self.new.builder ≡ self.old.builder }
@@ -84,13 +96,15 @@ where
     /// # Errors
     /// Those of a command and its reply.
     pub fn cdup(&mut self, alloc: Global) -> FtpResult<()>
-        ensures plays { PlaysCommand (blocking Tr.Conn.Conn) (cdup_tree (chosen E.decoded E.encoded self.old.encoding.0))
+        ensures plays { PlaysCommand (blocking Tr.Conn.Conn)
+            (unit_tree (chosen E.decoded E.encoded self.old.encoding.0)
+            Command.Cdup (Codes.Either Status.CommandOk Status.RequestedFileActionOk))
             self.old.mark self.new.mark self.old.machine self.new.machine (unit_answer result) }
         ensures encoding { self.new.encoding ≡ self.old.encoding }
         ensures builder { self.new.builder ≡ self.old.builder }
         ensures former { self.new.former ≡ self.old.former }
     {
-        unit(self.call(alloc, &Call::Cdup))
+        self.perform(alloc, Ok(Call::Cdup))
     }
 
     /// Does nothing but to have the server answer: `NOOP` (200).
@@ -98,13 +112,15 @@ where
     /// # Errors
     /// Those of a command and its reply.
     pub fn noop(&mut self, alloc: Global) -> FtpResult<()>
-        ensures plays { PlaysCommand (blocking Tr.Conn.Conn) (noop_tree (chosen E.decoded E.encoded self.old.encoding.0))
+        ensures plays { PlaysCommand (blocking Tr.Conn.Conn)
+            (unit_tree (chosen E.decoded E.encoded self.old.encoding.0)
+            Command.Noop (Codes.One Status.CommandOk))
             self.old.mark self.new.mark self.old.machine self.new.machine (unit_answer result) }
         ensures encoding { self.new.encoding ≡ self.old.encoding }
         ensures builder { self.new.builder ≡ self.old.builder }
         ensures former { self.new.former ≡ self.old.former }
     {
-        unit(self.call(alloc, &Call::Noop))
+        self.perform(alloc, Ok(Call::Noop))
     }
 
     /// Names the address that the server is to open data connections to: `EPRT` (200; RFC 2428, section 2).
@@ -112,7 +128,9 @@ where
     /// # Errors
     /// Those of a command and its reply.
     pub fn eprt(&mut self, alloc: Global, address: SocketAddr) -> FtpResult<()>
-        ensures plays { PlaysCommand (blocking Tr.Conn.Conn) (eprt_tree (chosen E.decoded E.encoded self.old.encoding.0) address)
+        ensures plays { PlaysCommand (blocking Tr.Conn.Conn)
+            (unit_tree (chosen E.decoded E.encoded self.old.encoding.0)
+            (Command.Eprt address) (Codes.One Status.CommandOk))
             self.old.mark self.new.mark self.old.machine self.new.machine (unit_answer result) }
         ensures encoding { self.new.encoding ≡ self.old.encoding }
         ensures builder { self.new.builder ≡ self.old.builder }
@@ -126,7 +144,9 @@ where
     /// # Errors
     /// Those of a command and its reply.
     pub fn opts(&mut self, alloc: Global, option: &str, value: Option<&str>) -> FtpResult<()>
-        ensures plays { PlaysCommand (blocking Tr.Conn.Conn) (opts_tree (chosen E.decoded E.encoded self.old.encoding.0) option.now (option_map (λ text. text.now) value.entry))
+        ensures plays { PlaysCommand (blocking Tr.Conn.Conn)
+            (unit_tree (chosen E.decoded E.encoded self.old.encoding.0)
+            (Command.Opts option.now (option_map (λ text. text.now) value.entry)) (Codes.One Status.CommandOk))
             self.old.mark self.new.mark self.old.machine self.new.machine (unit_answer result) }
         ensures encoding { self.new.encoding ≡ self.old.encoding }
         ensures builder { self.new.builder ≡ self.old.builder }
@@ -140,7 +160,9 @@ where
     /// # Errors
     /// Those of a command and its reply.
     pub fn site(&mut self, alloc: Global, command: &str) -> FtpResult<Response>
-        ensures plays { PlaysCommand (blocking Tr.Conn.Conn) (site_tree (chosen E.decoded E.encoded self.old.encoding.0) command.now)
+        ensures plays { PlaysCommand (blocking Tr.Conn.Conn)
+            (reply_tree (chosen E.decoded E.encoded self.old.encoding.0)
+            (Command.Site command.now) (Codes.One Status.CommandOk))
             self.old.mark self.new.mark self.old.machine self.new.machine (reply_answer result) }
         ensures encoding { self.new.encoding ≡ self.old.encoding }
         ensures builder { self.new.builder ≡ self.old.builder }
@@ -168,7 +190,9 @@ where
     /// # Errors
     /// Those of a command and its reply.
     pub fn mkdir(&mut self, alloc: Global, path: &str) -> FtpResult<()>
-        ensures plays { PlaysCommand (blocking Tr.Conn.Conn) (mkdir_tree (chosen E.decoded E.encoded self.old.encoding.0) path.now)
+        ensures plays { PlaysCommand (blocking Tr.Conn.Conn)
+            (unit_tree (chosen E.decoded E.encoded self.old.encoding.0)
+            (Command.Mkd path.now) (Codes.Either Status.PathCreated Status.CommandOk))
             self.old.mark self.new.mark self.old.machine self.new.machine (unit_answer result) }
         ensures encoding { self.new.encoding ≡ self.old.encoding }
         ensures builder { self.new.builder ≡ self.old.builder }
@@ -182,7 +206,9 @@ where
     /// # Errors
     /// Those of a command and its reply.
     pub fn rmdir(&mut self, alloc: Global, path: &str) -> FtpResult<()>
-        ensures plays { PlaysCommand (blocking Tr.Conn.Conn) (rmdir_tree (chosen E.decoded E.encoded self.old.encoding.0) path.now)
+        ensures plays { PlaysCommand (blocking Tr.Conn.Conn)
+            (unit_tree (chosen E.decoded E.encoded self.old.encoding.0)
+            (Command.Rmd path.now) (Codes.Either Status.RequestedFileActionOk Status.CommandOk))
             self.old.mark self.new.mark self.old.machine self.new.machine (unit_answer result) }
         ensures encoding { self.new.encoding ≡ self.old.encoding }
         ensures builder { self.new.builder ≡ self.old.builder }
@@ -196,7 +222,9 @@ where
     /// # Errors
     /// Those of a command and its reply.
     pub fn rm(&mut self, alloc: Global, path: &str) -> FtpResult<()>
-        ensures plays { PlaysCommand (blocking Tr.Conn.Conn) (rm_tree (chosen E.decoded E.encoded self.old.encoding.0) path.now)
+        ensures plays { PlaysCommand (blocking Tr.Conn.Conn)
+            (unit_tree (chosen E.decoded E.encoded self.old.encoding.0)
+            (Command.Dele path.now) (Codes.Either Status.RequestedFileActionOk Status.CommandOk))
             self.old.mark self.new.mark self.old.machine self.new.machine (unit_answer result) }
         ensures encoding { self.new.encoding ≡ self.old.encoding }
         ensures builder { self.new.builder ≡ self.old.builder }
@@ -224,13 +252,15 @@ where
     /// # Errors
     /// Those of a command and its reply.
     pub fn quit(&mut self, alloc: Global) -> FtpResult<()>
-        ensures plays { PlaysCommand (blocking Tr.Conn.Conn) (quit_tree (chosen E.decoded E.encoded self.old.encoding.0))
+        ensures plays { PlaysCommand (blocking Tr.Conn.Conn)
+            (unit_tree (chosen E.decoded E.encoded self.old.encoding.0)
+            Command.Quit (Codes.One Status.Closing))
             self.old.mark self.new.mark self.old.machine self.new.machine (unit_answer result) }
         ensures encoding { self.new.encoding ≡ self.old.encoding }
         ensures builder { self.new.builder ≡ self.old.builder }
         ensures former { self.new.former ≡ self.old.former }
     {
-        unit(self.call(alloc, &Call::Quit))
+        self.perform(alloc, Ok(Call::Quit))
     }
 
     /// Sends a caller-supplied line and reads its reply, whose status is among the expected.
@@ -243,7 +273,9 @@ where
         line: &str,
         expected: &[Status],
     ) -> FtpResult<Response>
-        ensures plays { PlaysCommand (blocking Tr.Conn.Conn) (custom_tree (chosen E.decoded E.encoded self.old.encoding.0) line.now expected.now)
+        ensures plays { PlaysCommand (blocking Tr.Conn.Conn)
+            (reply_tree (chosen E.decoded E.encoded self.old.encoding.0)
+            (Command.Custom line.now) (Codes.Given expected.now))
             self.old.mark self.new.mark self.old.machine self.new.machine (reply_answer result) }
         ensures encoding { self.new.encoding ≡ self.old.encoding }
         ensures builder { self.new.builder ≡ self.old.builder }
@@ -317,6 +349,10 @@ where
         ensures plays { (made : Called) → IsPlain made → IfOk call (λ c. c ≡ made) →
             PlaysSeen (blocking Tr.Conn.Conn) (chosen E.decoded E.encoded self.old.encoding.0) made
             self.old.mark self.new.mark self.old.machine self.new.machine (unit_answer result) }
+        ensures once { (made : Called) → IfOk call (λ c. c ≡ made) → (command : Said) (codes : Accepted) →
+            own_row made true ≡ says command codes Ending.Done → PlaysCommand (blocking Tr.Conn.Conn)
+            (unit_tree (chosen E.decoded E.encoded self.old.encoding.0) command codes)
+            self.old.mark self.new.mark self.old.machine self.new.machine (unit_answer result) }
     {
         match call {
             Ok(call) => {
@@ -341,6 +377,10 @@ where
         ensures plays { (made : Called) → IsPlain made → IfOk call (λ c. c ≡ made) →
             PlaysSeen (blocking Tr.Conn.Conn) (chosen E.decoded E.encoded self.old.encoding.0) made
             self.old.mark self.new.mark self.old.machine self.new.machine (reply_answer result) }
+        ensures once { (made : Called) → IfOk call (λ c. c ≡ made) → (command : Said) (codes : Accepted) →
+            own_row made true ≡ says command codes Ending.GivesReply → PlaysCommand (blocking Tr.Conn.Conn)
+            (reply_tree (chosen E.decoded E.encoded self.old.encoding.0) command codes)
+            self.old.mark self.new.mark self.old.machine self.new.machine (reply_answer result) }
     {
         match call {
             Ok(call) => {
@@ -364,106 +404,6 @@ where
         look(&mut self.machine, &mut self.mark);
         self.withheld()
     }
-}
-
-/// A text that may be left out.
-pub(super) fn optional_text(alloc: Global, text: Option<&str>) -> Result<Option<Text>, AllocError>
-    ensures { IfOk result (λ copy. copy ≡ option_map (λ text. text.now) text.entry) }
-{
-    match text {
-        Some(text) => Ok(Some(Text::from_str(alloc, text)?)),
-        None => Ok(None),
-    }
-}
-
-/// `CWD` as a call.
-pub fn cwd_call(alloc: Global, path: &str) -> Result<Call, AllocError>
-    ensures call { IfOk result (λ call. call ≡ Call.Cwd path.now) }
-    ensures kind { IfOk result GivesNothing }
-{
-    Ok(Call::Cwd(Text::from_str(alloc, path)?))
-}
-
-/// `SITE` as a call.
-pub fn site_call(alloc: Global, command: &str) -> Result<Call, AllocError>
-    ensures call { IfOk result (λ call. call ≡ Call.Site command.now) }
-    ensures kind { IfOk result GivesReply }
-{
-    Ok(Call::Site(Text::from_str(alloc, command)?))
-}
-
-/// `MKD` as a call.
-pub fn mkdir_call(alloc: Global, path: &str) -> Result<Call, AllocError>
-    ensures call { IfOk result (λ call. call ≡ Call.Mkdir path.now) }
-    ensures kind { IfOk result GivesNothing }
-{
-    Ok(Call::Mkdir(Text::from_str(alloc, path)?))
-}
-
-/// `RMD` as a call.
-pub fn rmdir_call(alloc: Global, path: &str) -> Result<Call, AllocError>
-    ensures call { IfOk result (λ call. call ≡ Call.Rmdir path.now) }
-    ensures kind { IfOk result GivesNothing }
-{
-    Ok(Call::Rmdir(Text::from_str(alloc, path)?))
-}
-
-/// `DELE` as a call.
-pub fn rm_call(alloc: Global, path: &str) -> Result<Call, AllocError>
-    ensures call { IfOk result (λ call. call ≡ Call.Rm path.now) }
-    ensures kind { IfOk result GivesNothing }
-{
-    Ok(Call::Rm(Text::from_str(alloc, path)?))
-}
-
-/// A login as a call.
-pub fn login_call(alloc: Global, user: &str, password: &str) -> Result<Call, AllocError>
-    ensures call { IfOk result (λ call. call ≡ Call.Login user.now password.now) }
-    ensures kind { IfOk result GivesNothing }
-{
-    let user = Text::from_str(alloc, user)?;
-    let password = Text::from_str(alloc, password)?;
-    Ok(Call::Login(user, password))
-}
-
-/// A renaming as a call.
-pub fn rename_call(alloc: Global, from: &str, to: &str) -> Result<Call, AllocError>
-    ensures call { IfOk result (λ call. call ≡ Call.Rename from.now to.now) }
-    ensures kind { IfOk result GivesNothing }
-{
-    let from = Text::from_str(alloc, from)?;
-    let to = Text::from_str(alloc, to)?;
-    Ok(Call::Rename(from, to))
-}
-
-/// `OPTS` as a call.
-pub fn opts_call(alloc: Global, option: &str, value: Option<&str>) -> Result<Call, AllocError>
-    ensures call { IfOk result (λ call. call ≡
-        Call.Opts option.now (option_map (λ text. text.now) value.entry)) }
-    ensures kind { IfOk result GivesNothing }
-{
-    let option = Text::from_str(alloc, option)?;
-    let value = optional_text(alloc, value)?;
-    Ok(Call::Opts(option, value))
-}
-
-/// A caller-supplied line as a call.
-pub fn custom_call(alloc: Global, line: &str, expected: &[Status]) -> Result<Call, AllocError>
-    ensures call { IfOk result (λ call. call ≡ Call.CustomCommand line.now expected.now) }
-    ensures kind { IfOk result GivesReply }
-{
-    let line = Text::from_str(alloc, line)?;
-    let expected = Items::from_vec(Vec::from_slice(alloc, expected)?);
-    Ok(Call::CustomCommand(line, expected))
-}
-
-/// A read as a call.
-pub fn read_call(alloc: Global, expected: &[Status]) -> Result<Call, AllocError>
-    ensures call { IfOk result (λ call. call ≡ Call.ReadResponseIn expected.now) }
-    ensures kind { IfOk result GivesReply }
-{
-    let expected = Items::from_vec(Vec::from_slice(alloc, expected)?);
-    Ok(Call::ReadResponseIn(expected))
 }
 
 /// The result of a call that gives nothing.

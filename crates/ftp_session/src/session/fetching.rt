@@ -11,16 +11,17 @@ ghost use Rattle.ftp_dialogue.specs.Coding.{chosen};
 ghost use Rattle.ftp_dialogue.specs.Link.{asking, blocking, built_by};
 ghost use Rattle.ftp_session.specs.Calls.{bytes_answer, lines_answer};
 ghost use Rattle.ftp_session.specs.Fetched.{Fetches, told_as};
-ghost use Rattle.ftp_session.specs.Handed.{IsOpening, PlaysSeen};
+ghost use Rattle.ftp_calls.specs.Kinds.{IsOpening};
+ghost use Rattle.ftp_session.specs.Handed.{PlaysSeen};
 
 use super::client::Session;
-use super::commands::optional_text;
 use super::looking::look;
 use super::making::make;
 use super::polling::DropsCalls;
 use super::{Answer, Call};
 use ftp_base::encoding::Encoding;
-use ftp_base::types::{ConnectionError, FtpError, FtpResult, Text};
+use ftp_base::types::{ConnectionError, FtpError, FtpResult};
+use ftp_calls::call::{list_call, mlsd_call, nlst_call, retr_call};
 use ftp_transport::{Conn, Network, PassiveStreamBuilder, Transport};
 use std::alloc::{AllocError, Global};
 
@@ -156,36 +157,4 @@ fn lines(answer: Answer) -> FtpResult<Vec<String>>
             Err(FtpError::ConnectionError(ConnectionError::NotOwed))
         }
     }
-}
-
-/// `RETR` of a whole file, as a call.
-pub fn retr_call(alloc: Global, path: &str) -> Result<Call, AllocError>
-    ensures call { IfOk result (λ call. call ≡ Call.Retr path.now) }
-    ensures kind { IfOk result IsOpening }
-{
-    Ok(Call::Retr(Text::from_str(alloc, path)?))
-}
-
-/// `LIST` as a call.
-pub fn list_call(alloc: Global, path: Option<&str>) -> Result<Call, AllocError>
-    ensures call { IfOk result (λ call. call ≡ Call.List (option_map (λ text. text.now) path.entry)) }
-    ensures kind { IfOk result IsOpening }
-{
-    Ok(Call::List(optional_text(alloc, path)?))
-}
-
-/// `NLST` as a call.
-pub fn nlst_call(alloc: Global, path: Option<&str>) -> Result<Call, AllocError>
-    ensures call { IfOk result (λ call. call ≡ Call.Nlst (option_map (λ text. text.now) path.entry)) }
-    ensures kind { IfOk result IsOpening }
-{
-    Ok(Call::Nlst(optional_text(alloc, path)?))
-}
-
-/// `MLSD` as a call.
-pub fn mlsd_call(alloc: Global, path: Option<&str>) -> Result<Call, AllocError>
-    ensures call { IfOk result (λ call. call ≡ Call.Mlsd (option_map (λ text. text.now) path.entry)) }
-    ensures kind { IfOk result IsOpening }
-{
-    Ok(Call::Mlsd(optional_text(alloc, path)?))
 }

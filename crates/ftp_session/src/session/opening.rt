@@ -6,7 +6,8 @@
 ghost use Rattle.std.specs.Prelude.{◌≡◌, IfOk, false, is_none, not};
 ghost use Rattle.ftp_calls.specs.declared.call.Call.{Call as Called};
 ghost use Rattle.ftp_dialogue.specs.Coding.{chosen};
-ghost use Rattle.ftp_session.specs.Handed.{IsOpening, OpensAs, OpensEither, Opens, OpensReplied, with_reply, without_reply};
+ghost use Rattle.ftp_calls.specs.Kinds.{IsOpening};
+ghost use Rattle.ftp_session.specs.Handed.{OpensAs, OpensEither, Opens, OpensReplied, with_reply, without_reply};
 ghost use Rattle.ftp_dialogue.specs.Link.{asking, blocking, built_by};
 ghost use Rattle.ftp_transfer.specs.declared.direction.Direction.TheVariants as directions;
 
@@ -18,7 +19,8 @@ use super::polling::DropsCalls;
 use super::{Answer, Call};
 use ftp_base::encoding::Encoding;
 use ftp_base::status::Status;
-use ftp_base::types::{FtpResult, Items, Response, Text};
+use ftp_base::types::{FtpResult, Response};
+use ftp_calls::call::{append_call, custom_data_call, put_call, retr_stream_call};
 use ftp_transfer::{Direction, Transfer};
 use ftp_transport::{Conn, Network, PassiveStreamBuilder, Tells, Transport};
 use std::alloc::{AllocError, Global};
@@ -48,7 +50,7 @@ where
         without_reply(self.open(
             alloc,
             rt,
-            retr_call(alloc, path),
+            retr_stream_call(alloc, path),
             false,
             Direction::Download,
         ))
@@ -221,38 +223,4 @@ fn with_reply<C: Tells + Drop>(
         Some(reply) => Ok((reply, transfer)),
         None => unreachable!(),
     }
-}
-
-/// `RETR` as a call.
-pub fn retr_call(alloc: Global, path: &str) -> Result<Call, AllocError>
-    ensures call { IfOk result (λ call. call ≡ Call.RetrAsStream path.now) }
-    ensures kind { IfOk result IsOpening }
-{
-    Ok(Call::RetrAsStream(Text::from_str(alloc, path)?))
-}
-
-/// `STOR` as a call.
-pub fn put_call(alloc: Global, path: &str) -> Result<Call, AllocError>
-    ensures call { IfOk result (λ call. call ≡ Call.PutWithStream path.now) }
-    ensures kind { IfOk result IsOpening }
-{
-    Ok(Call::PutWithStream(Text::from_str(alloc, path)?))
-}
-
-/// `APPE` as a call.
-pub fn append_call(alloc: Global, path: &str) -> Result<Call, AllocError>
-    ensures call { IfOk result (λ call. call ≡ Call.AppendWithStream path.now) }
-    ensures kind { IfOk result IsOpening }
-{
-    Ok(Call::AppendWithStream(Text::from_str(alloc, path)?))
-}
-
-/// A caller-supplied line that opens a data connection, as a call.
-pub fn custom_data_call(alloc: Global, line: &str, expected: &[Status]) -> Result<Call, AllocError>
-    ensures call { IfOk result (λ call. call ≡ Call.CustomDataCommand line.now expected.now) }
-    ensures kind { IfOk result IsOpening }
-{
-    let line = Text::from_str(alloc, line)?;
-    let expected = Items::from_vec(Vec::from_slice(alloc, expected)?);
-    Ok(Call::CustomDataCommand(line, expected))
 }

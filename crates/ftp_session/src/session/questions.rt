@@ -11,13 +11,14 @@ ghost use Rattle.ftp_dialogue.specs.Coding.{chosen};
 ghost use Rattle.ftp_dialogue.specs.Link.{blocking};
 ghost use Rattle.ftp_session.specs.Commands.{PlaysCommand};
 ghost use Rattle.ftp_session.specs.Trees.{feat_tree, mdtm_tree, mlst_tree, pwd_tree, size_tree};
-ghost use Rattle.ftp_dialogue.specs.Steps.Stages.{GivesFeatures, GivesSize, GivesText, GivesTime, MayAnswer};
+ghost use Rattle.ftp_calls.specs.Kinds.{GivesFeatures, GivesSize, GivesText, GivesTime};
+ghost use Rattle.ftp_dialogue.specs.Steps.Stages.{MayAnswer};
 
 use super::client::Session;
-use super::commands::optional_text;
 use super::{Answer, Call};
 use ftp_base::encoding::Encoding;
-use ftp_base::types::{Features, FtpResult, Text};
+use ftp_base::types::{Features, FtpResult};
+use ftp_calls::call::{mdtm_call, mlst_call, size_call};
 use ftp_transport::{Conn, Network};
 use jiff::civil::DateTime;
 use std::alloc::{AllocError, Global};
@@ -122,30 +123,6 @@ where
     {
         features(self.call(alloc, &Call::Feat))
     }
-}
-
-/// `MLST` as a call.
-pub fn mlst_call(alloc: Global, path: Option<&str>) -> Result<Call, AllocError>
-    ensures call { IfOk result (λ call. call ≡ Call.Mlst (option_map (λ text. text.now) path.entry)) }
-    ensures kind { IfOk result GivesText }
-{
-    Ok(Call::Mlst(optional_text(alloc, path)?))
-}
-
-/// `MDTM` as a call.
-pub fn mdtm_call(alloc: Global, path: &str) -> Result<Call, AllocError>
-    ensures call { IfOk result (λ call. call ≡ Call.Mdtm path.now) }
-    ensures kind { IfOk result GivesTime }
-{
-    Ok(Call::Mdtm(Text::from_str(alloc, path)?))
-}
-
-/// `SIZE` as a call.
-pub fn size_call(alloc: Global, path: &str) -> Result<Call, AllocError>
-    ensures call { IfOk result (λ call. call ≡ Call.Size path.now) }
-    ensures kind { IfOk result GivesSize }
-{
-    Ok(Call::Size(Text::from_str(alloc, path)?))
 }
 
 /// The result of a call that gives a text.

@@ -1,11 +1,5 @@
 use Rattle.std.proofs.Common.{refl}
-use Rattle.ftp_calls.specs.declared.call.Call.TheVariants.{CustomCommand}
-use Rattle.ftp_dialogue.specs.Coding.{chosen}
-use Rattle.ftp_session.proofs.Commands.{plays_command}
-use Rattle.ftp_session.proofs.Trees.{custom_is}
 use Rattle.ftp_session.proofs.session.client.Session.custom_command.Goals as goal
 
 pub returns-clause-plays : goal.returns-clause-plays
-returns-clause-plays g c =
-    let coding = chosen g.E.Encoding.decoded g.E.Encoding.encoded c.args.self.now.encoding.0 in
-    plays_command _ coding (CustomCommand c.args.line.now c.args.expected.now) _ _ _ _ _ _ (custom_is coding c.args.line.now c.args.expected.now) (c.perform_for_reply.ensures.plays (CustomCommand c.args.line.now c.args.expected.now) (refl, refl, refl) c.custom_call.ensures.call)
+returns-clause-plays g c = c.perform_for_reply.ensures.once _ c.custom_call.ensures.call _ _ refl

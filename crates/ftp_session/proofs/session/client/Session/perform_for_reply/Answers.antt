@@ -1,4 +1,7 @@
+use Rattle.ftp_dialogue.specs.Coding.{chosen}
+use Rattle.ftp_session.proofs.Commands.{plays_command}
 use Rattle.ftp_session.proofs.Handed.{copied_plays}
+use Rattle.ftp_session.proofs.Trees.{reply_is}
 use Rattle.ftp_session.proofs.session.client.Session.perform_for_reply.Goals as goal
 
 pub returns-in-Ok-clause-plays : goal.returns-in-Ok-clause-plays
@@ -6,3 +9,14 @@ returns-in-Ok-clause-plays g c = λ made plain is. rw c.reply.ensures (copied_pl
 
 pub returns-in-Err-clause-plays : goal.returns-in-Err-clause-plays
 returns-in-Err-clause-plays g c = λ made plain is. c.withheld_call.ensures.plays made plain
+
+pub returns-in-Ok-clause-once : goal.returns-in-Ok-clause-once
+returns-in-Ok-clause-once g c = λ made copy command codes is.
+    let coding = chosen g.E.Encoding.decoded g.E.Encoding.encoded c.args.self.now.encoding.0 in
+    plays_command _ coding made _ _ _ _ _ _ (reply_is coding made command codes is) (rw c.reply.ensures (copied_plays _ _ c.args.call c.in-Ok.call made _ _ _ _ _ c.in-Ok.is copy c.call-answer.ensures.plays))
+
+pub returns-in-Err-clause-once : goal.returns-in-Err-clause-once
+returns-in-Err-clause-once g c = λ made copy command codes is.
+    let coding = chosen g.E.Encoding.decoded g.E.Encoding.encoded c.args.self.now.encoding.0 in
+    let command_is = reply_is coding made command codes is in
+    plays_command _ coding made _ _ _ _ _ _ command_is (c.withheld_call.ensures.plays made (command_is.sort.0, command_is.sort.1, command_is.sort.2))

@@ -1,11 +1,5 @@
 use Rattle.std.proofs.Common.{refl}
-use Rattle.ftp_calls.specs.declared.call.Call.TheVariants.{Rmdir}
-use Rattle.ftp_dialogue.specs.Coding.{chosen}
-use Rattle.ftp_session.proofs.Commands.{plays_command}
-use Rattle.ftp_session.proofs.Trees.{rmdir_is}
 use Rattle.ftp_session.proofs.session.client.Session.rmdir.Goals as goal
 
 pub returns-clause-plays : goal.returns-clause-plays
-returns-clause-plays g c =
-    let coding = chosen g.E.Encoding.decoded g.E.Encoding.encoded c.args.self.now.encoding.0 in
-    plays_command _ coding (Rmdir c.args.path.now) _ _ _ _ _ _ (rmdir_is coding c.args.path.now) (c.perform.ensures.plays (Rmdir c.args.path.now) (refl, refl, refl) c.rmdir_call.ensures.call)
+returns-clause-plays g c = c.perform.ensures.once _ c.rmdir_call.ensures.call _ _ refl
