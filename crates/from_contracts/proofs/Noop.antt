@@ -147,7 +147,7 @@ module _ (builds : Builds) (decode : List ℕ → List ℕ) (old new : SessionVa
       failed_at kind (Move movement next) is may = absurd may
       failed_at kind (Leaf answer state) is may = absurd may
 
-      may : Fails (over_memory builds) broke.aborts.place broke.aborts.fault broke.aborts.at broke.last ⊎ LacksMemory (over_memory builds) false (dialogue (as_it_is decode) broke.part broke.middle.state) broke.aborts.leads.came broke.aborts.fault (begun_by broke.part broke.middle) broke.aborts.at broke.last → MayAbort broke.aborts.fault
+      may : Fails (over_memory builds) broke.aborts.place broke.aborts.fault broke.aborts.at broke.last ⊎ LacksMemory (over_memory builds) false (dialogue (as_it_is decode) broke.part broke.middle.state) broke.aborts.place broke.aborts.leads.came broke.aborts.fault (begun_by broke.part broke.middle) broke.aborts.at broke.last → MayAbort broke.aborts.fault
       may (inl fails) = failed_at fails.kind broke.aborts.place fails.is fails.may
       may (inr lacks) = inl lacks.is
 

@@ -7,7 +7,7 @@ use Rattle.ftp_calls.specs.declared.exchange.Ending.TheVariants.{Done, GivesRepl
 use Rattle.ftp_calls.specs.declared.exchange.Row.{Row}
 use Rattle.ftp_calls.specs.declared.exchange.Row.TheVariants.{Exchanges, Arms, Sets, Moves}
 use Rattle.ftp_calls.specs.declared.exchange.Turn.TheVariants.{First, Second}
-use Rattle.ftp_calls.specs.Exchanges.{Own, Once, Twice, at_turn, draining_row, drains, gives_reply, is_draining, is_local, is_negotiating, is_opening, is_own, is_read, local_row, negotiates, only_reads, opens, own, own_row, reads, row_of}
+use Rattle.ftp_calls.specs.Exchanges.{Own, Once, Twice, aborting_row, aborts, at_turn, draining_row, drains, gives_reply, is_draining, is_local, is_negotiating, is_opening, is_own, is_read, local_row, negotiates, only_reads, opens, own, own_row, reads, row_of}
 
 -- the last row of a call opens a data connection where the first does
 own_opens : (o : Own) → opens (at_turn o false) ≡ opens (at_turn o true)
@@ -32,6 +32,14 @@ own_drains (Twice command codes status next last) = refl
 
 pub drains_alike : (call : Call) → draining_row (row_of call Second) ≡ drains call
 drains_alike call = own_drains (own call)
+
+-- and reads what is said of an abort where it does
+own_aborts : (o : Own) → aborting_row (at_turn o false) ≡ aborting_row (at_turn o true)
+own_aborts (Once row is) = refl
+own_aborts (Twice command codes status next last) = refl
+
+pub aborts_alike : (call : Call) → aborting_row (row_of call Second) ≡ aborts call
+aborts_alike call = own_aborts (own call)
 
 -- each row of a call's own is one that a call may have
 turn_is_own : (o : Own) (first : Bool) → is_own (at_turn o first) ≡ true

@@ -6,9 +6,9 @@
 //!
 //! Beside each call stand what it does by itself, and the function that makes it with texts of its own.
 
-ghost use Rattle.std.specs.Prelude.{◌≡◌, IfOk};
+ghost use Rattle.std.specs.Prelude.{◌≡◌, IfErr, IfOk, false};
 ghost use Rattle.std.specs.Option.{option_map};
-ghost use Rattle.ftp_calls.specs.Exchanges.{own_row};
+ghost use Rattle.ftp_calls.specs.Exchanges.{aborts, own_row};
 ghost use Rattle.ftp_calls.specs.Kinds.{GivesNothing, GivesReply, GivesSize, GivesText, GivesTime, IsOpening};
 
 use crate::exchange::{Codes, Ending, Fetch, Movement, Row};
@@ -189,9 +189,10 @@ impl Call {
 /// What a call does by itself, at its first turn or at its last, with texts of its own.
 ///
 /// # Errors
-/// No memory for the texts.
+/// No memory for the texts: an abort has none.
 pub(crate) fn own_row(call: &Call, first: bool) -> Result<Row, AllocError>
-    ensures { IfOk result (λ row. row ≡ own_row call.now first) }
+    ensures row_is { IfOk result (λ row. row ≡ own_row call.now first) }
+    ensures held { IfErr result (λ fault. aborts call.now ≡ false) }
 {
     match call {
         Call::Greet => Ok(hears(Codes::One(Status::Ready), Ending::Greets)),

@@ -3,8 +3,8 @@
 //!
 //! All that the machine does with a call follows from its row.
 
-ghost use Rattle.std.specs.Prelude.{◌≡◌, IfOk};
-ghost use Rattle.ftp_calls.specs.Exchanges.{aborts, drains, drains_first, finishes, is_local, negotiates, next_turn, of_transfer, restarted, restarts, row_of, uploads};
+ghost use Rattle.std.specs.Prelude.{◌≡◌, IfErr, IfOk, false};
+ghost use Rattle.ftp_calls.specs.Exchanges.{aborting_row, aborts, drains, drains_first, finishes, is_local, negotiates, next_turn, of_transfer, restarted, restarts, row_of, uploads};
 
 use crate::active::port_command;
 use crate::call::{Call, Setting, own_row};
@@ -147,9 +147,10 @@ pub enum Movement {
 /// What a call does at this turn, with texts of its own.
 ///
 /// # Errors
-/// No memory for the texts.
+/// No memory for the texts: what an abort reads has none.
 pub fn row_at(alloc: Global, call: &Call, turn: Turn) -> Result<Row, AllocError>
-    ensures { IfOk result (λ row. row ≡ row_of call.now turn) }
+    ensures row_is { IfOk result (λ row. row ≡ row_of call.now turn) }
+    ensures held { IfErr result (λ fault. aborting_row (row_of call.now turn) ≡ false) }
 {
     match turn {
         Turn::First => own_row(call, true),

@@ -45,7 +45,7 @@ use Rattle.ftp_transport.specs.declared.room.Room.{Room}
 use Rattle.ftp_dialogue.proofs.Sorts.{finishing_opens, opens_drains_none, opens_no_local, unheld_call}
 use Rattle.ftp_dialogue.specs.Coding.{Coding}
 use Rattle.ftp_dialogue.specs.Deals.{answers, constructed, constructing, dealing, dealt, moved, settled}
-use Rattle.ftp_dialogue.specs.Dialogue.{Here, There, Tree, Say, Hear, Look, Ask, Build, Move, Leaf, accepting, admitting, agreeing, at_port, awaiting, closed_as, concluded, connecting_to, connecting_to_peer, dialogue, doing, entered, expected_of, fetch_concluded, fetch_parting, fetched, from_turn, gathering, last_turn, later, lets_in, most_bytes, most_reads, negotiating, negotiating_unless, on_address, on_built, on_connection, on_data, on_sent, opened_answer, opened_from, opening, performing, restart_turn, saying, sending, sending_all, size_to_send, strangers, to_address, to_port, told_of_close, too_long, unfetched, wire_data, with_left, with_transfer, parting}
+use Rattle.ftp_dialogue.specs.Dialogue.{Here, There, Tree, Say, Hear, Look, Ask, Build, Move, Leaf, accepting, admitting, agreeing, at_port, awaiting, closed_as, concluded, connecting_to, connecting_to_peer, dialogue, doing, entered, expected_of, fetch_concluded, fetch_parting, fetched, from_turn, gathering, last_turn, later, lets_in, most_bytes, most_reads, negotiating, negotiating_unless, on_address, on_built, on_connection, on_data, on_sent, opened_answer, opened_from, opening, performing, restart_turn, saying, sending, sending_all, size_to_send, strangers, to_address, to_port, told_of_close, too_long, unfetched, wire_data, with_left, with_transfer, parting, wants_memory, with_abandoned, with_fetched}
 use Rattle.ftp_dialogue.specs.Laws.{AsksPeerAlone, LeadsTo, UsesPeerHost, offset_after, reached}
 use Rattle.ftp_dialogue.specs.Play.{Lacking, asked_then, built_then, finally, fits, heard_then, lacks, leaving, moved_then, play, play_call, play_unless, refusal, refused_if_failed, taken}
 use Rattle.ftp_dialogue.specs.Sound.{cannot_beside, cannot_open}
@@ -134,7 +134,10 @@ module _ (peer : SocketAddr) (Sort : Request → Type 0) (state : State) (admits
     where
       concluded_keeps : (told : Answer) (heard : Result Response FtpError) → Keeps peer Sort (fetch_concluded form told state heard)
       concluded_keeps told (Ok reply) = none
-      concluded_keeps told (Err fault) = none
+      concluded_keeps told (Err fault) = elim (wants_memory fault) as (λ b. NoOffset (cond b (with_abandoned state) (with_fetched state))) [
+        | true ↦ none
+        | false ↦ none
+      ]
 
   data_keeps : (coding : Coding) (form : Fetch) (all : List ℕ) (on : List ℕ → Tree) → ((more : List ℕ) → Keeps peer Sort (on more)) → (outcome : DealOutcome) → Keeps peer Sort (on_data coding form all on (λ answer. fetch_parting form answer state) outcome)
   data_keeps coding form all on keeps (came.Read []) = parting_keeps form (fetched coding form all)

@@ -12,10 +12,10 @@ use Rattle.ftp_calls.specs.declared.exchange.Ending.TheVariants as ending
 use Rattle.ftp_calls.specs.declared.exchange.Turn.{Turn}
 use Rattle.ftp_calls.specs.Exchanges.{ending_of, is_draining, kind_of, row_of}
 use Rattle.ftp_dialogue.proofs.Agreeing.{row_answers}
-use Rattle.ftp_dialogue.specs.Dialogue.{answer_to_fault}
+use Rattle.ftp_dialogue.specs.Dialogue.{answer_to_fault, wants_memory}
 use Rattle.ftp_dialogue.specs.Promises.{IsFault}
 use Rattle.ftp_dialogue.specs.State.{SessionValue}
-use Rattle.ftp_dialogue.specs.Steps.Moving.{EndsFaulty, FaultLeavesIf, HeardFault, after_fault, wants_memory}
+use Rattle.ftp_dialogue.specs.Steps.Moving.{EndsFaulty, FaultLeavesIf, HeardFault, after_fault}
 use Rattle.ftp_dialogue.specs.Steps.Stages.{AnswersKind, MayAnswer, TurnOf}
 
 -- a fault that is heard is the answer, unless it is a reply of another status that ends a transfer that was left
@@ -101,7 +101,7 @@ fault_answers call turn how begun fault old new told row of ends = go (wants_mem
     M : Answer → Type 0
     M a = MayAnswer call a
 
-    go : (b : Bool) → FaultLeavesIf b how fault (after_fault begun fault old).state new.state told → MayAnswer call told
+    go : (b : Bool) → FaultLeavesIf b begun how fault (after_fault begun fault old).state new.state told → MayAnswer call told
     go true left = subst M (sym left.0) (turn, inl of, tt)
     go false left = subst M (sym left.0) (turn, inl of, row_answers (row_of call turn) how (answer_to_fault how fault) row (told_kind how fault))
 

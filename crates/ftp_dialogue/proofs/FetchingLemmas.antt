@@ -32,11 +32,11 @@ use Rattle.ftp_dialogue.specs.declared.state.State.{State}
 use Rattle.ftp_dialogue.specs.Coding.{Coding}
 use Rattle.ftp_dialogue.specs.Deals.{MovementIs, Net, ReadIs, answers}
 use Rattle.ftp_dialogue.specs.Gathering.{GrowsBy}
-use Rattle.ftp_dialogue.specs.Dialogue.{Tree, Hear, Move, Leaf, chunk, closed_as, expecting, fetch_concluded, fetch_ending, fetch_parting, fetched, fetching, first_fault, gathering, grown, most_bytes, most_reads, on_data, told_of_close, too_long, unfetched, with_fetched}
+use Rattle.ftp_dialogue.specs.Dialogue.{Tree, Hear, Move, Leaf, chunk, closed_as, expecting, fetch_concluded, fetch_ending, fetch_parting, fetched, fetching, first_fault, gathering, grown, most_bytes, most_reads, on_data, sending, told_of_close, too_long, unfetched, after_fetch, wants_memory, with_abandoned, with_fetched}
 use Rattle.ftp_dialogue.specs.Link.{Link}
-use Rattle.ftp_dialogue.specs.Promises.{Aborts, AbortsRead, FailsRead, IsFault, Untouched, failed_from}
+use Rattle.ftp_dialogue.specs.Promises.{Aborts, AbortsRead, FailsRead, IsFault, Untouched, failed_from, lacking_at, state_at}
 use Rattle.ftp_dialogue.specs.State.{SessionValue}
-use Rattle.ftp_dialogue.specs.Steps.Moving.{Advances, AsksFirst, BreaksOff, Ends, EndsFetch, FetchFailsIf, Follows, Grows, HeardFault, Hears, Moves, ReadsBy, Still, after_fault, wants_memory}
+use Rattle.ftp_dialogue.specs.Steps.Moving.{Advances, AsksFirst, BreaksOff, Ends, EndsFetch, FetchFailsIf, Follows, Grows, HeardFault, Hears, Moves, ReadsBy, Still, after_fault}
 use Rattle.ftp_dialogue.specs.Steps.Stages.{AnswersKind, FetchOf, MayAnswer, MayFetch, fetch_left, nodes_of_fetch}
 use Rattle.ftp_dialogue.proofs.Moving.{leaf_ends}
 use Rattle.ftp_dialogue.proofs.NegotiationLemmas.{moved_through, unasked_through, moved_still, still_fails, unchanged_still}
@@ -67,6 +67,18 @@ too_long_kind Listed = tt
 closed_kind : (form : Fetch) (told : Option ErrorKind) (answer : Answer) → AnswersKind (kind_of_fetch form) answer → AnswersKind (kind_of_fetch form) (closed_as told answer)
 closed_kind form None answer kind = kind
 closed_kind form (Some fault) answer kind = tt
+
+-- where bytes go over the data connection no reply is awaited
+pub gathering_unheard : (coding : Coding) (form : Fetch) (left : ℕ) (all : List ℕ) (state other : State) → state_at (gathering coding form left all state) OutOfMemory other ≡ other
+unfolding gathering
+gathering_unheard coding form zero all state other = refl
+gathering_unheard coding form (suc left) all state other = refl
+
+pub sending_unheard : (left total : ℕ) (rest : List ℕ) (state other : State) → state_at (sending left total rest state) OutOfMemory other ≡ other
+unfolding sending
+sending_unheard left total [] state other = refl
+sending_unheard zero total (byte ∷ rest) state other = refl
+sending_unheard (suc left) total (byte ∷ rest) state other = refl
 
 module _ (link : Link) (coding : Coding) (call : Call) where
   -- the next node is reached
@@ -101,11 +113,11 @@ module _ (link : Link) (coding : Coding) (call : Call) where
       subst V (sym beside) (fetch_on (Parting form answer) (Ending form (told outcome)) old (record old { net = new.net }) still (omega arith) (of.0, closed_kind form (told_of_close old.state.uploads outcome) answer of.1))
 
   -- there is no data connection
-  pub fetch_lacks : (f : Fetched) (stage' : Stage) (old : SessionValue) → old.channel.failed ≡ false → BreaksOff link coding call (Fetching f) stage' old (failed_from old) (Done (Fault OutOfMemory))
-  fetch_lacks f stage' old going =
+  pub fetch_lacks : (f : Fetched) (stage' : Stage) (old : SessionValue) → state_at (fetch_left coding old.state f) OutOfMemory old.state ≡ old.state → old.channel.failed ≡ false → BreaksOff link coding call (Fetching f) stage' old (failed_from old) (Done (Fault OutOfMemory))
+  fetch_lacks f stage' old stays going =
       let tree : Tree = fetch_left coding old.state f in
       record {
-        steps = inr (still_fails link tree old old going (unchanged_still link tree tree old old refl refl));
+        steps = inr (still_fails link tree old old stays going (unchanged_still link tree tree old old refl refl));
         quiet = tt;
         begun = tt;
         answers = (First, inr tt, tt);
@@ -274,7 +286,8 @@ module _ (link : Link) (coding : Coding) (call : Call) (form : Fetch) (answer : 
       let T : Tree → Type 0 = λ t. Moves link tree t old mid in
       let A : Answer → Type 0 = λ a. (old.channel.failed ≡ true) ⊎ IsFault a in
       let is : next (Err fault) ≡ Leaf told new.state =
-      ap (λ a. Leaf a (with_fetched old.state)) (sym left.0.0)
+      ap (λ b. Leaf (Fault (first_fault form answer fault)) (cond b (with_abandoned old.state) (with_fetched old.state))) (not_memory fault heard.other)
+      ∙ ap (λ a. Leaf a (with_fetched old.state)) (sym left.0.0)
       ∙ ap (λ s. Leaf told (with_fetched s)) (sym moves.state)
       ∙ ap (λ s. Leaf told s) (sym left.0.1) in
       inl (leaf_ends link tree told old mid new (subst T is moves) (λ f. subst A (sym left.0.0) (inr tt)) (ap (λ v. v.channel) left.1) (ap (λ v. v.net) left.1))
@@ -308,9 +321,9 @@ module _ (link : Link) (coding : Coding) (call : Call) (form : Fetch) (answer : 
   fault_lacks aborts lacks left =
       let P : SessionValue → Type 0 = λ v. Aborts link true tree told old v in
       let S : State → SessionValue = λ s. record (failed_from mid) { state = s } in
-      let same : new ≡ failed_from mid = left.1 ∙ ap S left.0.1 in
+      let same : new ≡ failed_from (record mid { state = with_abandoned mid.state }) = left.1 ∙ ap S left.0.1 in
       let is : told ≡ Fault OutOfMemory = left.0.0 ∙ ap Fault lacks.0 in
-      inr (subst P (sym same) (record { place = tree; at = aborts.at; leads = aborts.leads; state = aborts.state; going = aborts.going ∙ sym going; fault = OutOfMemory; is = is; cause = inr (record { is = refl; leaves = inr (ap failed_from lacks.1, inl refl) }) }))
+      inr (subst P (sym same) (record { place = tree; at = aborts.at; leads = aborts.leads; state = aborts.state; going = aborts.going ∙ sym going; fault = OutOfMemory; is = is; cause = inr (record { is = refl; leaves = inr (ap (λ v. failed_from (record v { state = with_abandoned v.state })) lacks.1 ∙ ap (λ s. failed_from (record aborts.at { state = with_abandoned s })) aborts.state, inl refl) }) }))
 
   fault_so : Hears link (expecting (ClosingDataConnection ∷ RequestedFileActionOk ∷ [])) next old mid (poll.Ready (Err fault)) → LeftBy (wants_memory fault) → So
   fault_so (inl (moves, heard)) left = fault_heard moves heard (subst LeftBy (not_memory fault heard.other) left)

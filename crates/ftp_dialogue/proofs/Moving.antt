@@ -27,7 +27,7 @@ use Rattle.ftp_dialogue.specs.State.{SessionValue, LetsGo}
 use Rattle.ftp_dialogue.specs.Dialogue.{Tree, Say, Hear, Look, Ask, Build, Move, Leaf}
 use Rattle.ftp_dialogue.specs.Play.{ended, finally, play, fits, said_then}
 use Rattle.ftp_dialogue.specs.Resuming.{Resumes, Silent}
-use Rattle.ftp_dialogue.specs.Promises.{IsFault, IsOf, However, SaidOrTaken, standing, Rests, Goes, Leads, Fails, Touched, Untouched, LacksMemory, Aborts, KeepsNoReply, failed_from}
+use Rattle.ftp_dialogue.specs.Promises.{IsFault, IsOf, However, SaidOrTaken, standing, Rests, Goes, Leads, Fails, Touched, Untouched, LacksMemory, Aborts, KeepsNoReply, failed_from, lacking_at, state_at}
 use Rattle.ftp_dialogue.specs.Within.{Within}
 use Rattle.ftp_dialogue.proofs.Places.{here, within_on}
 use Rattle.ftp_dialogue.specs.Steps.Moving.{NothingTouched, StillSays, HasGoneOut, Keeps, Shrinks, Calm, Moves, Advances, Ends, WaitsFor, Steps, TakesLine, after_line, step_of}
@@ -344,8 +344,8 @@ lacks_memory_first link tree v = record {
 }
 
 -- memory ran out at some place, and the session has failed
-pub lacks_memory_at : (link : Link) (begun : Bool) (tree tree' : Tree) (old mid : SessionValue) → (begun ≡ true) ⊎ Touched link tree old mid → Moves link tree tree' old mid → mid.channel.failed ≡ old.channel.failed → Aborts link begun tree (Fault OutOfMemory) old (failed_from mid)
-lacks_memory_at link begun tree tree' old mid begins moves going = record {
+pub lacks_memory_at : (link : Link) (begun : Bool) (tree tree' : Tree) (old mid : SessionValue) → state_at tree' OutOfMemory mid.state ≡ mid.state → (begun ≡ true) ⊎ Touched link tree old mid → Moves link tree tree' old mid → mid.channel.failed ≡ old.channel.failed → Aborts link begun tree (Fault OutOfMemory) old (failed_from mid)
+lacks_memory_at link begun tree tree' old mid stays begins moves going = record {
   place = tree';
   at = mid;
   leads = moves.leads;
@@ -353,7 +353,7 @@ lacks_memory_at link begun tree tree' old mid begins moves going = record {
   going = going;
   fault = OutOfMemory;
   is = refl;
-  cause = inr (record { is = refl; leaves = inr (refl, begins) });
+  cause = inr (record { is = refl; leaves = inr (ap (λ s. failed_from (record mid { state = s })) (sym stays), begins) });
 }
 
 -- One after another
@@ -535,11 +535,11 @@ module _ (link : Link) (tree tree' : Tree) (a b c : SessionValue) (first : Moves
             ∙ second.leads.plays h (first.resumes resumes) room more ended outcomes fit on;
       }
 
-      go : Fails link second.place second.fault second.at c ⊎ LacksMemory link begun' tree' second.leads.came second.fault b second.at c → Fails link second.place second.fault second.at c ⊎ LacksMemory link begun tree leads_at.came second.fault a second.at c
+      go : Fails link second.place second.fault second.at c ⊎ LacksMemory link begun' tree' second.place second.leads.came second.fault b second.at c → Fails link second.place second.fault second.at c ⊎ LacksMemory link begun tree second.place leads_at.came second.fault a second.at c
       go (inl fails) = inl fails
       go (inr lacks) = inr (record { is = lacks.is; leaves = inr (lost lacks.leaves, begins (touched has)) })
         where
-          lost : ((c ≡ second.at) × (begun' ≡ false) × Untouched link second.leads.came b second.at) ⊎ ((c ≡ failed_from second.at) × ((begun' ≡ true) ⊎ Touched link tree' b second.at)) → c ≡ failed_from second.at
+          lost : ((c ≡ second.at) × (begun' ≡ false) × Untouched link second.leads.came b second.at) ⊎ ((c ≡ failed_from (lacking_at second.place second.at)) × ((begun' ≡ true) ⊎ Touched link tree' b second.at)) → c ≡ failed_from (lacking_at second.place second.at)
           lost (inl quiet) = let clash : true ≡ false = sym has ∙ quiet.1 in cc
           lost (inr failed) = failed.0
 

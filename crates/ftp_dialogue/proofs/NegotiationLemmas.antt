@@ -55,7 +55,7 @@ use Rattle.ftp_dialogue.specs.declared.model.Traffic.{Traffic}
 use Rattle.ftp_dialogue.proofs.Deals.{dealings_constructed, dealings_dealt, dealings_moved}
 use Rattle.ftp_dialogue.specs.Play.{asked_then, play, address_at}
 use Rattle.ftp_dialogue.proofs.Places.{here}
-use Rattle.ftp_dialogue.specs.Promises.{standing, Goes, Aborts, Untouched, failed_from}
+use Rattle.ftp_dialogue.specs.Promises.{standing, Goes, Aborts, Untouched, failed_from, state_at}
 use Rattle.ftp_dialogue.specs.State.{SessionValue}
 use Rattle.ftp_dialogue.specs.Steps.Moving.{AsksFirst, LetsIn, dropped, Accepts, Concludes, ConnectsTo, Ends, LooksUp, Meets, MeetsIf, Moves, NothingTouched, Speaks, Still, TurnsAway, Walks}
 use Rattle.ftp_dialogue.specs.Steps.Stages.{GoesOnTo, MayAnswer, MayPerform, OpeningOf, many, opened_by, StageOf, StepAnswers, TurnOf, is_later, begun_at, first_by, has_asked, nodes_from, nodes_left, nodes_of, remaining, way_of}
@@ -436,9 +436,21 @@ still_lacks link tree old new going still =
       cause = inr (record { is = refl; leaves = inl (refl, refl, subst U (sym still.none) still.untouched) });
     }
 
+-- where the transport is asked no reply is awaited
+pub connecting_unheard : (address : SocketAddr) (state other : State) (next : Tree) → state_at (connecting_to address state next) OutOfMemory other ≡ other
+connecting_unheard address state other next = elim state.settings.stream_builder as (λ b. state_at (cond b (Build address (on_built state next)) (Ask (Connect address None) (on_connection state next))) OutOfMemory other ≡ other) [
+  | true ↦ refl
+  | false ↦ refl
+]
+
+pub accepting_unheard : (opened : Tree) (peer : SocketAddr) (left : ℕ) (state other : State) → state_at (accepting opened peer left state) OutOfMemory other ≡ other
+unfolding accepting
+accepting_unheard opened peer zero state other = refl
+accepting_unheard opened peer (suc left) state other = refl
+
 -- memory ran out after a reply was taken
-pub still_fails : (link : Link) (tree : Tree) (old mid : SessionValue) → old.channel.failed ≡ false → Still link tree tree old mid → Aborts link true tree (Fault OutOfMemory) old (failed_from mid)
-still_fails link tree old mid going still = lacks_memory_at link true tree tree old mid (inl refl) still.advances.moves still.advances.failed
+pub still_fails : (link : Link) (tree : Tree) (old mid : SessionValue) → state_at tree OutOfMemory mid.state ≡ mid.state → old.channel.failed ≡ false → Still link tree tree old mid → Aborts link true tree (Fault OutOfMemory) old (failed_from mid)
+still_fails link tree old mid stays going still = lacks_memory_at link true tree tree old mid stays (inl refl) still.advances.moves still.advances.failed
 
 module _ (link : Link) (coding : Coding) (call : Call) (way : Way) (opens : negotiates call ≡ true) where
   -- the next node is reached

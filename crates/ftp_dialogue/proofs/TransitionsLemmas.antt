@@ -1,5 +1,5 @@
 -- Lemmas on the machine's steps and polls.
-use Rattle.std.proofs.Common.{◌∷◌, ◌++◌, append-nil, ◌≡◌, ◌<◌, ◌+◌, ◌&&◌, ℕ, length, Bool, true, false, cond, Option, Some, None, List, [], Result, Ok, Err, inl, inr, ◌⊎◌, refl, ap, sym, ◌∙◌, subst, arith}
+use Rattle.std.proofs.Common.{◌∷◌, ◌++◌, append-nil, ◌≡◌, ◌<◌, ◌+◌, ◌&&◌, ℕ, length, ◌==◌, is_none, Bool, true, false, cond, Option, Some, None, List, [], Result, Ok, Err, inl, inr, ◌⊎◌, refl, ap, sym, ◌∙◌, subst, arith}
 use Rattle.futures.specs.declared.task.Poll.{Poll}
 use Rattle.futures.specs.declared.task.Poll.TheVariants as poll
 use Rattle.ftp_base.specs.declared.command.Command.{Command}
@@ -9,11 +9,15 @@ use Rattle.ftp_base.specs.declared.types.fault.FtpError.TheVariants.{ConnectionE
 use Rattle.ftp_base.specs.declared.types.fault.ConnectionError.{ConnectionError as Cause}
 use Rattle.ftp_base.specs.declared.types.fault.ConnectionError.TheVariants.{Io}
 use Rattle.ftp_calls.specs.declared.exchange.Ending.{Ending}
+use Rattle.ftp_calls.specs.declared.exchange.Ending.TheVariants as ending
 use Rattle.ftp_control.specs.Refusal.{IsRefusalOf}
 use Rattle.ftp_transport.specs.Told.{Told, EndsAsTold, HasFailed}
 use Rattle.ftp_dialogue.specs.declared.state.State.{State}
 use Rattle.ftp_calls.specs.declared.call.Answer.{Answer}
 use Rattle.ftp_calls.specs.declared.call.Answer.TheVariants.{Unit, Fault}
+use Rattle.ftp_calls.specs.declared.call.Answer.TheVariants as answer
+use Rattle.ftp_calls.specs.declared.exchange.Movement.{Movement}
+use Rattle.ftp_calls.specs.declared.exchange.Movement.TheVariants as movement
 use Rattle.ftp_calls.specs.declared.call.Call.{Call}
 use Rattle.ftp_calls.specs.declared.call.Call.TheVariants.{Drain}
 use Rattle.ftp_calls.specs.declared.exchange.Turn.{Turn}
@@ -28,21 +32,21 @@ use Rattle.ftp_dialogue.specs.Coding.{Coding}
 use Rattle.ftp_calls.specs.declared.exchange.Row.{Row}
 use Rattle.ftp_calls.specs.declared.exchange.Row.TheVariants.{Exchanges, Arms, Sets}
 use Rattle.ftp_calls.specs.declared.exchange.Row.TheVariants as row
-use Rattle.ftp_calls.specs.Exchanges.{finishes, is_local, is_read, negotiates, of_transfer, row_of, says_of}
+use Rattle.ftp_calls.specs.Exchanges.{aborting_row, finishes, is_aborting, is_local, is_read, negotiates, of_transfer, row_of, says_of}
 use Rattle.ftp_dialogue.proofs.Sorts.{fetch_opens, read_finishes_none, aborts_finish, finishing_no_read}
 use Rattle.ftp_dialogue.proofs.CarryingLemmas.{failing_refuses, plain_entered}
 use Rattle.ftp_dialogue.proofs.Faults.{told_failure, told_fails}
 use Rattle.ftp_dialogue.specs.Play.{Taken}
 use Rattle.ftp_calls.proofs.Openings.{read_opens_none}
 use Rattle.ftp_dialogue.proofs.Stages.{later_is_no_read}
-use Rattle.ftp_dialogue.specs.Dialogue.{Expected, expected_of, Tree, Say, Hear, Leaf, saying, after_fault_of, answer_to_fault, armed, awaiting, concluded, doing, accepted, later, from_turn, opened_from, with_left, dialogue}
+use Rattle.ftp_dialogue.specs.Dialogue.{Expected, expected_of, Tree, Say, Hear, Leaf, Move, carrying, moved_answer, saying, after_fault_of, answer_to_fault, armed, awaiting, concluded, doing, accepted, later, from_turn, opened_from, wants_memory, with_left, dialogue}
 use Rattle.ftp_dialogue.proofs.DrainingLemmas.{failed_undue, makes_undue}
-use Rattle.ftp_dialogue.specs.Promises.{DrainsIf, PlaysAlone, due_of, AbortsRead, FailsRead, IsFault, HasFault, Aborts, Fails, SaidOrTaken, Touched, Untouched, LacksMemory, Plays, GivesFault, Reads, Rests, begun_by, failed_from, refusal_of}
+use Rattle.ftp_dialogue.specs.Promises.{DrainsIf, PlaysAlone, due_of, AbortsRead, FailsRead, IsFault, HasFault, Aborts, Fails, SaidOrTaken, Touched, Untouched, LacksMemory, Plays, GivesFault, Reads, Rests, begun_by, failed_from, lacking_at, refusal_of, state_at}
 use Rattle.ftp_control.specs.Channel.{untaken}
 use Rattle.ftp_dialogue.specs.Resuming.{Resumes}
 use Rattle.ftp_dialogue.specs.Steps.Polls.{StageIn, entered_at, entered_state, entered_tree, is_first, is_first_turn}
-use Rattle.ftp_dialogue.specs.Steps.Stages.{is_later, remaining, awaited, begun_at, StageOf, line_of}
-use Rattle.ftp_dialogue.specs.Steps.Moving.{Moves, Advances, Ends, Steps, PollSteps, Hears, BeginsExchange, Concludes, Made, NothingTouched, NothingYet, Quiet, Still, HasBegun, HeardFault, BeginsHere, EndsFaulty, FaultLeaves, FaultLeavesIf, Speaks, Takes, Tracks, wants_memory, withheld, after_fault}
+use Rattle.ftp_dialogue.specs.Steps.Stages.{NotBegun, is_later, remaining, awaited, begun_at, StageOf, line_of}
+use Rattle.ftp_dialogue.specs.Steps.Moving.{Moves, Advances, Ends, Steps, PollSteps, Hears, BeginsExchange, Concludes, Made, NothingTouched, NothingYet, Quiet, Still, HasBegun, HeardFault, BeginsHere, EndsFaulty, FaultLeaves, FaultLeavesIf, Speaks, Takes, Tracks, takes_memory, withheld, after_fault}
 use Rattle.ftp_dialogue.proofs.Moving.{advances_on, leads_on, leaf_ends, refused_line, lacks_memory_first, lacks_memory_at, stays_put, ends_on, aborts_on, said_or_taken_on, untouched, untouched_after}
 use Rattle.ftp_dialogue.proofs.NegotiationLemmas.{still_on, unchanged_still}
 use Rattle.ftp_dialogue.specs.Link.{Link}
@@ -63,22 +67,85 @@ row_refused link coding (Arms offset) cause later v is = let clash : Ok [] ≡ E
 row_refused link coding (Sets setting) cause later v is = let clash : Ok [] ≡ Err cause = is in cc
 row_refused link coding (row.Moves movement) cause later v is = let clash : Ok [] ≡ Err cause = is in cc
 
+-- where an exchange doesn't begin for want of memory the state stays, since no reply of an abort is awaited
+fault_stays : (ending : Ending) (state : State) → is_aborting ending ≡ false → after_fault_of ending OutOfMemory state ≡ state
+fault_stays ending.Done state none = refl
+fault_stays ending.GivesReply state none = refl
+fault_stays ending.Greets state none = refl
+fault_stays ending.GivesPath state none = refl
+fault_stays ending.GivesSecondLine state none = refl
+fault_stays ending.GivesTime state none = refl
+fault_stays ending.GivesSize state none = refl
+fault_stays ending.GivesFeatures state none = refl
+fault_stays (ending.SetsText text) state none = refl
+fault_stays (ending.GoesOn status) state none = refl
+fault_stays ending.Continues state none = refl
+fault_stays ending.GivesAddress state none = refl
+fault_stays ending.GivesPort state none = refl
+fault_stays (ending.Opens replies) state none = refl
+fault_stays (ending.Performs task) state none = refl
+fault_stays (ending.Finishes close) state none = refl
+fault_stays ending.Drains state none = refl
+fault_stays ending.Stops state none = let clash : true ≡ false = none in cc
+
+saying_stays : (coding : Coding) (command : Option Command) (expected : Expected) (ending : Ending) (state : State) (next : State → Tree) → (is_none command && is_aborting ending) ≡ false → state_at (saying coding command (awaiting coding expected ending state next)) OutOfMemory state ≡ state
+saying_stays coding None expected ending state next none = fault_stays ending state none
+saying_stays coding (Some command) expected ending state next none = refl
+
+carrying_stays : (m : Movement) (state : State) → state_at (carrying m state) OutOfMemory state ≡ state
+carrying_stays (movement.Read most) state = elim (most == 0) as (λ b. state_at (cond b (Leaf (answer.Bytes []) state) (Move (movement.Read most) (λ came. Leaf (moved_answer came) state))) OutOfMemory state ≡ state) [
+  | true ↦ refl
+  | false ↦ refl
+]
+carrying_stays (movement.Write bytes) state = elim (length bytes == 0) as (λ b. state_at (cond b (Leaf (answer.Count 0) state) (Move (movement.Write bytes) (λ came. Leaf (moved_answer came) state))) OutOfMemory state ≡ state) [
+  | true ↦ refl
+  | false ↦ refl
+]
+carrying_stays movement.Close state = refl
+
+row_stays : (coding : Coding) (row : Row) (next : State → Tree) (state : State) → (is_none (says_of row) && aborting_row row) ≡ false → state_at (doing coding row state next) OutOfMemory state ≡ state
+row_stays coding (Exchanges e) next state none = saying_stays coding e.says (expected_of e.hears) e.ending state next none
+row_stays coding (Arms offset) next state none = refl
+row_stays coding (Sets setting) next state none = refl
+row_stays coding (row.Moves m) next state none = carrying_stays m state
+
+-- an accepted reply whose answer takes memory is the last
+accepted_unheard : (coding : Coding) (ending : Ending) (state other : State) (reply : Response) (next : State → Tree) → takes_memory ending ≡ true → state_at (accepted coding ending state reply next) OutOfMemory other ≡ other
+accepted_unheard coding ending.Done state other reply next takes = let clash : false ≡ true = takes in cc
+accepted_unheard coding ending.GivesReply state other reply next takes = let clash : false ≡ true = takes in cc
+accepted_unheard coding ending.Greets state other reply next takes = refl
+accepted_unheard coding ending.GivesPath state other reply next takes = refl
+accepted_unheard coding ending.GivesSecondLine state other reply next takes = refl
+accepted_unheard coding ending.GivesTime state other reply next takes = let clash : false ≡ true = takes in cc
+accepted_unheard coding ending.GivesSize state other reply next takes = let clash : false ≡ true = takes in cc
+accepted_unheard coding ending.GivesFeatures state other reply next takes = refl
+accepted_unheard coding (ending.SetsText text) state other reply next takes = let clash : false ≡ true = takes in cc
+accepted_unheard coding (ending.GoesOn status) state other reply next takes = let clash : false ≡ true = takes in cc
+accepted_unheard coding ending.Continues state other reply next takes = let clash : false ≡ true = takes in cc
+accepted_unheard coding ending.GivesAddress state other reply next takes = let clash : false ≡ true = takes in cc
+accepted_unheard coding ending.GivesPort state other reply next takes = let clash : false ≡ true = takes in cc
+accepted_unheard coding (ending.Opens replies) state other reply next takes = let clash : false ≡ true = takes in cc
+accepted_unheard coding (ending.Performs task) state other reply next takes = let clash : false ≡ true = takes in cc
+accepted_unheard coding (ending.Finishes close) state other reply next takes = let clash : false ≡ true = takes in cc
+accepted_unheard coding ending.Drains state other reply next takes = let clash : false ≡ true = takes in cc
+accepted_unheard coding ending.Stops state other reply next takes = let clash : false ≡ true = takes in cc
+
 -- an exchange that doesn't begin
-pub refused_ends : (link : Link) (coding : Coding) (call : Call) (turn : Turn) (fault : FtpError) (v : SessionValue) → v.channel.failed ≡ false → IsRefusalOf (line_of coding (says_of (row_of call turn))) fault → Ends link (from_turn coding call turn v.state) (Fault fault) v (after_fault (is_later turn) fault v) ⊎ Aborts link (is_later turn) (from_turn coding call turn v.state) (Fault fault) v (after_fault (is_later turn) fault v)
+pub refused_ends : (link : Link) (coding : Coding) (call : Call) (turn : Turn) (fault : FtpError) (v : SessionValue) → v.channel.failed ≡ false → NotBegun coding (row_of call turn) fault → Ends link (from_turn coding call turn v.state) (Fault fault) v (after_fault (is_later turn) fault v) ⊎ Aborts link (is_later turn) (from_turn coding call turn v.state) (Fault fault) v (after_fault (is_later turn) fault v)
 refused_ends link coding call turn (ConnectionError cause) v going is =
-    inl (row_refused link coding (row_of call turn) cause (later coding call turn) v is)
-refused_ends link coding call turn (SecureError text) v going is = absurd is
-refused_ends link coding call turn (UnexpectedResponse reply) v going is = absurd is
-refused_ends link coding call turn BadResponse v going is = absurd is
-refused_ends link coding call turn InvalidAddress v going is = absurd is
-refused_ends link coding call turn DataConnectionAlreadyOpen v going is = absurd is
+    inl (row_refused link coding (row_of call turn) cause (later coding call turn) v is.0)
+refused_ends link coding call turn (SecureError text) v going is = absurd is.0
+refused_ends link coding call turn (UnexpectedResponse reply) v going is = absurd is.0
+refused_ends link coding call turn BadResponse v going is = absurd is.0
+refused_ends link coding call turn InvalidAddress v going is = absurd is.0
+refused_ends link coding call turn DataConnectionAlreadyOpen v going is = absurd is.0
 refused_ends link coding call turn OutOfMemory v going is =
     let tree = from_turn coding call turn v.state in
     inr (elim (is_later turn) as (λ b. Aborts link b tree (Fault OutOfMemory) v (after_fault b OutOfMemory v)) [
-      | true ↦ lacks_memory_at link true tree tree v v (inl refl) (stays_put link tree tree v refl).moves refl
+      | true ↦ lacks_memory_at link true tree tree v v (row_stays coding (row_of call turn) (later coding call turn) v.state is.1) (inl refl) (stays_put link tree tree v refl).moves refl
       | false ↦ lacks_memory_first link tree v
     ])
-refused_ends link coding call turn SessionFailed v going is = absurd is
+refused_ends link coding call turn SessionFailed v going is = absurd is.0
 
 -- an exchange begins
 pub exchange_begins : (link : Link) (coding : Coding) (call : Call) (turn : Turn) (stage' : Stage) (old new : SessionValue) (step : Step) → old.channel.failed ≡ false → BeginsExchange coding call turn stage' old new step → Steps link (is_later turn) (from_turn coding call turn old.state) (remaining coding call old.state stage') old new step
@@ -128,7 +195,7 @@ concludes link coding call a reply stage' old mid new (Done answer) going heard 
 concludes link coding call a reply stage' old mid new (Done answer) going heard takes (inr lacks) =
     let A : Answer → Type 0 = λ x. Aborts link a.begun (awaited coding call old.state a) x old new in
     let V : SessionValue → Type 0 = λ v. Aborts link a.begun (awaited coding call old.state a) (Fault OutOfMemory) old v in
-    inr (subst A (sym lacks.0) (subst V (sym lacks.1) (lacks_memory_at link a.begun (awaited coding call old.state a) (accepted coding a.ending old.state reply (later coding call a.turn)) old mid (inr (λ h resumes. inr (takes h resumes))) heard.moves heard.failed)))
+    inr (subst A (sym lacks.0) (subst V (sym lacks.1) (lacks_memory_at link a.begun (awaited coding call old.state a) (accepted coding a.ending old.state reply (later coding call a.turn)) old mid (accepted_unheard coding a.ending old.state mid.state reply (later coding call a.turn) lacks.2) (inr (λ h resumes. inr (takes h resumes))) heard.moves heard.failed)))
 
 -- a dialogue that goes on after a reply has begun with it
 pub accepted_begins : (link : Link) (coding : Coding) (call : Call) (a : Awaits) (reply : Response) (stage' : Stage) (old mid new : SessionValue) (step : Step) → Takes link (awaited coding call old.state a) old mid → (step ≡ Next → begun_at stage' ≡ true) → Concludes coding call a reply stage' mid new step → Tracks link a.begun (begun_at stage') (awaited coding call old.state a) old new step
@@ -163,22 +230,22 @@ module _ (link : Link) (coding : Coding) (codes : Expected) (ending : Ending) (l
 
   -- what is left, by whether memory ran out
   abbrev LeftBy : Bool → Type 0
-  LeftBy memory = FaultLeavesIf memory ending fault (cond (memory && begun) (failed_from mid) mid).state new.state told × (new ≡ record (cond (memory && begun) (failed_from mid) mid) { state = new.state })
+  LeftBy memory = FaultLeavesIf memory begun ending fault (cond (memory && begun) (failed_from mid) mid).state new.state told × (new ≡ record (cond (memory && begun) (failed_from mid) mid) { state = new.state })
 
   fault_heard : Moves link (Hear codes heard_next) (heard_next (Err fault)) old mid → HeardFault fault old mid → LeftBy false → Ending_so
   fault_heard moves heard left =
       let T : Tree → Type 0 = λ t. Moves link (Hear codes heard_next) t old mid in
       let A : Answer → Type 0 = λ a. (old.channel.failed ≡ true) ⊎ IsFault a in
       let is : heard_next (Err fault) ≡ Leaf told new.state =
-      ap (λ a. Leaf a (after_fault_of ending old.state)) (sym left.0.0)
-      ∙ ap (λ s. Leaf told (after_fault_of ending s)) (sym moves.state)
+      ap (λ a. Leaf a (after_fault_of ending fault old.state)) (sym left.0.0)
+      ∙ ap (λ s. Leaf told (after_fault_of ending fault s)) (sym moves.state)
       ∙ ap (λ s. Leaf told s) (sym left.0.1) in
       inl (leaf_ends link (Hear codes heard_next) told old mid new (subst T is moves) (λ f. subst A (sym left.0.0) (told_fails ending fault old mid heard f)) (ap (λ v. v.channel) left.1) (ap (λ v. v.net) left.1))
 
   fault_failed : (aborts : AbortsRead link codes heard_next fault old mid) → FailsRead link fault aborts.at mid → LeftBy false → Ending_so
   fault_failed aborts fails left =
       let io : FtpError = ConnectionError (Io fails.kind) in
-      let state : new.state ≡ after_fault_of ending old.state = left.0.1 ∙ ap (λ v. after_fault_of ending v.state) fails.same ∙ ap (λ s. after_fault_of ending s) aborts.state in
+      let state : new.state ≡ after_fault_of ending io old.state = left.0.1 ∙ ap (λ f. after_fault_of ending f mid.state) fails.is ∙ ap (λ v. after_fault_of ending io v.state) fails.same ∙ ap (λ s. after_fault_of ending io s) aborts.state in
       let channel : new.channel.told ≡ mid.channel.told = ap (λ v. v.channel.told) left.1 in
       let V : State → Told → SessionValue = λ s t. record aborts.at { channel = record aborts.at.channel { told = t; failed = true }; state = s } in
       let S : SessionValue → SessionValue = λ v. record v { state = new.state } in
@@ -200,18 +267,26 @@ module _ (link : Link) (coding : Coding) (codes : Expected) (ending : Ending) (l
         });
       })
 
+  -- the state of before may be read off after the failure as well
+  fault_left : fault ≡ OutOfMemory → record (cond begun (failed_from mid) mid) { state = cond begun (after_fault_of ending fault (cond begun (failed_from mid) mid).state) (cond begun (failed_from mid) mid).state } ≡ record (cond begun (failed_from mid) mid) { state = cond begun (after_fault_of ending OutOfMemory mid.state) mid.state }
+  fault_left is = ap (λ f. record (cond begun (failed_from mid) mid) { state = cond begun (after_fault_of ending f (cond begun (failed_from mid) mid).state) (cond begun (failed_from mid) mid).state }) is ∙ (elim begun as (λ b. record (cond b (failed_from mid) mid) { state = cond b (after_fault_of ending OutOfMemory (cond b (failed_from mid) mid).state) (cond b (failed_from mid) mid).state } ≡ record (cond b (failed_from mid) mid) { state = cond b (after_fault_of ending OutOfMemory mid.state) mid.state }) [
+    | true ↦ refl
+    | false ↦ refl
+  ])
+
   fault_lacks : (aborts : AbortsRead link codes heard_next fault old mid) → (fault ≡ OutOfMemory) × (mid ≡ aborts.at) × Untouched link aborts.leads.came old aborts.at → LeftBy true → Ending_so
   fault_lacks aborts lacks left =
       let P : SessionValue → Type 0 = λ v. Aborts link begun (Hear codes heard_next) told old v in
+      let L : Bool → FtpError → SessionValue → SessionValue = λ b f v. record (cond b (failed_from v) v) { state = cond b (after_fault_of ending f v.state) v.state } in
       let S : State → SessionValue = λ s. record (cond begun (failed_from mid) mid) { state = s } in
-      let same : new ≡ cond begun (failed_from mid) mid = left.1 ∙ ap S left.0.1 in
+      let same : new ≡ L begun OutOfMemory mid = left.1 ∙ ap S left.0.1 ∙ fault_left lacks.0 in
       let is : told ≡ Fault OutOfMemory = left.0.0 ∙ ap Fault lacks.0 in
-      inr (subst P (sym same) (elim begun as (λ b. Aborts link b (Hear codes heard_next) told old (cond b (failed_from mid) mid)) [
-        | true ↦ record { place = Hear codes heard_next; at = aborts.at; leads = aborts.leads; state = aborts.state; going = aborts.going ∙ sym going; fault = OutOfMemory; is = is; cause = inr (record { is = refl; leaves = inr (ap failed_from lacks.1, inl refl) }) }
+      inr (subst P (sym same) (elim begun as (λ b. Aborts link b (Hear codes heard_next) told old (L b OutOfMemory mid)) [
+        | true ↦ record { place = Hear codes heard_next; at = aborts.at; leads = aborts.leads; state = aborts.state; going = aborts.going ∙ sym going; fault = OutOfMemory; is = is; cause = inr (record { is = refl; leaves = inr (ap (λ v. failed_from (record v { state = after_fault_of ending OutOfMemory v.state })) lacks.1 ∙ ap (λ s. failed_from (record aborts.at { state = after_fault_of ending OutOfMemory s })) aborts.state, inl refl) }) }
         | false ↦ record { place = Hear codes heard_next; at = aborts.at; leads = aborts.leads; state = aborts.state; going = aborts.going ∙ sym going; fault = OutOfMemory; is = is; cause = inr (record { is = refl; leaves = inl (lacks.1, refl, lacks.2) }) }
       ]))
 
-  pub fault_ends : Hears link codes heard_next old mid (poll.Ready (Err fault)) → FaultLeaves ending fault (after_fault begun fault mid).state new.state told → new ≡ record (after_fault begun fault mid) { state = new.state } → Ending_so
+  pub fault_ends : Hears link codes heard_next old mid (poll.Ready (Err fault)) → FaultLeaves begun ending fault (after_fault begun fault mid).state new.state told → new ≡ record (after_fault begun fault mid) { state = new.state } → Ending_so
   fault_ends (inl (moves, heard)) leaves same = fault_heard moves heard (subst LeftBy (not_memory fault heard.other) (leaves, same))
   fault_ends (inr aborts) leaves same = go aborts.cause
     where
@@ -299,11 +374,11 @@ aborts_after link tree tree' a b c begun answer still second = record {
       untaken = here.untaken ∙ ap (λ l. l ++ second.leads.came) (still.untouched.untaken ∙ append-nil (untaken a.channel)) ∙ ap (λ l. untaken a.channel ++ (l ++ second.leads.came)) (sym still.none);
     }
 
-    go : Fails link second.place second.fault second.at c ⊎ LacksMemory link begun tree' second.leads.came second.fault b second.at c → Fails link second.place second.fault second.at c ⊎ LacksMemory link begun tree came second.fault a second.at c
+    go : Fails link second.place second.fault second.at c ⊎ LacksMemory link begun tree' second.place second.leads.came second.fault b second.at c → Fails link second.place second.fault second.at c ⊎ LacksMemory link begun tree second.place came second.fault a second.at c
     go (inl fails) = inl fails
     go (inr lacks) = inr (record { is = lacks.is; leaves = leaves lacks.leaves })
       where
-        leaves : ((c ≡ second.at) × (begun ≡ false) × Untouched link second.leads.came b second.at) ⊎ ((c ≡ failed_from second.at) × ((begun ≡ true) ⊎ Touched link tree' b second.at)) → ((c ≡ second.at) × (begun ≡ false) × Untouched link came a second.at) ⊎ ((c ≡ failed_from second.at) × ((begun ≡ true) ⊎ Touched link tree a second.at))
+        leaves : ((c ≡ second.at) × (begun ≡ false) × Untouched link second.leads.came b second.at) ⊎ ((c ≡ failed_from (lacking_at second.place second.at)) × ((begun ≡ true) ⊎ Touched link tree' b second.at)) → ((c ≡ second.at) × (begun ≡ false) × Untouched link came a second.at) ⊎ ((c ≡ failed_from (lacking_at second.place second.at)) × ((begun ≡ true) ⊎ Touched link tree a second.at))
         leaves (inl quietly) = inl (quietly.0, quietly.1, quiet quietly.2)
         leaves (inr (failed, inl before)) = inr (failed, inl before)
         leaves (inr (failed, inr here)) = inr (failed, inr (touched here))

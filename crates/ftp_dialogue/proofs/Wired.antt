@@ -78,8 +78,8 @@ module _ (coding : Coding) (codes : Expected) (how : Ending) (state : State) (ne
   found : (fault : FtpError) (x : Standing) → k (Err fault) x ≡ Done answer t → ⊥
   found fault x is =
       let told = told_undrained how fault undrained in
-      let D : Answer → Type 0 = λ a. Done a (record x { state = after_fault_of how state }) ≡ Done answer t in
-      no_success told.0 answer (record x { state = after_fault_of how state }) t (subst D told.1 (sym (play-Leaf Any (answer_to_fault how fault) (after_fault_of how state) x) ∙ is)) success
+      let D : Answer → Type 0 = λ a. Done a (record x { state = after_fault_of how fault state }) ≡ Done answer t in
+      no_success told.0 answer (record x { state = after_fault_of how fault state }) t (subst D told.1 (sym (play-Leaf Any (answer_to_fault how fault) (after_fault_of how fault state) x) ∙ is)) success
 
   pub one_reply : play Any (awaiting coding codes how state next) s ≡ Done answer t → HeardOne coding codes how state next answer s t
   one_reply is = go (outcome s.rule codes.form s.bytes s.ended) refl (sym (play-Hear Any codes (concluded coding how state next) s) ∙ is)

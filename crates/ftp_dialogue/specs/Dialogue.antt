@@ -1,6 +1,6 @@
 -- The dialogues of a session as trees: RFC 959, sections 5.4 and 6. A tree says, hears and asks in turn, and ends
 -- in an answer with the change of state.
-use Rattle.std.specs.Prelude.{ℕ, zero, suc, drop, length, nat_le, nat_lt, ◌++◌, ◌&&◌, Bool, List, [], ◌∷◌, ◌==◌, Option, Some, None, Result, Ok, Err, if◌then◌else◌}
+use Rattle.std.specs.Prelude.{ℕ, zero, suc, drop, length, nat_le, nat_lt, ◌++◌, ◌&&◌, Bool, true, false, List, [], ◌∷◌, ◌==◌, Option, Some, None, Result, Ok, Err, if◌then◌else◌}
 use Rattle.std.specs.Net.Socket.{socket_ip, socket_port}
 use Rattle.std.specs.declared.io.ErrorKind.{ErrorKind}
 use Rattle.std.specs.declared.io.ErrorKind.TheVariants.{WriteZero}
@@ -29,7 +29,7 @@ use Rattle.ftp_dialogue.specs.declared.state.State.{State}
 use Rattle.ftp_calls.specs.declared.call.Answer.{Answer}
 use Rattle.ftp_calls.specs.declared.call.Answer.TheVariants.{Unit, Reply, Text, Time, Size, Opened, OpenedWith, Lines, Fault}
 use Rattle.ftp_calls.specs.declared.call.Answer.TheVariants as answer
-use Rattle.ftp_base.specs.declared.types.fault.FtpError.TheVariants.{ConnectionError as Connection, UnexpectedResponse, BadResponse, OutOfMemory}
+use Rattle.ftp_base.specs.declared.types.fault.FtpError.TheVariants.{ConnectionError as Connection, SecureError, UnexpectedResponse, BadResponse, InvalidAddress, DataConnectionAlreadyOpen, OutOfMemory, SessionFailed}
 use Rattle.ftp_base.specs.declared.types.fault.ConnectionError.TheVariants.{Io, NoAddress as Nowhere, SourceTooLarge, TimedOut}
 use Rattle.ftp_base.specs.declared.types.mode.Mode.{Mode}
 use Rattle.ftp_base.specs.declared.types.mode.Mode.TheVariants as mode
@@ -268,17 +268,29 @@ abbrev pub drain_answer : FtpError → Answer
 drain_answer (UnexpectedResponse reply) = Unit
 drain_answer fault = Fault fault
 
--- a fault is heard in place of a reply: what is answered, and in which state
+-- memory ran out
+abbrev pub wants_memory : FtpError → Bool
+wants_memory (Connection cause) = false
+wants_memory (SecureError text) = false
+wants_memory (UnexpectedResponse reply) = false
+wants_memory BadResponse = false
+wants_memory InvalidAddress = false
+wants_memory DataConnectionAlreadyOpen = false
+wants_memory OutOfMemory = true
+wants_memory SessionFailed = false
+
+-- a fault is heard in place of a reply: what is answered, and in which state. Where memory ran out for a transfer's last
+-- reply the transfer is left; a transfer that is aborted stays aborted
 abbrev pub answer_to_fault : Ending → FtpError → Answer
 answer_to_fault (Finishes close) fault = Fault (finish_fault close fault)
 answer_to_fault Drains fault = drain_answer fault
 answer_to_fault other fault = Fault fault
 
-abbrev pub after_fault_of : Ending → State → State
-after_fault_of (Finishes close) state = with_finished state
-after_fault_of Drains state = with_drained state
-after_fault_of Stops state = with_aborted state
-after_fault_of other state = state
+abbrev pub after_fault_of : Ending → FtpError → State → State
+after_fault_of (Finishes close) fault state = if wants_memory fault then state else with_finished state
+after_fault_of Drains fault state = if wants_memory fault then state else with_drained state
+after_fault_of Stops fault state = with_aborted state
+after_fault_of other fault state = state
 
 -- A whole data connection: RFC 959, sections 4.1.3 (RETR, LIST, NLST) and 5.4; RFC 3659, section 7 (MLSD)
 
@@ -310,9 +322,17 @@ first_fault Listed answer fault = fault
 abbrev pub with_fetched : State → State
 with_fetched state = with_finished (with_transfer state)
 
+-- a transfer was opened, and is left
+abbrev pub with_abandoned : State → State
+with_abandoned state = with_left (with_transfer state)
+
+-- it has come to its end whatever the last reply is, but is left where memory ran out for that
+abbrev pub after_fetch : FtpError → State → State
+after_fetch fault state = if wants_memory fault then with_abandoned state else with_fetched state
+
 abbrev pub fetch_concluded : Fetch → Answer → State → Result Response FtpError → Tree
 fetch_concluded form answer state (Ok reply) = Leaf answer (with_fetched state)
-fetch_concluded form answer state (Err fault) = Leaf (Fault (first_fault form answer fault)) (with_fetched state)
+fetch_concluded form answer state (Err fault) = Leaf (Fault (first_fault form answer fault)) (after_fetch fault state)
 
 -- the transfer's last reply is heard, whatever came of the data
 abbrev pub fetch_ending : Fetch → Answer → State → Tree
@@ -364,10 +384,6 @@ fetching coding form state = gathering coding form most_reads [] state
 -- the bytes of a file as they go over the data connection: a text's lines end in CR LF
 abbrev pub wire_data : Bool → List ℕ → List ℕ
 wire_data text bytes = if text then crlf bytes else bytes
-
--- a transfer was opened, and is left
-abbrev pub with_abandoned : State → State
-with_abandoned state = with_left (with_transfer state)
 
 -- where bytes can't be sent the transfer is left, and its last reply isn't heard
 abbrev pub giving_up : FtpError → State → Tree
@@ -429,7 +445,7 @@ accepted coding Stops state reply later = if code_of reply.status == code_of Tra
 -- a reply is accepted, or a fault is the answer
 abbrev pub concluded : Coding → Ending → State → (State → Tree) → Result Response FtpError → Tree
 concluded coding ending state later (Ok reply) = accepted coding ending state reply later
-concluded coding ending state later (Err fault) = Leaf (answer_to_fault ending fault) (after_fault_of ending state)
+concluded coding ending state later (Err fault) = Leaf (answer_to_fault ending fault) (after_fault_of ending fault state)
 
 -- a reply is awaited
 abbrev pub awaiting : Coding → Expected → Ending → State → (State → Tree) → Tree

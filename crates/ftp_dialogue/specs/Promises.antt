@@ -284,11 +284,15 @@ Touched link tree old new = link.tells → Resumes old.channel.rule old.channel.
 abbrev pub failed_from : SessionValue → SessionValue
 failed_from v = record v { channel = record v.channel { failed = true } }
 
+-- what is left where memory runs out at this place: where a reply is awaited the dialogue says so
+abbrev pub lacking_at : Tree → SessionValue → SessionValue
+lacking_at place v = record v { state = state_at place OutOfMemory v.state }
+
 -- memory ran out: where nothing of the dialogue was said or taken, nothing happened; where something was, in this
--- poll or before, the session has failed
-pub record LacksMemory (link : Link) (begun : Bool) (tree : Tree) (came : List ℕ) (fault : FtpError) (old at new : SessionValue) : Type 0 where
+-- poll or before, the session has failed, and a transfer whose last reply was awaited is left, or aborted
+pub record LacksMemory (link : Link) (begun : Bool) (tree place : Tree) (came : List ℕ) (fault : FtpError) (old at new : SessionValue) : Type 0 where
   pub is : fault ≡ OutOfMemory
-  pub leaves : ((new ≡ at) × (begun ≡ false) × Untouched link came old at) ⊎ ((new ≡ failed_from at) × ((begun ≡ true) ⊎ Touched link tree old at))
+  pub leaves : ((new ≡ at) × (begun ≡ false) × Untouched link came old at) ⊎ ((new ≡ failed_from (lacking_at place at)) × ((begun ≡ true) ⊎ Touched link tree old at))
 
 -- a dialogue is aborted at some place of its tree; it may have begun before
 pub record Aborts (link : Link) (begun : Bool) (tree : Tree) (answer : Answer) (old new : SessionValue) : Type 0 where
@@ -299,7 +303,7 @@ pub record Aborts (link : Link) (begun : Bool) (tree : Tree) (answer : Answer) (
   pub going : at.channel.failed ≡ old.channel.failed
   pub fault : FtpError
   pub is : answer ≡ Fault fault
-  pub cause : Fails link place fault at new ⊎ LacksMemory link begun tree leads.came fault old at new
+  pub cause : Fails link place fault at new ⊎ LacksMemory link begun tree place leads.came fault old at new
 
 -- a call isn't made: nothing changes, but where the session has failed a call that would bring a transfer to its end
 -- leaves it, and its data connection is closed

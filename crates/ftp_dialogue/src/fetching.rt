@@ -250,16 +250,17 @@ impl<Tr: Network> Machine<Tr> {
         }
     }
 
-    /// A fault was heard in place of the last reply. Out of memory fails the session.
+    /// A fault was heard in place of the last reply. Out of memory fails the session, and the transfer is left.
     fn fail_fetch(&mut self, form: Fetch, answer: Answer, fault: FtpError) -> Answer
         ensures { EndsFetch form answer fault self.old self.new result }
     {
         self.abort_dialogue(true, &fault);
+        self.state.counts.open();
         if wants_memory(&fault) {
+            self.state.counts.leave();
             drop(answer);
             return Answer::Fault(fault);
         }
-        self.state.counts.open();
         self.state.counts.finish();
         Answer::Fault(first_fault(form, answer, fault))
     }

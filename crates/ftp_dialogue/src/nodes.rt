@@ -3,16 +3,16 @@
 //! Each is one step on the channel or on the session's state, with a contract that says what the dialogue's tree says
 //! of it, for whatever comes behind it (`(next : ..) → ..`).
 
-ghost use Rattle.std.specs.Prelude.{◌≡◌, Result, false};
+ghost use Rattle.std.specs.Prelude.{◌≡◌, Result, false, if◌then◌else◌};
 ghost use Rattle.futures.specs.declared.task.Poll.TheVariants as poll;
 ghost use Rattle.ftp_base.specs.declared.types.reply.Response.{Response as Heard};
 ghost use Rattle.ftp_base.specs.declared.types.fault.FtpError.{FtpError as Faults};
 ghost use Rattle.ftp_transport.specs.Told.{EndsAsTold};
 ghost use Rattle.ftp_dialogue.specs.Coding.{Coding, coding_of};
-ghost use Rattle.ftp_dialogue.specs.Dialogue.{Tree, drain_answer, expected_of, expecting, opened_answer};
+ghost use Rattle.ftp_dialogue.specs.Dialogue.{Tree, after_fault_of, drain_answer, expected_of, expecting, opened_answer, wants_memory};
 ghost use Rattle.ftp_dialogue.specs.declared.state.State.{State as States};
 ghost use Rattle.ftp_dialogue.specs.Link.{asking, polling};
-ghost use Rattle.ftp_dialogue.specs.Steps.Moving.{Accepts, AnswersAs, FaultLeaves, Hears, SaysNode, TakesLine, done_as, step_of, wants_memory};
+ghost use Rattle.ftp_dialogue.specs.Steps.Moving.{Accepts, AnswersAs, FaultLeaves, Hears, SaysNode, TakesLine, done_as, step_of};
 
 use super::answers::{features_answer, line_answer, path_answer, size_answer, time_answer};
 use super::asks::Asks;
@@ -303,12 +303,18 @@ fn finished(close: Option<ErrorKind>, state: &mut State) -> Accepted
     }
 }
 
-/// The answer where a fault was heard in place of a reply, and what it leaves. Where memory ran out nothing changes.
-pub(crate) fn conclude_fault(ending: Ending, fault: FtpError, state: &mut State) -> Answer
-    ensures { FaultLeaves ending fault state.old state.new result }
+/// The answer where a fault was heard in place of a reply, and what it leaves. Where memory ran out nothing changes, but
+/// that an abort which has begun is one.
+pub(crate) fn conclude_fault(
+    begun: bool,
+    ending: Ending,
+    fault: FtpError,
+    state: &mut State,
+) -> Answer
+    ensures { FaultLeaves begun ending fault state.old state.new result }
 {
     if wants_memory(&fault) {
-        drop(ending);
+        lose(begun, ending, state);
         return Answer::Fault(fault);
     }
     match ending {
@@ -334,6 +340,20 @@ pub(crate) fn conclude_fault(ending: Ending, fault: FtpError, state: &mut State)
             drop(other);
             Answer::Fault(fault)
         }
+    }
+}
+
+/// Memory ran out for a reply: an abort that has begun is one, and nothing else changes.
+fn lose(begun: bool, ending: Ending, state: &mut State)
+    ensures { state.new ≡ (if begun then after_fault_of ending FtpError.OutOfMemory state.old else state.old) }
+{
+    match ending {
+        Ending::Stops => {
+            if begun {
+                state.counts.abort();
+            }
+        }
+        other => drop(other),
     }
 }
 

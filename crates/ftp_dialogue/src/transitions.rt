@@ -13,7 +13,7 @@ ghost use Rattle.ftp_dialogue.specs.Link.{asking, blocking, polling};
 ghost use Rattle.ftp_dialogue.specs.Play.{Lacking};
 ghost use Rattle.ftp_dialogue.specs.Promises.{HasFault, Rests, begun_by, refusal_of};
 ghost use Rattle.ftp_dialogue.specs.Steps.Polls.{MayPollAt, RefusesFrom, StageIn, StartsTo, entered_at, entered_stage, entered_state, entered_tree, first_stage, is_first, polled_answer};
-ghost use Rattle.ftp_dialogue.specs.Steps.Moving.{BeginsExchange, Concludes, EndsFaulty, HasBegun, Made, PollSteps, PollsTo, Quiet, Steps, Tracks, after_fault, wants_memory};
+ghost use Rattle.ftp_dialogue.specs.Steps.Moving.{BeginsExchange, Concludes, EndsFaulty, HasBegun, Made, PollSteps, PollsTo, Quiet, Steps, Tracks, after_fault};
 ghost use Rattle.ftp_dialogue.specs.Steps.Stages.{MayAnswer, PollAnswers, StageAfter, StageOf, StepAnswers, begun_at, nodes_left, remaining};
 
 use super::asks::Asks;
@@ -275,7 +275,7 @@ impl<Tr: Network> Machine<Tr> {
         ensures { EndsFaulty begun ending fault self.old self.new result }
     {
         self.abort_dialogue(begun, &fault);
-        conclude_fault(ending, fault, &mut self.state)
+        conclude_fault(begun, ending, fault, &mut self.state)
     }
 
     /// Goes on with a call as far as it gets.

@@ -8,7 +8,7 @@ use crate::outcome::Outcome;
 use crate::waiting::wait;
 use ftp_base::encoding::Encoding;
 use ftp_base::types::{ConnectionError, FtpError, FtpResult};
-use ftp_session::session::{Call, PolledCall, PollsCalls, Session, take_back};
+use ftp_session::session::{Call, DropsCalls, PolledCall, PollsCalls, Session, take_back};
 use ftp_transfer::Transfer;
 use ftp_transport::{PassiveStreamBuilder, PollConn, PollTransport, TaskConn, TaskTransport};
 use futures::Future;
@@ -25,6 +25,8 @@ where
     // The transfer, until the session takes it back under the lock.
     transfer: Option<Transfer<Tr::Conn>>,
     call: PolledCall,
+    // Whether it is that of a whole file, whose call began before.
+    whole: bool,
 }
 
 impl<'r, R, Tr: TaskTransport, K: Drop, E: Encoding, B: Drop> Ending<'r, R, Tr, K, E, B>
@@ -44,8 +46,25 @@ where
             hold,
             transfer: Some(transfer),
             call: PolledCall::alone(call),
+            whole: false,
         }
     }
+
+    /// The end of the transfer of a whole file.
+    pub(crate) fn of_file(
+        rt: &'r R,
+        hold: Hold<Session<Tr, K, E, B>>,
+        transfer: Transfer<Tr::Conn>,
+    ) -> Ending<'r, R, Tr, K, E, B> {
+        let mut ending = Ending::new(rt, hold, transfer, false);
+        ending.whole = true;
+        ending
+    }
+}
+
+/// Whether there was no memory for the end of a whole file: the session has failed then, since the file's call has begun.
+fn fails_session(whole: bool, ended: &FtpResult<()>) -> bool {
+    whole && matches!(ended, Err(FtpError::OutOfMemory))
 }
 
 impl<'r, R: AllocGlobal, Tr, K: Drop, E: Encoding, B> Ending<'r, R, Tr, K, E, B>
@@ -75,15 +94,23 @@ where
             return Poll::Ready(Err(FtpError::ConnectionError(ConnectionError::AlreadyCompleted)));
         };
         if let Some(transfer) = self.transfer.take() {
-            if let Err(fault) = take_back(session, transfer) {
+            let taken = take_back(session, transfer);
+            if taken.is_err() {
+                if fails_session(self.whole, &taken) {
+                    session.fail();
+                }
                 self.hold.let_go();
-                return Poll::Ready(Err(fault));
+                return Poll::Ready(taken);
             }
         }
         match session.poll_call(self.rt.alloc(), self.rt, &mut self.call, &mut ()) {
             Poll::Ready(answer) => {
+                let ended = Outcome::of(answer);
+                if fails_session(self.whole, &ended) {
+                    session.fail();
+                }
                 self.hold.let_go();
-                Poll::Ready(Outcome::of(answer))
+                Poll::Ready(ended)
             }
             Poll::Pending => wait(session, cx),
         }
@@ -100,6 +127,7 @@ where
             mut hold,
             transfer,
             call,
+            whole: _,
         } = self;
         if transfer.is_none() {
             hold.drop_call(&call);

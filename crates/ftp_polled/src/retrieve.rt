@@ -89,7 +89,7 @@ where
             Poll::Ready(Ok(read)) => {
                 drop(mem::replace(&mut self.read, Some(read)));
                 let hold = self.opening.take_hold();
-                let ending = Ending::new(self.opening.runtime(), hold, transfer, false);
+                let ending = Ending::of_file(self.opening.runtime(), hold, transfer);
                 drop(mem::replace(&mut self.ending, Some(ending)));
                 Poll::Ready(Ok(()))
             }

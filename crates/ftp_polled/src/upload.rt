@@ -9,8 +9,8 @@ use crate::ending::Ending;
 use crate::opening::Opening;
 use ftp_base::encoding::Encoding;
 use ftp_base::types::{ConnectionError, FtpError, FtpResult};
-use ftp_session::session::Call;
 use ftp_calls::call::{append_call, put_call};
+use ftp_session::session::Call;
 use ftp_transfer::{Direction, Transfer};
 use ftp_transport::{PassiveStreamBuilder, PollConn, PollTransport, TaskConn, TaskTransport};
 use futures::Future;
@@ -84,7 +84,7 @@ where
         match self.copying.poll_copy(&mut transfer, cx) {
             Poll::Ready(Ok(())) => {
                 let hold = self.opening.take_hold();
-                let ending = Ending::new(self.opening.runtime(), hold, transfer, false);
+                let ending = Ending::of_file(self.opening.runtime(), hold, transfer);
                 drop(mem::replace(&mut self.ending, Some(ending)));
                 Poll::Ready(Ok(()))
             }

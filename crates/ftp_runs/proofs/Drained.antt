@@ -9,8 +9,9 @@ use Rattle.ftp_control.specs.declared.control.outcome.Outcome.TheVariants.{Whole
 use Rattle.ftp_transport.specs.declared.room.Room.{Room}
 use Rattle.ftp_transport.specs.declared.room.Room.TheVariants.{Any}
 use Rattle.ftp_control.specs.Grammar.{left_by, outcome}
-use Rattle.ftp_control.specs.Answer.{expected_reply}
+use Rattle.ftp_control.specs.Answer.{expected_reply, is_among}
 use Rattle.ftp_base.specs.Status.{status_of}
+use Rattle.ftp_base.specs.declared.status.Status.{Status}
 use Rattle.ftp_base.specs.declared.status.Status.TheVariants.{ClosingDataConnection, RequestedFileActionOk}
 use Rattle.ftp_base.specs.declared.types.fault.FtpError.TheVariants as faults
 use Rattle.ftp_base.specs.declared.types.fault.ConnectionError.TheVariants as connection
@@ -23,7 +24,7 @@ use Rattle.ftp_calls.specs.declared.exchange.Turn.TheVariants.{First}
 use Rattle.ftp_calls.specs.Exchanges.{drains_first}
 use Rattle.ftp_dialogue.specs.Coding.{Coding}
 use Rattle.ftp_dialogue.specs.Deals.{Deal, Deals, outcomes_of}
-use Rattle.ftp_dialogue.specs.Dialogue.{answer_to_fault, entered, expecting, later, Expected, Tree, Hear, Leaf, concluded, dialogue, with_drained}
+use Rattle.ftp_dialogue.specs.Dialogue.{answer_to_fault, entered, expecting, later, Expected, Tree, Hear, Leaf, concluded, dialogue, wants_memory, with_drained}
 use Rattle.ftp_dialogue.specs.Link.{Builds, over_memory}
 use Rattle.ftp_dialogue.specs.Play.{Taken, finally, heard_then, is_due, is_unit, play, taken}
 use Rattle.ftp_dialogue.specs.Promises.{FailsWith, HasFault, IsFault, begun_by, due_of, refusal_of, standing}
@@ -83,6 +84,17 @@ abbrev state_in : Played → State
 state_in (played.Done answer s) = s.state
 state_in (played.Pending wait s) = s.state
 
+-- what a run hears in place of a reply is no want of memory
+abbrev Remembered : Result Response FtpError → Type 0
+Remembered (Ok reply) = Unit {0}
+Remembered (Err fault) = wants_memory fault ≡ false
+
+remembered : (statuses : List Status) (reply : Response) → Remembered (expected_reply statuses reply)
+remembered statuses reply = elim (is_among statuses reply.status) as (λ b. Remembered (cond b (Ok reply) (Err (faults.UnexpectedResponse reply)))) [
+  | true ↦ tt
+  | false ↦ refl
+]
+
 drained_state : (coding : Coding) (room : Room) (expected : Expected) (state : State) (later : State → Tree) (s t : Standing) (answer : Answer) → finally (play room (Hear expected (concluded coding Drains state later)) s) ≡ played.Done answer t → t.state ≡ with_drained state
 drained_state coding room expected state later s t answer is = go (outcome s.rule expected.form s.bytes s.ended) (sym (ap finally (play-Hear room expected (concluded coding Drains state later) s)) ∙ is)
   where
@@ -92,15 +104,15 @@ drained_state coding room expected state later s t answer is = go (outcome s.rul
     leaf : (u : Standing) (told : Answer) → finally (play room (Leaf told (with_drained state)) u) ≡ played.Done answer t → t.state ≡ with_drained state
     leaf u told done = sym (ap state_in (sym (ap finally (play-Leaf room told (with_drained state) u)) ∙ done))
 
-    heard : (u : Standing) (result : Result Response FtpError) → finally (play room (next result) u) ≡ played.Done answer t → t.state ≡ with_drained state
-    heard u (Ok reply) done = leaf u Nothing done
-    heard u (Err fault) done = leaf u (answer_to_fault Drains fault) done
+    heard : (u : Standing) (result : Result Response FtpError) → Remembered result → finally (play room (next result) u) ≡ played.Done answer t → t.state ≡ with_drained state
+    heard u (Ok reply) had done = leaf u Nothing done
+    heard u (Err fault) had done = leaf u (answer_to_fault Drains fault) (sym (ap (λ b. finally (play room (Leaf (answer_to_fault Drains fault) (cond b state (with_drained state))) u)) had) ∙ done)
 
     go : (o : Outcome) → finally (heard_then o expected s (λ heard u. play room (next heard) u)) ≡ played.Done answer t → t.state ≡ with_drained state
-    go (Whole reply code) done = heard (taken (left_by (Whole reply code) s.bytes) s) (expected_reply expected.statuses (record { status = status_of code; body = reply })) done
-    go (Bad line) done = heard (taken (left_by (Bad line) s.bytes) s) (Err faults.BadResponse) done
-    go TooLarge done = heard (record (taken (left_by TooLarge s.bytes) s) { failed = true }) (Err (faults.ConnectionError connection.ReplyTooLarge)) done
-    go Ended done = heard (record (taken (left_by Ended s.bytes) s) { failed = true }) (Err (faults.ConnectionError connection.UnexpectedEof)) done
+    go (Whole reply code) done = heard (taken (left_by (Whole reply code) s.bytes) s) (expected_reply expected.statuses (record { status = status_of code; body = reply })) (remembered expected.statuses (record { status = status_of code; body = reply })) done
+    go (Bad line) done = heard (taken (left_by (Bad line) s.bytes) s) (Err faults.BadResponse) refl done
+    go TooLarge done = heard (record (taken (left_by TooLarge s.bytes) s) { failed = true }) (Err (faults.ConnectionError connection.ReplyTooLarge)) refl done
+    go Ended done = heard (record (taken (left_by Ended s.bytes) s) { failed = true }) (Err (faults.ConnectionError connection.UnexpectedEof)) refl done
     go Waits done = let clash : played.Pending (wait.Bytes expected.form) s ≡ played.Done answer t = done in cc
 
 module _ (builds : Builds) (coding : Coding) (outcomes : List DealOutcome) where

@@ -58,7 +58,7 @@ use Rattle.ftp_dialogue.specs.Play.{ended, finally, play, fits, heard_then, need
 use Rattle.ftp_dialogue.specs.declared.model.Played.{Played}
 use Rattle.ftp_dialogue.specs.Resuming.{Resumes, Silent}
 use Rattle.ftp_runs.specs.Run.{replay, before, and_then}
-use Rattle.ftp_dialogue.specs.Promises.{due_of, lacks_of, refusal_of, begun_by, failed_from, standing, However, Fails, LacksMemory, Touched, Untouched, Goes, Leads, Rests, Aborts}
+use Rattle.ftp_dialogue.specs.Promises.{due_of, lacks_of, refusal_of, begun_by, failed_from, lacking_at, standing, However, Fails, LacksMemory, Touched, Untouched, Goes, Leads, Rests, Aborts}
 use Rattle.ftp_runs.specs.Runs.{before_all}
 use Rattle.ftp_runs.specs.Script.{unread, is_over, start_of, front, seen_at, form_at, first_form, heard_form, polled_as, run_with, poll_script, HearsNothing, MayCancel, MayPoll}
 use Rattle.ftp_runs.specs.Scripted.{MayGoOn, SaysFrontOf, SaysNothing, Stands, SaysOrTakes, CallHasBegun, Reaches, LeftOf, entering}
@@ -906,11 +906,11 @@ aborted_deals builds begun tree answer v w aborts =
     let P : Net → Type 0 = λ n. Deals builds aborts.leads.answered v.net n in
     subst P (sym (go aborts.cause)) (aborts.leads.goes.deals tt)
   where
-    lost : ((w ≡ aborts.at) × (begun ≡ false) × Untouched (over_memory builds) aborts.leads.came v aborts.at) ⊎ ((w ≡ failed_from aborts.at) × ((begun ≡ true) ⊎ Touched (over_memory builds) tree v aborts.at)) → w.net ≡ aborts.at.net
+    lost : ((w ≡ aborts.at) × (begun ≡ false) × Untouched (over_memory builds) aborts.leads.came v aborts.at) ⊎ ((w ≡ failed_from (lacking_at aborts.place aborts.at)) × ((begun ≡ true) ⊎ Touched (over_memory builds) tree v aborts.at)) → w.net ≡ aborts.at.net
     lost (inl same) = ap (λ x. x.net) same.0
     lost (inr same) = ap (λ x. x.net) same.0
 
-    go : Fails (over_memory builds) aborts.place aborts.fault aborts.at w ⊎ LacksMemory (over_memory builds) begun tree aborts.leads.came aborts.fault v aborts.at w → w.net ≡ aborts.at.net
+    go : Fails (over_memory builds) aborts.place aborts.fault aborts.at w ⊎ LacksMemory (over_memory builds) begun tree aborts.place aborts.leads.came aborts.fault v aborts.at w → w.net ≡ aborts.at.net
     go (inl fails) = ap (λ x. x.net) fails.same
     go (inr none) = lost none.leaves
 

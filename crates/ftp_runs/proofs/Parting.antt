@@ -119,7 +119,7 @@ module _ (coding : Coding) (room : Room) (u t : Standing) (due : Wait) (none_ask
 
     heard : (s : Standing) (result : Result Response FtpError) → finally (play room (next result) s) ≡ Pending due t → ⊥
     heard s (Ok reply) is = leaf s (finish_answer (told_of_close state.uploads came)) (with_finished state) is
-    heard s (Err fault) is = leaf s (answer_to_fault (Finishing (told_of_close state.uploads came)) fault) (after_fault_of (Finishing (told_of_close state.uploads came)) state) is
+    heard s (Err fault) is = leaf s (answer_to_fault (Finishing (told_of_close state.uploads came)) fault) (after_fault_of (Finishing (told_of_close state.uploads came)) fault state) is
 
     hears : (expected : Expected) → finally (play room (Hear expected next) at) ≡ Pending due t → (due ≡ wait.Bytes expected.form) × (t ≡ at)
     hears expected is = go (outcome at.rule expected.form at.bytes at.ended) (sym (ap finally (play-Hear room expected next at)) ∙ is)

@@ -239,7 +239,7 @@ module _ (coding : Coding) (room : Room) (script : Script) (s : Standing) (untak
       k = λ heard u. play room (concluded coding ending state after heard) u
 
       fails : (cause : FtpError) (u : Standing) → k (Err cause) u ≡ Pending how t → ⊥
-      fails cause u e = let clash : Done (answer_to_fault ending cause) (record u { state = after_fault_of ending state }) ≡ Pending how t = sym (play-Leaf room (answer_to_fault ending cause) (after_fault_of ending state) u) ∙ e in cc
+      fails cause u e = let clash : Done (answer_to_fault ending cause) (record u { state = after_fault_of ending cause state }) ≡ Pending how t = sym (play-Leaf room (answer_to_fault ending cause) (after_fault_of ending cause state) u) ∙ e in cc
 
       go : (o : Outcome) → outcome s.rule codes.form s.bytes s.ended ≡ o → heard_then o codes here k ≡ Pending how t → ⊥
       go (Whole reply code) is e =

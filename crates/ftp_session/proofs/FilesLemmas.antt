@@ -2,14 +2,12 @@
 use Rattle.std.proofs.Common.{◌≡◌, ℕ, List, Option, Result, Ok, inl}
 use Rattle.ftp_base.specs.declared.types.fault.FtpError.{FtpError}
 use Rattle.ftp_calls.specs.declared.call.Call.{Call}
-use Rattle.ftp_calls.specs.declared.call.Call.TheVariants.{Finish}
 use Rattle.ftp_transfer.specs.Mark.{End}
 use Rattle.ftp_dialogue.specs.Coding.{Coding}
 use Rattle.ftp_dialogue.specs.Link.{Link}
 use Rattle.ftp_dialogue.specs.State.{SessionValue}
-use Rattle.ftp_session.specs.Calls.{unit_answer}
-use Rattle.ftp_session.specs.Files.{Puts, Retrieves, Stores, first_of}
-use Rattle.ftp_session.specs.Handed.{BringsToEnd, Opens}
+use Rattle.ftp_session.specs.Files.{FinishesWhole, Puts, Retrieves, Stores, first_of}
+use Rattle.ftp_session.specs.Handed.{Opens}
 use Rattle.ftp_transfer.specs.Transfer.{TransferValue}
 use Rattle.ftp_transfer.specs.declared.direction.Direction.TheVariants.{Download, Upload}
 
@@ -23,7 +21,7 @@ module _ (opens ends : Link) (coding : Coding) (call : Call) (mark marked after 
   }
 
   -- a call opened a download, and a reader was called on it
-  pub retrieves_on : {T : Type 0} (Reads : TransferValue → Result T FtpError → TransferValue → Type 0) (over : TransferValue) (read result : Result T FtpError) (ended : Result (Unit {0}) FtpError) → Opens opens coding call Download mark marked former kept old given (Ok transfer) → Reads transfer read over → BringsToEnd ends coding Finish over marked after given new (unit_answer ended) → result ≡ first_of read ended → Retrieves opens ends coding call Reads mark after former kept old new result
+  pub retrieves_on : {T : Type 0} (Reads : TransferValue → Result T FtpError → TransferValue → Type 0) (over : TransferValue) (read result : Result T FtpError) (ended : Result (Unit {0}) FtpError) → Opens opens coding call Download mark marked former kept old given (Ok transfer) → Reads transfer read over → FinishesWhole ends coding over marked after given new ended → result ≡ first_of read ended → Retrieves opens ends coding call Reads mark after former kept old new result
   retrieves_on Reads over read result ended opened reads ends_it is = record {
     between = opened.between;
     looks = opened.looks;

@@ -1,12 +1,14 @@
 -- Whole files, from a caller's source or to a caller's reader: RFC 959, sections 3.2 and 4.1.3 (RETR, STOR, APPE).
-use Rattle.std.specs.Prelude.{◌≡◌, ◌⊎◌, ℕ, Bool, true, false, List, Option, Some, None, Result, Ok, Err}
+use Rattle.std.specs.Prelude.{◌≡◌, ◌⊎◌, ℕ, Bool, true, false, if◌then◌else◌, List, Option, Some, None, Result, Ok, Err}
 use Rattle.ftp_base.specs.declared.types.fault.FtpError.{FtpError}
 use Rattle.ftp_calls.specs.declared.call.Answer.{Answer}
 use Rattle.ftp_calls.specs.declared.call.Call.{Call}
 use Rattle.ftp_calls.specs.declared.call.Call.TheVariants.{Finish, Leave}
 use Rattle.ftp_transfer.specs.Mark.{End}
 use Rattle.ftp_dialogue.specs.Coding.{Coding}
+use Rattle.ftp_dialogue.specs.Dialogue.{wants_memory}
 use Rattle.ftp_dialogue.specs.Link.{Link}
+use Rattle.ftp_dialogue.specs.Promises.{failed_from}
 use Rattle.ftp_dialogue.specs.State.{SessionValue}
 use Rattle.ftp_dialogue.specs.Steps.Moving.{CarriesOut}
 use Rattle.ftp_session.specs.Calls.{unit_answer}
@@ -35,10 +37,23 @@ AbandonsIf false tells transfer mark after old new = (after ≡ mark) × (new �
 abbrev pub Abandons : Type 0 → TransferValue → Option End → Option End → SessionValue → SessionValue → Type 0
 Abandons tells transfer mark after old new = AbandonsIf (is_out transfer.end.number mark old) tells transfer mark after old new
 
+-- the transfer of a whole file is brought to its end. The call has begun, so where memory runs out for that the session has
+-- failed
+abbrev pub lacks_memory : Result (Unit {0}) FtpError → Bool
+lacks_memory (Ok done) = false
+lacks_memory (Err fault) = wants_memory fault
+
+abbrev pub failed_if : Bool → SessionValue → SessionValue
+failed_if lost v = if lost then failed_from v else v
+
+abbrev pub FinishesWhole : Link → Coding → TransferValue → Option End → Option End → SessionValue → SessionValue → Result (Unit {0}) FtpError → Type 0
+FinishesWhole link coding transfer mark after old new ended =
+    (last : SessionValue) × BringsToEnd link coding Finish transfer mark after old last (unit_answer ended) × (new ≡ failed_if (lacks_memory ended) last)
+
 -- a file was copied: its transfer is brought to its end, and the answer is how many bytes were written; or it wasn't, and
 -- the transfer is left
 abbrev pub EndsUpload : Link → Coding → TransferValue → Option End → Option End → SessionValue → SessionValue → Result ℕ FtpError → Result ℕ FtpError → Type 0
-EndsUpload link coding transfer mark after old new (Ok count) result = (ended : Result (Unit {0}) FtpError) × BringsToEnd link coding Finish transfer mark after old new (unit_answer ended) × (result ≡ unless_failed count ended)
+EndsUpload link coding transfer mark after old new (Ok count) result = (ended : Result (Unit {0}) FtpError) × FinishesWhole link coding transfer mark after old new ended × (result ≡ unless_failed count ended)
 EndsUpload link coding transfer mark after old new (Err fault) result = Abandons link.tells transfer mark after old new × (result ≡ Err fault)
 
 -- what a source gives goes to a transfer, as text unless the session's transfers aren't of text
@@ -74,7 +89,7 @@ pub record OpensAndReads {T : Type 0} (opens ends : Link) (coding : Coding) (cal
   pub read : Result T FtpError
   pub reads : Reads transfer read over
   pub ended : Result (Unit {0}) FtpError
-  pub ends_it : BringsToEnd ends coding Finish over marked after given new (unit_answer ended)
+  pub ends_it : FinishesWhole ends coding over marked after given new ended
   pub is : result ≡ first_of read ended
 
 abbrev pub RetrievesFrom : {T : Type 0} → Link → Link → Coding → Call → (TransferValue → Result T FtpError → TransferValue → Type 0) → Option End → Option End → Option End → Option End → SessionValue → SessionValue → Result T FtpError → Type 0

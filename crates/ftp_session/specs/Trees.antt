@@ -20,7 +20,7 @@ use Rattle.ftp_calls.specs.declared.call.Answer.{Answer}
 use Rattle.ftp_calls.specs.declared.call.Answer.TheVariants.{Unit, Reply, Fault}
 use Rattle.ftp_dialogue.specs.declared.state.State.{State}
 use Rattle.ftp_dialogue.specs.Coding.{Coding}
-use Rattle.ftp_dialogue.specs.Dialogue.{Tree, Say, Hear, Leaf, armed, drain_answer, expected_of, expecting, features_answer, line_answer, path_answer, size_answer, time_answer, with_drained}
+use Rattle.ftp_dialogue.specs.Dialogue.{Tree, Say, Hear, Leaf, armed, drain_answer, expected_of, expecting, features_answer, line_answer, path_answer, size_answer, time_answer, wants_memory, with_drained}
 
 -- an accepted reply gives this answer, a fault is the answer; the state stays
 abbrev pub replied : (Response → Answer) → State → Result Response FtpError → Tree
@@ -50,10 +50,11 @@ unit_tree coding command codes state = Say (wire coding.encode (text_of command)
 unfoldable pub reply_tree : Coding → Command → Codes → State → Tree
 reply_tree coding command codes state = Say (wire coding.encode (text_of command)) (Hear (expected_of codes) (whole_reply state))
 
--- the last reply of a transfer that was left, 226 or 250; one of another status ends it as well: RFC 959, section 5.4
+-- the last reply of a transfer that was left, 226 or 250; one of another status ends it as well: RFC 959, section 5.4.
+-- Where memory runs out for it, it is still owed
 abbrev pub drain_reply : State → Result Response FtpError → Tree
 drain_reply state (Ok reply) = Leaf Unit (with_drained state)
-drain_reply state (Err fault) = Leaf (drain_answer fault) (with_drained state)
+drain_reply state (Err fault) = Leaf (drain_answer fault) (if wants_memory fault then state else with_drained state)
 
 abbrev pub drain_tree : State → Tree
 drain_tree state = Hear (expecting (ClosingDataConnection ∷ RequestedFileActionOk ∷ [])) (drain_reply state)

@@ -26,7 +26,7 @@ where
     Tr::Conn: Conn,
     ensures plays { PlaysCommand (blocking Tr.Conn.Conn)
         (unit_tree (chosen E.decoded E.encoded session.old.encoding.0)
-            (Command.Cwd path.now) (Codes.Either Status.CommandOk Status.RequestedFileActionOk))
+        (Command.Cwd path.now) (Codes.Either Status.CommandOk Status.RequestedFileActionOk))
         session.old.mark session.new.mark session.old.machine session.new.machine (unit_answer result) }
     ensures encoding { session.new.encoding ≡ session.old.encoding }
     ensures builder { session.new.builder ≡ session.old.builder }

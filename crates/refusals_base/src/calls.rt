@@ -1,8 +1,8 @@
 //! What calls say and hear, and the command that tells where a client listens.
 
-ghost use Rattle.std.specs.Prelude.{◌≡◌, IfOk};
+ghost use Rattle.std.specs.Prelude.{◌≡◌, IfErr, IfOk, false};
 ghost use Rattle.ftp_calls.specs.Active.{port_command};
-ghost use Rattle.ftp_calls.specs.Exchanges.{next_turn, row_of};
+ghost use Rattle.ftp_calls.specs.Exchanges.{aborting_row, next_turn, row_of};
 
 use ftp_base::command::Command;
 use ftp_calls::active;
@@ -13,7 +13,8 @@ use std::net::SocketAddr;
 
 /// `exchange::row_at`.
 pub fn row_at(alloc: Global, call: &Call, turn: Turn) -> Result<Row, AllocError>
-    ensures { IfOk result (λ row. row ≡ row_of call.now turn) }
+    ensures row_is { IfOk result (λ row. row ≡ row_of call.now turn) }
+    ensures held { IfErr result (λ fault. aborting_row (row_of call.now turn) ≡ false) }
 {
     exchange::row_at(alloc, call, turn)
 }

@@ -15,7 +15,9 @@ use crate::aborting::aborted;
 use crate::addresses::{to_address, to_port};
 use crate::carrying::carrying;
 use crate::fetching::performs;
-use crate::finishing::{after_fault, answer_to_fault, drained, finish_answer, finished};
+use crate::finishing::{
+    after_fault, answer_to_fault, drained, finish_answer, finished, wants_memory,
+};
 use crate::hearing::{Heard, hear_reply};
 use crate::opening::{opened_answer, opens};
 use crate::settings::{armed, set_to};
@@ -226,8 +228,9 @@ fn concluded<E: Encoding>(
     match heard {
         Ok(reply) => accepted(alloc, encoding, ending, reply, standing),
         Err(fault) => {
+            let lacks = wants_memory(&fault);
             let answer = answer_to_fault(&ending, fault);
-            Ok(done(answer, after_fault(ending, standing)))
+            Ok(done(answer, after_fault(ending, lacks, standing)))
         }
     }
 }

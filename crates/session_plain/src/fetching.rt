@@ -4,7 +4,8 @@ ghost use Rattle.std.specs.Prelude.{◌≡◌, ◌++◌, IfOk, length};
 ghost use Rattle.ftp_transport.specs.declared.room.Room.{Room as Rooms};
 ghost use Rattle.ftp_calls.specs.declared.exchange.Ending.TheVariants as ending;
 ghost use Rattle.ftp_dialogue.specs.Coding.{Coding, coding_of};
-ghost use Rattle.ftp_dialogue.specs.Dialogue.{Leaf, Tree, closed_as, fault_or, fetch_concluded, fetch_ending, fetch_parting, fetched, fetching, first_fault, gathering, opening, performing, too_long, unfetched, with_fetched};
+ghost use Rattle.ftp_dialogue.specs.Dialogue.{Tree, after_fetch, closed_as, fault_or, fetch_concluded, fetch_ending, fetch_parting, fetched, fetching, first_fault, gathering, opening, performing, too_long, unfetched, wants_memory, with_fetched};
+ghost use Rattle.ftp_base.specs.declared.types.fault.FtpError.{FtpError as Faults};
 ghost use Rattle.ftp_dialogue.specs.Play.{play};
 ghost use Rattle.ftp_dialogue.specs.declared.state.State.{State as States};
 ghost use Rattle.ftp_dialogue.specs.declared.model.DealOutcome.TheVariants as came;
@@ -12,7 +13,7 @@ ghost use Rattle.session_plain.specs.Progress.{ComesTo, LeadsTo};
 
 use crate::carrying::{Carried, moved_by};
 use crate::exchange::Progress;
-use crate::finishing::{finished, told_of_close};
+use crate::finishing::{finished, left, told_of_close, wants_memory};
 use crate::hearing::{Heard, hear_reply};
 use crate::opening::{opened, with_transfer};
 use crate::storing::storing;
@@ -186,10 +187,7 @@ fn last_reply(
             drop(answer);
             Ok(Progress::Stops(Played::Pending(Wait::Bytes(reply_form), here)))
         }
-        Heard::Known(reply, here) => {
-            let told = concluded(form, answer, reply);
-            Ok(Progress::Stops(Played::Done(told, fetched_from(here))))
-        }
+        Heard::Known(reply, here) => { Ok(Progress::Stops(concluded(form, answer, reply, here))) }
     }
 }
 
@@ -200,14 +198,29 @@ fn fetched_from(standing: Standing) -> Standing
     finished(with_transfer(standing))
 }
 
-/// What is told once the last reply was heard.
-fn concluded(form: Fetch, answer: Answer, heard: FtpResult<Response>) -> Answer
-    ensures { (state : States) →
-        fetch_concluded form answer state heard ≡ Leaf result (with_fetched state) }
+/// What a fault in place of the last reply leaves, by whether memory ran out.
+fn after_fetch(lacks: bool, standing: Standing) -> Standing
+    ensures { (fault : Faults) → lacks ≡ wants_memory fault →
+        result ≡ record standing { state = after_fetch fault standing.state } }
+{
+    if lacks {
+        left(with_transfer(standing))
+    } else {
+        fetched_from(standing)
+    }
+}
+
+/// What follows once the last reply was heard.
+#[tactic(auto, unfolding(ftp_dialogue::specs::Play::play))]
+fn concluded(form: Fetch, answer: Answer, heard: FtpResult<Response>, here: Standing) -> Played
+    ensures { (room : Rooms) → play room (fetch_concluded form answer here.state heard) here ≡ result }
 {
     match heard {
-        Ok(_reply) => answer,
-        Err(fault) => Answer::Fault(first_fault(form, answer, fault)),
+        Ok(_reply) => Played::Done(answer, fetched_from(here)),
+        Err(fault) => {
+            let there = after_fetch(wants_memory(&fault), here);
+            Played::Done(Answer::Fault(first_fault(form, answer, fault)), there)
+        }
     }
 }
 

@@ -3,7 +3,8 @@
 ghost use Rattle.std.specs.Prelude.{◌≡◌, IfOk, if◌then◌else◌};
 ghost use Rattle.ftp_calls.specs.Exchanges.{finishes};
 ghost use Rattle.ftp_dialogue.specs.Coding.{coding_of};
-ghost use Rattle.ftp_dialogue.specs.Dialogue.{after_fault_of, answer_to_fault, closing, drain_answer, finish_answer, finish_fault, told_of_close, with_drained, with_finished, with_left};
+ghost use Rattle.ftp_dialogue.specs.Dialogue.{after_fault_of, answer_to_fault, closing, drain_answer, finish_answer, finish_fault, told_of_close, wants_memory, with_drained, with_finished, with_left};
+ghost use Rattle.ftp_base.specs.declared.types.fault.FtpError.{FtpError as Faults};
 ghost use Rattle.ftp_dialogue.specs.Play.{leaving, play};
 
 use crate::aborting::aborted;
@@ -102,13 +103,21 @@ fn drain_answer(fault: FtpError) -> Answer
     }
 }
 
-/// What a fault in place of a reply leaves.
-pub(crate) fn after_fault(ending: Ending, standing: Standing) -> Standing
-    ensures { result ≡ record standing { state = after_fault_of ending standing.state } }
+/// Whether memory ran out.
+pub(crate) fn wants_memory(fault: &FtpError) -> bool
+    ensures { result ≡ wants_memory fault.now }
+{
+    matches!(fault, FtpError::OutOfMemory)
+}
+
+/// What a fault in place of a reply leaves, by whether memory ran out.
+pub(crate) fn after_fault(ending: Ending, lacks: bool, standing: Standing) -> Standing
+    ensures { (fault : Faults) → lacks ≡ wants_memory fault →
+        result ≡ record standing { state = after_fault_of ending fault standing.state } }
 {
     match ending {
-        Ending::Finishes(_) => finished(standing),
-        Ending::Drains => drained(standing),
+        Ending::Finishes(_) => { if lacks { standing } else { finished(standing) } }
+        Ending::Drains => { if lacks { standing } else { drained(standing) } }
         Ending::Stops => aborted(standing),
         other => {
             drop(other);

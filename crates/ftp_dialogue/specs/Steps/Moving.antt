@@ -26,7 +26,7 @@ use Rattle.ftp_calls.specs.declared.call.Setting.{Setting}
 use Rattle.ftp_calls.specs.declared.exchange.Movement.TheVariants as movement
 use Rattle.ftp_calls.specs.declared.call.Call.{Call}
 use Rattle.ftp_calls.specs.declared.exchange.Ending.{Ending}
-use Rattle.ftp_calls.specs.declared.exchange.Ending.TheVariants.{GivesAddress, GivesPort, Opens, Performs}
+use Rattle.ftp_calls.specs.declared.exchange.Ending.TheVariants.{Greets, GivesPath, GivesSecondLine, GivesFeatures, GivesAddress, GivesPort, Opens, Performs}
 use Rattle.ftp_calls.specs.declared.exchange.Fetch.{Fetch}
 use Rattle.ftp_dialogue.specs.declared.gathered.More.{More}
 use Rattle.ftp_dialogue.specs.declared.gathered.More.TheVariants as more
@@ -55,12 +55,11 @@ use Rattle.ftp_calls.specs.declared.exchange.Turn.TheVariants.{First}
 use Rattle.ftp_calls.specs.declared.exchange.Row.{Row}
 use Rattle.ftp_calls.specs.declared.exchange.Row.TheVariants.{Exchanges, Arms}
 use Rattle.ftp_calls.specs.declared.exchange.Row.TheVariants as row
-use Rattle.ftp_control.specs.Refusal.{IsRefusalOf}
-use Rattle.ftp_calls.specs.Exchanges.{is_draining, is_local, is_read, row_of, says_of, Kind, Nothing, kind_of, kind_of_task}
-use Rattle.ftp_dialogue.specs.Dialogue.{Expected, End, Tree, Say, Hear, Look, Ask, Build, Move, Leaf, accepted, chunk, fetched, first_fault, later, lets_in, most_bytes, moved_answer, performing, too_long, unfetched, with_fetched, set_to, answer_to_fault, after_fault_of, with_aborted, with_left, with_transfer, dialogue}
+use Rattle.ftp_calls.specs.Exchanges.{is_draining, is_local, is_read, row_of, Kind, Nothing, kind_of, kind_of_task}
+use Rattle.ftp_dialogue.specs.Dialogue.{Expected, End, Tree, Say, Hear, Look, Ask, Build, Move, Leaf, accepted, chunk, fetched, first_fault, later, lets_in, most_bytes, moved_answer, performing, too_long, unfetched, wants_memory, with_abandoned, with_fetched, set_to, answer_to_fault, after_fault_of, with_aborted, with_left, with_transfer, dialogue}
 use Rattle.ftp_dialogue.specs.Resuming.{Resumes, Silent}
 use Rattle.ftp_dialogue.specs.Promises.{DrainsIf, due_of, AbortsRead, IsFault, Leads, Completes, Aborts, However, SaidOrTaken, Untouched, Rests, IsRefused, begun_by, failed_from, refusal_of, IsApart}
-use Rattle.ftp_dialogue.specs.Steps.Stages.{AnswersKind, Begun, GoesOnTo, StageAfter, StepAnswers, asking_of, nodes_left, remaining, begun_at, is_later, is_out, line_of}
+use Rattle.ftp_dialogue.specs.Steps.Stages.{AnswersKind, Begun, GoesOnTo, NotBegun, StageAfter, StepAnswers, asking_of, nodes_left, remaining, begun_at, is_later, is_out}
 use Rattle.ftp_dialogue.specs.Link.{Link}
 
 -- what is kept afterwards: nothing, as after a reply; or what was, where none was read
@@ -258,23 +257,13 @@ abbrev pub done_as : Result Answer AllocError → Accepted
 done_as (Ok answer) = accepts.Done answer
 done_as (Err full) = accepts.NoMemory
 
-abbrev pub wants_memory : FtpError → Bool
-wants_memory (ConnectionError cause) = false
-wants_memory (SecureError text) = false
-wants_memory (UnexpectedResponse reply) = false
-wants_memory BadResponse = false
-wants_memory InvalidAddress = false
-wants_memory DataConnectionAlreadyOpen = false
-wants_memory OutOfMemory = true
-wants_memory SessionFailed = false
+-- what a fault that is heard in place of a reply comes to: where memory ran out before the dialogue has begun nothing more
+abbrev pub FaultLeavesIf : Bool → Bool → Ending → FtpError → State → State → Answer → Type 0
+FaultLeavesIf true begun ending fault state state' told = (told ≡ Fault fault) × (state' ≡ (if begun then after_fault_of ending fault state else state))
+FaultLeavesIf false begun ending fault state state' told = (told ≡ answer_to_fault ending fault) × (state' ≡ after_fault_of ending fault state)
 
--- what a fault that is heard in place of a reply comes to: where memory ran out nothing more
-abbrev pub FaultLeavesIf : Bool → Ending → FtpError → State → State → Answer → Type 0
-FaultLeavesIf true ending fault state state' told = (told ≡ Fault fault) × (state' ≡ state)
-FaultLeavesIf false ending fault state state' told = (told ≡ answer_to_fault ending fault) × (state' ≡ after_fault_of ending state)
-
-abbrev pub FaultLeaves : Ending → FtpError → State → State → Answer → Type 0
-FaultLeaves ending fault state state' told = FaultLeavesIf (wants_memory fault) ending fault state state' told
+abbrev pub FaultLeaves : Bool → Ending → FtpError → State → State → Answer → Type 0
+FaultLeaves begun ending fault state state' told = FaultLeavesIf (wants_memory fault) begun ending fault state state' told
 
 -- out of memory after a dialogue has begun fails the session
 abbrev pub after_fault : Bool → FtpError → SessionValue → SessionValue
@@ -283,7 +272,7 @@ after_fault begun fault v = if wants_memory fault && begun then failed_from v el
 -- a dialogue ends with a fault in place of a reply
 abbrev pub EndsFaulty : Bool → Ending → FtpError → SessionValue → SessionValue → Answer → Type 0
 EndsFaulty begun ending fault old new told =
-    (new ≡ record (after_fault begun fault old) { state = new.state }) × FaultLeaves ending fault (after_fault begun fault old).state new.state told
+    (new ≡ record (after_fault begun fault old) { state = new.state }) × FaultLeaves begun ending fault (after_fault begun fault old).state new.state told
 
 -- nothing was said or read, and this is left
 pub record Still (link : Link) (tree tree' : Tree) (old new : SessionValue) : Type 0 where
@@ -360,7 +349,7 @@ pub record Walks (link : Link) (coding : Coding) (call : Call) (stage stage' : S
 pub record IsRefusedLine (coding : Coding) (call : Call) (turn : Turn) (old new : SessionValue) (answer : Answer) : Type 0 where
   pub fault : FtpError
   pub is : answer ≡ Fault fault
-  pub cause : IsRefusalOf (line_of coding (says_of (row_of call turn))) fault
+  pub cause : NotBegun coding (row_of call turn) fault
   pub leaves : new ≡ after_fault (is_later turn) fault old
 
 abbrev pub BeginsExchange : Coding → Call → Turn → Stage → SessionValue → SessionValue → Step → Type 0
@@ -386,13 +375,21 @@ AskingAnswers kind (Connection address) = Unit {0}
 AskingAnswers kind (Peer opened) = OpeningAnswers kind opened
 AskingAnswers kind (Accepting peer left opened) = ⊥
 
+-- an answer is made of the reply's text, or the session keeps that, which takes memory
+abbrev pub takes_memory : Ending → Bool
+takes_memory Greets = true
+takes_memory GivesPath = true
+takes_memory GivesSecondLine = true
+takes_memory GivesFeatures = true
+takes_memory other = false
+
 -- the kind of an answer is its ending's
 abbrev pub AnswersAs : Ending → Accepted → Type 0
 AnswersAs ending accepts.GoesOn = (kind_of ending ≡ Nothing) × (is_draining ending ≡ false)
 AnswersAs ending (accepts.Asks asking) = (agrees ending ≡ true) × AskingAnswers (kind_of ending) asking
 AnswersAs ending (accepts.Performs task) = (agrees ending ≡ true) × (kind_of ending ≡ kind_of_task task)
 AnswersAs ending (accepts.Done answer) = AnswersKind (kind_of ending) answer
-AnswersAs ending accepts.NoMemory = Unit {0}
+AnswersAs ending accepts.NoMemory = takes_memory ending ≡ true
 
 -- a reply that was heard is accepted: the next exchange is reached, or the answer with the change of state; where
 -- memory ran out the session has failed
@@ -404,7 +401,7 @@ pub record EndsWith (coding : Coding) (call : Call) (a : Awaits) (reply : Respon
 abbrev pub Concludes : Coding → Call → Awaits → Response → Stage → SessionValue → SessionValue → Step → Type 0
 Concludes coding call a reply stage old new Next = (new ≡ old) × (accepted coding a.ending old.state reply (later coding call a.turn) ≡ remaining coding call old.state stage)
 Concludes coding call a reply stage old new Pending = ⊥
-Concludes coding call a reply stage old new (Done answer) = EndsWith coding call a reply old new answer ⊎ ((answer ≡ Fault OutOfMemory) × (new ≡ failed_from old))
+Concludes coding call a reply stage old new (Done answer) = EndsWith coding call a reply old new answer ⊎ ((answer ≡ Fault OutOfMemory) × (new ≡ failed_from old) × (takes_memory a.ending ≡ true))
 
 -- a call, whole, with how much is kept afterwards
 pub record IsMade (link : Link) (coding : Coding) (call : Call) (old new : SessionValue) (answer : Answer) : Type 0 where
@@ -557,7 +554,7 @@ Sends link rest rest' old new (Ok poll.Pending) = (rest' ≡ rest) × ((tree : T
 
 -- a fault was heard in place of the last reply: what is answered, and what it leaves
 abbrev pub FetchFailsIf : Bool → Fetch → Answer → FtpError → State → State → Answer → Type 0
-FetchFailsIf true form answer fault state state' told = (told ≡ Fault fault) × (state' ≡ state)
+FetchFailsIf true form answer fault state state' told = (told ≡ Fault fault) × (state' ≡ with_abandoned state)
 FetchFailsIf false form answer fault state state' told = (told ≡ Fault (first_fault form answer fault)) × (state' ≡ with_fetched state)
 
 abbrev pub EndsFetch : Fetch → Answer → FtpError → SessionValue → SessionValue → Answer → Type 0

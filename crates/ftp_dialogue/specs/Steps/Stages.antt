@@ -1,5 +1,5 @@
 -- The stages of a call: what of its dialogue is left at each.
-use Rattle.std.specs.Prelude.{◌≡◌, ◌<◌, ◌-◌, ◌+◌, ◌⊎◌, ℕ, Bool, true, false, Option, Some, None, is_none, List, [], Result, Ok, Err}
+use Rattle.std.specs.Prelude.{◌≡◌, ◌<◌, ◌-◌, ◌+◌, ◌⊎◌, ◌&&◌, ℕ, Bool, true, false, Option, Some, None, is_none, List, [], Result, Ok, Err}
 use Rattle.futures.specs.declared.task.Poll.{Poll}
 use Rattle.futures.specs.declared.task.Poll.TheVariants.{Ready, Pending}
 use Rattle.ftp_base.specs.declared.command.Command.{Command}
@@ -39,8 +39,9 @@ use Rattle.ftp_dialogue.specs.declared.stage.Step.{Step}
 use Rattle.ftp_dialogue.specs.declared.stage.Step.TheVariants as step
 use Rattle.ftp_dialogue.specs.Coding.{Coding}
 use Rattle.ftp_dialogue.specs.Promises.{IsFault}
-use Rattle.ftp_calls.specs.declared.exchange.Row.TheVariants.{Arms}
-use Rattle.ftp_calls.specs.Exchanges.{row_of, aborts, finishes, is_local, is_read, negotiates, next_turn, Movements, Listings, Kind, kind_of_fetch, kind_of_task, Nothing, Replies, Texts, Times, Sizes, Lists, Connections, ending_of, given_by, says_of}
+use Rattle.ftp_calls.specs.declared.exchange.Row.{Row}
+use Rattle.ftp_calls.specs.declared.exchange.Row.TheVariants.{Exchanges, Arms}
+use Rattle.ftp_calls.specs.Exchanges.{row_of, aborting_row, aborts, finishes, is_local, is_read, negotiates, next_turn, Movements, Listings, Kind, kind_of_fetch, kind_of_task, Nothing, Replies, Texts, Times, Sizes, Lists, Connections, ending_of, given_by, says_of}
 use Rattle.ftp_dialogue.specs.Dialogue.{expected_of, Tree, Say, Look, There, Leaf, armed, awaiting, aborting, breaking_off, closing, later, from_turn, negotiating, listening, listening_at, connecting_to, connecting_to_peer, accepting, fetch_ending, fetch_parting, gathering, most_reads, performing, sending, strangers, with_transfer}
 
 -- an exchange was made before
@@ -208,9 +209,13 @@ NodeOf coding turn exchange Closing = ⊥
 NodeOf coding turn exchange (Aborting abort) = ⊥
 NodeOf coding turn exchange (Fetching fetching) = ⊥
 
+-- an exchange doesn't begin: its line is refused, or there is no memory; what is said of an abort takes none
+abbrev pub NotBegun : Coding → Row → FtpError → Type 0
+NotBegun coding row fault = IsRefusalOf (line_of coding (says_of row)) fault × ((is_none (says_of row) && aborting_row row) ≡ false)
+
 abbrev pub FirstNode : Coding → Turn → Exchange → Result Stage FtpError → Type 0
 FirstNode coding turn exchange (Ok stage) = NodeOf coding turn exchange stage
-FirstNode coding turn exchange (Err fault) = IsRefusalOf (line_of coding exchange.says) fault
+FirstNode coding turn exchange (Err fault) = NotBegun coding (Exchanges exchange) fault
 
 -- an answer of a kind, or a fault
 abbrev pub AnswersKind : Kind → Answer → Type 0
@@ -314,7 +319,7 @@ pub record Begun (coding : Coding) (call : Call) (turn : Turn) (stage : Stage) :
 
 abbrev pub Begins : Coding → Call → Turn → Result Stage FtpError → Type 0
 Begins coding call turn (Ok stage) = Begun coding call turn stage
-Begins coding call turn (Err fault) = IsRefusalOf (line_of coding (says_of (row_of call turn))) fault
+Begins coding call turn (Err fault) = NotBegun coding (row_of call turn) fault
 
 -- the next turn begins, or the call is done
 abbrev pub GoesOnTo : Call → Turn → Stage → Step → Type 0

@@ -7,14 +7,15 @@
 ghost use Rattle.std.specs.Prelude.{◌≡◌};
 ghost use Rattle.ftp_dialogue.specs.Coding.{chosen};
 ghost use Rattle.ftp_dialogue.specs.Link.{asking, blocking, built_by};
-ghost use Rattle.ftp_session.specs.Files.{Abandons, Puts, Retrieves, Stores, first_of, unless_failed};
+ghost use Rattle.ftp_session.specs.Files.{Abandons, FinishesWhole, Puts, Retrieves, Stores, failed_if, first_of, lacks_memory, unless_failed};
 
 use super::client::Session;
 use super::copying::copy;
 use super::ending::take_back;
+use super::polling::DropsCalls;
 use super::{Answer, Call};
 use ftp_base::encoding::Encoding;
-use ftp_base::types::FtpResult;
+use ftp_base::types::{FtpError, FtpResult};
 use ftp_transfer::Transfer;
 use ftp_transport::{Conn, Network, PassiveStreamBuilder, Transport};
 use std::alloc::Global;
@@ -52,7 +53,8 @@ where
     /// Those of a data command: `DataConnectionAlreadyOpen` where a transfer is live, and nothing is said. The fault of
     /// the source or of the data connection, `SourceTooLarge` where more than 2^63 - 1 bytes would be written,
     /// `OutOfMemory` for a buffer: what the source gave before is written, the last reply isn't read, and the transfer is
-    /// left. The fault of the data connection's close comes before that of the last reply.
+    /// left. The fault of the data connection's close comes before that of the last reply. `OutOfMemory` for the last
+    /// reply leaves the transfer, and the session has failed.
     pub fn put_file<R, S: Read>(
         &mut self,
         alloc: Global,
@@ -104,7 +106,8 @@ where
     ///
     /// # Errors
     /// Those of a data command: `DataConnectionAlreadyOpen` where a transfer is live, and nothing is said. The reader's
-    /// fault, whatever the last reply is, which is read all the same; else the fault of the last reply.
+    /// fault, whatever the last reply is, which is read all the same; else the fault of the last reply. `OutOfMemory` for
+    /// the last reply leaves the transfer, and the session has failed.
     pub fn retr<R, D: Drop, F: DownloadReader<Tr::Conn, D>>(
         &mut self,
         alloc: Global,
@@ -122,7 +125,7 @@ where
         match self.retr_as_stream(alloc, rt, path) {
             Ok(mut transfer) => {
                 let read = reader.read(&mut transfer);
-                first_of(read, self.finish(alloc, transfer))
+                first_of(read, self.finish_whole(alloc, transfer))
             }
             Err(fault) => Err(fault),
         }
@@ -147,11 +150,38 @@ where
             source,
             &mut transfer,
         ) {
-            Ok(count) => unless_failed(count, self.finish(alloc, transfer)),
+            Ok(count) => unless_failed(count, self.finish_whole(alloc, transfer)),
             Err(fault) => {
                 self.abandon(alloc, transfer);
                 Err(fault)
             }
+        }
+    }
+
+    /// Brings the transfer of a whole file to its end. Where memory runs out for that the session has failed, since the
+    /// file's call has begun.
+    fn finish_whole(&mut self, alloc: Global, transfer: Transfer<Tr::Conn>) -> FtpResult<()>
+        ensures finishes { FinishesWhole (blocking Tr.Conn.Conn) (chosen E.decoded E.encoded self.old.encoding.0) transfer
+            self.old.mark self.new.mark self.old.machine self.new.machine result }
+        ensures encoding { self.new.encoding ≡ self.old.encoding }
+        ensures builder { self.new.builder ≡ self.old.builder }
+        ensures former { self.new.former ≡ self.old.former }
+    {
+        let ended = self.finish(alloc, transfer);
+        self.fail_if(lacks_memory(&ended));
+        ended
+    }
+
+    /// The session has failed, if so.
+    fn fail_if(&mut self, lost: bool)
+        ensures machine { self.new.machine ≡ failed_if lost self.old.machine }
+        ensures mark { self.new.mark ≡ self.old.mark }
+        ensures encoding { self.new.encoding ≡ self.old.encoding }
+        ensures builder { self.new.builder ≡ self.old.builder }
+        ensures former { self.new.former ≡ self.old.former }
+    {
+        if lost {
+            self.fail();
         }
     }
 
@@ -165,6 +195,25 @@ where
         if take_back(self, transfer).is_ok() {
             pass_over(self.machine.carry(alloc, &Call::Leave));
         }
+    }
+}
+
+/// Whether there was no memory for the end of a transfer.
+fn lacks_memory(ended: &FtpResult<()>) -> bool
+    ensures { result ≡ lacks_memory ended.now }
+{
+    match ended {
+        Ok(()) => false,
+        Err(FtpError::OutOfMemory) => true,
+        Err(
+            FtpError::ConnectionError(_)
+            | FtpError::SecureError(_)
+            | FtpError::UnexpectedResponse(_)
+            | FtpError::BadResponse
+            | FtpError::InvalidAddress
+            | FtpError::DataConnectionAlreadyOpen
+            | FtpError::SessionFailed,
+        ) => false,
     }
 }
 

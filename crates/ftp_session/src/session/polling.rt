@@ -8,6 +8,7 @@ ghost use Rattle.std.specs.Prelude.{◌≡◌, ◌⊎◌, Some, true, false};
 ghost use Rattle.futures.specs.declared.task.Poll.TheVariants as poll;
 ghost use Rattle.ftp_dialogue.specs.Coding.{chosen, coding_of};
 ghost use Rattle.ftp_dialogue.specs.Link.{asking, built_by, polling};
+ghost use Rattle.ftp_dialogue.specs.Promises.{failed_from};
 ghost use Rattle.ftp_dialogue.specs.Steps.Moving.{withheld};
 ghost use Rattle.ftp_dialogue.specs.Steps.Polls.{StageIn, StartsTo};
 ghost use Rattle.ftp_dialogue.specs.Steps.Stages.{StageOf};
@@ -112,13 +113,16 @@ pub trait PollsCalls<R, W> {
     ) -> Poll<Answer>;
 }
 
-/// Calls that are dropped, or not made: for the clients that are made of a session.
+/// Calls that are dropped, not made, or for whose end there is no memory: for the clients that are made of a session.
 pub trait DropsCalls {
     /// Drops a call that waits. Nothing is sent or read.
     fn drop_call(&mut self, polled: &PolledCall);
 
     /// Why a call isn't made whose arguments found no memory.
     fn withheld(&self) -> FtpError;
+
+    /// There is no memory for the end of a call that has begun: the session has failed.
+    fn fail(&mut self);
 }
 
 impl<
@@ -201,6 +205,17 @@ impl<Tr: Network, K: Drop, E: Encoding, B: Drop> DropsCalls for Session<Tr, K, E
         } else {
             FtpError::OutOfMemory
         }
+    }
+
+    /// There is no memory for the end of a call that has begun: the session has failed.
+    fn fail(&mut self)
+        ensures machine { self.new.machine ≡ failed_from self.old.machine }
+        ensures encoding { self.new.encoding ≡ self.old.encoding }
+        ensures builder { self.new.builder ≡ self.old.builder }
+        ensures former { self.new.former ≡ self.old.former }
+        ensures mark { self.new.mark ≡ self.old.mark }
+    {
+        self.machine.channel.fail();
     }
 }
 

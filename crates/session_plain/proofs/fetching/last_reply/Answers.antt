@@ -21,5 +21,4 @@ returns-in-Known c = λ room later.
     let came = rw c.form_of-reply_form.ensures at (rw c.in-Known.is at (rw c.in-Ok.is at c.hear_reply.ensures)) in
     let heard = came.1 (λ heard t. play room (fetch_concluded c.args.form c.args.answer s.state heard) t) in
     let same = ap (λ state. play room (fetch_concluded c.args.form c.args.answer state c.in-Known.reply) here) (sym came.0) in
-    let ends = ap (λ tree. play room tree here) (c.concluded-told.ensures here.state) in
-    rw c.fetched_from.ensures (heard ∙ same ∙ ends)
+    heard ∙ same ∙ c.concluded.ensures room

@@ -2,7 +2,7 @@ use Rattle.std.proofs.Common.{◌≡◌}
 use Rattle.ftp_dialogue.specs.Coding.{coding_of}
 use Rattle.ftp_dialogue.specs.declared.stage.Fetching.TheVariants.{Gathering}
 use Rattle.ftp_dialogue.specs.declared.stage.Step.TheVariants.{Next, Pending}
-use Rattle.ftp_dialogue.proofs.FetchingLemmas.{fetch_full, fetch_lacks, fetch_read_at, fetch_waits_at}
+use Rattle.ftp_dialogue.proofs.FetchingLemmas.{fetch_full, fetch_lacks, fetch_read_at, fetch_waits_at, gathering_unheard}
 use Rattle.ftp_dialogue.proofs.machine.Machine.gather.Goals as goal
 
 pub returns-then-left-eq0-clause-breaks : goal.returns-then-left-eq0-clause-breaks
@@ -11,7 +11,7 @@ returns-then-left-eq0-clause-breaks g c =
 
 pub returns-then-is_unheld-clause-breaks : goal.returns-then-is_unheld-clause-breaks
 returns-then-is_unheld-clause-breaks g c =
-    rw (c.lack_memory.ensures.done, c.lack_memory.ensures.failed) (fetch_lacks _ (coding_of g.E.Encoding.decoded g.E.Encoding.encoded c.args.encoding.now) c.args._call.now (Gathering c.args.form c.args.left c.args.gathered) _ c.args.self.now c.requires.going)
+    rw (c.lack_memory.ensures.done, c.lack_memory.ensures.failed) (fetch_lacks _ (coding_of g.E.Encoding.decoded g.E.Encoding.encoded c.args.encoding.now) c.args._call.now (Gathering c.args.form c.args.left c.args.gathered) _ c.args.self.now (gathering_unheard (coding_of g.E.Encoding.decoded g.E.Encoding.encoded c.args.encoding.now) c.args.form c.args.left c.args.gathered c.args.self.now.state _) c.requires.going)
 
 pub returns-in-Ready-clause-breaks : goal.returns-in-Ready-clause-breaks
 returns-in-Ready-clause-breaks g c =

@@ -1,5 +1,5 @@
 use Rattle.ftp_dialogue.specs.declared.stage.Fetching.TheVariants.{Sending}
-use Rattle.ftp_dialogue.proofs.FetchingLemmas.{fetch_lacks}
+use Rattle.ftp_dialogue.proofs.FetchingLemmas.{fetch_lacks, sending_unheard}
 use Rattle.ftp_dialogue.proofs.SendingLemmas.{all_sent, none_sent, sends_later, sent_none, sent_some}
 use Rattle.ftp_dialogue.proofs.UnsentLemmas.{nil_of, some_of}
 use Rattle.ftp_dialogue.proofs.machine.Machine.send_more.Goals as goal
@@ -14,7 +14,7 @@ returns-then-left-eq0-clause-breaks g c = λ coding.
 
 pub returns-then-is_unheld-clause-breaks : goal.returns-then-is_unheld-clause-breaks
 returns-then-is_unheld-clause-breaks g c = λ coding.
-    rw (c.lack_memory.ensures.done, c.lack_memory.ensures.failed) (fetch_lacks _ coding c.args._call.now (Sending c.args.left c.args.total c.args.unsent) _ c.args.self.now c.requires.going)
+    rw (c.lack_memory.ensures.done, c.lack_memory.ensures.failed) (fetch_lacks _ coding c.args._call.now (Sending c.args.left c.args.total c.args.unsent) _ c.args.self.now (sending_unheard c.args.left c.args.total c.args.unsent c.args.self.now.state _) c.requires.going)
 
 pub returns-in-Ok-Ready-clause-breaks : goal.returns-in-Ok-Ready-clause-breaks
 returns-in-Ok-Ready-clause-breaks g c = λ coding.

@@ -6,7 +6,7 @@ returns-in-Ok-clause-stores g c = record {
   sent = c.copy.new.transfer;
   copied = Ok c.in-Ok.count;
   copies = search rules;
-  ends = (c.finish.result, c.finish.ensures.finishes, c.unless_failed.ensures);
+  ends = (c.finish_whole.result, c.finish_whole.ensures.finishes, c.unless_failed.ensures);
 }
 
 pub returns-in-Err-clause-stores : goal.returns-in-Err-clause-stores
