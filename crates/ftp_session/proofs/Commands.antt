@@ -59,7 +59,7 @@ pub record IsCommand (coding : Coding) (call : Call) (tree : State → Tree) : T
   pub stops : (state : State) → StopsAtFaults (tree state)
 
 -- why a command isn't made
-refusal_is : (call : Call) (v : SessionValue) → is_local call ≡ false → of_transfer call ≡ false → refusal_of call v ≡ refused_if_failed false v.channel.failed
+pub refusal_is : (call : Call) (v : SessionValue) → is_local call ≡ false → of_transfer call ≡ false → refusal_of call v ≡ refused_if_failed false v.channel.failed
 refusal_is call v abroad none =
     let F : Bool → Refusal = λ b. cond (b && lacks_of call v) Lacking (refused_if_failed (is_local call) v.channel.failed) in
     ap F none ∙ ap (λ b. refused_if_failed b v.channel.failed) abroad
@@ -199,7 +199,7 @@ drain_taken v due =
     let F : Bool → Refusal = λ b. cond b Lacking (refused_if_failed false v.channel.failed) in
     ap F (due_left v.channel.failed (none_left v.state.counts.owed) due)
 
-drains_alone : (link : Link) (coding : Coding) (old new : SessionValue) (answer : Answer) → is_reply_due old ≡ true → PlaysAlone link coding Drain old new answer → MakesTree link (drain_tree old.state) old new answer
+pub drains_alone : (link : Link) (coding : Coding) (old new : SessionValue) (answer : Answer) → is_reply_due old ≡ true → PlaysAlone link coding Drain old new answer → MakesTree link (drain_tree old.state) old new answer
 drains_alone link coding old new answer due alone = record { made = made alone.made; fails = alone.fails }
   where
     why : refusal_of Drain old ≡ Taken
@@ -211,7 +211,7 @@ drains_alone link coding old new answer due alone = record { made = made alone.m
     made (inr (inr withheld)) = inr (inr withheld)
 
 -- a command, after that reply where it is due
-due_is : (call : Call) (v : SessionValue) → drains_first call ≡ true → due_of call v ≡ is_reply_due v
+pub due_is : (call : Call) (v : SessionValue) → drains_first call ≡ true → due_of call v ≡ is_reply_due v
 due_is call v follows =
     ap (λ d. cond (v.channel.failed || none_left v.state.counts.owed) false d) follows ∙ turned (v.channel.failed || none_left v.state.counts.owed)
   where

@@ -1,13 +1,11 @@
 //! Calls that open a data connection.
 
 ghost use Rattle.std.specs.Prelude.{◌≡◌, option_map};
-ghost use Rattle.ftp_calls.specs.declared.exchange.Fetch.TheVariants.{Listed, Whole};
 ghost use Rattle.ftp_dialogue.specs.Coding.{chosen};
 ghost use Rattle.ftp_dialogue.specs.Link.{asking, blocking, built_by};
 ghost use Rattle.ftp_session.specs.Calls.{bytes_answer, lines_answer};
-ghost use Rattle.ftp_session.specs.Fetched.{Fetches};
 ghost use Rattle.ftp_session.specs.Files.{Retrieves};
-ghost use Rattle.ftp_session.specs.Handed.{Opens};
+ghost use Rattle.ftp_session.specs.Handed.{Opens, PlaysSeen};
 ghost use Rattle.ftp_transfer.specs.declared.direction.Direction.TheVariants as directions;
 
 use ftp_base::encoding::Encoding;
@@ -63,8 +61,8 @@ pub fn retr_as_buffer<Tr: Network, K: Drop, E: Encoding, B: PassiveStreamBuilder
 where
     Tr::Conn: Conn,
     Tr: Transport<R>,
-    ensures fetches { Fetches (asking (built_by B.answers session.old.builder) ⊥ (blocking Tr.Conn.Conn)) (chosen E.decoded E.encoded session.old.encoding.0) (Call.Retr path.now)
-        Whole session.old.mark session.new.mark session.old.machine session.new.machine (bytes_answer result) }
+    ensures fetches { PlaysSeen (asking (built_by B.answers session.old.builder) ⊥ (blocking Tr.Conn.Conn)) (chosen E.decoded E.encoded session.old.encoding.0) (Call.Retr path.now)
+        session.old.mark session.new.mark session.old.machine session.new.machine (bytes_answer result) }
     ensures encoding { session.new.encoding ≡ session.old.encoding }
     ensures builder { session.new.builder ≡ session.old.builder }
     ensures former { session.new.former ≡ session.old.former }
@@ -82,8 +80,8 @@ pub fn nlst<Tr: Network, K: Drop, E: Encoding, B: PassiveStreamBuilder<Tr::Conn>
 where
     Tr::Conn: Conn,
     Tr: Transport<R>,
-    ensures fetches { Fetches (asking (built_by B.answers session.old.builder) ⊥ (blocking Tr.Conn.Conn)) (chosen E.decoded E.encoded session.old.encoding.0) (Call.Nlst (option_map (λ text. text.now) path.entry))
-        Listed session.old.mark session.new.mark session.old.machine session.new.machine (lines_answer result) }
+    ensures fetches { PlaysSeen (asking (built_by B.answers session.old.builder) ⊥ (blocking Tr.Conn.Conn)) (chosen E.decoded E.encoded session.old.encoding.0) (Call.Nlst (option_map (λ text. text.now) path.entry))
+        session.old.mark session.new.mark session.old.machine session.new.machine (lines_answer result) }
     ensures encoding { session.new.encoding ≡ session.old.encoding }
     ensures builder { session.new.builder ≡ session.old.builder }
     ensures former { session.new.former ≡ session.old.former }

@@ -4,13 +4,16 @@
 //! Each opens a data connection, reads it to its end, closes it, and reads the transfer's last reply, also where the data
 //! failed. The transfer is never handed out.
 
-ghost use Rattle.std.specs.Prelude.{◌≡◌, IfOk, option_map};
+ghost use Rattle.std.specs.Prelude.{◌≡◌, Bool, IfOk, option_map};
+ghost use Rattle.ftp_base.specs.declared.command.Command.{Command as Said};
+ghost use Rattle.ftp_calls.specs.Exchanges.{fetches as fetch_row, own_row};
+ghost use Rattle.ftp_calls.specs.declared.exchange.Fetch.{Fetch};
 ghost use Rattle.ftp_calls.specs.declared.call.Call.{Call as Called};
 ghost use Rattle.ftp_calls.specs.declared.exchange.Fetch.TheVariants.{Listed, Whole};
 ghost use Rattle.ftp_dialogue.specs.Coding.{chosen};
 ghost use Rattle.ftp_dialogue.specs.Link.{asking, blocking, built_by};
 ghost use Rattle.ftp_session.specs.Calls.{bytes_answer, lines_answer};
-ghost use Rattle.ftp_session.specs.Fetched.{Fetches, told_as};
+ghost use Rattle.ftp_session.specs.Fetched.{IsFetched};
 ghost use Rattle.ftp_calls.specs.Kinds.{IsOpening};
 ghost use Rattle.ftp_session.specs.Handed.{PlaysSeen};
 
@@ -20,7 +23,7 @@ use super::making::make;
 use super::polling::DropsCalls;
 use super::{Answer, Call};
 use ftp_base::encoding::Encoding;
-use ftp_base::types::{ConnectionError, FtpError, FtpResult};
+use ftp_base::types::FtpResult;
 use ftp_calls::call::{list_call, mlsd_call, nlst_call, retr_call};
 use ftp_transport::{Conn, Network, PassiveStreamBuilder, Transport};
 use std::alloc::{AllocError, Global};
@@ -38,8 +41,8 @@ where
     pub fn retr_as_buffer<R>(&mut self, alloc: Global, rt: &R, path: &str) -> FtpResult<Vec<u8>>
     where
         Tr: Transport<R>,
-        ensures fetches { Fetches (asking (built_by B.answers self.old.builder) ⊥ (blocking Tr.Conn.Conn)) (chosen E.decoded E.encoded self.old.encoding.0) (Call.Retr path.now)
-            Whole self.old.mark self.new.mark self.old.machine self.new.machine (bytes_answer result) }
+        ensures fetches { PlaysSeen (asking (built_by B.answers self.old.builder) ⊥ (blocking Tr.Conn.Conn)) (chosen E.decoded E.encoded self.old.encoding.0) (Call.Retr path.now)
+            self.old.mark self.new.mark self.old.machine self.new.machine (bytes_answer result) }
         ensures encoding { self.new.encoding ≡ self.old.encoding }
         ensures builder { self.new.builder ≡ self.old.builder }
         ensures former { self.new.former ≡ self.old.former }
@@ -58,8 +61,8 @@ where
     pub fn list<R>(&mut self, alloc: Global, rt: &R, path: Option<&str>) -> FtpResult<Vec<String>>
     where
         Tr: Transport<R>,
-        ensures fetches { Fetches (asking (built_by B.answers self.old.builder) ⊥ (blocking Tr.Conn.Conn)) (chosen E.decoded E.encoded self.old.encoding.0) (Call.List (option_map (λ text. text.now) path.entry))
-            Listed self.old.mark self.new.mark self.old.machine self.new.machine (lines_answer result) }
+        ensures fetches { PlaysSeen (asking (built_by B.answers self.old.builder) ⊥ (blocking Tr.Conn.Conn)) (chosen E.decoded E.encoded self.old.encoding.0) (Call.List (option_map (λ text. text.now) path.entry))
+            self.old.mark self.new.mark self.old.machine self.new.machine (lines_answer result) }
         ensures encoding { self.new.encoding ≡ self.old.encoding }
         ensures builder { self.new.builder ≡ self.old.builder }
         ensures former { self.new.former ≡ self.old.former }
@@ -74,8 +77,8 @@ where
     pub fn nlst<R>(&mut self, alloc: Global, rt: &R, path: Option<&str>) -> FtpResult<Vec<String>>
     where
         Tr: Transport<R>,
-        ensures fetches { Fetches (asking (built_by B.answers self.old.builder) ⊥ (blocking Tr.Conn.Conn)) (chosen E.decoded E.encoded self.old.encoding.0) (Call.Nlst (option_map (λ text. text.now) path.entry))
-            Listed self.old.mark self.new.mark self.old.machine self.new.machine (lines_answer result) }
+        ensures fetches { PlaysSeen (asking (built_by B.answers self.old.builder) ⊥ (blocking Tr.Conn.Conn)) (chosen E.decoded E.encoded self.old.encoding.0) (Call.Nlst (option_map (λ text. text.now) path.entry))
+            self.old.mark self.new.mark self.old.machine self.new.machine (lines_answer result) }
         ensures encoding { self.new.encoding ≡ self.old.encoding }
         ensures builder { self.new.builder ≡ self.old.builder }
         ensures former { self.new.former ≡ self.old.former }
@@ -90,8 +93,8 @@ where
     pub fn mlsd<R>(&mut self, alloc: Global, rt: &R, path: Option<&str>) -> FtpResult<Vec<String>>
     where
         Tr: Transport<R>,
-        ensures fetches { Fetches (asking (built_by B.answers self.old.builder) ⊥ (blocking Tr.Conn.Conn)) (chosen E.decoded E.encoded self.old.encoding.0) (Call.Mlsd (option_map (λ text. text.now) path.entry))
-            Listed self.old.mark self.new.mark self.old.machine self.new.machine (lines_answer result) }
+        ensures fetches { PlaysSeen (asking (built_by B.answers self.old.builder) ⊥ (blocking Tr.Conn.Conn)) (chosen E.decoded E.encoded self.old.encoding.0) (Call.Mlsd (option_map (λ text. text.now) path.entry))
+            self.old.mark self.new.mark self.old.machine self.new.machine (lines_answer result) }
         ensures encoding { self.new.encoding ≡ self.old.encoding }
         ensures builder { self.new.builder ≡ self.old.builder }
         ensures former { self.new.former ≡ self.old.former }
@@ -108,6 +111,8 @@ where
         ensures plays { (made : Called) → IsOpening made → IfOk call (λ c. c ≡ made) →
             PlaysSeen (asking (built_by B.answers self.old.builder) ⊥ (blocking Tr.Conn.Conn)) (chosen E.decoded E.encoded self.old.encoding.0) made
             self.old.mark self.new.mark self.old.machine self.new.machine result }
+        ensures fetched { (made : Called) → IsOpening made → IfOk call (λ c. c ≡ made) → (form : Fetch) (command : Said) →
+            ((first : Bool) → own_row made first ≡ fetch_row command form) → IsFetched form result }
         ensures encoding { self.new.encoding ≡ self.old.encoding }
         ensures builder { self.new.builder ≡ self.old.builder }
         ensures former { self.new.former ≡ self.old.former }
@@ -131,30 +136,46 @@ where
     }
 }
 
-/// The result of a call that gives bytes. No dialogue of such a call comes to any other answer.
+/// The result of a call that gives bytes.
 fn bytes(answer: Answer) -> FtpResult<Vec<u8>>
-    ensures { bytes_answer result ≡ told_as Whole answer }
+    requires { IsFetched Whole answer }
+    ensures { bytes_answer result ≡ answer }
 {
     match answer {
+        Answer::Unit => unreachable!(),
+        Answer::Reply(_) => unreachable!(),
+        Answer::Text(_) => unreachable!(),
+        Answer::Time(_) => unreachable!(),
+        Answer::Size(_) => unreachable!(),
+        Answer::Features(_) => unreachable!(),
+        Answer::Opened => unreachable!(),
+        Answer::OpenedWith(_) => unreachable!(),
         Answer::Bytes(bytes) => Ok(bytes.into_vec()),
+        Answer::Count(_) => unreachable!(),
+        Answer::Lines(_) => unreachable!(),
+        Answer::NoTransfer => unreachable!(),
         Answer::Fault(fault) => Err(fault),
-        other => {
-            drop(other);
-            Err(FtpError::ConnectionError(ConnectionError::NotOwed))
-        }
     }
 }
 
-/// The result of a call that gives lines. No dialogue of such a call comes to any other answer.
+/// The result of a call that gives lines.
 fn lines(answer: Answer) -> FtpResult<Vec<String>>
-    ensures { lines_answer result ≡ told_as Listed answer }
+    requires { IsFetched Listed answer }
+    ensures { lines_answer result ≡ answer }
 {
     match answer {
+        Answer::Unit => unreachable!(),
+        Answer::Reply(_) => unreachable!(),
+        Answer::Text(_) => unreachable!(),
+        Answer::Time(_) => unreachable!(),
+        Answer::Size(_) => unreachable!(),
+        Answer::Features(_) => unreachable!(),
+        Answer::Opened => unreachable!(),
+        Answer::OpenedWith(_) => unreachable!(),
+        Answer::Bytes(_) => unreachable!(),
+        Answer::Count(_) => unreachable!(),
         Answer::Lines(lines) => Ok(lines.into_vec()),
+        Answer::NoTransfer => unreachable!(),
         Answer::Fault(fault) => Err(fault),
-        other => {
-            drop(other);
-            Err(FtpError::ConnectionError(ConnectionError::NotOwed))
-        }
     }
 }

@@ -1,6 +1,11 @@
 use Rattle.std.proofs.Common.{option_map, refl}
+use Rattle.ftp_base.specs.declared.command.Command.TheVariants as command
 use Rattle.ftp_calls.specs.declared.call.Call.TheVariants.{Mlsd}
+use Rattle.ftp_calls.specs.declared.exchange.Fetch.TheVariants.{Listed}
 use Rattle.ftp_session.proofs.session.client.Session.mlsd.Goals as goal
 
+pub lines-requires : goal.lines-requires
+lines-requires g c = c.fetch.ensures.fetched (Mlsd (option_map (λ text. text.now) c.args.path)) (refl, refl, refl) c.mlsd_call.ensures.call Listed (command.Mlsd (option_map (λ text. text.now) c.args.path)) (λ first. refl)
+
 pub returns-clause-fetches : goal.returns-clause-fetches
-returns-clause-fetches g c = record { answer = c.fetch.result; plays = c.fetch.ensures.plays (Mlsd (option_map (λ text. text.now) c.args.path)) (refl, refl, refl) c.mlsd_call.ensures.call; is = c.lines.ensures }
+returns-clause-fetches g c = rw c.lines.ensures (c.fetch.ensures.plays (Mlsd (option_map (λ text. text.now) c.args.path)) (refl, refl, refl) c.mlsd_call.ensures.call)

@@ -1,6 +1,11 @@
 use Rattle.std.proofs.Common.{refl}
+use Rattle.ftp_base.specs.declared.command.Command.TheVariants as command
 use Rattle.ftp_calls.specs.declared.call.Call.TheVariants.{Retr}
+use Rattle.ftp_calls.specs.declared.exchange.Fetch.TheVariants.{Whole}
 use Rattle.ftp_session.proofs.session.client.Session.retr_as_buffer.Goals as goal
 
+pub bytes-requires : goal.bytes-requires
+bytes-requires g c = c.fetch.ensures.fetched (Retr c.args.path.now) (refl, refl, refl) c.retr_call.ensures.call Whole (command.Retr c.args.path.now) (λ first. refl)
+
 pub returns-clause-fetches : goal.returns-clause-fetches
-returns-clause-fetches g c = record { answer = c.fetch.result; plays = c.fetch.ensures.plays (Retr c.args.path.now) (refl, refl, refl) c.retr_call.ensures.call; is = c.bytes.ensures }
+returns-clause-fetches g c = rw c.bytes.ensures (c.fetch.ensures.plays (Retr c.args.path.now) (refl, refl, refl) c.retr_call.ensures.call)
