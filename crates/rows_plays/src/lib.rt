@@ -24,8 +24,11 @@ mod transcript;
 mod transfers;
 
 pub use alphabet::Lists;
-pub use answers::{bytes, count, features, lines, reply, size, text, texts_of, time, unit};
+pub use answers::{
+    bytes, count, features, lines, reply, size, text, text_of, texts_of, time, unit,
+};
 pub use builder::RowBuilder;
+pub use calls::call;
 pub use dial::Dial;
 pub use encodings::Named;
 pub use memory::{boxed, had};
@@ -35,5 +38,5 @@ pub use requests::{lines_of, recorded};
 pub use row::Row;
 pub use session::{NamedSession, polled, ran, welcome};
 pub use setup::Setup;
-pub use transcript::{Mark, Standing};
+pub use transcript::{Mark, Standing, add_sent, add_upload};
 pub use transfers::{Held, Transfers};

@@ -105,8 +105,11 @@ fn between<T>(all: &[T], start: usize, end: usize) -> &[T] {
     all.get(start..end).unwrap_or(&[])
 }
 
-/// A line for a data connection that is over, with what was uploaded on it, if anything.
-fn add_upload(alloc: Global, text: &mut String, sent: &[u8]) -> Result<(), AllocError> {
+/// Adds a line for a data connection that is over, with what was uploaded on it, if anything.
+///
+/// # Errors
+/// `OutOfMemory`.
+pub fn add_upload(alloc: Global, text: &mut String, sent: &[u8]) -> Result<(), AllocError> {
     if sent.is_empty() {
         return text.push_str("U:\n");
     }
@@ -114,8 +117,11 @@ fn add_upload(alloc: Global, text: &mut String, sent: &[u8]) -> Result<(), Alloc
     write!(text, "U: {sent}\n")
 }
 
-/// A line for each line that was sent, and for what was sent of a last one.
-fn add_sent(alloc: Global, text: &mut String, sent: &[u8]) -> Result<(), AllocError> {
+/// Adds a line for each line that was sent, and for what was sent of a last one.
+///
+/// # Errors
+/// `OutOfMemory`.
+pub fn add_sent(alloc: Global, text: &mut String, sent: &[u8]) -> Result<(), AllocError> {
     for line in sent.split_inclusive(|byte| *byte == b'\n') {
         let line = shown(alloc, line)?;
         write!(text, "C: {line}\n")?;

@@ -10,6 +10,7 @@ use ftp_transport::{
 };
 use futures::task::{Context, Poll};
 use std::alloc::{AllocError, Global};
+use std::collections::VecDeque;
 use std::io::ErrorKind;
 use std::net::SocketAddr;
 use std::time::Duration;
@@ -120,11 +121,11 @@ impl TaskConn for SlowConn {
 /// The port of each listener.
 const PORT: u16 = 1024;
 
-/// A transport that hands out connections, the last first, waits before each, and keeps those that are over. A listener
-/// is the address that it is bound to, and its peers have that address.
+/// A transport that hands out connections in order, waits before each, and keeps those that are over. A listener is the
+/// address that it is bound to, and its peers have that address.
 #[derive(Drop)]
 pub struct SlowTransport {
-    ready: Vec<SlowConn>,
+    ready: VecDeque<SlowConn>,
     closed: Vec<SlowConn>,
     // Whether the next connect or accept was waited for.
     waits: bool,
@@ -132,7 +133,7 @@ pub struct SlowTransport {
 
 impl SlowTransport {
     /// A transport with these connections.
-    pub fn with(alloc: Global, ready: Vec<SlowConn>) -> SlowTransport {
+    pub fn with(alloc: Global, ready: VecDeque<SlowConn>) -> SlowTransport {
         SlowTransport {
             ready,
             closed: Vec::new(alloc),
@@ -194,7 +195,7 @@ impl<R> PollTransport<R, ()> for SlowTransport {
         if self.waits {
             return Poll::Pending;
         }
-        match self.ready.pop() {
+        match self.ready.pop_front() {
             Some(conn) => Poll::Ready(Ok(Ok(conn))),
             None => Poll::Ready(Ok(Err(ConnectionError::Io(ErrorKind::ConnectionRefused)))),
         }
@@ -222,7 +223,7 @@ impl<R> PollTransport<R, ()> for SlowTransport {
         if self.waits {
             return Poll::Pending;
         }
-        match self.ready.pop() {
+        match self.ready.pop_front() {
             Some(conn) => Poll::Ready(Ok(Ok((conn, *listener)))),
             None => Poll::Ready(Ok(Err(ConnectionError::TimedOut))),
         }

@@ -1,0 +1,118 @@
+//! How calls begin.
+
+use crate::counter::Counter;
+use crate::gains::{Gains, Stream};
+use crate::script::Asked;
+use crate::slow::SlowTransport;
+use ftp_base::encoding::Utf8Encoding;
+use ftp_base::types::Response;
+use ftp_polled::{
+    Abort, Adjust, Dialogue, Finish, ImplAsyncFtpStream, Lock, OpenTransfer, Retrieve, Upload,
+};
+use ftp_session::session::{Call, NoStreamBuilder, NoTlsConnector, Setting};
+use rows_plays::optional;
+use rows_text::RowError;
+
+/// A polled client over slow connections.
+pub type Client = ImplAsyncFtpStream<SlowTransport>;
+
+/// A call that gives an `A`.
+type Gives<'r, R, A> = Dialogue<
+    'r,
+    R,
+    SlowTransport,
+    NoTlsConnector,
+    Utf8Encoding,
+    NoStreamBuilder,
+    A,
+>;
+
+/// A call under way.
+#[derive(Drop)]
+pub enum State<'r, R> {
+    /// A call that gives nothing.
+    Unit(Gives<'r, R, ()>),
+    /// A call that gives its reply.
+    Reply(Gives<'r, R, Response>),
+    /// A call that gives a number of bytes.
+    Size(Gives<'r, R, usize>),
+    /// A whole file.
+    Bytes(Gives<'r, R, Vec<u8>>),
+    /// A listing.
+    Lines(Gives<'r, R, Vec<String>>),
+    /// A call that opens a transfer.
+    Open(OpenTransfer<'r, R, SlowTransport, NoTlsConnector, Utf8Encoding, NoStreamBuilder>),
+    /// An upload from a source.
+    Upload(Upload<'r, R, SlowTransport, NoTlsConnector, Utf8Encoding, NoStreamBuilder, &'r [u8]>),
+    /// A download by a reader.
+    Download(
+        Retrieve<'r, R, SlowTransport, NoTlsConnector, Utf8Encoding, NoStreamBuilder, Counter>,
+    ),
+    /// The end of a transfer.
+    Finish(Finish<'r, R, SlowTransport, NoTlsConnector, Utf8Encoding, NoStreamBuilder>),
+    /// A transfer is aborted.
+    Abort(Abort<'r, R, SlowTransport, NoTlsConnector, Utf8Encoding, NoStreamBuilder>),
+    /// A setting changes.
+    Set(Adjust<'r, R, SlowTransport, NoTlsConnector, Utf8Encoding, NoStreamBuilder>),
+    /// The lock is waited for.
+    Lend(Lock<SlowTransport, NoTlsConnector, Utf8Encoding, NoStreamBuilder>),
+}
+
+/// The state of a call.
+///
+/// # Errors
+/// `NotUnderstood` where the rows have no such call, or no transfer is held.
+pub fn begin<'r, R: AllocGlobal>(
+    rt: &'r R,
+    client: &Client,
+    gains: &mut Gains,
+    asked: &'r Asked,
+) -> Result<State<'r, R>, RowError> {
+    match asked {
+        Asked::Call(call) => match call {
+            Call::Finish => Ok(State::Finish(transfer(gains)?.finish(rt))),
+            Call::Abort => Ok(State::Abort(transfer(gains)?.abort(rt))),
+            _ => made(rt, client, call),
+        },
+        Asked::RetrCounted(path) => {
+            Ok(State::Download(client.retr(rt, path.as_str(), Counter { count: 0 })))
+        }
+        Asked::Lend => Ok(State::Lend(client.get_ref())),
+    }
+}
+
+/// The transfer that is held longest.
+///
+/// # Errors
+/// `NotUnderstood` where none is held.
+pub fn transfer(gains: &mut Gains) -> Result<Stream, RowError> {
+    gains.transfers.pop_front().ok_or(RowError::NotUnderstood)
+}
+
+/// The state of a call that needs no transfer.
+fn made<'r, R: AllocGlobal>(
+    rt: &'r R,
+    client: &Client,
+    call: &'r Call,
+) -> Result<State<'r, R>, RowError> {
+    Ok(match call {
+        Call::Login(user, password) => {
+            State::Unit(client.login(rt, user.as_str(), password.as_str()))
+        }
+        Call::Cwd(path) => State::Unit(client.cwd(rt, path.as_str())),
+        Call::Noop => State::Unit(client.noop(rt)),
+        Call::Rm(path) => State::Unit(client.rm(rt, path.as_str())),
+        Call::Rename(from, to) => State::Unit(client.rename(rt, from.as_str(), to.as_str())),
+        Call::ReadResponse(status) => State::Reply(client.read_response(rt, *status)),
+        Call::Size(path) => State::Size(client.size(rt, path.as_str())),
+        Call::Retr(path) => State::Bytes(client.retr_as_buffer(rt, path.as_str())),
+        Call::List(path) => State::Lines(client.list(rt, optional(path))),
+        Call::RetrAsStream(path) => State::Open(client.retr_as_stream(rt, path.as_str())),
+        Call::PutWithStream(path) => State::Open(client.put_with_stream(rt, path.as_str())),
+        Call::PutFile(path, bytes) => {
+            State::Upload(client.put_file(rt, path.as_str(), bytes.as_slice()))
+        }
+        Call::Set(Setting::Mode(mode)) => State::Set(client.set_mode(rt, *mode)),
+        _ => return Err(RowError::NotUnderstood),
+    })
+}
