@@ -173,21 +173,23 @@ fn kind_of(answer: FtpResult<Vec<u8>>) -> Option<ErrorKind> {
     }
 }
 
+/// The last replies of a transfer, and the reply to the command after it.
+const LAST: [&[u8]; 2] = [b"226 d\r\n200 ok\r\n", b"426 no\r\n200 ok\r\n"];
+
 #[test]
-fn a_listing_whose_data_break_is_no_listing_and_its_last_reply_is_told_first(
-    rt: HostRuntime,
-) -> Result<(), Fail> {
-    let after_226 = listed(rt.alloc(), b"226 d\r\n200 ok\r\n")?;
-    let after_426 = listed(rt.alloc(), b"426 no\r\n200 ok\r\n")?;
-    assert_eq!(rt; (after_226, after_426), ((11, 0), (10, 0)));
+fn broken_data_are_no_listing_whose_last_reply_is_told_first(rt: HostRuntime) -> Result<(), Fail> {
+    let came = (listed(rt.alloc(), LAST[0])?, listed(rt.alloc(), LAST[1])?);
+    assert_eq!(rt; came, ((11, 0), (10, 0)));
     Ok(())
 }
 
 #[test]
 fn a_fault_of_a_files_data_is_told_whatever_the_last_reply_is(rt: HostRuntime) -> Result<(), Fail> {
-    for last in [b"226 d\r\n200 ok\r\n".as_slice(), b"426 no\r\n200 ok\r\n"] {
-        let came = downloaded(rt.alloc(), last)?;
-        assert_eq!(rt; came, (Some(ErrorKind::ConnectionReset), 0u8));
-    }
+    let came = (
+        downloaded(rt.alloc(), LAST[0])?,
+        downloaded(rt.alloc(), LAST[1])?,
+    );
+    let due = (Some(ErrorKind::ConnectionReset), 0u8);
+    assert_eq!(rt; came, (due, due));
     Ok(())
 }

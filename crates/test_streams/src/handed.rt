@@ -1,13 +1,9 @@
-//! Transfers that a session hands out, over memory: their bytes, their end, and their leaving.
+//! Transfers that a session hands out, over memory: how they end, how they are counted, and their leaving.
 
-use crate::counts::text_of;
 use crate::scene::{Live, MemorySession, greeted, number, opened, sent};
-use ftp_base::status::Status;
 use ftp_base::types::FtpResult;
 use ftp_runs::RunCalls;
-use ftp_session::session::Call;
-use ftp_transfer::{Direction, Transfer};
-use ftp_transport::MemoryConn;
+use ftp_session::session::{Call, Counts};
 use std::alloc::{AllocError, Global};
 use std::io::Write;
 use std::test::Fail;
@@ -18,7 +14,7 @@ const DOWNLOAD: &str = "227 x (10,0,0,1,4,0).\r\n150 b\r\n226 d\r\n200 ok\r\n";
 
 /// A situation, what the server sends, what is done, and what is due: the number of each refusal, 0 where there is
 /// none, the counts of the transfers (opened, finished, aborted, drained and owed), and what was sent.
-const ROWS: [(&str, &str, &[Step], &str, &[u8]); 9] = [
+const ROWS: [(&str, &str, &[Step], &str, &[u8]); 11] = [
     (
         "a transfer that was dropped is one that lives, until the session looks",
         DOWNLOAD,
@@ -77,12 +73,36 @@ const ROWS: [(&str, &str, &[Step], &str, &[u8]); 9] = [
     ),
     (
         "an abort hears two replies after 426",
-        "227 x (10,0,0,1,4,0).\r\n150 b\r\n426 a\r\n226 b\r\n",
+        "227 x (10,0,0,1,4,0).\r\n150 b\r\n426 a\r\n226 b\r\n200 ok\r\n",
+        &[Step::Open, Step::Abort, Step::Noop],
+        "0 0 0 1 0 1 0 Nothing",
+        b"PASV\r\nRETR a\r\nABOR\r\nNOOP\r\n",
+    ),
+    (
+        "an abort that is refused counts as well",
+        "227 x (10,0,0,1,4,0).\r\n150 b\r\n500 no\r\n",
         &[Step::Open, Step::Abort],
-        "0 0 1 0 1 0 Nothing",
+        "0 10 1 0 1 0 Nothing",
         b"PASV\r\nRETR a\r\nABOR\r\n",
     ),
+    (
+        "a transfer that was finished is no drained one",
+        DOWNLOAD,
+        &[Step::Open, Step::Finish, Step::Noop],
+        "0 0 0 1 1 0 0 Nothing",
+        b"PASV\r\nRETR a\r\nNOOP\r\n",
+    ),
 ];
+
+/// How many were opened, finished, aborted and drained, and what is owed.
+fn text_of(alloc: Global, counts: &Counts) -> Result<String, AllocError> {
+    let opened = counts.opened();
+    let finished = counts.finished();
+    let aborted = counts.aborted();
+    let drained = counts.drained();
+    let owed = counts.owed();
+    format!(in alloc; "{opened} {finished} {aborted} {drained} {owed:?}")
+}
 
 /// What is done in a row.
 #[derive(Clone, Copy)]
@@ -180,37 +200,8 @@ fn numbers_of(
 fn a_transfer_is_opened_and_ends(rt: HostRuntime) -> Result<(), Fail> {
     for (situation, input, steps, due, lines) in ROWS {
         let (text, whole) = played(rt.alloc(), input, steps, lines)?;
-        assert_eq!(rt; (text.as_str(), whole), (due, true), "{situation}");
+        assert_eq!(rt; (situation, text.as_str(), whole), (situation, due, true));
     }
-    Ok(())
-}
-
-/// What a transfer is called, and what a read of it gives.
-fn read(transfer: &mut Transfer<MemoryConn>) -> (u64, bool, bool) {
-    let mut buffer = [0u8; 8];
-    let five = transfer.read(&mut buffer) == Ok(5) && &buffer[..5] == b"hello".as_slice();
-    (
-        transfer.number(),
-        transfer.direction() == Direction::Download,
-        five,
-    )
-}
-
-#[test]
-fn a_download_is_handed_out_read_and_finished(rt: HostRuntime) -> Result<(), Fail> {
-    let alloc = rt.alloc();
-    let mut session = greeted(alloc, DOWNLOAD)?;
-    let mut transfer = opened(alloc, &mut session)?;
-    let came = read(&mut transfer);
-    let finished = number(session.finish(alloc, Box::into_inner(transfer)));
-    let counts = text_of(alloc, session.counts())?;
-    let after = number(session.noop(alloc));
-    let same = sent(&session) == b"PASV\r\nRETR a\r\nNOOP\r\n".as_slice();
-    drop(session);
-    assert_eq!(rt;
-        (came, counts.as_str(), finished, after, same),
-        ((1, true, true), "1 1 0 0 Nothing", 0, 0, true)
-    );
     Ok(())
 }
 
@@ -221,93 +212,27 @@ fn a_transfer_that_another_thread_drops_is_seen(rt: HostRuntime) -> Result<(), F
     let transfer = opened(alloc, &mut session)?;
     thread::spawn(&rt, move || drop(transfer))?.join(&rt);
     let after = number(session.noop(alloc));
-    let counts = text_of(alloc, session.counts())?;
+    let drained = session.counts().drained();
     drop(session);
-    assert_eq!(rt; (after, counts.as_str()), (0, "1 0 0 1 Nothing"));
-    Ok(())
-}
-
-/// What the calls of an upload give, and whether its bytes arrived.
-fn uploaded(alloc: Global) -> Result<(bool, bool, u8, bool), Fail> {
-    let mut session = greeted(alloc, "227 x (10,0,0,1,4,0).\r\n125 b\r\n250 d\r\n")?;
-    let mut transfer = session.put_with_stream(alloc, &(), "b")?;
-    let uploads = transfer.direction() == Direction::Upload;
-    let three = transfer.write(b"abc") == Ok(3);
-    let finished = number(session.finish(alloc, transfer));
-    let arrived = match session.transport().uploaded() {
-        [conn] => conn.sent() == b"abc".as_slice(),
-        _ => false,
-    };
-    Ok((uploads, three, finished, arrived))
-}
-
-#[test]
-fn an_upload_is_told_by_the_transport(rt: HostRuntime) -> Result<(), Fail> {
-    assert_eq!(rt; uploaded(rt.alloc())?, (true, true, 0, true));
-    Ok(())
-}
-
-/// What the end of an append at an offset gives, and whether these lines were sent for it.
-fn appended(alloc: Global, lines: &[u8]) -> Result<(u8, bool), Fail> {
-    let input = "227 x (10,0,0,1,4,0).\r\n350 at 7\r\n150 b\r\n226 d\r\n";
-    let mut session = greeted(alloc, input)?;
-    session.resume_transfer(alloc, 7)?;
-    let transfer = session.append_with_stream(alloc, &(), "b")?;
-    let finished = number(session.finish(alloc, transfer));
-    Ok((finished, sent(&session) == lines))
-}
-
-#[test]
-fn an_append_begins_at_the_offset(rt: HostRuntime) -> Result<(), Fail> {
-    let lines = b"PASV\r\nREST 7\r\nAPPE b\r\n".as_slice();
-    assert_eq!(rt; appended(rt.alloc(), lines)?, (0, true));
-    Ok(())
-}
-
-/// Whether a line of the caller's gives this reply, what its end gives, and whether these lines were sent.
-fn line_of_the_callers(
-    alloc: Global,
-    reply: &[u8],
-    lines: &[u8],
-) -> Result<(bool, u8, bool), Fail> {
-    let mut session = greeted(alloc, DOWNLOAD)?;
-    let (heard, transfer) = session.custom_data_command(
-        alloc,
-        &(),
-        "LIST -a",
-        &[Status::AboutToSend],
-    )?;
-    let same = heard.body.as_slice() == reply;
-    drop(heard);
-    let finished = number(session.finish(alloc, transfer));
-    Ok((same, finished, sent(&session) == lines))
-}
-
-#[test]
-fn a_line_of_the_callers_gives_its_reply(rt: HostRuntime) -> Result<(), Fail> {
-    let lines = b"PASV\r\nLIST -a\r\n".as_slice();
-    let came = line_of_the_callers(rt.alloc(), b"150 b\r\n", lines)?;
-    assert_eq!(rt; came, (true, 0, true));
+    assert_eq!(rt; (after, drained), (0, 1u64));
     Ok(())
 }
 
 /// What a transfer that was left comes to whose receipt is settled twice: the numbers of the two and of the command
-/// after them, and the counts after the first.
-fn settled(alloc: Global) -> Result<(u8, u8, u8, String), Fail> {
+/// after them, and how many were drained after the first.
+fn settled(alloc: Global) -> Result<((u8, u8, u8), u64), Fail> {
     let mut session = greeted(alloc, DOWNLOAD)?;
     let transfer = opened(alloc, &mut session)?;
     let mut left = Box::new(alloc, Box::into_inner(transfer).leave())?;
     let first = number(session.settle(alloc, &mut left));
-    let counts = text_of(alloc, session.counts())?;
+    let drained = session.counts().drained();
     let second = number(session.settle(alloc, &mut left));
-    Ok((first, second, number(session.noop(alloc)), counts))
+    Ok(((first, second, number(session.noop(alloc))), drained))
 }
 
 #[test]
 fn a_receipt_is_settled_once(rt: HostRuntime) -> Result<(), Fail> {
-    let (first, second, after, counts) = settled(rt.alloc())?;
-    let came = (first, second, after, counts.as_str());
-    assert_eq!(rt; came, (0, 0, 0, "1 0 0 1 Nothing"));
+    assert_eq!(rt; settled(rt.alloc())?, ((0, 0, 0), 1));
     Ok(())
 }
 
@@ -321,52 +246,49 @@ fn ended_by(alloc: Global, session: &mut MemorySession, transfer: Live, aborts: 
     }
 }
 
-/// What a session without replies answers to a command, and then where it is to finish or abort this transfer, which is
-/// another's.
-fn failed_elsewhere(alloc: Global, transfer: Live, aborts: bool) -> Result<(u8, u8), Fail> {
-    let mut other = greeted(alloc, "")?;
-    let failed = number(other.noop(alloc));
-    Ok((failed, ended_by(alloc, &mut other, transfer, aborts)))
-}
-
-#[test]
-fn a_failed_session_says_so_of_any_transfer(rt: HostRuntime) -> Result<(), Fail> {
-    let alloc = rt.alloc();
-    for aborts in [false, true] {
-        let mut session = greeted(alloc, DOWNLOAD)?;
-        let transfer = opened(alloc, &mut session)?;
-        let there = failed_elsewhere(alloc, transfer, aborts)?;
-        let after = number(session.noop(alloc));
-        drop(session);
-        assert_eq!(rt; (there, after), ((2, 14), 0), "{aborts}");
-    }
-    Ok(())
-}
-
-/// What another session answers that is to finish or abort this transfer, and its next command; and whether only that
-/// was sent.
-fn elsewhere(alloc: Global, transfer: Live, aborts: bool) -> Result<(u8, u8, bool), Fail> {
-    let mut other = greeted(alloc, "200 ok\r\n")?;
+/// What another session, whose server sends this, answers to a command, to whom is then handed this transfer to finish
+/// or abort, and to one more; and how many bytes it sent.
+fn elsewhere(
+    alloc: Global,
+    transfer: Live,
+    replies: &str,
+    aborts: bool,
+) -> Result<(u8, u8, u8, usize), Fail> {
+    let mut other = greeted(alloc, replies)?;
+    let before = number(other.noop(alloc));
     let refusal = ended_by(alloc, &mut other, transfer, aborts);
     let after = number(other.noop(alloc));
-    Ok((refusal, after, sent(&other) == b"NOOP\r\n".as_slice()))
+    Ok((before, refusal, after, sent(&other).len()))
+}
+
+/// What another session's server sends, whether that session is to abort or to finish a transfer, and what it answers to
+/// a command before that, to it and after it, and how many bytes it sends: each time no more than NOOP.
+const ELSEWHERE: [(&str, bool, (u8, u8, u8, usize)); 4] = [
+    ("", false, (2, 14, 14, 6)),
+    ("", true, (2, 14, 14, 6)),
+    ("200 ok\r\n200 ok\r\n", false, (0, 18, 0, 12)),
+    ("200 ok\r\n200 ok\r\n", true, (0, 18, 0, 12)),
+];
+
+/// What another session answers to which a transfer is handed, the transfer's own session to its next command, and how
+/// many that has drained then.
+fn handed_elsewhere(
+    alloc: Global,
+    replies: &str,
+    aborts: bool,
+) -> Result<((u8, u8, u8, usize), u8, u64), Fail> {
+    let mut session = greeted(alloc, DOWNLOAD)?;
+    let transfer = opened(alloc, &mut session)?;
+    let there = elsewhere(alloc, transfer, replies, aborts)?;
+    let after = number(session.noop(alloc));
+    Ok((there, after, session.counts().drained()))
 }
 
 #[test]
-fn a_transfer_of_another_number_is_left(rt: HostRuntime) -> Result<(), Fail> {
-    let alloc = rt.alloc();
-    for aborts in [false, true] {
-        let mut session = greeted(alloc, DOWNLOAD)?;
-        let transfer = opened(alloc, &mut session)?;
-        let there = elsewhere(alloc, transfer, aborts)?;
-        let after = number(session.noop(alloc));
-        let counts = text_of(alloc, session.counts())?;
-        drop(session);
-        assert_eq!(rt;
-            (there, after, counts.as_str()),
-            ((18, 0, true), 0, "1 0 0 1 Nothing"),
-            "{aborts}"
-        );
+fn a_transfer_that_is_handed_to_another_session_is_left(rt: HostRuntime) -> Result<(), Fail> {
+    for (replies, aborts, due) in ELSEWHERE {
+        let came = handed_elsewhere(rt.alloc(), replies, aborts)?;
+        assert_eq!(rt; came, (due, 0, 1));
     }
     Ok(())
 }

@@ -100,7 +100,7 @@ fn what_a_source_gives_is_uploaded(rt: HostRuntime) -> Result<(), Fail> {
             fault,
         };
         let came = uploaded(rt.alloc(), source, due)?;
-        assert_eq!(rt; came, (answer, true, 0), "{situation}");
+        assert_eq!(rt; (situation, came), (situation, (answer, true, 0)));
     }
     Ok(())
 }
@@ -136,15 +136,15 @@ fn pair_of(alloc: Global, replies: &str, fails: bool) -> Result<(u16, u8), Fail>
     Ok((pair, number(session.noop(alloc))))
 }
 
-#[test]
-fn a_reader_gives_what_it_read(rt: HostRuntime) -> Result<(), Fail> {
-    assert_eq!(rt; pair_of(rt.alloc(), UPLOAD, false)?, (0x6865, 0));
-    Ok(())
-}
+/// What a server says of a download whose last reply refuses it, and then of a `NOOP`.
+const REFUSED: &str = "227 x (10,0,0,1,4,0).\r\n150 b\r\n426 n\r\n200 o\r\n";
 
 #[test]
-fn a_readers_fault_is_told_before_the_last_reply(rt: HostRuntime) -> Result<(), Fail> {
-    let replies = "227 x (10,0,0,1,4,0).\r\n150 b\r\n426 n\r\n200 o\r\n";
-    assert_eq!(rt; pair_of(rt.alloc(), replies, true)?, (15, 0));
+fn a_reader_gives_what_it_read_and_its_fault_comes_before_the_last_reply(
+    rt: HostRuntime,
+) -> Result<(), Fail> {
+    let read = pair_of(rt.alloc(), UPLOAD, false)?;
+    let failed = pair_of(rt.alloc(), REFUSED, true)?;
+    assert_eq!(rt; (read, failed), ((0x6865, 0), (15, 0)));
     Ok(())
 }
