@@ -1,135 +1,115 @@
-//! The control channel by itself: reads of replies and of single lines, blocking and polled.
+//! The control channel by itself: a line that is sent, and reads of replies and of single lines, blocking and polled.
 
-use crate::scene::{boxed, conn_with, fault_text, number, poll_text};
+use crate::scene::{boxed, number};
+use ftp_base::command::Command;
+use ftp_base::encoding::Utf8Encoding;
 use ftp_base::status::Status;
-use ftp_base::types::{Bytes, FtpResult};
-use ftp_control::control::ControlChannel;
+use ftp_base::types::{Bytes, FtpResult, Response};
+use ftp_control::control::{ControlChannel, WireLine};
 use ftp_transport::MemoryConn;
 use futures::task::Poll;
-use rows_text::shown;
-use std::alloc::{AllocError, Global};
+use std::alloc::Global;
 use std::net::SocketAddr;
 use std::test::Fail;
 
-/// Whether a read is polled or blocks, the bytes that come before it, and what is due: the answer, how many bytes were
-/// not read, as the channel and its connection have it, and how many of those read are part of no reply.
-const REPLIES: [(bool, &[u8], &str); 5] = [
-    (true, b"20", "waits, 0, 0 and 2"),
-    (true, b"0 o", "waits, 0, 0 and 5"),
-    (true, b"k\r\n200 a\r\n22", "200 200 ok\\r\\n, 9, 9 and 0"),
-    (false, b"", "200 200 a\\r\\n, 2, 2 and 0"),
-    (true, b"1", "waits, 0, 0 and 3"),
-];
-
-/// Whether a read is polled or blocks, the bytes that come before it, and the line that is due.
-const LINES: [(bool, &[u8], &str); 6] = [
-    (true, b"one\r\ntw", "one\\r\\n"),
-    (true, b"", "waits"),
-    (true, b"o\nthree", "two\\n"),
-    (false, b"", "three"),
-    (false, b"", "E2"),
-    (false, b"", "E14"),
-];
-
-/// What a read of a reply of status 200 returns, and how many bytes are left.
-fn read_reply(
-    alloc: Global,
-    channel: &mut ControlChannel<MemoryConn>,
-    polled: bool,
-) -> Result<String, AllocError> {
-    let answer = if polled {
-        channel.poll_read_response(alloc, Status::CommandOk, &mut ())
-    } else {
-        Poll::Ready(channel.read_response(alloc, Status::CommandOk))
-    };
-    let text = poll_text(alloc, answer)?;
-    let unread = channel.unread();
-    let of_connection = channel.get_ref().unread();
-    let untaken = channel.untaken();
-    format!(in alloc; "{text}, {unread}, {of_connection} and {untaken}")
+/// What is read, and how.
+#[derive(Clone, Copy)]
+enum Reading {
+    /// A reply of status 200, polled.
+    PolledReply,
+    /// The same, blocking.
+    Reply,
+    /// A line, polled.
+    PolledLine,
+    /// The same, blocking.
+    Line,
 }
 
-/// What a read of one line returns.
-fn read_line(
-    alloc: Global,
-    channel: &mut ControlChannel<MemoryConn>,
-    polled: bool,
-) -> Result<String, AllocError> {
-    let answer = if polled {
-        channel.poll_read_line(alloc, &mut ())
-    } else {
-        Poll::Ready(channel.read_line(alloc))
-    };
-    line_text(alloc, answer)
-}
+/// The bytes that come, what is read then, and what is due: the length of the reply or of the line, 1000 where the read
+/// waits, 2000 and the number of a fault; and how many bytes were not read.
+const READS: [(&[u8], Reading, (usize, usize)); 11] = [
+    (b"20", Reading::PolledReply, (1000, 0)),
+    (b"0 o", Reading::PolledReply, (1000, 0)),
+    (b"k\r\n200 a\r\non", Reading::PolledReply, (8, 9)),
+    (b"", Reading::Reply, (7, 2)),
+    (b"e\r\ntw", Reading::PolledLine, (5, 2)),
+    (b"", Reading::PolledLine, (1000, 0)),
+    (b"o\nthree", Reading::PolledLine, (4, 5)),
+    (b"", Reading::Line, (5, 0)),
+    (b"", Reading::Line, (2002, 0)),
+    (b"", Reading::Line, (2014, 0)),
+    (b"", Reading::Reply, (2014, 0)),
+];
 
-/// A line as text.
-fn line_text(alloc: Global, answer: Poll<FtpResult<Bytes>>) -> Result<String, AllocError> {
+/// The length of a reply, or what is due in its place.
+fn reply_length(answer: Poll<FtpResult<Response>>) -> usize {
     match answer {
-        Poll::Ready(Ok(line)) => shown(alloc, line.as_slice()),
-        Poll::Ready(Err(fault)) => fault_text(alloc, &fault),
-        Poll::Pending => String::from_str(alloc, "waits"),
+        Poll::Ready(Ok(reply)) => reply.body.as_slice().len(),
+        Poll::Ready(refusal) => 2000 + usize::from(number(refusal)),
+        Poll::Pending => 1000,
     }
 }
 
-/// What a read of a reply with so many letters in its first line returns, and whether the channel has failed after it.
-fn read_long_reply(alloc: Global, letters: usize) -> FtpResult<(u8, bool)> {
-    let mut channel = boxed(
-        alloc,
-        ControlChannel::new(alloc, conn_with(alloc, b"220-")?),
-    )?;
-    for _ in 0..letters {
-        channel.feed(b"a")?;
+/// The length of a line, or what is due in its place.
+fn line_length(answer: Poll<FtpResult<Bytes>>) -> usize {
+    match answer {
+        Poll::Ready(Ok(line)) => line.as_slice().len(),
+        Poll::Ready(refusal) => 2000 + usize::from(number(refusal)),
+        Poll::Pending => 1000,
     }
-    channel.feed(b"\r\n220 ready\r\n")?;
-    let answer = number(channel.read_response(alloc, Status::Ready));
-    Ok((answer, channel.failed()))
+}
+
+/// Reads, and gives the length.
+fn read(alloc: Global, channel: &mut ControlChannel<MemoryConn>, reading: Reading) -> usize {
+    match reading {
+        Reading::PolledReply => {
+            reply_length(channel.poll_read_response(alloc, Status::CommandOk, &mut ()))
+        }
+        Reading::Reply => reply_length(Poll::Ready(channel.read_response(
+            alloc,
+            Status::CommandOk,
+        ))),
+        Reading::PolledLine => line_length(channel.poll_read_line(alloc, &mut ())),
+        Reading::Line => line_length(Poll::Ready(channel.read_line(alloc))),
+    }
 }
 
 #[test]
-fn a_reply_comes_in_pieces(rt: HostRuntime) -> Result<(), Fail> {
+fn replies_and_lines_come_in_pieces(rt: HostRuntime) -> Result<(), Fail> {
     let alloc = rt.alloc();
     let mut channel = boxed(alloc, ControlChannel::new(alloc, MemoryConn::new(alloc)))?;
-    for (polled, bytes, due) in REPLIES {
+    for (bytes, reading, due) in READS {
         channel.feed(bytes)?;
-        let text = read_reply(alloc, &mut channel, polled)?;
-        assert_eq!(rt; text.as_str(), due);
+        let length = read(alloc, &mut channel, reading);
+        assert_eq!(rt; (length, channel.unread()), due);
     }
     Ok(())
 }
 
-#[test]
-fn lines_are_read_one_by_one(rt: HostRuntime) -> Result<(), Fail> {
-    let alloc = rt.alloc();
-    let mut channel = boxed(alloc, ControlChannel::new(alloc, MemoryConn::new(alloc)))?;
-    for (polled, bytes, due) in LINES {
-        channel.feed(bytes)?;
-        let text = read_line(alloc, &mut channel, polled)?;
-        assert_eq!(rt; text.as_str(), due);
-    }
-    Ok(())
+/// Sends NOOP blocking and QUIT polled, with room for two bytes of that; whether each went out.
+fn sends(alloc: Global, channel: &mut ControlChannel<MemoryConn>) -> FtpResult<(bool, bool)> {
+    channel.perform(alloc, &Command::Noop, &Utf8Encoding)?;
+    channel.allow(2);
+    let mut line = Some(WireLine::of(alloc, &Command::Quit, &Utf8Encoding)?);
+    let polled = channel.poll_perform(&mut line, &mut ());
+    let waits = polled.is_pending();
+    drop(polled);
+    Ok((waits, line.is_some()))
 }
 
 #[test]
-fn a_channel_has_the_ends_of_its_connection(rt: HostRuntime) -> Result<(), Fail> {
+fn a_line_waits_for_room_between_the_ends_of_its_connection(rt: HostRuntime) -> Result<(), Fail> {
     let local = SocketAddr::from(([192, 0, 2, 1], 50_000));
     let peer = SocketAddr::from(([192, 0, 2, 7], 21));
     let conn = MemoryConn::between(rt.alloc(), local, peer);
     let mut channel = boxed(rt.alloc(), ControlChannel::new(rt.alloc(), conn))?;
+    let line = sends(rt.alloc(), &mut channel)?;
+    let sent = channel.get_ref().sent() == b"NOOP\r\nQU".as_slice();
     let ends = (channel.local_addr(), channel.peer_addr());
     drop(channel);
-    assert_eq!(rt; ends, (Ok(local), Ok(peer)));
-    Ok(())
-}
-
-#[test]
-fn a_reply_has_at_most_262144_bytes(rt: HostRuntime) -> Result<(), Fail> {
-    for (letters, due) in [(262_127, (0, false)), (262_128, (3, true))] {
-        assert_eq!(rt;
-            read_long_reply(rt.alloc(), letters)?,
-            due,
-            "{letters} letters"
-        );
-    }
+    assert_eq!(rt;
+        (line, sent, ends),
+        ((true, false), true, (Ok(local), Ok(peer)))
+    );
     Ok(())
 }

@@ -2,7 +2,7 @@
 
 ghost use Rattle.std.specs.Prelude.{Ok, encode_utf8_all};
 
-use crate::scene::{boxed, conn_with, ends, greeted, number};
+use crate::scene::{boxed, conn_with, greeted, number};
 use ftp_base::encoding::{EncodeError, Encoding, Utf8Encoding};
 use ftp_base::types::FtpResult;
 use ftp_blocking::{FtpStream, ImplFtpStream};
@@ -13,7 +13,6 @@ use std::io::Write;
 use std::net::{Net, TcpListener, TcpStream};
 use std::sync::Wait;
 use std::test::Fail;
-use std::thread::Threads;
 use std::{io, thread};
 
 /// A client over memory.
@@ -32,28 +31,10 @@ impl Mirror {
     }
 }
 
-/// An encoding that reads Latin-1 and writes UTF-8.
-#[derive(Drop)]
-struct ReadsLatin1;
-
-impl Encoding for ReadsLatin1 {
-    ghost decoded = { λ _ bytes. encode_utf8_all bytes };
-
-    ghost encoded = { λ _ text. Ok text };
-
-    fn decode(&self, alloc: Global, bytes: &[u8]) -> Result<String, AllocError> {
-        bytes.iter().map(|byte| char::from(*byte)).collect(alloc)
-    }
-
-    fn encode(&self, alloc: Global, text: &str) -> Result<Vec<u8>, EncodeError> {
-        Utf8Encoding.encode(alloc, text)
-    }
-}
-
 /// A client whose server sent these bytes, the greeting first.
 fn client_of(alloc: Global, input: &[u8]) -> FtpResult<Box<MemoryClient>> {
-    let session = Box::into_inner(greeted(alloc, input)?);
-    boxed(alloc, ImplFtpStream::new(alloc, session)?)
+    let session = greeted(alloc, MemoryTransport::new(alloc), conn_with(alloc, input)?)?;
+    boxed(alloc, ImplFtpStream::new(alloc, Box::into_inner(session))?)
 }
 
 /// What a client that is lent answers: 0, or the number of its fault.
@@ -61,30 +42,27 @@ fn lent<R: Wait + AllocGlobal>(rt: &R, client: &MemoryClient) -> u8 {
     number(client.noop(rt))
 }
 
-/// A client over a loopback socket and the server's end of it.
-#[derive(Drop)]
-struct Pair {
-    client: FtpStream,
-    server: TcpStream,
+/// How many bytes a client has sent, by its control connection, which it lends.
+fn sent<R: Wait>(rt: &R, client: &MemoryClient) -> usize {
+    let control = client.get_ref(rt);
+    let sent = control.socket().sent().len();
+    drop(control);
+    sent
 }
 
-/// Such a pair. The server greets, and answers so many rounds in advance.
-fn connected<R>(rt: &R, round: &[u8], count: u32) -> Result<Box<Pair>, Fail>
-where
-    R: Net<Listener = TcpListener, Stream = TcpStream> + AllocGlobal,
-{
-    let (near, mut server) = ends(rt, "127.0.0.1:0")?;
-    answer_in_advance(&mut server, round, count)?;
-    let client = FtpStream::connect_with_stream(rt, near)?;
-    Ok(boxed(rt.alloc(), Pair { client, server })?)
-}
-
-/// A server greets, and answers so many rounds in advance.
-fn answer_in_advance(server: &mut TcpStream, round: &[u8], count: u32) -> io::Result<()> {
-    server.write_all(b"220 ready\r\n")?;
-    for _ in 0..count {
-        server.write_all(round)?;
-    }
+#[test]
+fn a_client_is_returned_kept_lent_and_sent_to_a_thread(rt: HostRuntime) -> Result<(), Fail> {
+    let client = client_of(rt.alloc(), b"220 r\r\n250 in\r\n200 ok\r\n200 ok\r\n")?;
+    let mirror = Mirror { client };
+    let kept = number(mirror.enter(&rt, "pub"));
+    let Mirror { client } = mirror;
+    let child = thread::spawn(&rt, move || (lent(&rt, &client), client))?;
+    let (there, client) = child.join(&rt);
+    let before = sent(&rt, &client);
+    let here = (lent(&rt, &client), lent(&rt, &client));
+    drop(client);
+    // CWD pub and NOOP
+    assert_eq!(rt; (kept, there, before, here), (0, 0, 15, (0, 2)));
     Ok(())
 }
 
@@ -112,25 +90,37 @@ fn faults<R: Wait + AllocGlobal>(rt: &R, client: &FtpStream, deed: Deed) -> usiz
     faults
 }
 
-/// What two threads come to that share a client, each with its deed: how often an answer is a fault, how often these
-/// lines stand in what the server received, and how many bytes that is.
-fn shared<R>(
-    rt: &R,
-    round: &[u8],
-    deed: Deed,
-    lines: &str,
-) -> Result<((usize, usize), (usize, usize)), Fail>
+/// A client and its server's end, which has answered forty rounds in advance.
+#[derive(Drop)]
+struct Pair {
+    client: FtpStream,
+    server: TcpStream,
+}
+
+/// Such a pair.
+fn connected<R>(rt: &R, round: &[u8]) -> Result<Box<Pair>, Fail>
 where
-    R: Net<Listener = TcpListener, Stream = TcpStream> + Wait + Threads + Sync + AllocGlobal,
+    R: Net<Listener = TcpListener, Stream = TcpStream> + AllocGlobal,
 {
-    let pair = connected(rt, round, 40)?;
-    let client = &pair.client;
-    let faults = thread::join(rt, || faults(rt, client, deed), || faults(rt, client, deed));
-    Ok((faults, rounds_received(rt.alloc(), pair, lines)?))
+    let listener = TcpListener::bind(rt, "127.0.0.1:0")?;
+    let near = TcpStream::connect(rt, listener.local_addr()?)?;
+    let server = answered(&listener, round)?;
+    let client = FtpStream::connect_with_stream(rt, near)?;
+    Ok(boxed(rt.alloc(), Pair { client, server })?)
+}
+
+/// The next peer, which was greeted and answered forty rounds in advance.
+fn answered(listener: &TcpListener, round: &[u8]) -> io::Result<TcpStream> {
+    let (mut server, _peer) = listener.accept()?;
+    server.write_all(b"220 ready\r\n")?;
+    for _ in 0..40 {
+        server.write_all(round)?;
+    }
+    Ok(server)
 }
 
 /// How often these lines stand in what a server received whose client is gone, and how many bytes that is.
-fn rounds_received(alloc: Global, pair: Box<Pair>, lines: &str) -> io::Result<(usize, usize)> {
+fn received(alloc: Global, pair: Box<Pair>, lines: &str) -> io::Result<(usize, usize)> {
     let Pair { client, server } = Box::into_inner(pair);
     drop(client);
     let text = io::read_to_string(alloc, server)?;
@@ -138,48 +128,47 @@ fn rounds_received(alloc: Global, pair: Box<Pair>, lines: &str) -> io::Result<(u
 }
 
 #[test]
-fn a_client_is_returned_kept_and_lent(rt: HostRuntime) -> Result<(), Fail> {
-    let client = client_of(rt.alloc(), b"220 r\r\n250 in\r\n200 ok\r\n")?;
-    let mirror = Mirror { client };
-    let answers = (number(mirror.enter(&rt, "pub")), lent(&rt, &mirror.client));
-    drop(mirror);
-    assert_eq!(rt; answers, (0, 0));
+fn lines_of_two_threads_are_not_torn_and_those_of_a_rename_stay_together(
+    rt: HostRuntime,
+) -> Result<(), Fail> {
+    for (round, deed, lines, length) in [
+        (b"200 ok\r\n".as_slice(), Deed::Noop, "NOOP\r\n", 240usize),
+        (
+            b"350 to?\r\n250 ok\r\n",
+            Deed::Rename,
+            "RNFR a\r\nRNTO b\r\n",
+            640,
+        ),
+    ] {
+        let pair = connected(&rt, round)?;
+        let client = &pair.client;
+        let faults = thread::join(
+            &rt,
+            || faults(&rt, client, deed),
+            || faults(&rt, client, deed),
+        );
+        let came = received(rt.alloc(), pair, lines)?;
+        assert_eq!(rt; (faults, came), ((0, 0), (40usize, length)));
+    }
     Ok(())
 }
 
-#[test]
-fn the_control_connection_is_lent(rt: HostRuntime) -> Result<(), Fail> {
-    let client = client_of(rt.alloc(), b"220 r\r\n250 in\r\n")?;
-    client.cwd(&rt, "pub")?;
-    let control = client.get_ref(&rt);
-    let same = control.socket().sent() == b"CWD pub\r\n".as_slice();
-    drop(control);
-    assert_eq!(rt; (same, number(client.noop(&rt))), (true, 2));
-    Ok(())
-}
+/// An encoding that reads Latin-1 and writes UTF-8.
+#[derive(Drop)]
+struct ReadsLatin1;
 
-#[test]
-fn a_client_is_sent_to_a_thread_and_back(rt: HostRuntime) -> Result<(), Fail> {
-    let client = client_of(rt.alloc(), b"220 r\r\n200 ok\r\n200 ok\r\n")?;
-    let child = thread::spawn(&rt, move || (lent(&rt, &client), client))?;
-    let (answer, client) = child.join(&rt);
-    assert_eq!(rt; (answer, lent(&rt, &client)), (0, 0));
-    Ok(())
-}
+impl Encoding for ReadsLatin1 {
+    ghost decoded = { λ _ bytes. encode_utf8_all bytes };
 
-#[test]
-fn commands_of_two_threads_are_not_torn(rt: HostRuntime) -> Result<(), Fail> {
-    let came = shared(&rt, b"200 ok\r\n", Deed::Noop, "NOOP\r\n")?;
-    assert_eq!(rt; came, ((0, 0), (40, 240)));
-    Ok(())
-}
+    ghost encoded = { λ _ text. Ok text };
 
-#[test]
-fn the_two_lines_of_a_rename_stay_together(rt: HostRuntime) -> Result<(), Fail> {
-    let lines = "RNFR a\r\nRNTO b\r\n";
-    let came = shared(&rt, b"350 to?\r\n250 ok\r\n", Deed::Rename, lines)?;
-    assert_eq!(rt; came, ((0, 0), (40, 640)));
-    Ok(())
+    fn decode(&self, alloc: Global, bytes: &[u8]) -> Result<String, AllocError> {
+        bytes.iter().map(|byte| char::from(*byte)).collect(alloc)
+    }
+
+    fn encode(&self, alloc: Global, text: &str) -> Result<Vec<u8>, EncodeError> {
+        Utf8Encoding.encode(alloc, text)
+    }
 }
 
 /// A client that reads Latin-1 once it is told to.
@@ -193,14 +182,19 @@ fn greeted_in_latin1(alloc: Global) -> FtpResult<Box<Client>> {
     boxed(alloc, ImplFtpStream::new(alloc, session)?)
 }
 
+/// Whether a client was greeted with this text.
+fn welcomed<R: Wait + AllocGlobal>(rt: &R, client: &Client, due: &str) -> FtpResult<bool> {
+    let text = client.get_welcome_msg(rt)?;
+    Ok(text.as_deref() == Some(due))
+}
+
 #[test]
 fn an_encoding_that_is_set_reads_the_welcome_again(rt: HostRuntime) -> Result<(), Fail> {
     let client = greeted_in_latin1(rt.alloc())?;
-    let before = client.get_welcome_msg(&rt)?;
-    client.set_encoding(&rt, ReadsLatin1)?;
-    let after = client.get_welcome_msg(&rt)?;
+    let before = welcomed(&rt, &client, "220 caf\u{fffd}");
+    let set = number(client.set_encoding(&rt, ReadsLatin1));
+    let after = welcomed(&rt, &client, "220 caf\u{e9}");
     drop(client);
-    let due = (Some("220 caf\u{fffd}"), Some("220 caf\u{e9}"));
-    assert_eq!(rt; (before.as_deref(), after.as_deref()), due);
+    assert_eq!(rt; (before?, set, after?), (true, 0, true));
     Ok(())
 }

@@ -1,35 +1,21 @@
-//! Tests that cross the crates of the client.
+//! Tests of the blocking client: over loopback sockets, shared by threads, and of what no row of text can say.
 #![tactic(auto)]
 
+#[cfg(test)]
+mod asks;
 #[cfg(test)]
 mod channel;
 #[cfg(test)]
 mod clients;
 #[cfg(test)]
-mod connects;
-#[cfg(test)]
 mod data_sockets;
-#[cfg(test)]
-mod grammar;
-#[cfg(test)]
-mod marks;
-#[cfg(test)]
-mod memory_transport;
-#[cfg(test)]
-mod negotiations;
-#[cfg(test)]
-mod reads;
 #[cfg(test)]
 mod room;
 #[cfg(test)]
+mod rows;
+#[cfg(test)]
 mod scene;
 #[cfg(test)]
-mod sockets;
-#[cfg(test)]
-mod state;
+mod server;
 #[cfg(test)]
 mod strangers;
-#[cfg(test)]
-mod transfers;
-#[cfg(test)]
-mod whole_files;
