@@ -14,9 +14,20 @@ const MOST_CALLS: usize = 1 << 20;
 /// A read of one byte. Its peer writes once the task is registered, and not before.
 #[derive(Drop)]
 pub struct ReadByte {
-    pub conn: TokioConn,
-    pub peer: TcpStream,
-    pub registered: bool,
+    conn: TokioConn,
+    peer: TcpStream,
+    registered: bool,
+}
+
+impl ReadByte {
+    /// Such a read.
+    pub fn new(conn: TokioConn, peer: TcpStream) -> ReadByte {
+        ReadByte {
+            conn,
+            peer,
+            registered: false,
+        }
+    }
 }
 
 impl Future for ReadByte {
@@ -45,9 +56,9 @@ impl Future for ReadByte {
 /// Writes until one has waited, and one byte after that. Its peer reads once the task is registered, and not before.
 #[derive(Drop)]
 pub struct WriteOn {
-    pub conn: TokioConn,
-    pub peer: TcpStream,
-    pub registered: bool,
+    conn: TokioConn,
+    peer: TcpStream,
+    registered: bool,
 }
 
 impl Future for WriteOn {
@@ -73,6 +84,15 @@ impl Future for WriteOn {
 }
 
 impl WriteOn {
+    /// Such writes.
+    pub fn new(conn: TokioConn, peer: TcpStream) -> WriteOn {
+        WriteOn {
+            conn,
+            peer,
+            registered: false,
+        }
+    }
+
     fn write(&mut self) -> Result<Poll<usize>, ErrorKind> {
         if self.registered {
             self.conn.poll_write(&mut (), b"x")

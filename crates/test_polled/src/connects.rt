@@ -1,33 +1,36 @@
-//! Connects over tokio's sockets.
+//! Connects and accepts over tokio's sockets.
 
-use crate::requests::Connect;
+use crate::requests::{Accept, Connect};
+use crate::scene::{Runtime, listening, running, transport};
 use ftp_base::types::ConnectionError;
-use ftp_tokio::TokioTransport;
-use ftp_transport::Tells;
+use ftp_tokio::{TokioListener, TokioTransport};
+use ftp_transport::{PollTransport, Tells};
+use futures::task::Poll;
 use std::alloc::AllocGlobal;
 use std::io;
 use std::io::ErrorKind;
-use std::net::{Net, SocketAddr, TcpListener, TcpStream};
+use std::net::{Net, SocketAddr, TcpStream};
 use std::random::RandomSource;
 use std::sync::Wait;
 use std::test::Fail;
 use std::time::{Clock, Duration};
-use tokio::runtime::LocalRuntime;
+
+/// An address, or a fault.
+type Came = Result<SocketAddr, ConnectionError>;
 
 /// What a connect to this address results in: the address of the other end, or a fault.
 fn connect<R>(
     rt: &R,
+    runtime: &mut Runtime,
     address: SocketAddr,
     limit: Option<Duration>,
-) -> io::Result<Result<SocketAddr, ConnectionError>>
+) -> io::Result<Came>
 where
     R: Net + Wait + Clock + RandomSource + AllocGlobal,
 {
-    let mut runtime = LocalRuntime::new(rt)?;
-    let transport = TokioTransport::new(runtime.handle().reactor().clone()?);
     let connect = Connect {
         rt,
-        transport,
+        transport: transport(runtime)?,
         address,
         limit,
     };
@@ -37,43 +40,74 @@ where
     }
 }
 
-/// A listener on the loopback address, and its address.
-fn listen<R>(rt: &R) -> io::Result<(TcpListener, SocketAddr)>
+/// What connects result in to this address without a limit, within five seconds and within a nanosecond.
+fn connects<R>(rt: &R, address: SocketAddr) -> io::Result<[Came; 3]>
 where
-    R: Net<Listener = TcpListener, Stream = TcpStream>,
+    R: Net + Wait + Clock + RandomSource + AllocGlobal,
 {
-    let listener = TcpListener::bind(rt, "127.0.0.1:0")?;
-    let address = listener.local_addr()?;
-    Ok((listener, address))
+    let mut runtime = running(rt)?;
+    let unlimited = connect(rt, &mut runtime, address, None)?;
+    let limited = connect(rt, &mut runtime, address, Some(Duration::from_secs(5)))?;
+    let none = connect(rt, &mut runtime, address, Some(Duration::from_nanos(1)))?;
+    Ok([unlimited, limited, none])
 }
 
 #[test]
-fn a_peer_that_listens_is_connected_to(rt: HostRuntime) -> Result<(), Fail> {
-    let (_listener, address) = listen(&rt)?;
-    assert_eq!(rt; connect(&rt, address, None)?, Ok(address));
-    let limit = Some(Duration::from_secs(5));
-    assert_eq!(rt; connect(&rt, address, limit)?, Ok(address));
-    Ok(())
-}
-
-#[test]
-fn a_port_where_nobody_listens_refuses(rt: HostRuntime) -> Result<(), Fail> {
-    let (listener, address) = listen(&rt)?;
+fn who_listens_is_connected_to_within_the_limit(rt: HostRuntime) -> Result<(), Fail> {
+    let (listener, address) = listening(&rt)?;
+    let came = connects(&rt, address)?;
     drop(listener);
+    let late = Err(ConnectionError::TimedOut);
+    assert_eq!(rt; came, [Ok(address), Ok(address), late]);
+    let came = connects(&rt, address)?;
     let refused = Err(ConnectionError::Io(ErrorKind::ConnectionRefused));
-    assert_eq!(rt; connect(&rt, address, None)?, refused);
-    let limit = Some(Duration::from_secs(5));
-    assert_eq!(rt; connect(&rt, address, limit)?, refused);
+    assert_eq!(rt; (came[0], came[1]), (refused, refused));
     Ok(())
 }
 
+/// A listener of this transport on the loopback address, and its address.
+fn listen<R: Net + Clock>(
+    rt: &R,
+    transport: &mut TokioTransport,
+) -> io::Result<(TokioListener, SocketAddr)> {
+    let address = SocketAddr::from(([127, 0, 0, 1], 0));
+    match transport.poll_listen(rt, &mut (), address) {
+        Poll::Ready(Ok(Ok(made))) => Ok(made),
+        _ => Err(ErrorKind::Other.into()),
+    }
+}
+
+/// What an accept results in within so many milliseconds, for which a peer has come or not; and that peer's address.
+fn accept<R>(rt: &R, comes: bool, limit: u64) -> io::Result<(Came, Option<SocketAddr>)>
+where
+    R: Net<Stream = TcpStream> + Wait + Clock + RandomSource + AllocGlobal,
+{
+    let mut runtime = running(rt)?;
+    let mut transport = transport(&runtime)?;
+    let (listener, address) = listen(rt, &mut transport)?;
+    let peer = if comes {
+        Some(TcpStream::connect(rt, address)?)
+    } else {
+        None
+    };
+    let accept = Accept {
+        rt,
+        transport,
+        listener,
+        deadline: Duration::from_millis(limit),
+    };
+    let accepted = runtime.block_on(rt, accept)?;
+    let from = match &peer {
+        Some(stream) => Some(stream.local_addr()?),
+        None => None,
+    };
+    Ok((accepted, from))
+}
+
 #[test]
-fn a_limit_that_has_passed_ends_a_connect(rt: HostRuntime) -> Result<(), Fail> {
-    let (_listener, address) = listen(&rt)?;
-    let limit = Some(Duration::from_nanos(1));
-    assert_eq!(rt;
-        connect(&rt, address, limit)?,
-        Err(ConnectionError::TimedOut)
-    );
+fn who_comes_is_accepted_and_nobody_comes_before_the_deadline(rt: HostRuntime) -> Result<(), Fail> {
+    let (came, from) = accept(&rt, true, 5000)?;
+    let (nobody, _none) = accept(&rt, false, 5)?;
+    assert_eq!(rt; (came.ok(), nobody), (from, Err(ConnectionError::TimedOut)));
     Ok(())
 }

@@ -2,8 +2,6 @@
 #![tactic(auto)]
 
 #[cfg(test)]
-mod accepts;
-#[cfg(test)]
 mod calls;
 #[cfg(test)]
 mod clients;
