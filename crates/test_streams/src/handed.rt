@@ -1,9 +1,11 @@
 //! Transfers that a session hands out, over memory: how they end, how they are counted, and their leaving.
 
 use crate::scene::{Live, MemorySession, greeted, number, opened, sent};
-use ftp_base::types::FtpResult;
+use ftp_base::status::Status;
+use ftp_base::types::{FtpResult, Response};
 use ftp_runs::RunCalls;
 use ftp_session::session::{Call, Counts};
+use futures::task::Poll;
 use std::alloc::{AllocError, Global};
 use std::io::Write;
 use std::test::Fail;
@@ -233,6 +235,30 @@ fn settled(alloc: Global) -> Result<((u8, u8, u8), u64), Fail> {
 #[test]
 fn a_receipt_is_settled_once(rt: HostRuntime) -> Result<(), Fail> {
     assert_eq!(rt; settled(rt.alloc())?, ((0, 0, 0), 1));
+    Ok(())
+}
+
+/// The number of the fault of a read that was polled, 0 where it read a reply; `None` where it waits.
+fn polled(answer: Poll<FtpResult<Response>>) -> Option<u8> {
+    match answer {
+        Poll::Ready(answer) => Some(number(answer)),
+        Poll::Pending => None,
+    }
+}
+
+/// What polled reads of one reply come to after a transfer that was left, and how many were drained.
+fn polled_reads(alloc: Global) -> Result<(Option<u8>, Option<u8>, u64), Fail> {
+    let mut session = greeted(alloc, DOWNLOAD)?;
+    drop(opened(alloc, &mut session)?);
+    let first = polled(session.poll_read_response(alloc, Status::CommandOk, &mut ()));
+    let expected = [Status::CommandOk, Status::Ready];
+    let second = polled(session.poll_read_response_in(alloc, &expected, &mut ()));
+    Ok((first, second, session.counts().drained()))
+}
+
+#[test]
+fn the_last_reply_of_a_left_transfer_is_polled_before_a_read(rt: HostRuntime) -> Result<(), Fail> {
+    assert_eq!(rt; polled_reads(rt.alloc())?, (Some(0), None, 1));
     Ok(())
 }
 
