@@ -1,4 +1,24 @@
 //! What a blocking client over loopback sockets is asked, and its answers as text.
+//!
+//! It is asked words with semicolons between them, each a word, of which the first letter counts, and an argument:
+//!
+//! | Word | What is asked |
+//! |---|---|
+//! | `within` | nothing: as the first word it lets the client connect within five seconds |
+//! | `welcome` | what the server greeted with |
+//! | `user`, `noop`, `quit` | it logs in, or sends that |
+//! | `epsv`, `active` | who opens data connections from here on |
+//! | `router` | the host of a reply to PASV is passed over |
+//! | `open` | anyone may open an active data connection |
+//! | `deadline MS` | such a connection is waited for so many milliseconds |
+//! | `get` | a download is read to its end, and finished |
+//! | `forget` | a download is opened and dropped |
+//! | `buffer` | a file is downloaded whole; how many bytes it has, each of which is 7 |
+//! | `list` | a directory is listed; how many lines there are, each of which is `line` |
+//! | `count` | a caller's reader counts the bytes of a download |
+//! | `put` | `ab` and `c` are written to an upload, which is finished |
+//! | `store N` | a file of so many sevens is uploaded |
+//! | `text N` | so many ends of lines are uploaded to the end of a file |
 
 use crate::scene::{boxed, number};
 use ftp_base::types::{ActivePeerCheck, FtpResult, Mode};
@@ -11,65 +31,15 @@ use std::sync::Wait;
 use std::test::Fail;
 use std::time::{Clock, Duration};
 
-/// How a client connects.
-#[derive(Clone, Copy)]
-pub enum Way {
-    /// To the first of two addresses that doesn't refuse, which is the second.
-    InTurn,
-    /// To one address, within five seconds.
-    Within,
-}
-
-/// What a client is asked.
-#[derive(Clone, Copy)]
-pub enum Ask {
-    /// What the server greeted with.
-    Welcome,
-    /// It logs in.
-    Login,
-    /// It sends NOOP.
-    Noop,
-    /// It sends QUIT.
-    Quit,
-    /// Data connections are opened so from here on.
-    Mode(Mode),
-    /// The host of a reply to PASV is passed over.
-    Nat,
-    /// Anyone may open an active data connection.
-    AnyPeer,
-    /// Such a connection is waited for so many milliseconds.
-    Deadline(u64),
-    /// A download is read to its end, and finished.
-    Read,
-    /// A download is opened and dropped.
-    Leave,
-    /// A file is downloaded whole; how many bytes it has, each of which is 7.
-    Fetch,
-    /// A directory is listed; how many lines there are, each of which is `line`.
-    List,
-    /// A caller's reader counts the bytes of a download.
-    Count,
-    /// `ab` and `c` are written to an upload, which is finished.
-    Write,
-    /// A file is uploaded that has this byte so many times.
-    Put(u8, usize),
-    /// The same at the end of a file.
-    Append(u8, usize),
-}
-
 /// A client's answers to these, with a bar after each: how many bytes, 0 where none are counted, or `E` and the number
-/// of a fault. The last answer is the fault where the client doesn't connect to the second of these addresses.
-pub fn visited<R>(
-    rt: &R,
-    way: Way,
-    addresses: &[SocketAddr; 2],
-    asks: &[Ask],
-) -> Result<String, Fail>
+/// of a fault. It connects to the first of these addresses that doesn't refuse, or to the second within a time; where it
+/// doesn't, the fault is the answer.
+pub fn visited<R>(rt: &R, addresses: &[SocketAddr; 2], asks: &str) -> Result<String, Fail>
 where
     R: Net<Listener = TcpListener, Stream = TcpStream> + Clock + Wait + AllocGlobal,
 {
     let mut text = String::new(rt.alloc());
-    match client(rt, way, addresses) {
+    match client(rt, addresses, asks.starts_with("within")) {
         Ok(client) => answer_all(rt, &client, asks, &mut text)?,
         refusal => write_count(&mut text, Err(number(refusal)))?,
     }
@@ -77,29 +47,29 @@ where
 }
 
 /// A client that has connected.
-fn client<R>(rt: &R, way: Way, addresses: &[SocketAddr; 2]) -> FtpResult<Box<FtpStream>>
+fn client<R>(rt: &R, addresses: &[SocketAddr; 2], within: bool) -> FtpResult<Box<FtpStream>>
 where
     R: Net<Listener = TcpListener, Stream = TcpStream> + Clock + AllocGlobal,
 {
-    let client = match way {
-        Way::InTurn => FtpStream::connect(rt, addresses)?,
-        Way::Within => FtpStream::connect_timeout(rt, addresses[1], Duration::from_secs(5))?,
+    let client = if within {
+        FtpStream::connect_timeout(rt, addresses[1], Duration::from_secs(5))?
+    } else {
+        FtpStream::connect(rt, addresses)?
     };
     boxed(rt.alloc(), client)
 }
 
 /// Adds the answers.
-fn answer_all<R: Wait + AllocGlobal>(
-    rt: &R,
-    client: &FtpStream,
-    asks: &[Ask],
-    text: &mut String,
-) -> Result<(), Fail>
+fn answer_all<R>(rt: &R, client: &FtpStream, asks: &str, text: &mut String) -> Result<(), Fail>
 where
-    R: Net<Listener = TcpListener, Stream = TcpStream> + Clock,
+    R: Net<Listener = TcpListener, Stream = TcpStream> + Clock + Wait + AllocGlobal,
 {
-    for ask in asks {
-        let count = answer(rt, client, *ask, text)?;
+    for ask in asks.split(';') {
+        let (word, argument) = ask.split_once(' ').unwrap_or((ask, ""));
+        if word == "within" {
+            continue;
+        }
+        let count = answer(rt, client, word, argument, text)?;
         write_count(text, count)?;
     }
     Ok(())
@@ -126,41 +96,54 @@ fn unit(answer: FtpResult<()>) -> Counted {
 }
 
 /// Answers by a count; a text stands before it.
-fn answer<R>(rt: &R, client: &FtpStream, ask: Ask, text: &mut String) -> Result<Counted, Fail>
+fn answer<R>(
+    rt: &R,
+    client: &FtpStream,
+    word: &str,
+    argument: &str,
+    text: &mut String,
+) -> Result<Counted, Fail>
 where
     R: Net<Listener = TcpListener, Stream = TcpStream> + Clock + Wait + AllocGlobal,
 {
-    Ok(match ask {
-        Ask::Welcome => welcome(rt, client, text)?,
-        Ask::Login => unit(client.login(rt, "anonymous", "guest@example.org")),
-        Ask::Noop => unit(client.noop(rt)),
-        Ask::Quit => unit(client.quit(rt)),
-        Ask::Mode(_) | Ask::Nat | Ask::AnyPeer | Ask::Deadline(_) => set(rt, client, ask),
-        Ask::Read => read(rt, client, text)?,
-        Ask::Leave => left(rt, client),
-        Ask::Fetch => fetched(rt, client),
-        Ask::List => listed(rt, client),
-        Ask::Count => counted(rt, client),
-        Ask::Write => written(rt, client, text)?,
-        Ask::Put(byte, count) => {
-            let bytes = vec![in rt.alloc(); byte; count]?;
-            put(rt, client, false, &bytes)
-        }
-        Ask::Append(byte, count) => {
-            let bytes = vec![in rt.alloc(); byte; count]?;
-            put(rt, client, true, &bytes)
-        }
-    })
+    let number = argument.parse::<usize>().unwrap_or(0);
+    match word.as_bytes().first() {
+        Some(b'w') => welcome(rt, client, text),
+        Some(b'g') => read(rt, client, text),
+        Some(b'p') => written(rt, client, text),
+        Some(b's') => put(rt, client, false, 7, number),
+        Some(b't') => put(rt, client, true, b'\n', number),
+        Some(letter) => Ok(carried(rt, client, *letter, number)),
+        None => Ok(Err(255)),
+    }
+}
+
+/// Answers what gives no text.
+fn carried<R>(rt: &R, client: &FtpStream, letter: u8, number: usize) -> Counted
+where
+    R: Net<Listener = TcpListener, Stream = TcpStream> + Clock + Wait + AllocGlobal,
+{
+    match letter {
+        b'u' => unit(client.login(rt, "anonymous", "guest@example.org")),
+        b'n' => unit(client.noop(rt)),
+        b'q' => unit(client.quit(rt)),
+        b'f' => left(rt, client),
+        b'b' => fetched(rt, client),
+        b'l' => listed(rt, client),
+        b'c' => counted(rt, client),
+        _ => set(rt, client, letter, number),
+    }
 }
 
 /// A setting changes.
-fn set<R: Wait>(rt: &R, client: &FtpStream, ask: Ask) -> Counted {
-    match ask {
-        Ask::Mode(mode) => client.set_mode(rt, mode),
-        Ask::Nat => client.set_passive_nat_workaround(rt, true),
-        Ask::AnyPeer => client.set_active_peer_check(rt, ActivePeerCheck::Any),
-        Ask::Deadline(limit) => client.set_active_deadline(rt, Duration::from_millis(limit)),
-        _ => {}
+fn set<R: Wait>(rt: &R, client: &FtpStream, letter: u8, number: usize) -> Counted {
+    match letter {
+        b'e' => client.set_mode(rt, Mode::ExtendedPassive),
+        b'a' => client.set_mode(rt, Mode::Active),
+        b'r' => client.set_passive_nat_workaround(rt, true),
+        b'o' => client.set_active_peer_check(rt, ActivePeerCheck::Any),
+        b'd' => client.set_active_deadline(rt, Duration::from_millis(number as u64)),
+        _ => return Err(255),
     }
     Ok(0)
 }
@@ -248,20 +231,28 @@ where
     }
 }
 
-/// Uploads these bytes, as a new file or to the end of one.
-fn put<R>(rt: &R, client: &FtpStream, appends: bool, mut bytes: &[u8]) -> Counted
+/// Uploads a file that has this byte so many times, as a new file or to the end of one.
+fn put<R>(
+    rt: &R,
+    client: &FtpStream,
+    appends: bool,
+    byte: u8,
+    count: usize,
+) -> Result<Counted, Fail>
 where
     R: Net<Listener = TcpListener, Stream = TcpStream> + Clock + Wait + AllocGlobal,
 {
+    let bytes = vec![in rt.alloc(); byte; count]?;
+    let mut source = bytes.as_slice();
     let answer = if appends {
-        client.append_file(rt, "a", &mut bytes)
+        client.append_file(rt, "a", &mut source)
     } else {
-        client.put_file(rt, "a", &mut bytes)
+        client.put_file(rt, "a", &mut source)
     };
-    match answer {
+    Ok(match answer {
         Ok(count) => Ok(count),
         refusal => Err(number(refusal)),
-    }
+    })
 }
 
 /// Counts the bytes of a download.

@@ -4,7 +4,7 @@ use crate::scene::{boxed, number};
 use ftp_base::command::Command;
 use ftp_base::encoding::Utf8Encoding;
 use ftp_base::status::Status;
-use ftp_base::types::{Bytes, FtpResult, Response};
+use ftp_base::types::FtpResult;
 use ftp_control::control::{ControlChannel, WireLine};
 use ftp_transport::MemoryConn;
 use futures::task::Poll;
@@ -12,37 +12,13 @@ use std::alloc::Global;
 use std::net::SocketAddr;
 use std::test::Fail;
 
-/// What is read, and how.
-#[derive(Clone, Copy)]
-enum Reading {
-    /// A reply of status 200, polled.
-    PolledReply,
-    /// The same, blocking.
-    Reply,
-    /// A line, polled.
-    PolledLine,
-    /// The same, blocking.
-    Line,
-}
-
-/// The bytes that come, what is read then, and what is due: the length of the reply or of the line, 1000 where the read
-/// waits, 2000 and the number of a fault; and how many bytes were not read.
-const READS: [(&[u8], Reading, (usize, usize)); 11] = [
-    (b"20", Reading::PolledReply, (1000, 0)),
-    (b"0 o", Reading::PolledReply, (1000, 0)),
-    (b"k\r\n200 a\r\non", Reading::PolledReply, (8, 9)),
-    (b"", Reading::Reply, (7, 2)),
-    (b"e\r\ntw", Reading::PolledLine, (5, 2)),
-    (b"", Reading::PolledLine, (1000, 0)),
-    (b"o\nthree", Reading::PolledLine, (4, 5)),
-    (b"", Reading::Line, (5, 0)),
-    (b"", Reading::Line, (2002, 0)),
-    (b"", Reading::Line, (2014, 0)),
-    (b"", Reading::Reply, (2014, 0)),
-];
-
-/// The length of a reply, or what is due in its place.
-fn reply_length(answer: Poll<FtpResult<Response>>) -> usize {
+/// The length of a reply of status 200; 1000 where the read waits, 2000 and the number of a fault.
+fn reply(alloc: Global, channel: &mut ControlChannel<MemoryConn>, polled: bool) -> usize {
+    let answer = if polled {
+        channel.poll_read_response(alloc, Status::CommandOk, &mut ())
+    } else {
+        Poll::Ready(channel.read_response(alloc, Status::CommandOk))
+    };
     match answer {
         Poll::Ready(Ok(reply)) => reply.body.as_slice().len(),
         Poll::Ready(refusal) => 2000 + usize::from(number(refusal)),
@@ -50,8 +26,13 @@ fn reply_length(answer: Poll<FtpResult<Response>>) -> usize {
     }
 }
 
-/// The length of a line, or what is due in its place.
-fn line_length(answer: Poll<FtpResult<Bytes>>) -> usize {
+/// The same of a line.
+fn line(alloc: Global, channel: &mut ControlChannel<MemoryConn>, polled: bool) -> usize {
+    let answer = if polled {
+        channel.poll_read_line(alloc, &mut ())
+    } else {
+        Poll::Ready(channel.read_line(alloc))
+    };
     match answer {
         Poll::Ready(Ok(line)) => line.as_slice().len(),
         Poll::Ready(refusal) => 2000 + usize::from(number(refusal)),
@@ -59,30 +40,43 @@ fn line_length(answer: Poll<FtpResult<Bytes>>) -> usize {
     }
 }
 
-/// Reads, and gives the length.
-fn read(alloc: Global, channel: &mut ControlChannel<MemoryConn>, reading: Reading) -> usize {
-    match reading {
-        Reading::PolledReply => {
-            reply_length(channel.poll_read_response(alloc, Status::CommandOk, &mut ()))
-        }
-        Reading::Reply => reply_length(Poll::Ready(channel.read_response(
-            alloc,
-            Status::CommandOk,
-        ))),
-        Reading::PolledLine => line_length(channel.poll_read_line(alloc, &mut ())),
-        Reading::Line => line_length(Poll::Ready(channel.read_line(alloc))),
-    }
+/// Reads of two replies, the first of which comes in two pieces, and of the end of the input.
+fn replies(alloc: Global, channel: &mut ControlChannel<MemoryConn>) -> FtpResult<[usize; 5]> {
+    channel.feed(b"20")?;
+    let waits = reply(alloc, channel, true);
+    channel.feed(b"0 ok\r\n200 a\r\n")?;
+    let (first, unread) = (reply(alloc, channel, true), channel.unread());
+    let (second, end) = (reply(alloc, channel, false), reply(alloc, channel, false));
+    Ok([waits, first, unread, second, end])
+}
+
+/// Reads of three lines, the second of which comes in two pieces, and of the end of the input, twice.
+fn lines(alloc: Global, channel: &mut ControlChannel<MemoryConn>) -> FtpResult<[usize; 6]> {
+    channel.feed(b"one\r\ntw")?;
+    let (first, waits) = (line(alloc, channel, true), line(alloc, channel, true));
+    channel.feed(b"o\nthree")?;
+    let (second, third) = (line(alloc, channel, true), line(alloc, channel, false));
+    let (end, failed) = (line(alloc, channel, false), line(alloc, channel, true));
+    Ok([first, waits, second, third, end, failed])
+}
+
+/// A channel over memory.
+fn channel_on(alloc: Global, conn: MemoryConn) -> FtpResult<Box<ControlChannel<MemoryConn>>> {
+    boxed(alloc, ControlChannel::new(alloc, conn))
 }
 
 #[test]
 fn replies_and_lines_come_in_pieces(rt: HostRuntime) -> Result<(), Fail> {
     let alloc = rt.alloc();
-    let mut channel = boxed(alloc, ControlChannel::new(alloc, MemoryConn::new(alloc)))?;
-    for (bytes, reading, due) in READS {
-        channel.feed(bytes)?;
-        let length = read(alloc, &mut channel, reading);
-        assert_eq!(rt; (length, channel.unread()), due);
-    }
+    let mut channel = channel_on(alloc, MemoryConn::new(alloc))?;
+    let replies = replies(alloc, &mut channel);
+    drop(channel);
+    let mut channel = channel_on(alloc, MemoryConn::new(alloc))?;
+    let lines = lines(alloc, &mut channel);
+    drop(channel);
+    // `UnexpectedEof` is 2, `SessionFailed` 14
+    assert_eq!(rt; replies?, [1000, 8, 7, 7, 2002]);
+    assert_eq!(rt; lines?, [5, 1000, 4, 5, 2002, 2014]);
     Ok(())
 }
 
@@ -102,7 +96,7 @@ fn a_line_waits_for_room_between_the_ends_of_its_connection(rt: HostRuntime) -> 
     let local = SocketAddr::from(([192, 0, 2, 1], 50_000));
     let peer = SocketAddr::from(([192, 0, 2, 7], 21));
     let conn = MemoryConn::between(rt.alloc(), local, peer);
-    let mut channel = boxed(rt.alloc(), ControlChannel::new(rt.alloc(), conn))?;
+    let mut channel = channel_on(rt.alloc(), conn)?;
     let line = sends(rt.alloc(), &mut channel)?;
     let sent = channel.get_ref().sent() == b"NOOP\r\nQU".as_slice();
     let ends = (channel.local_addr(), channel.peer_addr());

@@ -13,6 +13,7 @@ use std::io::Write;
 use std::net::{Net, TcpListener, TcpStream};
 use std::sync::Wait;
 use std::test::Fail;
+use std::thread::Threads;
 use std::{io, thread};
 
 /// A client over memory.
@@ -127,29 +128,32 @@ fn received(alloc: Global, pair: Box<Pair>, lines: &str) -> io::Result<(usize, u
     Ok((text.matches(lines).count(), text.len()))
 }
 
+/// What two threads come to that share a client, each with its deed: how often an answer is a fault, how often these
+/// lines stand in what the server received, and how many bytes that is.
+fn shared<R>(
+    rt: &R,
+    round: &[u8],
+    deed: Deed,
+    lines: &str,
+) -> Result<((usize, usize), (usize, usize)), Fail>
+where
+    R: Net<Listener = TcpListener, Stream = TcpStream> + Wait + Threads + Sync + AllocGlobal,
+{
+    let pair = connected(rt, round)?;
+    let client = &pair.client;
+    let faults = thread::join(rt, || faults(rt, client, deed), || faults(rt, client, deed));
+    Ok((faults, received(rt.alloc(), pair, lines)?))
+}
+
 #[test]
 fn lines_of_two_threads_are_not_torn_and_those_of_a_rename_stay_together(
     rt: HostRuntime,
 ) -> Result<(), Fail> {
-    for (round, deed, lines, length) in [
-        (b"200 ok\r\n".as_slice(), Deed::Noop, "NOOP\r\n", 240usize),
-        (
-            b"350 to?\r\n250 ok\r\n",
-            Deed::Rename,
-            "RNFR a\r\nRNTO b\r\n",
-            640,
-        ),
-    ] {
-        let pair = connected(&rt, round)?;
-        let client = &pair.client;
-        let faults = thread::join(
-            &rt,
-            || faults(&rt, client, deed),
-            || faults(&rt, client, deed),
-        );
-        let came = received(rt.alloc(), pair, lines)?;
-        assert_eq!(rt; (faults, came), ((0, 0), (40usize, length)));
-    }
+    let noops = shared(&rt, b"200 ok\r\n", Deed::Noop, "NOOP\r\n")?;
+    let lines = "RNFR a\r\nRNTO b\r\n";
+    let renames = shared(&rt, b"350 to?\r\n250 ok\r\n", Deed::Rename, lines)?;
+    assert_eq!(rt; noops, ((0, 0), (40, 240)));
+    assert_eq!(rt; renames, ((0, 0), (40, 640)));
     Ok(())
 }
 

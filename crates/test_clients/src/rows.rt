@@ -1,350 +1,134 @@
 //! What a blocking client and a server over loopback sockets say to each other, a row a situation.
+//!
+//! A row has five lines: its title, the server's steps (`server`), what the client is asked (`asks`), and what is due:
+//! the client's answers, and what the server noted. The rows are one text, since a table in code is dear to prove.
 
-use crate::asks::{Ask, Way, visited};
+use crate::asks::visited;
 use crate::scene::number;
-use crate::server::{Step, serve};
-use ftp_base::types::Mode;
+use crate::server::serve;
 use ftp_blocking::FtpStream;
 use std::net::{Net, SocketAddr, TcpListener, TcpStream};
 use std::test::Fail;
 use std::time::Duration;
 use std::{io, thread};
 
-/// The greeting.
-const GREETING: Step = Step::Send("220 ready\r\n");
+/// The rows.
+const ROWS: &str = "\
+== a client logs in on the address that answers
+send 220 ready;line;send 331 pw;line;send 230 in;line;send 200 ok;line;send 221 bye
+welcome;user;noop;quit
+220 ready 0|0|0|0|
+USER anonymous|PASS guest@example.org|NOOP|QUIT|
+== a client connects within a time
+send 220 ready
+within;welcome
+220 ready 0|
 
-/// A data command is accepted.
-const BEGINS: Step = Step::Send("150 here it comes\r\n");
+== a server closes in its greeting
+begin 220-re
 
-/// A transfer is over.
-const DONE: Step = Step::Send("226 done\r\n");
+E2|
 
-/// Any other command is accepted.
-const OK: Step = Step::Send("200 ok\r\n");
+== a server greets in another protocol and closes
+send hello
+within
+E11|
 
-/// A situation, how a client connects, what the server does, what the client is asked, and what is due: the client's
-/// answers, and what the server noted.
-const ROWS: [(&str, Way, &[Step], &[Ask], &str, &str); 18] = [
-    (
-        "a client logs in on the address that answers",
-        Way::InTurn,
-        &[
-            GREETING,
-            Step::Line,
-            Step::Send("331 pw\r\n"),
-            Step::Line,
-            Step::Send("230 in\r\n"),
-            Step::Line,
-            OK,
-            Step::Line,
-            Step::Send("221 bye\r\n"),
-        ],
-        &[Ask::Welcome, Ask::Login, Ask::Noop, Ask::Quit],
-        "220 ready 0|0|0|0|",
-        "USER anonymous|PASS guest@example.org|NOOP|QUIT|",
-    ),
-    (
-        "a client connects within a time",
-        Way::Within,
-        &[GREETING],
-        &[Ask::Welcome],
-        "220 ready 0|",
-        "",
-    ),
-    (
-        "a server closes in its greeting",
-        Way::InTurn,
-        &[Step::Send("220-re")],
-        &[],
-        "E2|",
-        "",
-    ),
-    (
-        "a server greets in another protocol and closes",
-        Way::Within,
-        &[Step::Send("hello\r\n")],
-        &[],
-        "E11|",
-        "",
-    ),
-    (
-        "a download is read to its end from where 227 says",
-        Way::InTurn,
-        &[
-            GREETING,
-            Step::Line,
-            Step::Passive(2),
-            Step::Line,
-            BEGINS,
-            Step::Accept,
-            Step::Data("hello"),
-            Step::Close,
-            DONE,
-        ],
-        &[Ask::Read],
-        "hello 0|",
-        "PASV|RETR a|",
-    ),
-    (
-        "a download is read to its end from where 229 says",
-        Way::InTurn,
-        &[
-            GREETING,
-            Step::Line,
-            Step::Extended,
-            Step::Line,
-            BEGINS,
-            Step::Accept,
-            Step::Data("hello"),
-            Step::Close,
-            DONE,
-        ],
-        &[Ask::Mode(Mode::ExtendedPassive), Ask::Read],
-        "0|hello 0|",
-        "EPSV|RETR a|",
-    ),
-    (
-        "behind a router the host of the reply is not connected to",
-        Way::InTurn,
-        &[
-            GREETING,
-            Step::Line,
-            Step::Passive(3),
-            Step::Line,
-            Step::Passive(3),
-            Step::Line,
-            BEGINS,
-            Step::Accept,
-            Step::Data("hello"),
-            Step::Close,
-            DONE,
-        ],
-        &[Ask::Read, Ask::Nat, Ask::Read],
-        "E1|0|hello 0|",
-        "PASV|PASV|RETR a|",
-    ),
-    (
-        "a listener lets in who may come for a whole download",
-        Way::InTurn,
-        &[
-            GREETING,
-            Step::Line,
-            OK,
-            Step::Connect,
-            Step::Data("hello"),
-            Step::Close,
-            Step::Line,
-            BEGINS,
-            DONE,
-        ],
-        &[
-            Ask::Mode(Mode::Active),
-            Ask::AnyPeer,
-            Ask::Deadline(5000),
-            Ask::Read,
-        ],
-        "0|0|0|hello 0|",
-        "PORT|+|RETR a|",
-    ),
-    (
-        "a listener drops who may not come, until its deadline",
-        Way::InTurn,
-        &[GREETING, Step::Line, OK, Step::Connect, Step::Line, BEGINS],
-        &[Ask::Mode(Mode::Active), Ask::Deadline(50), Ask::Read],
-        "0|0|E8|",
-        "PORT|+|RETR a|",
-    ),
-    (
-        "nobody connects to the listener of a call that is done",
-        Way::InTurn,
-        &[
-            GREETING,
-            Step::Line,
-            OK,
-            Step::Line,
-            Step::Send("550 no\r\n"),
-            Step::Line,
-            Step::Connect,
-            OK,
-        ],
-        &[Ask::Mode(Mode::Active), Ask::Read, Ask::Noop],
-        "0|E10|0|",
-        "PORT|RETR a|NOOP|-|",
-    ),
-    (
-        "an upload in two writes arrives whole",
-        Way::InTurn,
-        &[
-            GREETING,
-            Step::Line,
-            Step::Passive(2),
-            Step::Line,
-            BEGINS,
-            Step::Accept,
-            Step::Text,
-            DONE,
-        ],
-        &[Ask::Write],
-        "2 1 0|",
-        "PASV|STOR a|abc|",
-    ),
-    (
-        "files of 3 MiB and of 0 bytes come whole",
-        Way::InTurn,
-        &[
-            GREETING,
-            Step::Line,
-            Step::Passive(2),
-            Step::Line,
-            BEGINS,
-            Step::Accept,
-            Step::Sevens(768),
-            Step::Close,
-            DONE,
-            Step::Line,
-            Step::Passive(2),
-            Step::Line,
-            BEGINS,
-            Step::Accept,
-            Step::Close,
-            DONE,
-        ],
-        &[Ask::Fetch, Ask::Fetch],
-        "3145728|0|",
-        "PASV|RETR a|PASV|RETR a|",
-    ),
-    (
-        "a listing that takes two reads comes whole",
-        Way::InTurn,
-        &[
-            GREETING,
-            Step::Line,
-            Step::Passive(2),
-            Step::Line,
-            BEGINS,
-            Step::Accept,
-            Step::Lines(20_000),
-            Step::Close,
-            DONE,
-        ],
-        &[Ask::List],
-        "20000|",
-        "PASV|LIST|",
-    ),
-    (
-        "a reader gets a download of a MiB",
-        Way::InTurn,
-        &[
-            GREETING,
-            Step::Line,
-            Step::Passive(2),
-            Step::Line,
-            BEGINS,
-            Step::Accept,
-            Step::Sevens(256),
-            Step::Close,
-            DONE,
-        ],
-        &[Ask::Count],
-        "1048576|",
-        "PASV|RETR a|",
-    ),
-    (
-        "uploads of 3 MiB and of 0 bytes end their data before the last reply comes",
-        Way::InTurn,
-        &[
-            GREETING,
-            Step::Line,
-            Step::Passive(2),
-            Step::Line,
-            BEGINS,
-            Step::Accept,
-            Step::Count,
-            DONE,
-            Step::Line,
-            Step::Passive(2),
-            Step::Line,
-            BEGINS,
-            Step::Accept,
-            Step::Count,
-            DONE,
-        ],
-        &[Ask::Put(7, 3_145_728), Ask::Put(7, 0)],
-        "3145728|0|",
-        "PASV|STOR a|3145728|PASV|STOR a|0|",
-    ),
-    (
-        "lines arrive with their returns",
-        Way::InTurn,
-        &[
-            GREETING,
-            Step::Line,
-            Step::Passive(2),
-            Step::Line,
-            BEGINS,
-            Step::Accept,
-            Step::Count,
-            DONE,
-        ],
-        &[Ask::Append(b'\n', 1_048_576)],
-        "2097152|",
-        "PASV|APPE a|2097152|",
-    ),
-    (
-        "an upload whose server closes its data connection at once fails",
-        Way::InTurn,
-        &[
-            GREETING,
-            Step::Line,
-            Step::Passive(2),
-            Step::Line,
-            BEGINS,
-            Step::Accept,
-            Step::Close,
-            Step::Send("426 no\r\n"),
-            Step::Line,
-            OK,
-        ],
-        &[Ask::Put(7, 16_777_216), Ask::Noop],
-        "E1|0|",
-        "PASV|STOR a|NOOP|",
-    ),
-    (
-        "a client goes on after a transfer that it left",
-        Way::InTurn,
-        &[
-            GREETING,
-            Step::Line,
-            Step::Passive(2),
-            Step::Line,
-            BEGINS,
-            Step::Accept,
-            Step::Data("hello"),
-            Step::Close,
-            DONE,
-            Step::Line,
-            Step::Passive(2),
-            Step::Line,
-            BEGINS,
-            Step::Accept,
-            Step::Count,
-            Step::Send("426 you went away\r\n"),
-            Step::Line,
-            OK,
-            Step::Line,
-            Step::Passive(2),
-            Step::Line,
-            BEGINS,
-            Step::Accept,
-            Step::Data("hello"),
-            Step::Close,
-            DONE,
-        ],
-        &[Ask::Read, Ask::Leave, Ask::Noop, Ask::Read],
-        "hello 0|0|0|hello 0|",
-        "PASV|RETR a|PASV|RETR a|0|NOOP|PASV|RETR a|",
-    ),
-];
+== a download is read to its end from where 227 says
+send 220 r;line;passive 2;line;send 150 b;accept;data hello;hangup;send 226 d
+get
+hello 0|
+PASV|RETR a|
+== a download is read to its end from where 229 says
+send 220 r;line;extended;line;send 150 b;accept;data hello;hangup;send 226 d
+epsv;get
+0|hello 0|
+EPSV|RETR a|
+== behind a router the host of the reply is not connected to
+send 220 r;line;passive 3;line;passive 3;line;send 150 b;accept;data hello;hangup;send 226 d
+get;router;get
+E1|0|hello 0|
+PASV|PASV|RETR a|
+== a listener lets in who may come for a whole download
+send 220 r;line;send 200 ok;connect;data hello;hangup;line;send 150 b;send 226 d
+active;open;deadline 5000;get
+0|0|0|hello 0|
+PORT|+|RETR a|
+== a listener drops who may not come, until its deadline
+send 220 r;line;send 200 ok;connect;line;send 150 b
+active;deadline 50;get
+0|0|E8|
+PORT|+|RETR a|
+== nobody connects to the listener of a call that is done
+send 220 r;line;send 200 ok;line;send 550 no;line;connect;send 200 ok
+active;get;noop
+0|E10|0|
+PORT|RETR a|NOOP|-|
+== an upload in two writes arrives whole
+send 220 r;line;passive 2;line;send 150 b;accept;text;send 226 d
+put
+2 1 0|
+PASV|STOR a|abc|
+== a file of 3 MiB comes whole
+send 220 r;line;passive 2;line;send 150 b;accept;fill 768;hangup;send 226 d
+buffer
+3145728|
+PASV|RETR a|
+== a file of 0 bytes comes whole
+send 220 r;line;passive 2;line;send 150 b;accept;hangup;send 226 d
+buffer
+0|
+PASV|RETR a|
+== a listing that takes two reads comes whole
+send 220 r;line;passive 2;line;send 150 b;accept;names 20000;hangup;send 226 d
+list
+20000|
+PASV|LIST|
+== a reader gets a download of a MiB
+send 220 r;line;passive 2;line;send 150 b;accept;fill 256;hangup;send 226 d
+count
+1048576|
+PASV|RETR a|
+== an upload of 3 MiB ends its data before its last reply comes
+send 220 r;line;passive 2;line;send 150 b;accept;measure;send 226 d
+store 3145728
+3145728|
+PASV|STOR a|3145728|
+== an upload of 0 bytes ends its data before its last reply comes
+send 220 r;line;passive 2;line;send 150 b;accept;measure;send 226 d
+store 0
+0|
+PASV|STOR a|0|
+== lines arrive with their returns at the end of a file
+send 220 r;line;passive 2;line;send 150 b;accept;measure;send 226 d
+text 1048576
+2097152|
+PASV|APPE a|2097152|
+== an upload whose server closes its data connection at once fails
+send 220 r;line;passive 2;line;send 150 b;accept;hangup;send 426 n;line;send 200 ok
+store 16777216;noop
+E1|0|
+PASV|STOR a|NOOP|
+== a client goes on after a transfer that it left
+send 220 r;line;passive 2;line;send 150 b;accept;measure;send 426 n;line;send 200 ok
+forget;noop
+0|0|
+PASV|RETR a|0|NOOP|
+== a client downloads after a transfer that it left
+send 220 r;line;passive 2;line;send 150 b;accept;measure;send 426 n;line;passive 2;line;send 150 b;accept;data hello;hangup;send 226 d
+forget;get
+0|hello 0|
+PASV|RETR a|0|PASV|RETR a|
+";
+
+/// The five lines of a row.
+fn fields(row: &'static str) -> [&'static str; 5] {
+    let mut fields = [""; 5];
+    for (field, line) in fields.iter_mut().zip(row.lines()) {
+        *field = line;
+    }
+    fields
+}
 
 /// A listener for a server, an address where nobody listens, and the listener's.
 fn listening<R>(rt: &R) -> io::Result<(TcpListener, [SocketAddr; 2])>
@@ -359,13 +143,14 @@ where
 
 #[test]
 fn a_client_and_a_server_talk_over_sockets(rt: HostRuntime) -> Result<(), Fail> {
-    for (situation, way, steps, asks, answers, noted) in ROWS {
+    for row in ROWS.split("== ").skip(1) {
+        let [title, steps, asks, answers, notes] = fields(row);
         let (listener, addresses) = listening(&rt)?;
         let server = thread::spawn(&rt, move || serve(&rt, &listener, steps))?;
-        let came = visited(&rt, way, &addresses, asks)?;
-        let met = server.join(&rt)?;
-        let due = (situation, answers, noted);
-        assert_eq!(rt; (situation, came.as_str(), met.as_str()), due);
+        let came = visited(&rt, &addresses, asks)?;
+        let noted = server.join(&rt)?;
+        let due = (title, answers, notes);
+        assert_eq!(rt; (title, came.as_str(), noted.as_str()), due);
     }
     Ok(())
 }
@@ -373,7 +158,8 @@ fn a_client_and_a_server_talk_over_sockets(rt: HostRuntime) -> Result<(), Fail> 
 #[test]
 fn no_client_connects_within_no_time(rt: HostRuntime) -> Result<(), Fail> {
     let (listener, addresses) = listening(&rt)?;
-    let refusal = number(FtpStream::connect_timeout(&rt, addresses[1], Duration::ZERO));
+    let client = FtpStream::connect_timeout(&rt, addresses[1], Duration::ZERO);
+    let refusal = number(client);
     drop(listener);
     assert_eq!(rt; refusal, 8);
     Ok(())

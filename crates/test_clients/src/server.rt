@@ -1,38 +1,23 @@
 //! A server on loopback sockets, which plays a script and notes what it met with.
+//!
+//! A script is steps with semicolons between them, each a word, of which the first letter counts, and an argument:
+//!
+//! | Step | What the server does |
+//! |---|---|
+//! | `send TEXT`, `begin TEXT` | it sends this line on the control connection, with its end or without |
+//! | `line` | it reads a command line and notes it, of PORT the command alone |
+//! | `passive HOST` | it says by 227 that it listens for data connections at this host of 127.0.0.0 (RFC 959, section 4.2); it listens at the host 2 |
+//! | `extended` | it says so by 229 (RFC 2428, section 3) |
+//! | `accept` | it accepts a data connection |
+//! | `connect` | it connects to where PORT told, and notes `+`, or `-` where nobody listens there |
+//! | `data TEXT` | it sends this on the data connection |
+//! | `fill N`, `names N` | it sends on it 4 KiB of sevens, or a line `line`, so many times |
+//! | `text`, `measure` | it reads it to its end, and notes the text, or how many bytes came |
+//! | `hangup` | it closes it |
 
 use std::io::{BufRead, BufReader, ErrorKind, Read, Write};
 use std::net::{Net, SocketAddr, TcpListener, TcpStream};
 use std::{io, mem};
-
-/// What a server does next.
-#[derive(Clone, Copy)]
-pub enum Step {
-    /// It sends this on the control connection.
-    Send(&'static str),
-    /// It reads a command line and notes it, of PORT the command alone.
-    Line,
-    /// It says by 227 that it listens for data connections at this host of 127.0.0.0 (RFC 959, section 4.2). It listens
-    /// at the host 2.
-    Passive(u8),
-    /// It says so by 229 (RFC 2428, section 3).
-    Extended,
-    /// It accepts a data connection.
-    Accept,
-    /// It connects to where PORT told, and notes `+`, or `-` where nobody listens there.
-    Connect,
-    /// It sends this on the data connection.
-    Data(&'static str),
-    /// It sends 4 KiB of sevens on it, so many times.
-    Sevens(u32),
-    /// It sends `line` with its end on it, so many times.
-    Lines(u32),
-    /// It reads the data connection to its end, and notes the text.
-    Text,
-    /// It reads it to its end, and notes how many bytes came.
-    Count,
-    /// It closes it.
-    Close,
-}
 
 /// The server's end of a client's connections, where PORT told that the client listens, and what the server noted.
 #[derive(Drop)]
@@ -45,13 +30,14 @@ struct Server {
 }
 
 /// Plays a script with the next client; what was noted, with a bar after each note. The control connection is closed then.
-pub fn serve<R>(rt: &R, listener: &TcpListener, steps: &[Step]) -> io::Result<String>
+pub fn serve<R>(rt: &R, listener: &TcpListener, steps: &str) -> io::Result<String>
 where
     R: Net<Listener = TcpListener, Stream = TcpStream> + AllocGlobal,
 {
     let mut server = accepted(rt, listener)?;
-    for step in steps {
-        play(rt, &mut server, *step)?;
+    for step in steps.split(';') {
+        let (word, argument) = step.split_once(' ').unwrap_or((step, ""));
+        play(rt, &mut server, word, argument)?;
     }
     String::from_str(rt.alloc(), server.noted.as_str()).map_err(io::Error::from)
 }
@@ -75,26 +61,28 @@ where
 }
 
 /// Makes a step.
-fn play<R>(rt: &R, server: &mut Server, step: Step) -> io::Result<()>
+fn play<R>(rt: &R, server: &mut Server, word: &str, argument: &str) -> io::Result<()>
 where
     R: Net<Listener = TcpListener, Stream = TcpStream> + AllocGlobal,
 {
-    match step {
-        Step::Send(text) => server.control.get_mut().write_all(text.as_bytes()),
-        Step::Line => read_line(rt, server),
-        Step::Passive(host) => tell_passive(server, host),
-        Step::Extended => tell_extended(server),
-        Step::Accept => accept(server),
-        Step::Connect => connect(rt, server),
-        Step::Data(text) => data(server)?.write_all(text.as_bytes()),
-        Step::Sevens(times) => send(data(server)?, &[7u8; 4096], times),
-        Step::Lines(times) => send(data(server)?, b"line\r\n", times),
-        Step::Text => read_text(rt, server),
-        Step::Count => read_count(server),
-        Step::Close => {
+    match word.as_bytes().first() {
+        Some(b's') => write!(server.control.get_mut(), "{argument}\r\n"),
+        Some(b'b') => server.control.get_mut().write_all(argument.as_bytes()),
+        Some(b'l') => read_line(rt, server),
+        Some(b'p') => tell_passive(server, argument),
+        Some(b'e') => tell_extended(server),
+        Some(b'a') => accept(server),
+        Some(b'c') => connect(rt, server),
+        Some(b'd') => data(server)?.write_all(argument.as_bytes()),
+        Some(b'f') => send(data(server)?, &[7u8; 4096], argument),
+        Some(b'n') => send(data(server)?, b"line\r\n", argument),
+        Some(b't') => read_text(rt, server),
+        Some(b'm') => read_count(server),
+        Some(b'h') => {
             drop(server.data.take());
             Ok(())
         }
+        _ => Err(ErrorKind::InvalidInput.into()),
     }
 }
 
@@ -139,7 +127,7 @@ fn octet(number: Option<&str>) -> u8 {
 }
 
 /// Says where data connections are accepted, by 227.
-fn tell_passive(server: &mut Server, host: u8) -> io::Result<()> {
+fn tell_passive(server: &mut Server, host: &str) -> io::Result<()> {
     let port = server.listener.local_addr()?.port();
     let (high, low) = (port / 256, port % 256);
     write!(
@@ -176,8 +164,8 @@ fn connect<R: Net<Stream = TcpStream>>(rt: &R, server: &mut Server) -> io::Resul
 }
 
 /// Sends these bytes so many times.
-fn send(stream: &mut TcpStream, piece: &[u8], times: u32) -> io::Result<()> {
-    for _ in 0..times {
+fn send(stream: &mut TcpStream, piece: &[u8], times: &str) -> io::Result<()> {
+    for _ in 0..times.parse::<u32>().unwrap_or(0) {
         stream.write_all(piece)?;
     }
     Ok(())

@@ -9,8 +9,8 @@ use std::net::SocketAddr;
 use std::test::Fail;
 use std::time::Duration;
 
-/// How long each peer is waited for.
-const DEADLINE: Duration = Duration::from_secs(7);
+/// How many seconds each peer is waited for.
+const SECONDS: u64 = 7;
 
 /// The server, and the peer of the control connection.
 fn server() -> SocketAddr {
@@ -44,7 +44,7 @@ fn session_with(alloc: Global, strangers: usize) -> FtpResult<MemorySession> {
     let transport = supplied(alloc, strangers)?;
     let mut session = greeted(alloc, transport, accepting(alloc)?)?;
     session.set_mode(Mode::Active);
-    session.set_active_deadline(DEADLINE);
+    session.set_active_deadline(Duration::from_secs(SECONDS));
     Ok(session)
 }
 
@@ -53,7 +53,7 @@ fn accepts(session: &Session<MemoryTransport>) -> usize {
     let asked = session.transport().asked();
     asked
         .iter()
-        .filter(|one| matches!(&one.request, Request::Accept(limit) if *limit == DEADLINE))
+        .filter(|one| matches!(&one.request, Request::Accept(limit) if limit.as_secs() == SECONDS))
         .count()
 }
 

@@ -13,11 +13,11 @@ use std::net::SocketAddr;
 use std::test::Fail;
 use std::time::Duration;
 
-/// A connection that fails where its bytes end, or ends there.
+/// A connection that is reset where its bytes end, or ends there.
 #[derive(Drop)]
 struct Breaking {
-    conn: MemoryConn,
-    fault: Option<ErrorKind>,
+    conn: Box<MemoryConn>,
+    breaks: bool,
 }
 
 impl Tells for Breaking {
@@ -48,10 +48,9 @@ impl Conn for Breaking {
     ghost blocking_write_faults = { λ _ _. Unit {0} };
 
     fn read(&mut self, buffer: &mut [u8]) -> Result<usize, ErrorKind> {
-        let count = self.conn.read(buffer)?;
-        match self.fault {
-            Some(kind) if count == 0 => Err(kind),
-            _ => Ok(count),
+        match self.conn.read(buffer) {
+            Ok(0) if self.breaks => Err(ErrorKind::ConnectionReset),
+            read => read,
         }
     }
 
@@ -63,7 +62,7 @@ impl Conn for Breaking {
 /// A transport that has one data connection.
 #[derive(Drop)]
 struct One {
-    data: Option<Breaking>,
+    data: Vec<Breaking>,
 }
 
 impl Network for One {
@@ -100,7 +99,7 @@ impl Network for One {
 
 impl<R> Transport<R> for One {
     fn connect(&mut self, _rt: &R, _address: SocketAddr) -> Connected<Breaking> {
-        match self.data.take() {
+        match self.data.pop() {
             Some(conn) => Ok(Ok(conn)),
             None => Ok(Err(ConnectionError::Io(ErrorKind::ConnectionRefused))),
         }
@@ -124,61 +123,60 @@ impl<R> Transport<R> for One {
     }
 }
 
-/// A session whose server answers a data command, and then this; its data connection is reset after these bytes.
-fn session_on(alloc: Global, data: &[u8], last: &[u8]) -> Result<Box<Session<One>>, Fail> {
-    let mut input = Vec::from_slice(alloc, b"220 r\r\n227 x (10,0,0,1,4,0).\r\n150 b\r\n")?;
-    input.extend_from_slice(last)?;
-    let data = breaks_after(alloc, data, Some(ErrorKind::ConnectionReset))?;
-    let control = breaks_after(alloc, &input, None)?;
-    Ok(greeted(alloc, One { data: Some(data) }, control)?)
+/// A connection that these bytes came on, and whether it is reset then.
+fn conn_of(alloc: Global, bytes: &[u8], breaks: bool) -> Result<Breaking, AllocError> {
+    let conn = Box::new(alloc, conn_with(alloc, bytes)?)?;
+    Ok(Breaking { conn, breaks })
 }
 
-/// A connection that these bytes came on, and what comes after them.
-fn breaks_after(
-    alloc: Global,
-    bytes: &[u8],
-    fault: Option<ErrorKind>,
-) -> Result<Breaking, AllocError> {
-    let conn = conn_with(alloc, bytes)?;
-    Ok(Breaking { conn, fault })
+/// A transport whose data connection is reset after these bytes.
+fn one_with(alloc: Global, data: &[u8]) -> Result<One, AllocError> {
+    let mut conns = Vec::new(alloc);
+    conns.push(conn_of(alloc, data, true)?)?;
+    Ok(One { data: conns })
 }
 
-/// A session on a connection, once the greeting was read.
-fn greeted(alloc: Global, transport: One, control: Breaking) -> FtpResult<Box<Session<One>>> {
-    Ok(Box::new(
-        alloc,
-        Session::connect_with_stream(alloc, transport, control)?,
-    )?)
+/// A session whose server sends this, the greeting first; its data connection is reset after a line.
+fn session_on(alloc: Global, input: &[u8]) -> FtpResult<Box<Session<One>>> {
+    let transport = one_with(alloc, b"a\r\n")?;
+    let control = conn_of(alloc, input, false)?;
+    let session = Session::connect_with_stream(alloc, transport, control)?;
+    Ok(Box::new(alloc, session)?)
 }
+
+/// A server that agrees to a data command, and says of its data that they were sent.
+const SENT: &[u8] = b"220 r\r\n227 x (10,0,0,1,4,0).\r\n150 b\r\n226 d\r\n200 ok\r\n";
+
+/// One that says that they weren't.
+const NOT_SENT: &[u8] = b"220 r\r\n227 x (10,0,0,1,4,0).\r\n150 b\r\n426 no\r\n200 ok\r\n";
 
 /// The numbers of the refusals of a listing and of the command after it.
-fn listed(alloc: Global, last: &[u8]) -> Result<(u8, u8), Fail> {
-    let mut session = session_on(alloc, b"a\r\nb\r\n", last)?;
+fn listed(alloc: Global, input: &[u8]) -> FtpResult<(u8, u8)> {
+    let mut session = session_on(alloc, input)?;
     let list = number(session.list(alloc, &(), None));
     Ok((list, number(session.noop(alloc))))
 }
 
-/// The kind of the fault of a download, and the number of the refusal of the command after it.
-fn downloaded(alloc: Global, last: &[u8]) -> Result<(Option<ErrorKind>, u8), Fail> {
-    let mut session = session_on(alloc, b"abc", last)?;
-    let kind = kind_of(session.retr_as_buffer(alloc, &(), "a"));
-    Ok((kind, number(session.noop(alloc))))
+/// Whether the fault of a download is the reset, and the number of the refusal of the command after it.
+fn downloaded(alloc: Global, input: &[u8]) -> FtpResult<(bool, u8)> {
+    let mut session = session_on(alloc, input)?;
+    let reset = is_reset(session.retr_as_buffer(alloc, &(), "a"));
+    Ok((reset, number(session.noop(alloc))))
 }
 
-/// The kind of a connection's fault.
-fn kind_of(answer: FtpResult<Vec<u8>>) -> Option<ErrorKind> {
-    match &answer {
-        Err(FtpError::ConnectionError(fault)) => Some(fault.kind()),
-        _ => None,
-    }
+/// Whether this is the fault of a connection that was reset.
+fn is_reset(answer: FtpResult<Vec<u8>>) -> bool {
+    let reset = match &answer {
+        Err(FtpError::ConnectionError(fault)) => fault.kind() == ErrorKind::ConnectionReset,
+        _ => false,
+    };
+    drop(answer);
+    reset
 }
-
-/// The last replies of a transfer, and the reply to the command after it.
-const LAST: [&[u8]; 2] = [b"226 d\r\n200 ok\r\n", b"426 no\r\n200 ok\r\n"];
 
 #[test]
 fn broken_data_are_no_listing_whose_last_reply_is_told_first(rt: HostRuntime) -> Result<(), Fail> {
-    let came = (listed(rt.alloc(), LAST[0])?, listed(rt.alloc(), LAST[1])?);
+    let came = (listed(rt.alloc(), SENT)?, listed(rt.alloc(), NOT_SENT)?);
     assert_eq!(rt; came, ((11, 0), (10, 0)));
     Ok(())
 }
@@ -186,10 +184,9 @@ fn broken_data_are_no_listing_whose_last_reply_is_told_first(rt: HostRuntime) ->
 #[test]
 fn a_fault_of_a_files_data_is_told_whatever_the_last_reply_is(rt: HostRuntime) -> Result<(), Fail> {
     let came = (
-        downloaded(rt.alloc(), LAST[0])?,
-        downloaded(rt.alloc(), LAST[1])?,
+        downloaded(rt.alloc(), SENT)?,
+        downloaded(rt.alloc(), NOT_SENT)?,
     );
-    let due = (Some(ErrorKind::ConnectionReset), 0u8);
-    assert_eq!(rt; came, (due, due));
+    assert_eq!(rt; came, ((true, 0), (true, 0)));
     Ok(())
 }

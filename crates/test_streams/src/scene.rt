@@ -30,9 +30,23 @@ fn add_data(alloc: Global, transport: &mut MemoryTransport, data: &[u8]) -> Resu
     transport.supply(Supply::Connects(conn_with(alloc, data)?))
 }
 
-/// A session whose server greets, and then sends this; each data connection carries `hello`.
+/// These lines, which have semicolons between them, each with its end.
+pub fn lines_of(alloc: Global, lines: &str) -> Result<String, AllocError> {
+    let mut text = String::new(alloc);
+    for line in lines.split(';') {
+        if !line.is_empty() {
+            text.push_str(line)?;
+            text.push_str("\r\n")?;
+        }
+    }
+    Ok(text)
+}
+
+/// A session whose server sends these lines; each data connection carries `hello`.
 pub fn greeted(alloc: Global, replies: &str) -> Result<Box<MemorySession>, Fail> {
-    let conn = conn_with(alloc, replies.as_bytes())?;
+    let lines = lines_of(alloc, replies)?;
+    let conn = conn_with(alloc, lines.as_bytes())?;
+    drop(lines);
     Ok(session_on(alloc, transport_with(alloc, b"hello")?, conn)?)
 }
 

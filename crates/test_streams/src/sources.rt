@@ -32,76 +32,53 @@ impl Read for Stumbling {
     }
 }
 
-/// What a server says of one upload, and then of a `NOOP`.
-const UPLOAD: &str = "227 x (10,0,0,1,4,0).\r\n150 b\r\n226 d\r\n200 o\r\n";
-
-/// The same after the type was set.
-const IMAGE: &str = "200 t\r\n227 x (10,0,0,1,4,0).\r\n150 b\r\n226 d\r\n200 o\r\n";
-
-/// A situation: how often a source is interrupted, what it gives, and its fault; and what is due: how many bytes the
-/// upload answers, or 1000 and the number of its fault, and what arrives.
-const SOURCES: [(&str, u32, &[u8], Option<ErrorKind>, u64, &[u8]); 3] = [
-    (
-        "interrupted 64 times it is read again",
-        64,
-        b"a",
-        None,
-        1,
-        b"a",
-    ),
-    ("interrupted 65 times it fails", 65, b"a", None, 1001, b""),
-    (
-        "what it gave before its fault is uploaded",
-        0,
-        b"ab",
-        Some(ErrorKind::BrokenPipe),
-        1001,
-        b"ab",
-    ),
-];
-
 /// How many bytes an upload of this source answers, or 1000 and the number of its fault.
-fn put(alloc: Global, session: &mut MemorySession, mut source: Stumbling) -> u64 {
-    let answer = session.put_file(alloc, &(), "f", &mut source);
-    match &answer {
-        Ok(count) => *count,
-        Err(fault) => 1000 + u64::from(fault.number()),
+fn put(alloc: Global, session: &mut MemorySession, source: &mut Stumbling) -> u64 {
+    match session.put_file(alloc, &(), "f", source) {
+        Ok(count) => count,
+        refusal => 1000 + u64::from(number(refusal)),
     }
 }
 
-/// What an upload of this source answers, which goes as an image where it has a fault, whether this arrives, and what
-/// the command after it answers.
-fn uploaded(alloc: Global, source: Stumbling, due: &[u8]) -> Result<(u64, bool, u8), Fail> {
-    let mut session = greeted(
-        alloc,
-        if source.fault.is_some() {
-            IMAGE
-        } else {
-            UPLOAD
-        },
-    )?;
-    if source.fault.is_some() {
-        session.transfer_type(alloc, FileType::Image)?;
-    }
+/// What an upload of this source answers that goes as an image, how many bytes arrive, and what the command after it
+/// answers.
+fn uploaded(alloc: Global, source: &mut Stumbling) -> Result<(u64, usize, u8), Fail> {
+    let mut session = greeted(alloc, "200 t;227 x (10,0,0,1,4,0).;150 b;226 d;200 o")?;
+    session.transfer_type(alloc, FileType::Image)?;
     let answer = put(alloc, &mut session, source);
     let arrived = match session.transport().uploaded().first() {
-        Some(conn) => conn.sent() == due,
-        None => false,
+        Some(conn) => conn.sent().len(),
+        None => 255,
     };
     Ok((answer, arrived, number(session.noop(alloc))))
 }
 
+/// The same of a source that is interrupted so often, and gives one byte.
+fn interrupted(alloc: Global, interruptions: u32) -> Result<(u64, usize, u8), Fail> {
+    let mut source = Stumbling {
+        interruptions,
+        bytes: b"a",
+        fault: None,
+    };
+    uploaded(alloc, &mut source)
+}
+
 #[test]
-fn what_a_source_gives_is_uploaded(rt: HostRuntime) -> Result<(), Fail> {
-    for (situation, interruptions, bytes, fault, answer, due) in SOURCES {
-        let source = Stumbling {
-            interruptions,
-            bytes,
-            fault,
-        };
-        let came = uploaded(rt.alloc(), source, due)?;
-        assert_eq!(rt; (situation, came), (situation, (answer, true, 0)));
-    }
+fn a_source_is_read_again_where_it_is_interrupted_64_times(rt: HostRuntime) -> Result<(), Fail> {
+    let (last, more) = (interrupted(rt.alloc(), 64)?, interrupted(rt.alloc(), 65)?);
+    assert_eq!(rt; (last, more), ((1, 1, 0), (1001, 0, 0)));
+    Ok(())
+}
+
+#[test]
+fn what_a_source_gave_before_its_fault_is_uploaded(rt: HostRuntime) -> Result<(), Fail> {
+    let mut source = Stumbling {
+        interruptions: 0,
+        bytes: b"ab",
+        fault: Some(ErrorKind::BrokenPipe),
+    };
+    let came = uploaded(rt.alloc(), &mut source)?;
+    assert_eq!(rt; came, (1001, 2, 0));
     Ok(())
 }
 
@@ -124,27 +101,25 @@ impl DownloadReader<MemoryConn, u16> for Pair {
     }
 }
 
-/// What a download by a reader gives, or the number of its fault; and what the command after it answers.
+/// What a download by a reader gives, or the number of its fault, where the last reply is this; and what the command
+/// after it answers.
 fn pair_of(alloc: Global, replies: &str, fails: bool) -> Result<(u16, u8), Fail> {
     let mut session = greeted(alloc, replies)?;
-    let answer = session.retr(alloc, &(), "f", &mut Pair { fails });
-    let pair = match &answer {
-        Ok(pair) => *pair,
-        Err(fault) => u16::from(fault.number()),
+    let pair = match session.retr(alloc, &(), "f", &mut Pair { fails }) {
+        Ok(pair) => pair,
+        refusal => u16::from(number(refusal)),
     };
-    drop(answer);
     Ok((pair, number(session.noop(alloc))))
 }
-
-/// What a server says of a download whose last reply refuses it, and then of a `NOOP`.
-const REFUSED: &str = "227 x (10,0,0,1,4,0).\r\n150 b\r\n426 n\r\n200 o\r\n";
 
 #[test]
 fn a_reader_gives_what_it_read_and_its_fault_comes_before_the_last_reply(
     rt: HostRuntime,
 ) -> Result<(), Fail> {
-    let read = pair_of(rt.alloc(), UPLOAD, false)?;
-    let failed = pair_of(rt.alloc(), REFUSED, true)?;
+    let accepted = "227 x (10,0,0,1,4,0).;150 b;226 d;200 o";
+    let refused = "227 x (10,0,0,1,4,0).;150 b;426 n;200 o";
+    let read = pair_of(rt.alloc(), accepted, false)?;
+    let failed = pair_of(rt.alloc(), refused, true)?;
     assert_eq!(rt; (read, failed), ((0x6865, 0), (15, 0)));
     Ok(())
 }
