@@ -213,8 +213,12 @@ where
     R: Net<Listener = TcpListener, Stream = TcpStream> + Clock + Wait + AllocGlobal,
 {
     match client.retr_as_buffer(rt, "a") {
-        Ok(bytes) if bytes.iter().all(|byte| *byte == 7) => Ok(bytes.len() as u64),
-        Ok(_bytes) => Err(255),
+        Ok(bytes) => {
+            let same = bytes.iter().all(|byte| *byte == 7);
+            let count = bytes.len() as u64;
+            drop(bytes);
+            if same { Ok(count) } else { Err(255) }
+        }
         refusal => Err(number(refusal)),
     }
 }
@@ -225,8 +229,12 @@ where
     R: Net<Listener = TcpListener, Stream = TcpStream> + Clock + Wait + AllocGlobal,
 {
     match client.list(rt, None) {
-        Ok(lines) if lines.iter().all(|line| line.as_str() == "line") => Ok(lines.len() as u64),
-        Ok(_lines) => Err(255),
+        Ok(lines) => {
+            let same = lines.iter().all(|line| line.as_str() == "line");
+            let count = lines.len() as u64;
+            drop(lines);
+            if same { Ok(count) } else { Err(255) }
+        }
         refusal => Err(number(refusal)),
     }
 }

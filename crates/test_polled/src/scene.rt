@@ -7,7 +7,7 @@ use futures::Future;
 use futures::future::poll_immediate;
 use std::alloc::AllocGlobal;
 use std::io;
-use std::io::{ErrorKind, Read, Write};
+use std::io::{Read, Write};
 use std::net::{Net, SocketAddr, TcpListener, TcpStream};
 use std::random::RandomSource;
 use std::sync::Wait;
@@ -44,16 +44,31 @@ where
     Ok((listener, address))
 }
 
-/// A connection of a runtime's, and the socket at its other end.
-pub fn pair<R>(rt: &R, runtime: &LocalRuntime) -> io::Result<(TokioConn, TcpStream)>
+/// A connection of a runtime's, and the socket at its other end, which has sent this.
+pub fn pair<R>(rt: &R, runtime: &LocalRuntime, sent: &[u8]) -> io::Result<(TokioConn, TcpStream)>
+where
+    R: Net<Listener = TcpListener, Stream = TcpStream>,
+{
+    let (near, far) = ends(rt, sent)?;
+    let stream = tokio::net::TcpStream::from_std(near, runtime.handle().reactor())?;
+    Ok((TokioConn::new(stream), far))
+}
+
+/// Two sockets that are connected, the second of which has sent this.
+fn ends<R>(rt: &R, sent: &[u8]) -> io::Result<(TcpStream, TcpStream)>
 where
     R: Net<Listener = TcpListener, Stream = TcpStream>,
 {
     let (listener, address) = listening(rt)?;
     let near = TcpStream::connect(rt, address)?;
-    let (far, _address) = listener.accept()?;
-    let stream = tokio::net::TcpStream::from_std(near, runtime.handle().reactor())?;
-    Ok((TokioConn::new(stream), far))
+    Ok((near, accepted(&listener, sent)?))
+}
+
+/// The next peer of a listener, which was sent this.
+fn accepted(listener: &TcpListener, sent: &[u8]) -> io::Result<TcpStream> {
+    let (mut far, _address) = listener.accept()?;
+    far.write_all(sent)?;
+    Ok(far)
 }
 
 /// A client whose greeting was read, the server's end of its control connection, and the runtime that polls it.
@@ -70,18 +85,24 @@ where
     R: Net<Listener = TcpListener, Stream = TcpStream> + Wait + Clock + RandomSource + AllocGlobal,
 {
     let mut runtime = running(rt)?;
-    let (conn, mut server) = pair(rt, &runtime)?;
-    server.write_all(b"220 ready\r\n")?;
-    let connect = Client::connect_with_stream(rt, transport(&runtime)?, conn);
-    let client = runtime.block_on(rt, connect)??;
-    Ok(Box::new(
-        rt.alloc(),
-        Scene {
-            client,
-            server,
-            runtime,
-        },
-    )?)
+    let (client, server) = connected(rt, &mut runtime)?;
+    let scene = Scene {
+        client,
+        server,
+        runtime,
+    };
+    Ok(Box::new(rt.alloc(), scene)?)
+}
+
+/// A client whose greeting was read, and its server.
+fn connected<R>(rt: &R, runtime: &mut Runtime) -> Result<(Client, TcpStream), Fail>
+where
+    R: Net<Listener = TcpListener, Stream = TcpStream> + Wait + Clock + RandomSource + AllocGlobal,
+{
+    let transport = transport(runtime)?;
+    let (conn, server) = pair(rt, runtime, b"220 ready\r\n")?;
+    let connect = Client::connect_with_stream(rt, transport, conn);
+    Ok((runtime.block_on(rt, connect)??, server))
 }
 
 /// The number of a fault; 0 where there is none.
@@ -92,36 +113,48 @@ pub fn number<T: Drop>(answer: FtpResult<T>) -> u8 {
     }
 }
 
-/// Polls a state to its answer: the number of its fault, 0 where there is none.
-pub fn done<R, F, T>(rt: &R, runtime: &mut LocalRuntime, state: F) -> io::Result<u8>
+/// Polls a state to its answer: the number of its fault, 0 where there is none, and 255 where the runtime fails. A test
+/// that compares it needs no `?` beside what it owns.
+pub fn done<R, F, T>(rt: &R, runtime: &mut LocalRuntime, state: F) -> u8
 where
     R: Wait + Clock + RandomSource + AllocGlobal,
     F: Future<Output = FtpResult<T>>,
     T: Drop,
     requires { F.can_poll state }
 {
-    Ok(number(runtime.block_on(rt, state)?))
+    match runtime.block_on(rt, state) {
+        Ok(answer) => number(answer),
+        Err(_error) => 255,
+    }
 }
 
 /// Polls a state once, and tells whether it waits.
-pub fn waits<R, F, T>(rt: &R, runtime: &mut LocalRuntime, state: &mut F) -> io::Result<bool>
+pub fn waits<R, F, T>(rt: &R, runtime: &mut LocalRuntime, state: &mut F) -> bool
 where
     R: Wait + Clock + RandomSource + AllocGlobal,
     F: Future<Output = FtpResult<T>>,
     T: Drop,
     requires { F.can_poll state.old }
 {
-    let polled = runtime.block_on(rt, poll_immediate(state))?;
-    Ok(polled.is_none())
+    match runtime.block_on(rt, poll_immediate(state)) {
+        Ok(polled) => polled.is_none(),
+        Err(_error) => false,
+    }
+}
+
+/// Sends these bytes on a socket, and tells whether they went out.
+pub fn send(socket: &mut TcpStream, bytes: &[u8]) -> bool {
+    socket.write_all(bytes).is_ok()
 }
 
 /// Whether these bytes have come on a socket, and no other; it doesn't wait for more.
-pub fn came(socket: &mut TcpStream, due: &[u8]) -> io::Result<bool> {
+pub fn came(socket: &mut TcpStream, due: &[u8]) -> bool {
     let mut buffer = [0u8; 64];
-    socket.set_nonblocking(true)?;
+    if socket.set_nonblocking(true).is_err() {
+        return false;
+    }
     match socket.read(&mut buffer) {
-        Ok(count) => Ok(buffer.get(..count) == Some(due)),
-        Err(error) if error.kind() == ErrorKind::WouldBlock => Ok(due.is_empty()),
-        Err(error) => Err(error),
+        Ok(count) => buffer.get(..count) == Some(due),
+        Err(_error) => false,
     }
 }

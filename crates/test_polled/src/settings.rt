@@ -1,6 +1,6 @@
 //! Clients over tokio's sockets that connect by themselves, and what they were set to.
 
-use crate::scene::{Client, Scene, came, done, greeted, listening, number, running, transport};
+use crate::scene::{Client, Scene, done, greeted, listening, running, send, transport};
 use ftp_base::encoding::Utf8Encoding;
 use ftp_base::types::{FtpError, FtpResult};
 use ftp_polled::ImplAsyncFtpStream;
@@ -30,9 +30,10 @@ where
 {
     let mut runtime = running(rt)?;
     let connect = Client::connect(rt, transport(&runtime)?, addresses);
-    let client = Box::new(rt.alloc(), runtime.block_on(rt, connect)??)?;
+    let client = runtime.block_on(rt, connect)??;
     let noop = client.noop(rt);
-    Ok(done(rt, &mut runtime, noop)?)
+    drop(client);
+    Ok(done(rt, &mut runtime, noop))
 }
 
 #[test]
@@ -56,7 +57,7 @@ where
     let (_listener, address) = listening(rt)?;
     let mut runtime = running(rt)?;
     let connect = Client::connect_timeout(rt, transport(&runtime)?, address, limit);
-    Ok(done(rt, &mut runtime, connect)?)
+    Ok(done(rt, &mut runtime, connect))
 }
 
 #[test]
@@ -69,33 +70,31 @@ fn a_client_connects_within_its_limit_or_not_at_all(rt: HostRuntime) -> Result<(
 }
 
 /// The numbers of the faults of a client that is set to wait 50 milliseconds for its server, and of its download.
-fn active<R>(rt: &R, scene: &mut Scene) -> io::Result<(u8, u8)>
+fn active<R>(rt: &R, scene: &mut Scene) -> (u8, u8)
 where
     R: Net<Listener = TcpListener, Stream = TcpStream> + Wait + Clock + RandomSource + AllocGlobal,
 {
     let setting = scene.client.active_mode(rt, Duration::from_millis(50));
-    let set = done(rt, &mut scene.runtime, setting)?;
+    let set = done(rt, &mut scene.runtime, setting);
     let opening = scene.client.retr_as_stream(rt, "a");
-    Ok((set, done(rt, &mut scene.runtime, opening)?))
+    (set, done(rt, &mut scene.runtime, opening))
 }
 
 #[test]
 fn an_active_client_waits_for_its_server_as_long_as_it_was_set_to(
     rt: HostRuntime,
 ) -> Result<(), Fail> {
-    let mut scene = greeted(&rt)?;
-    scene.server.write_all(b"200 ok\r\n150 on\r\n")?;
     let start = Instant::now(&rt)?;
-    let faults = active(&rt, &mut scene)?;
-    let in_time = start.elapsed(&rt)? < Duration::from_secs(5);
+    let mut scene = greeted(&rt)?;
+    let sent = send(&mut scene.server, b"200 ok\r\n150 on\r\n");
+    let faults = active(&rt, &mut scene);
     let mut line = [0u8; 15];
-    scene.server.read_exact(&mut line)?;
+    let read = scene.server.read_exact(&mut line).is_ok();
     drop(scene);
+    let in_time = start.elapsed(&rt)? < Duration::from_secs(5);
+    assert_eq!(rt; (sent, read, line), (true, true, *b"PORT 127,0,0,1,"));
     // TimedOut
-    assert_eq!(rt;
-        (faults, in_time, line),
-        ((0, 8), true, *b"PORT 127,0,0,1,")
-    );
+    assert_eq!(rt; (faults, in_time), ((0, 8), true));
     Ok(())
 }
 
@@ -117,18 +116,19 @@ impl PassiveStreamBuilder<TokioConn> for BuildsNone {
 /// A client with such a builder.
 type Building = ImplAsyncFtpStream<TokioTransport, NoTlsConnector, Utf8Encoding, BuildsNone>;
 
-/// The number of the fault of a download whose data connection such a builder is to make.
-fn building<R>(rt: &R, address: SocketAddr) -> Result<u8, Fail>
+/// The numbers of the faults of the setting and of a download whose data connection such a builder is to make.
+fn building<R>(rt: &R, address: SocketAddr) -> Result<(u8, u8), Fail>
 where
     R: Net<Listener = TcpListener, Stream = TcpStream> + Wait + Clock + RandomSource + AllocGlobal,
 {
     let mut runtime = running(rt)?;
     let connect = Building::connect(rt, transport(&runtime)?, &[address]);
-    let client = Box::new(rt.alloc(), runtime.block_on(rt, connect)??)?;
+    let client = runtime.block_on(rt, connect)??;
     let setting = client.passive_stream_builder(rt, BuildsNone);
-    done(rt, &mut runtime, setting)?;
+    let set = done(rt, &mut runtime, setting);
     let opening = client.retr_as_stream(rt, "a");
-    Ok(done(rt, &mut runtime, opening)?)
+    drop(client);
+    Ok((set, done(rt, &mut runtime, opening)))
 }
 
 #[test]
@@ -136,9 +136,9 @@ fn a_builders_error_is_answered_as_it_is(rt: HostRuntime) -> Result<(), Fail> {
     let (listener, address) = listening(&rt)?;
     let replies = "220 ready\r\n227 on (127,0,0,1,4,0)\r\n";
     let serving = thread::spawn(&rt, move || serve(rt.alloc(), &listener, replies))?;
-    let fault = building(&rt, address)?;
+    let faults = building(&rt, address)?;
     let received = serving.join(&rt)?;
     // BadResponse
-    assert_eq!(rt; (fault, received.as_str()), (11, "PASV\r\n"));
+    assert_eq!(rt; (faults, received.as_str()), ((0, 11), "PASV\r\n"));
     Ok(())
 }
