@@ -117,11 +117,13 @@ PASV;RETR a;NOOP
 
 /// The five lines of a row.
 fn fields(row: &'static str) -> [&'static str; 5] {
-    let mut fields = [""; 5];
-    for (field, line) in fields.iter_mut().zip(row.lines()) {
-        *field = line;
-    }
-    fields
+    let mut lines = row.lines();
+    let first = lines.next().unwrap_or("");
+    let second = lines.next().unwrap_or("");
+    let third = lines.next().unwrap_or("");
+    let fourth = lines.next().unwrap_or("");
+    let fifth = lines.next().unwrap_or("");
+    [first, second, third, fourth, fifth]
 }
 
 /// A session, and the transfers and receipts that are held.
