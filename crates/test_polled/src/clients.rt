@@ -60,13 +60,15 @@ where
     R: Net + Wait + Clock + RandomSource + AllocGlobal,
 {
     let read = scene.client.read_response(rt, Status::CommandOk);
-    match scene.runtime.block_on(rt, read) {
-        Ok(Ok(reply)) => reply.body.as_slice() == due,
-        other => {
-            drop(other);
-            false
-        }
-    }
+    let Ok(answer) = scene.runtime.block_on(rt, read) else {
+        return false;
+    };
+    let same = match &answer {
+        Ok(reply) => reply.body.as_slice() == due,
+        Err(_) => false,
+    };
+    drop(answer);
+    same
 }
 
 #[test]
@@ -95,18 +97,17 @@ where
     let (_listener, address) = listening(rt)?;
     write_passive(&mut scene.server, address.port())?;
     let opening = scene.client.put_with_stream(rt, "a");
-    match scene.runtime.block_on(rt, opening) {
-        Ok(Ok(upload)) => {
-            let reply = b"226-transferred\r\nintermediate line\r\n226 comp";
-            let sent = send(&mut scene.server, reply);
-            let mut finish = upload.finish(rt);
-            Ok(sent && waits(rt, &mut scene.runtime, &mut finish))
+    let upload = match scene.runtime.block_on(rt, opening)? {
+        Ok(upload) => upload,
+        Err(fault) => {
+            drop(fault);
+            return Ok(false);
         }
-        other => {
-            drop(other);
-            Ok(false)
-        }
-    }
+    };
+    let mut finish = upload.finish(rt);
+    let reply = b"226-transferred\r\nintermediate line\r\n226 comp";
+    let sent = send(&mut scene.server, reply);
+    Ok(sent && waits(rt, &mut scene.runtime, &mut finish))
 }
 
 #[test]
