@@ -17,7 +17,7 @@ where
 {
     let addresses: Vec<SocketAddr> = address.to_socket_addrs(rt)?.collect(rt.alloc())?;
     let mut runtime = LocalRuntime::new(rt)?;
-    let transport = TokioTransport::new(runtime.handle().reactor().clone()?);
+    let transport = TokioTransport::of_runtime(runtime.handle())?;
     let client = runtime.block_on(rt, AsyncFtpStream::connect(rt, transport, &addresses))??;
     runtime.block_on(rt, client.login(rt, "anonymous", "guest@example.org"))??;
     let lines = runtime.block_on(rt, client.list(rt, None))??;

@@ -10,7 +10,7 @@ use Rattle.ftp_tokio.specs.declared.conn.TokioConn.{TokioConn}
 
 -- the connection over a socket that is connected, on which nothing waits
 abbrev pub conn_over : TcpStream → TokioConn
-conn_over stream = record { stream = Some stream; read_waits = false; write_waits = false }
+conn_over stream = record { stream = Some stream; read_waits = false; write_waits = false; reads = 0; writes = 0 }
 
 -- an error of the system is a fault of its kind
 abbrev pub with_fault : {A : Type 0} → Result A Error → Result A ConnectionError

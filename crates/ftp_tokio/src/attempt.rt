@@ -1,28 +1,31 @@
 //! A connect that is under way, over several polls.
 
-ghost use Rattle.std.specs.Prelude.{◌≡◌, ◌↔◌, None, IsSome, IsTrue, true};
+ghost use Rattle.std.specs.Prelude.{◌≡◌, ◌↔◌, None, IfSome, IsSome, IsTrue, true};
 ghost use Rattle.std.specs.IoError.{error_kind};
-ghost use Rattle.futures.specs.Task.{Covers, Keeps};
+ghost use Rattle.futures.specs.Task.{Covers, Hears, Keeps};
+ghost use Rattle.tokio.specs.Timers.{sleep_source};
 ghost use Rattle.ftp_base.specs.declared.types.fault.ConnectionError.TheVariants.{Io};
 ghost use Rattle.ftp_transport.specs.declared.waiting.Waiting.TheVariants as waits;
 ghost use Rattle.ftp_tokio.specs.Needs.{ConnectWaits};
 
+use crate::alarm::Alarm;
 use ftp_base::types::ConnectionError;
 use ftp_transport::Waiting;
 use futures::Future;
 use futures::task::{Context, Poll};
 use std::io;
 use std::net::{Net, SocketAddr};
-use std::time::{Clock, Duration, Instant};
+use std::time::{Clock, Duration};
 use tokio::net::{ConnectFuture, TcpStream};
 use tokio::reactor::Handle;
+use tokio::time::Handle as TimeHandle;
 
 /// A connect to one address.
 #[derive(Drop)]
 pub(crate) struct Attempt {
     address: SocketAddr,
-    // When it was first asked for under a limit, where one runs.
-    since: Option<Instant>,
+    // The limit under which it was asked for, where one runs.
+    alarm: Alarm,
     future: ConnectFuture,
     // What the future resulted in, until a connect returns it.
     outcome: Option<io::Result<TcpStream>>,
@@ -36,7 +39,7 @@ impl Attempt {
     {
         Attempt {
             address,
-            since: None,
+            alarm: Alarm::none(),
             future: TcpStream::connect(net, address, handle),
             outcome: None,
         }
@@ -64,29 +67,31 @@ impl Attempt {
     pub(crate) fn has_passed<R: Clock>(
         &mut self,
         rt: &R,
+        timers: Option<&TimeHandle>,
         limit: Option<Duration>,
     ) -> io::Result<bool>
-        ensures { self.new ≡ record self.old { since = self.new.since } }
+        ensures { self.new ≡ record self.old { alarm = self.new.alarm } }
     {
-        let Some(limit) = limit else {
-            self.since = None;
-            return Ok(false);
-        };
-        let since = match self.since {
-            Some(since) => since,
-            None => Instant::now(rt)?,
-        };
-        self.since = Some(since);
-        Ok(since.elapsed(rt)? >= limit)
+        match limit {
+            Some(limit) => self.alarm.has_passed(rt, timers, limit),
+            None => {
+                self.alarm = Alarm::none();
+                Ok(false)
+            }
+        }
     }
 
-    /// Registers the task for the connection, or keeps the outcome. Where a limit runs it asks for another poll.
+    /// Registers the task for the connection, or keeps the outcome. Where a limit runs the task is woken at its end, or
+    /// polled again at once where there is no timer.
     pub(crate) fn poll_ready(&mut self, cx: &mut Context<'_>) -> Waiting
         ensures registered { result ≡ waits.Registered →
             Covers cx.new (ConnectWaits self.new.future self.new.outcome) }
         ensures over { result ≡ waits.Over → IsSome self.new.outcome }
         ensures something { result ≡ waits.Nothing → ⊥ }
-        ensures again { result ≡ waits.Registered → IsSome self.new.since → cx.new.is_woken ≡ true }
+        ensures again { result ≡ waits.Registered → IsSome self.new.alarm.since →
+            self.new.alarm.sleep ≡ None → cx.new.is_woken ≡ true }
+        ensures rings { result ≡ waits.Registered → IsSome self.new.alarm.since →
+            IfSome self.new.alarm.sleep (λ sleep. Hears cx.new (sleep_source sleep)) }
         ensures same { self.new ≡
             record self.old { future = self.new.future; outcome = self.new.outcome } }
         ensures kept { Keeps cx.old cx.new }
@@ -100,8 +105,8 @@ impl Attempt {
                 Waiting::Over
             }
             Poll::Pending => {
-                if self.since.is_some() {
-                    let _: Poll<()> = cx.yield_now();
+                if self.alarm.runs() {
+                    self.alarm.poll_ring(cx);
                 }
                 Waiting::Registered
             }

@@ -1,8 +1,9 @@
 //! A connection over a socket of tokio.
 //!
 //! Reads and writes try the socket and leave no waker. Whether the last read and the last write wait is kept, so that
-//! the task can be registered afterwards for just that: `Remembers` in their contracts. What a socket carries is not
-//! covered by any proof: its record is never true.
+//! the task can be registered afterwards for just that: `Remembers` in their contracts. After so many reads in a row that
+//! didn't wait one does, whatever the socket has, and so for writes: other tasks run before a long transfer goes on. What a
+//! socket carries is not covered by any proof: its record is never true.
 
 ghost use Rattle.std.specs.Prelude.{◌≡◌, ◌≢◌, ℕ, Err, None, Ok, false, length, true};
 ghost use Rattle.std.specs.Option.{option_copied};
@@ -21,6 +22,9 @@ use std::io::ErrorKind;
 use std::net::SocketAddr;
 use tokio::net::TcpStream;
 
+/// How many reads, or writes, go on in a row before one waits.
+const IN_A_ROW: u8 = 32;
+
 /// A connection over a socket of tokio.
 ///
 /// tokio's sockets have no shutdown of both directions outside of a task, so a close drops the socket. From then on
@@ -31,6 +35,9 @@ pub struct TokioConn {
     // Whether the last read waits, and whether the last write does.
     read_waits: bool,
     write_waits: bool,
+    // How many reads in a row haven't waited, and how many writes.
+    reads: u8,
+    writes: u8,
 }
 
 impl TokioConn {
@@ -42,6 +49,8 @@ impl TokioConn {
             stream: Some(stream),
             read_waits: false,
             write_waits: false,
+            reads: 0,
+            writes: 0,
         }
     }
 
@@ -61,6 +70,9 @@ impl TokioConn {
         let Some(stream) = &mut self.stream else {
             return Err(ErrorKind::NotConnected);
         };
+        if self.reads == IN_A_ROW {
+            return Ok(Poll::Pending);
+        }
         match read_retrying(stream, buffer) {
             Ok(count) => Ok(Poll::Ready(count)),
             Err(error) => waits_or_fails(error.kind()),
@@ -76,6 +88,9 @@ impl TokioConn {
         let Some(stream) = &mut self.stream else {
             return Err(ErrorKind::NotConnected);
         };
+        if self.writes == IN_A_ROW {
+            return Ok(Poll::Pending);
+        }
         match write_retrying(stream, bytes) {
             Ok(0) => Err(ErrorKind::WriteZero),
             Ok(count) => Ok(Poll::Ready(count)),
@@ -138,6 +153,11 @@ impl TokioConn {
     }
 }
 
+/// How many calls in a row haven't waited, after one more.
+fn in_a_row(calls: u8, waits: bool) -> u8 {
+    if waits { 0 } else { calls.saturating_add(1) }
+}
+
 /// What a call of a socket that doesn't block results in where it fails: that it waits, or a fault.
 fn waits_or_fails(kind: ErrorKind) -> Result<Poll<usize>, ErrorKind>
     ensures blocks { kind ≡ WouldBlock → result ≡ Ok Poll.Pending }
@@ -182,11 +202,13 @@ impl Tells for TokioConn {
     fn close(&mut self) -> Result<(), ErrorKind>
         ensures ok { result ≡ Ok tt }
         ensures dropped { self.new ≡
-            record { stream = None; read_waits = false; write_waits = false } }
+            record { stream = None; read_waits = false; write_waits = false; reads = 0; writes = 0 } }
     {
         self.stream = None;
         self.read_waits = false;
         self.write_waits = false;
+        self.reads = 0;
+        self.writes = 0;
         Ok(())
     }
 }
@@ -206,6 +228,7 @@ impl PollConn<()> for TokioConn {
     {
         let read = self.try_read(buffer);
         self.read_waits = matches!(read, Ok(Poll::Pending));
+        self.reads = in_a_row(self.reads, self.read_waits);
         read
     }
 
@@ -217,6 +240,7 @@ impl PollConn<()> for TokioConn {
     {
         let written = self.try_write(bytes);
         self.write_waits = matches!(written, Ok(Poll::Pending));
+        self.writes = in_a_row(self.writes, self.write_waits);
         written
     }
 }

@@ -9,6 +9,7 @@
 //! and the client is polled again and again.
 #![tactic(auto)]
 
+mod alarm;
 mod attempt;
 mod conn;
 mod listener;

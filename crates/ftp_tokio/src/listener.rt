@@ -1,15 +1,18 @@
 //! A listener over a socket of tokio, with a deadline.
 //!
 //! The deadline is counted from the listener's first accept: whoever drops a stranger and accepts again gains no time.
-//! No timer is used: a task that waits for a peer is polled again at once, until the deadline has passed.
+//! Once it has passed the socket is looked at once more, so that a peer that came in time is taken, however late the
+//! task is polled.
 
 ghost use Rattle.std.specs.Prelude.{◌≡◌, ℕ, true, false, IsSome, IfSome, None};
 ghost use Rattle.futures.specs.Poll.{IfReady, OnPending};
-ghost use Rattle.futures.specs.Task.{Covers, Keeps};
+ghost use Rattle.futures.specs.Task.{Covers, Hears, IsArmed, Keeps};
+ghost use Rattle.tokio.specs.Timers.{sleep_source};
 ghost use Rattle.ftp_transport.specs.declared.waiting.Waiting.TheVariants as waits;
 ghost use Rattle.ftp_tokio.specs.Needs.{AcceptNeeds};
 ghost use Rattle.ftp_tokio.specs.Outcomes.{with_fault};
 
+use crate::alarm::Alarm;
 use crate::attempt::fault;
 use ftp_base::types::ConnectionError;
 use ftp_transport::Waiting;
@@ -17,9 +20,10 @@ use futures::task::{Context, Poll};
 use std::io;
 use std::io::ErrorKind;
 use std::net::{Net, SocketAddr};
-use std::time::{Clock, Duration, Instant};
+use std::time::{Clock, Duration};
 use tokio::net::{TcpListener, TcpStream};
 use tokio::reactor::Handle;
+use tokio::time::Handle as TimeHandle;
 
 /// What an accept results in: the socket and the peer's address.
 type Peer = (TcpStream, SocketAddr);
@@ -28,10 +32,13 @@ type Peer = (TcpStream, SocketAddr);
 #[derive(Drop)]
 pub struct TokioListener {
     socket: TcpListener,
-    // When it was first asked for a connection.
-    since: Option<Instant>,
-    // Whether the last accept waits.
+    // The deadline, from the first accept on.
+    alarm: Alarm,
+    // Whether the last accept waits, and whether it found that the deadline has passed.
     waits: bool,
+    late: bool,
+    // Whether the socket had no peer once the deadline had passed.
+    missed: bool,
     // What the socket was found to have while the task waited, until an accept returns it.
     accepted: Option<io::Result<Peer>>,
 }
@@ -50,8 +57,10 @@ impl TokioListener {
         let bound = socket.local_addr()?;
         let listener = TokioListener {
             socket,
-            since: None,
+            alarm: Alarm::none(),
             waits: false,
+            late: false,
+            missed: false,
             accepted: None,
         };
         Ok((listener, bound))
@@ -64,6 +73,7 @@ impl TokioListener {
     pub(crate) fn poll_peer<R: Clock>(
         &mut self,
         rt: &R,
+        timers: Option<&TimeHandle>,
         deadline: Duration,
     ) -> Poll<Result<Peer, ConnectionError>>
         ensures waits { OnPending result (self.new.waits ≡ true) }
@@ -76,38 +86,28 @@ impl TokioListener {
         if let Some(accepted) = self.accepted.take() {
             return Poll::Ready(accepted.map_err(fault));
         }
-        match self.has_passed(rt, deadline) {
-            Ok(false) => {
+        match self.alarm.has_passed(rt, timers, deadline) {
+            Ok(true) if self.missed => Poll::Ready(Err(ConnectionError::TimedOut)),
+            Ok(late) => {
+                self.late = late;
                 self.waits = true;
                 Poll::Pending
             }
-            Ok(true) => Poll::Ready(Err(ConnectionError::TimedOut)),
             Err(error) => Poll::Ready(Err(fault(error))),
         }
     }
 
-    /// Whether this time has passed since the first call.
-    fn has_passed<R: Clock>(&mut self, rt: &R, deadline: Duration) -> io::Result<bool>
-        ensures waits { self.new.waits ≡ self.old.waits }
-        ensures accepted { self.new.accepted ≡ self.old.accepted }
-    {
-        let since = match self.since {
-            Some(since) => since,
-            None => Instant::now(rt)?,
-        };
-        self.since = Some(since);
-        Ok(since.elapsed(rt)? >= deadline)
-    }
-
-    /// Registers the task for the peer that the last accept waits for, where it does, and asks for another poll, since
-    /// a deadline runs. An interrupted accept is made again at the next poll.
+    /// Registers the task for the peer that the last accept waits for, where it does, and for the deadline. An interrupted
+    /// accept is made again at the next poll.
     pub(crate) fn poll_ready(&mut self, cx: &mut Context<'_>) -> Waiting
         ensures registered { result ≡ waits.Registered →
             Covers cx.new (AcceptNeeds self.new.socket self.new.waits) }
         ensures nothing { result ≡ waits.Nothing →
             (source : ℕ) → AcceptNeeds self.new.socket self.new.waits source → ⊥ }
         ensures over { result ≡ waits.Over → self.old.waits ≡ true }
-        ensures again { result ≡ waits.Registered → cx.new.is_woken ≡ true }
+        ensures again { result ≡ waits.Registered → self.new.alarm.sleep ≡ None → cx.new.is_woken ≡ true }
+        ensures rings { result ≡ waits.Registered →
+            IfSome self.new.alarm.sleep (λ sleep. Hears cx.new (sleep_source sleep)) }
         ensures waits { self.new.waits ≡ self.old.waits }
         ensures first { IsSome self.old.accepted → self.new.accepted ≡ self.old.accepted }
         ensures kept { Keeps cx.old cx.new }
@@ -125,9 +125,26 @@ impl TokioListener {
                 Waiting::Over
             }
             Poll::Pending => {
-                let _: Poll<()> = cx.yield_now();
+                self.wait_on(cx);
                 Waiting::Registered
             }
+        }
+    }
+
+    /// Has the task woken at the deadline; where that has passed the socket was looked at for the last time, and the task
+    /// is polled again at once.
+    fn wait_on(&mut self, cx: &mut Context<'_>)
+        ensures armed { IsArmed cx.new }
+        ensures again { self.old.alarm.sleep ≡ None → cx.new.is_woken ≡ true }
+        ensures rings { IfSome self.old.alarm.sleep (λ sleep. Hears cx.new (sleep_source sleep)) }
+        ensures same { self.new ≡ record self.old { missed = self.new.missed } }
+        ensures kept { Keeps cx.old cx.new }
+    {
+        if self.late {
+            self.missed = true;
+            let _: Poll<()> = cx.yield_now();
+        } else {
+            self.alarm.poll_ring(cx);
         }
     }
 }

@@ -1,10 +1,11 @@
 //! The transport over tokio's sockets.
 //!
 //! A connect is begun by the poll that first asks for its address, and goes on while the task is registered; it is
-//! finished by `poll_connect_ready`, and its outcome is returned by the next poll for that address. No timer is used:
-//! while a limit runs the task is polled again at once.
+//! finished by `poll_connect_ready`, and its outcome is returned by the next poll for that address. While a limit runs
+//! the task is woken at its end, by a timer of the runtime's; made with a reactor alone the transport has none, and then
+//! the task is polled again at once.
 
-ghost use Rattle.std.specs.Prelude.{◌≡◌, [], ℕ, IfSome, None, Ok, false, true};
+ghost use Rattle.std.specs.Prelude.{◌≡◌, [], ℕ, IfOk, IfSome, None, Ok, false, true};
 ghost use Rattle.futures.specs.Poll.{IfReady, OnPending};
 ghost use Rattle.futures.specs.Task.{Covers, Keeps};
 ghost use Rattle.ftp_transport.specs.declared.waiting.Waiting.TheVariants as waits;
@@ -24,22 +25,44 @@ use std::net::{Net, SocketAddr};
 use std::time::{Clock, Duration};
 use tokio::net::TcpStream;
 use tokio::reactor::Handle;
+use tokio::runtime::Handle as RuntimeHandle;
+use tokio::time::Handle as TimeHandle;
 
 /// The transport over tokio's sockets. Its runtime is one that has the network (`Net`) and the time (`Clock`).
 #[derive(Drop)]
 pub struct TokioTransport {
-    handle: Handle,
+    reactor: Handle,
+    timers: Option<TimeHandle>,
     // The connect that is under way, or whose outcome no poll has returned.
     attempt: Option<Attempt>,
 }
 
 impl TokioTransport {
-    /// A transport whose sockets are registered with this reactor: `runtime.handle().reactor().clone()?`.
+    /// A transport whose sockets are registered with this runtime, and whose limits its timers keep:
+    /// `runtime.handle()`.
+    ///
+    /// # Errors
+    /// Where an allocation fails.
+    pub fn of_runtime(handle: &RuntimeHandle) -> Result<TokioTransport, AllocError>
+        ensures { IfOk result (λ made. made.attempt ≡ None) }
+    {
+        let reactor = handle.reactor().clone()?;
+        let timers = handle.time().clone()?;
+        Ok(TokioTransport {
+            reactor,
+            timers: Some(timers),
+            attempt: None,
+        })
+    }
+
+    /// A transport whose sockets are registered with this reactor: `runtime.handle().reactor().clone()?`. It has no
+    /// timers: a task that waits for a peer, or for a connect within a time, is polled again at once.
     pub fn new(handle: Handle) -> TokioTransport
         ensures { result.attempt ≡ None }
     {
         TokioTransport {
-            handle,
+            reactor: handle,
+            timers: None,
             attempt: None,
         }
     }
@@ -60,7 +83,7 @@ impl TokioTransport {
         if let Some(outcome) = attempt.take_outcome() {
             return Poll::Ready(outcome.map_err(fault));
         }
-        match attempt.has_passed(rt, limit) {
+        match attempt.has_passed(rt, self.timers.as_ref(), limit) {
             Ok(false) => {
                 self.attempt = Some(attempt);
                 Poll::Pending
@@ -79,7 +102,7 @@ impl TokioTransport {
     {
         match self.attempt.take() {
             Some(attempt) if attempt.is_to(address) => attempt,
-            _ => Attempt::begin(net, address, &self.handle),
+            _ => Attempt::begin(net, address, &self.reactor),
         }
     }
 }
@@ -147,7 +170,7 @@ impl<R: Net + Clock> PollTransport<R, ()> for TokioTransport {
         ensures at_once { OnPending result ⊥ }
         ensures same { self.new ≡ self.old }
     {
-        match TokioListener::bind(rt, address, &self.handle) {
+        match TokioListener::bind(rt, address, &self.reactor) {
             Ok(made) => Poll::Ready(Ok(Ok(made))),
             Err(error) => Poll::Ready(Ok(Err(fault(error)))),
         }
@@ -166,7 +189,7 @@ impl<R: Net + Clock> PollTransport<R, ()> for TokioTransport {
             (λ accepted. result ≡ Poll.Ready (Ok (accepted_as accepted))) }
         ensures same { self.new ≡ self.old }
     {
-        match listener.poll_peer(rt, deadline) {
+        match listener.poll_peer(rt, self.timers.as_ref(), deadline) {
             Poll::Ready(Ok((stream, peer))) => Poll::Ready(Ok(Ok((TokioConn::new(stream), peer)))),
             Poll::Ready(Err(fault)) => Poll::Ready(Ok(Err(fault))),
             Poll::Pending => Poll::Pending,
