@@ -4,12 +4,12 @@ use crate::scene::{Scene, came, done, greeted, listening, send, waits};
 use ftp_base::status::Status;
 use std::alloc::AllocGlobal;
 use std::io;
-use std::io::Write;
+use std::io::{Read, Write};
 use std::net::{Net, TcpListener, TcpStream};
 use std::random::RandomSource;
 use std::sync::Wait;
 use std::test::Fail;
-use std::time::Clock;
+use std::time::{Clock, Duration};
 
 #[test]
 fn a_state_that_waits_sends_its_line_and_lets_the_reply_come(rt: HostRuntime) -> Result<(), Fail> {
@@ -83,7 +83,7 @@ fn a_read_that_is_dropped_keeps_what_came(rt: HostRuntime) -> Result<(), Fail> {
 }
 
 /// The reply to PASV that names this port of 127.0.0.1, and the one that agrees to an upload.
-fn write_passive(server: &mut TcpStream, port: u16) -> io::Result<()> {
+pub fn write_passive(server: &mut TcpStream, port: u16) -> io::Result<()> {
     let (high, low) = (port / 256, port % 256);
     write!(server, "227 on (127,0,0,1,{high},{low})\r\n150 go on\r\n")
 }
@@ -127,5 +127,36 @@ fn a_finish_that_is_dropped_is_drained_before_the_next_command(
         (true, true, true, true)
     );
     assert_eq!(rt; answered, 0);
+    Ok(())
+}
+
+/// A download whose state is polled until its connect has come to this listener, and dropped then; whether it waited, and
+/// whether the connection was closed.
+fn dropped_connect<R>(rt: &R, scene: &mut Scene, listener: &TcpListener) -> io::Result<(bool, bool)>
+where
+    R: Net + Wait + Clock + RandomSource + AllocGlobal,
+{
+    listener.set_nonblocking(true)?;
+    let mut opening = scene.client.retr_as_stream(rt, "a");
+    for _ in 0..8 {
+        let waited = waits(rt, &mut scene.runtime, &mut opening);
+        if let Ok((mut data, _address)) = listener.accept() {
+            drop(opening);
+            data.set_nonblocking(false)?;
+            data.set_read_timeout(Some(Duration::from_secs(5)))?;
+            return Ok((waited, matches!(data.read(&mut [0u8; 1]), Ok(0))));
+        }
+    }
+    Ok((false, false))
+}
+
+#[test]
+fn a_connect_is_given_up_with_its_call(rt: HostRuntime) -> Result<(), Fail> {
+    let mut scene = greeted(&rt)?;
+    let (listener, address) = listening(&rt)?;
+    write_passive(&mut scene.server, address.port())?;
+    let (waited, closed) = dropped_connect(&rt, &mut scene, &listener)?;
+    drop(scene);
+    assert_eq!(rt; (waited, closed), (true, true));
     Ok(())
 }

@@ -77,13 +77,14 @@ fn listen<R: Net + Clock>(
     }
 }
 
-/// What an accept results in within so many milliseconds, for which a peer has come or not; and that peer's address.
+/// What an accept results in within so many milliseconds, for which a peer has come or not; and that peer's address. The
+/// transport has no timers.
 fn accept<R>(rt: &R, comes: bool, limit: u64) -> io::Result<(Came, Option<SocketAddr>)>
 where
     R: Net<Stream = TcpStream> + Wait + Clock + RandomSource + AllocGlobal,
 {
     let mut runtime = running(rt)?;
-    let mut transport = transport(&runtime)?;
+    let mut transport = TokioTransport::new(runtime.handle().reactor().clone()?);
     let (listener, address) = listen(rt, &mut transport)?;
     let peer = if comes {
         Some(TcpStream::connect(rt, address)?)

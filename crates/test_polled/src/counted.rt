@@ -1,16 +1,19 @@
 //! How often a call is polled that waits.
 
-use crate::scene::{Client, Runtime, Scene, greeted, number};
+use crate::clients::write_passive;
+use crate::scene::{Runtime, Scene, greeted, listening, number, send};
+use ftp_base::types::FtpResult;
 use futures::Future;
 use futures::task::{Context, Poll};
 use std::alloc::AllocGlobal;
 use std::io::Write;
-use std::net::{Net, TcpStream};
+use std::net::{TcpListener, TcpStream};
 use std::random::RandomSource;
 use std::sync::Wait;
 use std::test::Fail;
 use std::time::{Clock, Duration};
 use std::{io, thread};
+use tokio::io::repeat;
 
 /// A future, and how often it was polled.
 #[derive(Drop)]
@@ -35,25 +38,34 @@ impl<F: Future> Future for Counted<F> {
     }
 }
 
+impl<F: Future> Counted<F> {
+    /// This future, which wasn't polled yet.
+    fn new(future: F) -> Counted<F>
+        ensures { result.future ≡ future }
+    {
+        Counted { future, polls: 0 }
+    }
+}
+
+/// Polls a call to its answer: the number of its fault, 0 where there is none and 255 where the runtime fails; and how
+/// often it was polled.
+pub fn polled<R, F, T>(rt: &R, runtime: &mut Runtime, call: F) -> (u8, u32)
+where
+    R: Wait + Clock + RandomSource + AllocGlobal,
+    F: Future<Output = FtpResult<T>>,
+    T: Drop,
+    requires { F.can_poll call }
+{
+    match runtime.block_on(rt, Counted::new(call)) {
+        Ok((answer, polls)) => (number(answer), polls),
+        Err(_error) => (255, 0),
+    }
+}
+
 /// Answers after a fifth of a second.
 fn answer_late<R: Clock>(rt: &R, mut server: TcpStream) -> io::Result<()> {
     thread::sleep(rt, Duration::from_millis(200));
     server.write_all(b"200 ok\r\n")
-}
-
-/// How often a call is polled whose answer comes late, and the number of its fault, 255 where the runtime fails.
-fn polled<R>(rt: &R, client: &Client, runtime: &mut Runtime) -> (u8, u32)
-where
-    R: Net + Wait + Clock + RandomSource + AllocGlobal,
-{
-    let call = Counted {
-        future: client.noop(rt),
-        polls: 0,
-    };
-    match runtime.block_on(rt, call) {
-        Ok((answer, polls)) => (number(answer), polls),
-        Err(_error) => (255, 0),
-    }
 }
 
 #[test]
@@ -65,10 +77,55 @@ fn a_call_that_waits_for_its_reply_is_polled_seldom(rt: HostRuntime) -> Result<(
         mut runtime,
     } = Box::into_inner(scene);
     let serving = thread::spawn(&rt, move || answer_late(&rt, server))?;
-    let (answer, polls) = polled(&rt, &client, &mut runtime);
+    let (answer, polls) = polled(&rt, &mut runtime, client.noop(&rt));
     let served = serving.join(&rt).is_ok();
     drop(client);
     drop(runtime);
     assert_eq!(rt; (answer, polls < 10, served), (0, true, true));
+    Ok(())
+}
+
+/// Accepts the data connection, sends a byte on it after a fifth of a second, and closes it.
+fn send_late<R: Clock>(rt: &R, listener: &TcpListener) -> io::Result<()> {
+    let (mut data, _address) = listener.accept()?;
+    thread::sleep(rt, Duration::from_millis(200));
+    data.write_all(b"x")
+}
+
+#[test]
+fn a_call_that_waits_for_its_data_is_polled_seldom(rt: HostRuntime) -> Result<(), Fail> {
+    let mut scene = greeted(&rt)?;
+    let (listener, address) = listening(&rt)?;
+    write_passive(&mut scene.server, address.port())?;
+    let sent = send(&mut scene.server, b"226 done\r\n");
+    let serving = thread::spawn(&rt, move || send_late(&rt, &listener))?;
+    let download = scene.client.retr_as_buffer(&rt, "a");
+    let (answer, polls) = polled(&rt, &mut scene.runtime, download);
+    let served = serving.join(&rt).is_ok();
+    drop(scene);
+    assert_eq!(rt; (answer, polls < 10, sent, served), (0, true, true, true));
+    Ok(())
+}
+
+/// Accepts the data connection, and resets it after a fifth of a second, since nothing was read.
+fn reset_late<R: Clock>(rt: &R, listener: &TcpListener) -> io::Result<()> {
+    let (data, _address) = listener.accept()?;
+    thread::sleep(rt, Duration::from_millis(200));
+    drop(data);
+    Ok(())
+}
+
+#[test]
+fn a_call_that_waits_for_room_is_polled_seldom(rt: HostRuntime) -> Result<(), Fail> {
+    let mut scene = greeted(&rt)?;
+    let (listener, address) = listening(&rt)?;
+    write_passive(&mut scene.server, address.port())?;
+    let serving = thread::spawn(&rt, move || reset_late(&rt, &listener))?;
+    let upload = scene.client.put_file(&rt, "a", repeat(b'x'));
+    let (answer, polls) = polled(&rt, &mut scene.runtime, upload);
+    let served = serving.join(&rt).is_ok();
+    drop(scene);
+    // a reset; each 32 writes in a row are a poll
+    assert_eq!(rt; (answer, polls < 500, served), (1, true, true));
     Ok(())
 }

@@ -16,4 +16,6 @@ mod scene;
 #[cfg(test)]
 mod settings;
 #[cfg(test)]
+mod threads;
+#[cfg(test)]
 mod traffic;

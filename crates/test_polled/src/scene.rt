@@ -31,7 +31,7 @@ where
 
 /// The transport of a runtime.
 pub fn transport(runtime: &LocalRuntime) -> io::Result<TokioTransport> {
-    Ok(TokioTransport::new(runtime.handle().reactor().clone()?))
+    Ok(TokioTransport::of_runtime(runtime.handle())?)
 }
 
 /// A listener on the loopback address, and its address.

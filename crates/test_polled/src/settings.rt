@@ -1,5 +1,6 @@
 //! Clients over tokio's sockets that connect by themselves, and what they were set to.
 
+use crate::counted::polled;
 use crate::scene::{Client, Scene, done, greeted, listening, running, send, transport};
 use ftp_base::encoding::Utf8Encoding;
 use ftp_base::types::{FtpError, FtpResult};
@@ -69,15 +70,16 @@ fn a_client_connects_within_its_limit_or_not_at_all(rt: HostRuntime) -> Result<(
     Ok(())
 }
 
-/// The numbers of the faults of a client that is set to wait 50 milliseconds for its server, and of its download.
-fn active<R>(rt: &R, scene: &mut Scene) -> (u8, u8)
+/// The numbers of the faults of a client that is set to wait a fifth of a second for its server, and of its download, and
+/// how often that was polled.
+fn active<R>(rt: &R, scene: &mut Scene) -> (u8, (u8, u32))
 where
     R: Net<Listener = TcpListener, Stream = TcpStream> + Wait + Clock + RandomSource + AllocGlobal,
 {
-    let setting = scene.client.active_mode(rt, Duration::from_millis(50));
+    let setting = scene.client.active_mode(rt, Duration::from_millis(200));
     let set = done(rt, &mut scene.runtime, setting);
     let opening = scene.client.retr_as_stream(rt, "a");
-    (set, done(rt, &mut scene.runtime, opening))
+    (set, polled(rt, &mut scene.runtime, opening))
 }
 
 #[test]
@@ -87,14 +89,14 @@ fn an_active_client_waits_for_its_server_as_long_as_it_was_set_to(
     let start = Instant::now(&rt)?;
     let mut scene = greeted(&rt)?;
     let sent = send(&mut scene.server, b"200 ok\r\n150 on\r\n");
-    let faults = active(&rt, &mut scene);
+    let (set, (fault, polls)) = active(&rt, &mut scene);
     let mut line = [0u8; 15];
     let read = scene.server.read_exact(&mut line).is_ok();
     drop(scene);
     let in_time = start.elapsed(&rt)? < Duration::from_secs(5);
     assert_eq!(rt; (sent, read, line), (true, true, *b"PORT 127,0,0,1,"));
     // TimedOut
-    assert_eq!(rt; (faults, in_time), ((0, 8), true));
+    assert_eq!(rt; (set, fault, in_time, polls < 10), (0, 8, true, true));
     Ok(())
 }
 

@@ -21,6 +21,40 @@ fn a_read_and_a_write_that_wait_go_on(rt: HostRuntime) -> Result<(), Fail> {
     Ok(())
 }
 
+/// How many reads of one byte go on until one waits, of 40 at most.
+fn reads_in_a_row(conn: &mut TokioConn) -> u8 {
+    let mut byte = [0u8; 1];
+    for count in 0..40 {
+        if conn.poll_read(&mut (), &mut byte) != Ok(Poll::Ready(1)) {
+            return count;
+        }
+    }
+    40
+}
+
+/// How many writes of one byte go on until one waits, of 40 at most.
+fn writes_in_a_row(conn: &mut TokioConn) -> u8 {
+    for count in 0..40 {
+        if conn.poll_write(&mut (), b"x") != Ok(Poll::Ready(1)) {
+            return count;
+        }
+    }
+    40
+}
+
+#[test]
+fn one_of_many_reads_and_writes_in_a_row_waits(rt: HostRuntime) -> Result<(), Fail> {
+    let runtime = running(&rt)?;
+    let (mut conn, peer) = pair(&rt, &runtime, &[b'x'; 40])?;
+    let reads = [reads_in_a_row(&mut conn), reads_in_a_row(&mut conn)];
+    let writes = [writes_in_a_row(&mut conn), writes_in_a_row(&mut conn)];
+    drop(peer);
+    drop(conn);
+    drop(runtime);
+    assert_eq!(rt; (reads, writes), ([32, 8], [32, 32]));
+    Ok(())
+}
+
 /// What a write takes before a connection is closed, why none does after it, and why it has no end then.
 fn closed(conn: &mut TokioConn) -> (Result<Poll<usize>, ErrorKind>, [Option<ErrorKind>; 3]) {
     let written = conn.poll_write(&mut (), b"ping");

@@ -1,0 +1,70 @@
+//! A client that the tasks of several threads share.
+
+use crate::scene::{Client, listening};
+use ftp_tokio::TokioTransport;
+use futures::{FutureExt, StreamExt, stream};
+use std::alloc::AllocGlobal;
+use std::io::{Read, Write};
+use std::net::{Net, SocketAddr, TcpListener, TcpStream};
+use std::random::RandomSource;
+use std::sync::Wait;
+use std::sync::atomic::AtomicU32;
+use std::sync::atomic::Ordering::SeqCst;
+use std::test::Fail;
+use std::thread::Threads;
+use std::time::Clock;
+use std::{io, thread};
+use tokio::runtime::Runtime;
+
+/// How many calls each of the two tasks makes.
+const CALLS: u32 = 2;
+
+/// A server that answers so many times SIZE of a file, whose name is one digit, by that digit.
+fn serve(listener: &TcpListener) -> io::Result<()> {
+    let (mut server, _address) = listener.accept()?;
+    server.write_all(b"220 ready\r\n")?;
+    let mut line = [0u8; 8];
+    for _ in 0..CALLS {
+        server.read_exact(&mut line)?;
+        write!(server, "213 {}\r\n", char::from(line[5]))?;
+    }
+    Ok(())
+}
+
+/// How many of the tasks of a runtime of two threads, which share a client, were given their own file's size.
+fn right<R>(rt: &R, address: SocketAddr) -> Result<u32, Fail>
+where
+    R: Net<Listener = TcpListener, Stream = TcpStream>
+        + Wait
+        + Threads
+        + Clock
+        + RandomSource
+        + AllocGlobal
+        + Sync,
+{
+    let mut runtime = Runtime::with_worker_threads(rt, 2)?;
+    let transport = TokioTransport::of_runtime(runtime.handle())?;
+    let client = runtime.block_on(rt, Client::connect(rt, transport, &[address]))??;
+    let right = AtomicU32::new(0);
+    let count = &right;
+    let calls = [(1, client.size(rt, "1")), (2, client.size(rt, "2"))];
+    let tasks = stream::iter(calls).map(move |(size, call)| {
+        call.map(move |answer| {
+            if matches!(answer, Ok(given) if given == size) {
+                count.fetch_add(1, SeqCst);
+            }
+        })
+    });
+    runtime.run_all(rt, tasks)?;
+    Ok(right.load(SeqCst))
+}
+
+#[test]
+fn tasks_of_two_threads_get_their_own_answers(rt: HostRuntime) -> Result<(), Fail> {
+    let (listener, address) = listening(&rt)?;
+    let serving = thread::spawn(&rt, move || serve(&listener))?;
+    let right = right(&rt, address)?;
+    let served = serving.join(&rt).is_ok();
+    assert_eq!(rt; (right, served), (2, true));
+    Ok(())
+}
