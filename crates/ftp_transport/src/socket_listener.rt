@@ -41,10 +41,11 @@ impl TcpConnListener {
         ))
     }
 
-    /// Accepts a connection within this time, counted from the listener's first accept.
+    /// Accepts a connection within this time, counted from the listener's first accept. A connection that has come is
+    /// taken, however late it is asked for.
     ///
     /// # Errors
-    /// `TimedOut` where the time has passed; the system's fault.
+    /// `TimedOut` where the time has passed and no connection has come; the system's fault.
     pub fn accept_within<R: Clock>(
         &mut self,
         rt: &R,
@@ -52,9 +53,7 @@ impl TcpConnListener {
     ) -> Result<(TcpStream, SocketAddr), ConnectionError> {
         let since = self.since(rt).map_err(fault)?;
         for _ in 0..u64::MAX {
-            if since.elapsed(rt).map_err(fault)? >= deadline {
-                return Err(ConnectionError::TimedOut);
-            }
+            let passed = since.elapsed(rt).map_err(fault)? >= deadline;
             match self.accept_retrying() {
                 Ok((stream, peer)) => {
                     stream.set_nonblocking(false).map_err(fault)?;
@@ -62,6 +61,9 @@ impl TcpConnListener {
                 }
                 Err(error) if error.kind() == ErrorKind::WouldBlock => {}
                 Err(error) => return Err(fault(error)),
+            }
+            if passed {
+                return Err(ConnectionError::TimedOut);
             }
             thread::sleep(rt, Duration::from_millis(PAUSE));
         }

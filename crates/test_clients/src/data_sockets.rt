@@ -119,15 +119,16 @@ fn a_reset_is_an_error_and_no_end_of_data(rt: HostRuntime) -> Result<(), Fail> {
 }
 
 #[test]
-fn nobody_comes_before_the_deadline_or_after_it(rt: HostRuntime) -> Result<(), Fail> {
+fn nobody_comes_before_the_deadline_and_who_has_come_is_taken_late(
+    rt: HostRuntime,
+) -> Result<(), Fail> {
     let (mut listener, bound) = listening(&rt)?;
     let before = fault_within(&rt, &mut listener, 5)?;
-    let late = TcpStream::connect(&rt, bound)?;
-    let after = fault_within(&rt, &mut listener, 5);
-    drop(late);
+    let peer = TcpStream::connect(&rt, bound)?;
+    let late = fault_within(&rt, &mut listener, 5);
+    drop(peer);
     drop(listener);
-    let fault = Some(ConnectionError::TimedOut);
-    assert_eq!(rt; (before, after), (fault, Ok(fault)));
+    assert_eq!(rt; (before, late), (Some(ConnectionError::TimedOut), Ok(None)));
     Ok(())
 }
 

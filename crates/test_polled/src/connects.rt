@@ -110,5 +110,7 @@ fn who_comes_is_accepted_and_nobody_comes_before_the_deadline(rt: HostRuntime) -
     let (came, from) = accept(&rt, true, 5000)?;
     let (nobody, _none) = accept(&rt, false, 5)?;
     assert_eq!(rt; (came.ok(), nobody), (from, Err(ConnectionError::TimedOut)));
+    let (late, from) = accept(&rt, true, 0)?;
+    assert_eq!(rt; late.ok(), from);
     Ok(())
 }
