@@ -13,17 +13,17 @@ use Rattle.ftp_transfer.specs.Mark.{End}
 use Rattle.ftp_transfer.specs.Transfer.{TransferValue}
 use Rattle.ftp_transfer.specs.declared.direction.Direction.{Direction}
 use Rattle.ftp_dialogue.specs.Coding.{Coding}
-use Rattle.ftp_session.specs.Polled.{HandsOver}
-use Rattle.ftp_calls.specs.Kinds.{IsOpening}
-use Rattle.ftp_session.specs.Handed.{BeginsToSettle, BeginsToSettleIf, BeginsToSettleUnless, BringsToEnd, BringsToEndIf, TakesBack, TakesBackIf, LooksIf, ReadsSeen, OpensAs, OpensEither, OpensFrom, Opens, OpensReplied, PlaysSeen, Settles, SettlesIf, Strays, SettlesUnless, as_seen, found, is_out, left_if, watches, with_data, with_reply, without_reply}
+use Rattle.ftp_session.specs.Polled.{HandsOver, Strays}
+use Rattle.ftp_session.specs.Handed.{BeginsToSettle, BeginsToSettleIf, BeginsToSettleUnless, BringsToEnd, BringsToEndIf, HandsConnection, TakesBack, TakesBackIf, LooksIf, ReadsSeen, OpensAs, OpensEither, OpensFrom, Opens, OpensReplied, PlaysSeen, Settles, SettlesIf, Strands, SettlesUnless, as_seen, found, is_out, left_if, opens, watches, with_data, with_reply, without_reply}
 use Rattle.ftp_dialogue.specs.Link.{Link}
 use Rattle.ftp_dialogue.specs.Dialogue.{Expected}
-use Rattle.ftp_dialogue.specs.Promises.{GivesFault, Plays, PlaysAlone}
+use Rattle.ftp_dialogue.specs.Promises.{GivesFault, IsFault, Plays, PlaysAlone}
 use Rattle.ftp_dialogue.specs.Reading.{PollsRead}
-use Rattle.ftp_dialogue.specs.Sound.{is_owed, next_number}
+use Rattle.ftp_dialogue.specs.Sound.{is_live, is_owed, next_number}
 use Rattle.ftp_dialogue.specs.Steps.Moving.{withheld}
 use Rattle.ftp_dialogue.proofs.TransitionsLemmas.{withheld_plays}
 use Rattle.ftp_dialogue.specs.State.{SessionValue}
+use Rattle.ftp_session.proofs.OpeningAnswers.{opening_answers}
 
 -- a session that handed out no transfer finds none
 pub unmarked : (mark after : Option End) (v : SessionValue) → mark ≡ None → LooksIf (watches mark v) mark after → after ≡ None
@@ -149,21 +149,28 @@ opens_seen link coding call copy made replies direction mark between after forme
     record { between = between; looks = looks; goes_on = subst R sees (subst Q (subst P is same) opens) }
 
 -- an opening call that isn't made, since memory ran out
-pub opens_withheld : (link : Link) (coding : Coding) (call : Call) (replies : Bool) (direction : Direction) (mark former : Option End) (v : SessionValue) → IsOpening call → OpensEither link coding call replies direction mark mark former former v v (Err (withheld v))
-opens_withheld link coding call replies direction mark former v opening =
-    (refl, refl, record { answer = Fault (withheld v); given = v; plays = withheld_plays link coding call v opening.1 opening.2; ends = inl (refl, refl) })
+pub opens_withheld : (link : Link) (coding : Coding) (call : Call) (replies : Bool) (direction : Direction) (mark former : Option End) (v : SessionValue) → HandsConnection replies call → OpensEither link coding call replies direction mark mark former former v v (Err (withheld v))
+opens_withheld link coding call replies direction mark former v hands =
+    (refl, refl, record { answer = Fault (withheld v); given = v; plays = withheld_plays link coding call v hands.sort.1 hands.sort.2; ends = inl (refl, refl) })
 
 -- what an opening call returns, by what was handed over of its answer
-pub hands_opens : (link : Link) (coding : Coding) (call : Call) (replies : Bool) (direction : Direction) (end : End) (mark after former kept : Option End) (old given new : SessionValue) (answer : Answer) (result : Result (Option Response × TransferValue) FtpError) → end.number ≡ next_number old.state.counts → Plays link coding call old given answer → HandsOver replies direction end answer mark after former kept given new result → OpensEither link coding call replies direction mark after former kept old new result
-hands_opens link coding call replies direction end mark after former kept old given new answer (Ok opened) numbers plays hands =
+pub hands_opens : (link : Link) (coding : Coding) (call : Call) (replies : Bool) (direction : Direction) (end : End) (mark after former kept : Option End) (old given new : SessionValue) (answer : Answer) (result : Result (Option Response × TransferValue) FtpError) → HandsConnection replies call → end.number ≡ next_number old.state.counts → Plays link coding call old given answer → HandsOver replies direction end answer mark after former kept given new result → OpensEither link coding call replies direction mark after former kept old new result
+hands_opens link coding call replies direction end mark after former kept old given new answer (Ok opened) connection numbers plays hands =
     let P : Answer → Type 0 = λ a. Plays link coding call old given a in
     (hands.3, hands.1, record { given = given; plays = subst P hands.0 plays; hands = hands.4 })
-hands_opens link coding call replies direction end mark after former kept old given new answer (Err fault) numbers plays hands =
+hands_opens link coding call replies direction end mark after former kept old given new answer (Err fault) connection numbers plays hands =
     (hands.0, hands.1, record { answer = answer; given = given; plays = plays; ends = ends hands.2 })
   where
-    ends : ((answer ≡ Fault fault) × (new ≡ given)) ⊎ Strays replies end.number answer fault given new → ((answer ≡ Fault fault) × (new ≡ given)) ⊎ Strays replies (next_number old.state.counts) answer fault given new
+    opened : (IsFault answer → ⊥) → IsFault answer ⊎ (opens replies answer ≡ true) → opens replies answer ≡ true
+    opened none (inl fault) = absurd (none fault)
+    opened none (inr opens) = opens
+
+    ends : ((answer ≡ Fault fault) × (new ≡ given)) ⊎ Strays replies end.number answer fault given new → ((answer ≡ Fault fault) × (new ≡ given)) ⊎ Strands replies (next_number old.state.counts) answer fault given new
     ends (inl failed) = inl failed
-    ends (inr strays) = let P : ℕ → Type 0 = λ n. Strays replies n answer fault given new in inr (subst P numbers strays)
+    ends (inr strays) =
+        let is = opened strays.no_fault (opening_answers link replies coding call old given answer connection plays) in
+        let P : ℕ → Type 0 = λ n. (is_none given.net.data_conn ≡ true) ⊎ (is_live n given.state.counts.owed ≡ false) in
+        inr (record { opened = is; lacks = subst P numbers (strays.lacks is); is = strays.is; left = strays.left })
 
 -- whether an opening call that returned a transfer returned its reply
 pub hands_reply : (replies : Bool) (direction : Direction) (end : End) (mark after former kept : Option End) (given new : SessionValue) (answer : Answer) (result : Result (Option Response × TransferValue) FtpError) → HandsOver replies direction end answer mark after former kept given new result → IfOk result (λ opened. is_none opened.0 ≡ not replies)
@@ -171,7 +178,7 @@ hands_reply replies direction end mark after former kept given new answer (Ok op
 hands_reply replies direction end mark after former kept given new answer (Err fault) hands = tt
 
 -- an opening call isn't made, after the look, since memory ran out
-pub opens_out : (link : Link) (coding : Coding) (call : Call) (replies : Bool) (direction : Direction) (mark after former : Option End) (old seen : SessionValue) → LooksIf (watches mark old) mark after → seen ≡ as_seen after old → IsOpening call → OpensAs link coding call replies direction mark after former former old seen (Err (withheld seen))
+pub opens_out : (link : Link) (coding : Coding) (call : Call) (replies : Bool) (direction : Direction) (mark after former : Option End) (old seen : SessionValue) → LooksIf (watches mark old) mark after → seen ≡ as_seen after old → HandsConnection replies call → OpensAs link coding call replies direction mark after former former old seen (Err (withheld seen))
 opens_out link coding call replies direction mark after former old seen looks sees opening =
     let R : SessionValue → Type 0 = λ v. OpensEither link coding call replies direction after after former former v seen (Err (withheld seen)) in
     record { between = after; looks = looks; goes_on = subst R sees (opens_withheld link coding call replies direction after former seen opening) }

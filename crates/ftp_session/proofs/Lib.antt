@@ -4,5 +4,7 @@ pub mod CopyingLemmas
 pub mod FetchAnswers
 pub mod FilesLemmas
 pub mod Handed
+pub mod NegotiatedAnswers
+pub mod OpeningAnswers
 pub mod PolledLemmas
 pub mod Trees

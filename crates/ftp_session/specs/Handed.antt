@@ -5,10 +5,16 @@ use Rattle.ftp_base.specs.declared.types.reply.Response.{Response}
 use Rattle.ftp_base.specs.declared.types.fault.FtpError.{FtpError}
 use Rattle.ftp_base.specs.declared.types.fault.FtpError.TheVariants.{ConnectionError, SessionFailed}
 use Rattle.ftp_base.specs.declared.types.fault.ConnectionError.TheVariants.{NotOwed}
+use Rattle.ftp_calls.specs.Exchanges.{row_of}
+use Rattle.ftp_calls.specs.Kinds.{IsOpening}
 use Rattle.ftp_calls.specs.declared.call.Call.{Call}
 use Rattle.ftp_calls.specs.declared.call.Call.TheVariants.{Drain}
 use Rattle.ftp_calls.specs.declared.call.Answer.{Answer}
 use Rattle.ftp_calls.specs.declared.call.Answer.TheVariants.{Opened, OpenedWith, Fault, Unit as Done}
+use Rattle.ftp_calls.specs.declared.exchange.Ending.TheVariants as ending
+use Rattle.ftp_calls.specs.declared.exchange.Row.{Row}
+use Rattle.ftp_calls.specs.declared.exchange.Row.TheVariants.{Exchanges, Arms, Sets, Moves}
+use Rattle.ftp_calls.specs.declared.exchange.Turn.TheVariants.{First, Second}
 use Rattle.ftp_transfer.specs.Mark.{End, loaded}
 use Rattle.ftp_transport.specs.Told.{Told}
 use Rattle.ftp_transfer.specs.Transfer.{TransferValue}
@@ -106,25 +112,36 @@ pub record OpensFrom (link : Link) (coding : Coding) (call : Call) (direction : 
   pub plays : Plays link coding call old given (opened_as reply)
   pub hands : HandsOut direction given transfer after new
 
--- the answer is neither a fault nor that of a transfer that stands on a data connection under this number: no dialogue
--- comes to such an end
-pub record Strays (replies : Bool) (number : ℕ) (answer : Answer) (fault : FtpError) (given new : SessionValue) : Type 0 where
-  pub no_fault : IsFault answer → ⊥
-  pub lacks : opens replies answer ≡ true → (is_none given.net.data_conn ≡ true) ⊎ (is_live number given.state.counts.owed ≡ false)
-  pub is : fault ≡ ConnectionError NotOwed
-  pub left : new ≡ left_if true given
-
 -- no transfer is handed out: for this fault, and nothing changes; or for none, and the transfer that is live is left
 abbrev pub GivesUp : Option FtpError → FtpError → SessionValue → SessionValue → Type 0
 GivesUp (Some fault) cause old new = (cause ≡ fault) × (new ≡ old)
 GivesUp None cause old new = (cause ≡ ConnectionError NotOwed) × (new ≡ left_if true old)
+
+-- the last exchange of a call opens a data connection, and its reply is part of the answer or isn't
+abbrev pub OpensRow : Bool → Row → Type 0
+OpensRow replies (Exchanges exchange) = exchange.ending ≡ ending.Opens replies
+OpensRow replies (Arms offset) = ⊥
+OpensRow replies (Sets setting) = ⊥
+OpensRow replies (Moves movement) = ⊥
+
+pub record HandsConnection (replies : Bool) (call : Call) : Type 0 where
+  pub sort : IsOpening call
+  pub first : OpensRow replies (row_of call First)
+  pub last : OpensRow replies (row_of call Second)
+
+-- the answer is that of a data connection that was opened, and none stands, or no transfer on it under this number
+pub record Strands (replies : Bool) (number : ℕ) (answer : Answer) (fault : FtpError) (given new : SessionValue) : Type 0 where
+  pub opened : opens replies answer ≡ true
+  pub lacks : (is_none given.net.data_conn ≡ true) ⊎ (is_live number given.state.counts.owed ≡ false)
+  pub is : fault ≡ ConnectionError NotOwed
+  pub left : new ≡ left_if true given
 
 -- a call opens no transfer: this fault is its answer
 pub record FailsFrom (link : Link) (coding : Coding) (call : Call) (replies : Bool) (old : SessionValue) (fault : FtpError) (new : SessionValue) : Type 0 where
   pub answer : Answer
   pub given : SessionValue
   pub plays : Plays link coding call old given answer
-  pub ends : ((answer ≡ Fault fault) × (new ≡ given)) ⊎ Strays replies (next_number old.state.counts) answer fault given new
+  pub ends : ((answer ≡ Fault fault) × (new ≡ given)) ⊎ Strands replies (next_number old.state.counts) answer fault given new
 
 -- what an opening call returns after the look: a transfer, with its reply or without, and the mark of before is kept; or the
 -- call's fault, and the marks stay

@@ -1,12 +1,12 @@
 -- A call that is polled: the look at its first poll, the last reply of a transfer that was left, and the call itself. RFC
 -- 959, sections 3.2 and 5.4.
-use Rattle.std.specs.Prelude.{◌≡◌, ◌⊎◌, Bool, true, false, Option, Result, Ok, Err, is_none, not}
+use Rattle.std.specs.Prelude.{◌≡◌, ◌⊎◌, ℕ, Bool, true, false, Option, Result, Ok, Err, is_none, not}
 use Rattle.futures.specs.declared.task.Poll.{Poll}
 use Rattle.futures.specs.declared.task.Poll.TheVariants.{Ready, Pending}
 use Rattle.ftp_base.specs.declared.types.reply.Response.{Response}
 use Rattle.ftp_base.specs.declared.types.fault.FtpError.{FtpError}
 use Rattle.ftp_base.specs.declared.types.fault.FtpError.TheVariants.{ConnectionError}
-use Rattle.ftp_base.specs.declared.types.fault.ConnectionError.TheVariants.{AlreadyCompleted}
+use Rattle.ftp_base.specs.declared.types.fault.ConnectionError.TheVariants.{AlreadyCompleted, NotOwed}
 use Rattle.ftp_calls.specs.declared.call.Answer.{Answer}
 use Rattle.ftp_calls.specs.declared.call.Answer.TheVariants.{Fault}
 use Rattle.ftp_calls.specs.declared.call.Call.{Call}
@@ -17,12 +17,13 @@ use Rattle.ftp_dialogue.specs.Coding.{Coding}
 use Rattle.ftp_dialogue.specs.Dropping.{DropsCall}
 use Rattle.ftp_dialogue.specs.Link.{Link}
 use Rattle.ftp_dialogue.specs.Play.{is_unit}
-use Rattle.ftp_dialogue.specs.Promises.{due_of}
+use Rattle.ftp_dialogue.specs.Promises.{IsFault, due_of}
+use Rattle.ftp_dialogue.specs.Sound.{is_live}
 use Rattle.ftp_dialogue.specs.State.{SessionValue}
 use Rattle.ftp_dialogue.specs.Steps.Polls.{StartsTo}
 use Rattle.ftp_dialogue.specs.declared.stage.Stage.{Stage}
 use Rattle.ftp_dialogue.specs.declared.stage.Stage.TheVariants.{At}
-use Rattle.ftp_session.specs.Handed.{HandsOut, LooksIf, Strays, as_seen, opened_as, watches}
+use Rattle.ftp_session.specs.Handed.{HandsOut, LooksIf, as_seen, left_if, opened_as, opens, watches}
 use Rattle.ftp_transfer.specs.Transfer.{TransferValue}
 use Rattle.ftp_transfer.specs.declared.direction.Direction.{Direction}
 
@@ -100,6 +101,13 @@ abbrev pub Drops : Type 0 → UnderWay → SessionValue → SessionValue → Typ
 Drops tells p old new = DropsUnless p.over tells p old new
 
 -- What an answer comes to
+
+-- an answer is neither a fault nor that of a transfer that stands on a data connection under this number
+pub record Strays (replies : Bool) (number : ℕ) (answer : Answer) (fault : FtpError) (given new : SessionValue) : Type 0 where
+  pub no_fault : IsFault answer → ⊥
+  pub lacks : opens replies answer ≡ true → (is_none given.net.data_conn ≡ true) ⊎ (is_live number given.state.counts.owed ≡ false)
+  pub is : fault ≡ ConnectionError NotOwed
+  pub left : new ≡ left_if true given
 
 -- an answer opens a transfer under this mark, which is handed out, and the mark of before is kept; or it is a fault, or
 -- none that opens one, and the marks stay

@@ -6,8 +6,7 @@
 ghost use Rattle.std.specs.Prelude.{◌≡◌, IfOk, false, is_none, not};
 ghost use Rattle.ftp_calls.specs.declared.call.Call.{Call as Called};
 ghost use Rattle.ftp_dialogue.specs.Coding.{chosen};
-ghost use Rattle.ftp_calls.specs.Kinds.{IsOpening};
-ghost use Rattle.ftp_session.specs.Handed.{OpensAs, OpensEither, Opens, OpensReplied, with_reply, without_reply};
+ghost use Rattle.ftp_session.specs.Handed.{HandsConnection, OpensAs, OpensEither, Opens, OpensReplied, with_reply, without_reply};
 ghost use Rattle.ftp_dialogue.specs.Link.{asking, blocking, built_by};
 ghost use Rattle.ftp_transfer.specs.declared.direction.Direction.TheVariants as directions;
 
@@ -143,8 +142,8 @@ where
     ) -> FtpResult<(Option<Response>, Transfer<Tr::Conn>)>
     where
         Tr: Transport<R>,
-        requires { IfOk call IsOpening }
-        ensures opens { (made : Called) → IsOpening made → IfOk call (λ c. c ≡ made) →
+        requires { IfOk call (λ c. HandsConnection replies c) }
+        ensures opens { (made : Called) → HandsConnection replies made → IfOk call (λ c. c ≡ made) →
             OpensAs (asking (built_by B.answers self.old.builder) ⊥ (blocking Tr.Conn.Conn)) (chosen E.decoded E.encoded self.old.encoding.0) made
             replies direction self.old.mark self.new.mark self.old.former self.new.former self.old.machine self.new.machine result }
         ensures replies { IfOk result (λ opened. is_none opened.0 ≡ not replies) }
@@ -173,7 +172,7 @@ where
     ) -> FtpResult<(Option<Response>, Transfer<Tr::Conn>)>
     where
         Tr: Transport<R>,
-        requires { IsOpening call.now }
+        requires { HandsConnection replies call.now }
         ensures opens { OpensEither (asking (built_by B.answers self.old.builder) ⊥ (blocking Tr.Conn.Conn)) (chosen E.decoded E.encoded self.old.encoding.0) call.now
             replies direction self.old.mark self.new.mark self.old.former self.new.former self.old.machine self.new.machine result }
         ensures replies { IfOk result (λ opened. is_none opened.0 ≡ not replies) }

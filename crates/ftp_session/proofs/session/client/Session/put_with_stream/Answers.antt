@@ -4,4 +4,4 @@ use Rattle.ftp_session.proofs.Handed.{opens_plain}
 use Rattle.ftp_session.proofs.session.client.Session.put_with_stream.Goals as goal
 
 pub returns-clause-opens : goal.returns-clause-opens
-returns-clause-opens g c = rw c.without_reply.ensures (opens_plain _ _ _ _ _ _ _ _ _ _ _ (c.open.ensures.opens (PutWithStream c.args.path.now) (refl, refl, refl) c.put_call.ensures.call))
+returns-clause-opens g c = rw c.without_reply.ensures (opens_plain _ _ _ _ _ _ _ _ _ _ _ (c.open.ensures.opens (PutWithStream c.args.path.now) (record { sort = (refl, refl, refl); first = refl; last = refl }) c.put_call.ensures.call))
