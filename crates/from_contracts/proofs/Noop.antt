@@ -8,7 +8,7 @@ use Rattle.ftp_base.specs.declared.types.fault.FtpError.TheVariants.{ConnectionE
 use Rattle.ftp_base.specs.declared.types.fault.ConnectionError.TheVariants.{Io}
 use Rattle.ftp_base.specs.Command.{text_of, words_of}
 use Rattle.ftp_control.specs.declared.control.rule.ReplyRule.{ReplyRule}
-use Rattle.ftp_control.specs.declared.control.rule.ReplyRule.TheVariants.{Lenient}
+use Rattle.ftp_control.specs.declared.control.rule.ReplyRule.TheVariants.{Strict}
 use Rattle.ftp_transport.specs.declared.room.Room.TheVariants.{Any}
 use Rattle.ftp_dialogue.specs.Deals.{first_net, outcomes_of}
 use Rattle.ftp_dialogue.specs.declared.model.Dealings.{Dealings}
@@ -57,17 +57,14 @@ answers_of (Finished answers s) = answers
 answers_of (Waiting answers wait s) = answers
 
 -- what the definition says of these bytes, where no transfer was opened
-played : (decode : List ℕ → List ℕ) (state : State) (said unsent : List ℕ) (local peer : SocketAddr) (dealings : Dealings) (outcomes : List DealOutcome) (ended : Bool) → answers_of (run Any (as_it_is decode) (Greet ∷ Noop ∷ []) (record { state = record state { counts = no_transfers }; failed = false; rule = Lenient; said = said; unsent = unsent; local = local; peer = peer; dealings = dealings; bytes = server; ended = ended; outcomes = outcomes })) ≡ Done ∷ Done ∷ []
+played : (decode : List ℕ → List ℕ) (state : State) (said unsent : List ℕ) (local peer : SocketAddr) (dealings : Dealings) (outcomes : List DealOutcome) (ended : Bool) → answers_of (run Any (as_it_is decode) (Greet ∷ Noop ∷ []) (record { state = record state { counts = no_transfers }; failed = false; rule = Strict; said = said; unsent = unsent; local = local; peer = peer; dealings = dealings; bytes = server; ended = ended; outcomes = outcomes })) ≡ Done ∷ Done ∷ []
 unfolding run play outcome text_of words_of
 played decode state said unsent local peer dealings outcomes ended = refl
-
-lenient : (rule : ReplyRule) → rule ≡ Lenient
-lenient Lenient = refl
 
 same_fault : (one other : FtpError) → Fault one ≡ Fault other → one ≡ other
 same_fault one other is = cc is
 
-module _ (builds : Builds) (decode : List ℕ → List ℕ) (old new : SessionValue) (answers : List Answer) (begins : Begins (Unit {0}) (fed server fresh_memory) (first_net [] [] []) old) (given : IsGiven new.channel.told) (sound : IsSound (Unit {0}) new.channel) where
+module _ (builds : Builds) (decode : List ℕ → List ℕ) (old new : SessionValue) (answers : List Answer) (begins : Begins (Unit {0}) Strict (fed server fresh_memory) (first_net [] [] []) old) (given : IsGiven new.channel.told) (sound : IsSound (Unit {0}) new.channel) where
   abbrev calls : List Call
   calls = Greet ∷ Noop ∷ []
 
@@ -96,9 +93,9 @@ module _ (builds : Builds) (decode : List ℕ → List ℕ) (old new : SessionVa
       let bytes = untaken old.channel ++ (runs.came ++ given.ahead) in
       sym (ap answers_of there)
       ∙ ap (λ f. B f old.channel.rule bytes) begins.idle.failed
-      ∙ ap (λ r. B false r bytes) (lenient old.channel.rule)
-      ∙ ap (λ b. B false Lenient b) (all_came runs)
-      ∙ ap (λ c. F (record (begin_at outcomes false Lenient server) { state = record old.state { counts = c } })) begins.first.transfers
+      ∙ ap (λ r. B false r bytes) begins.rule_is
+      ∙ ap (λ b. B false Strict b) (all_came runs)
+      ∙ ap (λ c. F (record (begin_at outcomes false Strict server) { state = record old.state { counts = c } })) begins.first.transfers
       ∙ played decode old.state old.channel.told.sent old.channel.unsent _ _ _ outcomes new.channel.ended
 
   aborted : RunAborts (over_memory builds) (as_it_is decode) calls [] old new answers → WasAborted answers

@@ -24,6 +24,20 @@ impl<K: Drop, E: Encoding, B: Drop> ImplFtpStream<TcpTransport, K, E, B> {
         ImplFtpStream::new(alloc, session)
     }
 
+    /// The same, where replies are read leniently from the greeting on: for servers that end a reply of several lines
+    /// with another code than it began with.
+    ///
+    /// # Errors
+    /// Those of `connect`.
+    pub fn connect_lenient<R>(rt: &R, addresses: &[SocketAddr]) -> FtpResult<Self>
+    where
+        R: Net<Listener = TcpListener, Stream = TcpStream> + Clock + AllocGlobal,
+    {
+        let alloc = rt.alloc();
+        let session = Session::connect_lenient(alloc, rt, TcpTransport, addresses)?;
+        ImplFtpStream::new(alloc, session)
+    }
+
     /// A client on this address, connected to within this time, once the server's greeting (220) was read. There is no
     /// limit to how long the greeting is waited for. No time at all asks for no connection.
     ///
@@ -46,6 +60,20 @@ impl<K: Drop, E: Encoding, B: Drop> ImplFtpStream<TcpTransport, K, E, B> {
     pub fn connect_with_stream<R: AllocGlobal>(rt: &R, stream: TcpStream) -> FtpResult<Self> {
         let alloc = rt.alloc();
         let session = Session::connect_with_stream(alloc, TcpTransport, TcpConn::new(stream))?;
+        ImplFtpStream::new(alloc, session)
+    }
+
+    /// The same, where replies are read leniently from the greeting on, as by `connect_lenient`.
+    ///
+    /// # Errors
+    /// Those of `connect_with_stream`.
+    pub fn connect_with_stream_lenient<R: AllocGlobal>(
+        rt: &R,
+        stream: TcpStream,
+    ) -> FtpResult<Self> {
+        let alloc = rt.alloc();
+        let conn = TcpConn::new(stream);
+        let session = Session::connect_with_stream_lenient(alloc, TcpTransport, conn)?;
         ImplFtpStream::new(alloc, session)
     }
 }

@@ -6,4 +6,5 @@ pub mod Reading
 pub mod ReadLoop
 pub mod Replies
 pub mod Sending
+pub mod Strict
 pub mod WireLines

@@ -6,7 +6,7 @@ use Rattle.ftp_control.specs.Inside.UnderWay.{IsUnderWay}
 use Rattle.std.proofs.lemmas.List.{take-append-le, drop-append-le}
 use Rattle.std.proofs.Math.Seq.{drop-append_seam}
 use Rattle.ftp_control.specs.declared.control.rule.ReplyRule.{ReplyRule}
-use Rattle.ftp_control.specs.declared.control.rule.ReplyRule.TheVariants.{Lenient}
+use Rattle.ftp_control.specs.declared.control.rule.ReplyRule.TheVariants.{Strict, Lenient}
 use Rattle.ftp_control.specs.declared.control.outcome.Outcome.TheVariants.{Whole, Bad, TooLarge, Ended, Waits}
 use Rattle.ftp_control.specs.declared.control.grammar.Verdict.{Verdict}
 use Rattle.ftp_control.specs.declared.control.grammar.Verdict.TheVariants.{Refused, Ends, GoesOn}
@@ -84,6 +84,7 @@ first_of [] line = line
 first_of (first ∷ lines) line = first
 
 ends-code : (rule : ReplyRule) (dash : Bool) (first reply line : List ℕ) → take 3 reply ≡ take 3 first → ends rule dash reply line ≡ ends rule dash first line
+ends-code Strict dash first reply line same = rw same
 ends-code Lenient dash first reply line same = rw same
 
 -- the phase after a line more
@@ -162,12 +163,12 @@ found_after-line rule form ended (first ∷ lines) reply line same never =
 
 -- a first line that opens a reply has its code
 opens-length : (rule : ReplyRule) (line : List ℕ) → opens rule line ≡ true → 5 ≤ length line
-opens-length Lenient line is =
-    elim (leb 5 (length line)) as (λ t. leb 5 (length line) ≡ t → 5 ≤ length line) [
-      | true ↦ λ e. leb-true 5 (length line) e
-      | false ↦ λ e. let clash : false ≡ true = rw e at is in cc
-    ]
-    refl
+opens-length rule line is = long rule (leb 5 (length line)) refl is
+  where
+    long : (rule : ReplyRule) (t : Bool) → leb 5 (length line) ≡ t → opens rule line ≡ true → 5 ≤ length line
+    long rule true e opened = leb-true 5 (length line) e
+    long Strict false e opened = let clash : false ≡ true = rw e at opened in cc
+    long Lenient false e opened = let clash : false ≡ true = rw e at opened in cc
 
 pub first_code : (rule : ReplyRule) (form : ReplyForm) (bytes more : List ℕ) → HoldsTooLittle rule form bytes → take 3 (bytes ++ more) ≡ take 3 (first_of (whole_lines bytes) (rest bytes ++ more))
 first_code rule form bytes more held = go (whole_lines bytes) refl
@@ -345,6 +346,7 @@ nothing_under_way rule = record { split = refl; phase_is = refl; waits = refl }
 
 -- a line that a dash doesn't end, a space doesn't either
 ends_by_space : (rule : ReplyRule) (reply line : List ℕ) → ends rule true reply line ≡ false → ends rule false reply line ≡ false
+ends_by_space Strict reply line is = is
 ends_by_space Lenient reply line is = cases (nat_le 4 (length line) && begins_with_digits line) (nat_eq (slice_index line 3) 32) is
   where
     dash : Bool
@@ -367,8 +369,8 @@ four a b c d line is =
     let last = and_parts _ _ three.1 in
     (sym (eqb-true 50 a one.0), sym (eqb-true 49 b two.0), sym (eqb-true 49 c three.0), sym (eqb-true 32 d last.0))
 
-closes_any : (rule : ReplyRule) (dash : Bool) (reply line : List ℕ) → ends rule dash reply line ≡ false → is_last line ≡ false
-closes_any Lenient dash reply (a ∷ b ∷ c ∷ d ∷ line) is =
+closes_any : (dash : Bool) (reply line : List ℕ) → ends Lenient dash reply line ≡ false → is_last line ≡ false
+closes_any dash reply (a ∷ b ∷ c ∷ d ∷ line) is =
     elim (is_last (a ∷ b ∷ c ∷ d ∷ line)) as (λ t. is_last (a ∷ b ∷ c ∷ d ∷ line) ≡ t → t ≡ false) [
       | true ↦ λ e.
           let parts = four a b c d line e in
@@ -379,10 +381,51 @@ closes_any Lenient dash reply (a ∷ b ∷ c ∷ d ∷ line) is =
       | false ↦ λ e. refl
     ]
     refl
-closes_any Lenient dash reply (a ∷ b ∷ c ∷ []) is = rw (and_right (nat_eq 49 c) false refl, and_right (nat_eq 49 b) false refl) (and_right (nat_eq 50 a) false refl)
-closes_any Lenient dash reply (a ∷ b ∷ []) is = rw (and_right (nat_eq 49 b) false refl) (and_right (nat_eq 50 a) false refl)
-closes_any Lenient dash reply (a ∷ []) is = and_right (nat_eq 50 a) false refl
-closes_any Lenient dash reply [] is = refl
+closes_any dash reply (a ∷ b ∷ c ∷ []) is = rw (and_right (nat_eq 49 c) false refl, and_right (nat_eq 49 b) false refl) (and_right (nat_eq 50 a) false refl)
+closes_any dash reply (a ∷ b ∷ []) is = rw (and_right (nat_eq 49 b) false refl) (and_right (nat_eq 50 a) false refl)
+closes_any dash reply (a ∷ []) is = and_right (nat_eq 50 a) false refl
+closes_any dash reply [] is = refl
+
+-- a strict reply has no list behind it: a line that ends it has a space where one that opens a list has a dash
+pub ends_no_list : (first line : List ℕ) → ends Strict true first line ≡ true → opens_list line ≡ false
+ends_no_list first (a ∷ b ∷ c ∷ d ∷ line) is =
+    let all : List ℕ = a ∷ b ∷ c ∷ d ∷ line in
+    let space : Bool = nat_eq d 32 in
+    let same : Bool = pointwise nat_eq (take 3 all) (take 3 first) in
+    let shaped : Bool = nat_le 4 (length all) && begins_with_digits all in
+    let both = and_parts (shaped && space) same is in
+    let at : d ≡ 32 = eqb-true d 32 (and_parts shaped space both.0).1 in
+    rw at (ending (nat_eq 50 a) (nat_eq 49 b) (nat_eq 49 c))
+  where
+    ending : (x y z : Bool) → (x && (y && (z && false))) ≡ false
+    ending true true true = refl
+    ending true true false = refl
+    ending true false z = refl
+    ending false y z = refl
+ends_no_list first (a ∷ b ∷ c ∷ []) is = let clash : false ≡ true = is in cc
+ends_no_list first (a ∷ b ∷ []) is = let clash : false ≡ true = is in cc
+ends_no_list first (a ∷ []) is = let clash : false ≡ true = is in cc
+ends_no_list first [] is = let clash : false ≡ true = is in cc
+
+never_lists : (first : List ℕ) (lines : List (List ℕ)) → phase_in Strict first lines ≡ InList → ⊥
+never_lists first [] is = let clash : InReply ≡ InList = is in cc
+never_lists first (line ∷ lines) is =
+    elim (ends Strict true first line) as (λ t. ends Strict true first line ≡ t → cond t (cond (opens_list line) InList Past) (phase_in Strict first lines) ≡ InList → ⊥) [
+      | true ↦ λ e f. past (opens_list line) (ends_no_list first line e) f
+      | false ↦ λ e f. never_lists first lines f
+    ]
+    refl is
+  where
+    past : (b : Bool) → b ≡ false → cond b InList Past ≡ InList → ⊥
+    past true none f = let clash : true ≡ false = none in cc
+    past false none f = let clash : Past ≡ InList = f in cc
+
+never_listed : (bytes : List ℕ) → phase_so_far Strict bytes ≡ InList → ⊥
+never_listed bytes is = go (whole_lines bytes) is
+  where
+    go : (lines : List (List ℕ)) → phase_of Strict lines ≡ InList → ⊥
+    go [] f = let clash : InReply ≡ InList = f in cc
+    go (first ∷ lines) f = never_lists first (first ∷ lines) f
 
 -- a line that goes on under some form ends no reply, or it opens a list
 goes_on_as : (rule : ReplyRule) (form : ReplyForm) (phase : Phase) (reply line : List ℕ) → line_verdict rule form phase reply line ≡ GoesOn → (is_listing form phase ≡ true) × (is_last line ≡ false) ⊎ (ends rule (by_dash form) reply line ≡ false) ⊎ (lists form && in_reply phase && opens_list line ≡ true)
@@ -463,14 +506,15 @@ still_waits rule form InReply bytes reply line waits phase_is is =
         go (inl both) = absurd (not_listing form both.0)
         go (inr (inl none)) = by_form form none
         go (inr (inr opens)) = absurd (opens_none form opens)
-still_waits rule form InList bytes reply line waits phase_is is = record {
+still_waits Strict form InList bytes reply line waits phase_is is = absurd (never_listed bytes phase_is)
+still_waits Lenient form InList bytes reply line waits phase_is is = record {
   before = waits;
-  goes_on = rw (go (goes_on_as rule form InList reply line is)) refl;
+  goes_on = rw (go (goes_on_as Lenient form InList reply line is)) refl;
 }
   where
-    go : (is_listing form InList ≡ true) × (is_last line ≡ false) ⊎ (ends rule (by_dash form) reply line ≡ false) ⊎ (lists form && in_reply InList && opens_list line ≡ true) → is_last line ≡ false
+    go : (is_listing form InList ≡ true) × (is_last line ≡ false) ⊎ (ends Lenient (by_dash form) reply line ≡ false) ⊎ (lists form && in_reply InList && opens_list line ≡ true) → is_last line ≡ false
     go (inl both) = both.1
-    go (inr (inl none)) = closes_any rule (by_dash form) reply line none
+    go (inr (inl none)) = closes_any (by_dash form) reply line none
     go (inr (inr opens)) = absurd (no_list form (opens_list line) opens)
 still_waits rule form Past bytes reply line waits phase_is is = record {
   before = waits;

@@ -5,7 +5,7 @@ use Rattle.std.specs.List.{list_any, list_all, starts_with}
 use Rattle.std.specs.Cmp.Lexicographic.{pointwise}
 use Rattle.std.specs.Char.{is_ascii_digit}
 use Rattle.ftp_control.specs.declared.control.rule.ReplyRule.{ReplyRule}
-use Rattle.ftp_control.specs.declared.control.rule.ReplyRule.TheVariants.{Lenient}
+use Rattle.ftp_control.specs.declared.control.rule.ReplyRule.TheVariants.{Strict, Lenient}
 use Rattle.ftp_control.specs.declared.control.form.ReplyForm.{ReplyForm}
 use Rattle.ftp_control.specs.declared.control.form.ReplyForm.TheVariants.{Plain, System, Features}
 use Rattle.ftp_base.specs.Features.{is_last}
@@ -61,15 +61,19 @@ abbrev pub code_at_start : List ℕ → ℕ
 code_at_start line =
     100 * (slice_index line 0 - 48) + 10 * (slice_index line 1 - 48) + (slice_index line 2 - 48)
 
--- a first line: at least 5 bytes, three digits in front, or '+' and two digits
+-- a first line: at least 5 bytes, three digits and a space or '-'; leniently three digits in front, or '+' and two digits
 abbrev pub opens : ReplyRule → List ℕ → Bool
+opens Strict line =
+    nat_le 5 (length line) && begins_with_digits line && ((slice_index line 3 == 32) || (slice_index line 3 == 45))
 opens Lenient line =
     nat_le 5 (length line)
     && (begins_with_digits line || ((slice_index line 0 == 43) && list_all is_ascii_digit (take 2 (drop 1 line))))
 
--- a last line: at least 4 bytes, three digits and a space; where a dash ends a reply, also the first line's three
--- digits and '-'
+-- a last line: at least 4 bytes, the first line's three digits and a space; leniently any three digits and a space, and
+-- where a dash ends a reply, also the first line's three digits and '-'
 abbrev pub ends : ReplyRule → Bool → List ℕ → List ℕ → Bool
+ends Strict dash first line =
+    nat_le 4 (length line) && begins_with_digits line && (slice_index line 3 == 32) && pointwise nat_eq (take 3 line) (take 3 first)
 ends Lenient dash first line =
     nat_le 4 (length line)
     && begins_with_digits line

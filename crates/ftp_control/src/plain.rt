@@ -4,7 +4,7 @@
 //! the client calls it.
 
 ghost use Rattle.std.specs.Prelude.{◌≡◌, ◌∷◌, [], ◌++◌, IfOk};
-ghost use Rattle.ftp_control.specs.Law.{SettledStays};
+ghost use Rattle.ftp_control.specs.Law.{OneForm, SettledStays, StrictAsLenient};
 ghost use Rattle.ftp_control.specs.Grammar.{whole_lines, rest, last_line, lines, to_end, to_list_end, reply_in, after_line, within, outcome, has_line_feed};
 
 use crate::control::grammar::{
@@ -217,4 +217,15 @@ fn has_line_feed(bytes: &[u8]) -> bool
 /// The law of outcomes: what is settled before the input has ended stays, however it goes on.
 pub fn settled_outcomes_stay()
     ensures { SettledStays }
+{}
+
+/// The law of strict reads: a reply ends where it does, whatever is expected of it.
+pub fn strict_reads_end_alike()
+    ensures { OneForm }
+{}
+
+/// The law of both rules: a strict reply none of whose lines before the last begins with three digits and a space is the
+/// same leniently.
+pub fn strict_replies_are_lenient()
+    ensures { StrictAsLenient }
 {}

@@ -5,6 +5,7 @@ use Rattle.std.specs.Duration.{as_nanos}
 use Rattle.ftp_base.specs.declared.types.mode.Mode.TheVariants.{Passive}
 use Rattle.ftp_base.specs.declared.types.mode.ActivePeerCheck.TheVariants.{ControlPeer}
 use Rattle.ftp_control.specs.Channel.{Channel, IsIdle}
+use Rattle.ftp_control.specs.declared.control.rule.ReplyRule.{ReplyRule}
 use Rattle.ftp_transport.specs.Told.{Told, begun}
 use Rattle.ftp_dialogue.specs.Sound.{no_transfers}
 use Rattle.ftp_dialogue.specs.declared.state.Owed.{Owed}
@@ -33,9 +34,10 @@ pub record IsFirst (state : State) : Type 0 where
   pub downloads : state.uploads ≡ false
   pub ungreeted : state.welcome ≡ None
 
--- a session begins on a connection that told this, and this stands beside it: nothing is read or sent, and what came
--- and wasn't read is still to come
-pub record Begins (tells : Type 0) (before : Told) (beside : Net) (new : SessionValue) : Type 0 where
+-- a session that reads replies by this rule begins on a connection that told this, and this stands beside it: nothing is
+-- read or sent, and what came and wasn't read is still to come
+pub record Begins (tells : Type 0) (rule : ReplyRule) (before : Told) (beside : Net) (new : SessionValue) : Type 0 where
+  pub rule_is : new.channel.rule ≡ rule
   pub idle : IsIdle new.channel
   pub told : tells → new.channel.told ≡ begun before
   pub first : IsFirst new.state

@@ -5,7 +5,7 @@
 
 use super::carrying::pass_over;
 use super::state::{Owed, State};
-use ftp_control::control::ControlChannel;
+use ftp_control::control::{ControlChannel, ReplyRule};
 use ftp_transport::Network;
 use std::alloc::Global;
 use std::marker::Model;
@@ -53,15 +53,15 @@ impl<Tr: Network> Machine<Tr> {
     ghost use Rattle.ftp_dialogue.specs.Sound.{Sound, holds};
     ghost use Rattle.ftp_dialogue.specs.State.{Begins, LetsGo};
 
-    /// A machine on a connection. Nothing is read and nothing is sent.
-    pub fn new(alloc: Global, transport: Tr, conn: Tr::Conn) -> Machine<Tr>
-        ensures begins { Begins Tr.Conn.tells (Tr.Conn.told conn)
+    /// A machine on a connection, which reads replies by this rule. Nothing is read and nothing is sent.
+    pub fn new(alloc: Global, transport: Tr, conn: Tr::Conn, rule: ReplyRule) -> Machine<Tr>
+        ensures begins { Begins Tr.Conn.tells rule (Tr.Conn.told conn)
             (first_net (Tr.asked transport) (Tr.ready transport) (Tr.closed transport)) result }
         ensures sound { IsSound Tr.Conn.tells result.channel }
     {
         Machine {
             transport,
-            channel: ControlChannel::new(alloc, conn),
+            channel: ControlChannel::new(alloc, conn, rule),
             state: State::new(),
             listener: None,
             data_conn: None,

@@ -35,6 +35,8 @@ where
     addresses: Option<Vec<SocketAddr>>,
     limit: Option<Duration>,
     tried: Tried,
+    // Whether replies are read leniently.
+    lenient: bool,
     session: Option<Session<Tr, K, E, B>>,
     greeting: PolledCall,
 }
@@ -57,6 +59,7 @@ where
         addresses: &[SocketAddr],
         limit: Option<Duration>,
         fault: ConnectionError,
+        lenient: bool,
     ) -> Self {
         Connect {
             rt,
@@ -64,7 +67,25 @@ where
             addresses: Vec::from_slice(rt.alloc(), addresses).ok(),
             limit,
             tried: Tried { count: 0, fault },
+            lenient,
             session: None,
+            greeting: PolledCall::alone(Call::Greet),
+        }
+    }
+
+    /// A state that reads the greeting of a session.
+    fn over(rt: &'r R, session: FtpResult<Session<Tr, K, E, B>>) -> Self {
+        Connect {
+            rt,
+            transport: None,
+            addresses: None,
+            limit: None,
+            tried: Tried {
+                count: 0,
+                fault: ConnectionError::NoAddress,
+            },
+            lenient: false,
+            session: session.ok(),
             greeting: PolledCall::alone(Call::Greet),
         }
     }
@@ -112,7 +133,7 @@ where
         let Some(transport) = self.transport.take() else {
             return Err(FtpError::ConnectionError(ConnectionError::AlreadyCompleted));
         };
-        let session = Session::new(self.rt.alloc(), transport, conn)?;
+        let session = session_on(self.rt.alloc(), transport, conn, self.lenient)?;
         drop(mem::replace(&mut self.session, Some(session)));
         Ok(())
     }
@@ -137,6 +158,23 @@ where
                 waits
             }
         }
+    }
+}
+
+/// A session on a connection, which reads replies leniently or not.
+fn session_on<Tr: TaskTransport, K: Drop, E: Encoding, B: Drop>(
+    alloc: Global,
+    transport: Tr,
+    conn: Tr::Conn,
+    lenient: bool,
+) -> FtpResult<Session<Tr, K, E, B>>
+where
+    Tr::Conn: TaskConn,
+{
+    if lenient {
+        Session::new_lenient(alloc, transport, conn)
+    } else {
+        Session::new(alloc, transport, conn)
     }
 }
 
@@ -188,7 +226,34 @@ where
         transport: Tr,
         addresses: &[SocketAddr],
     ) -> Connect<'r, R, Tr, K, E, B> {
-        Connect::new(rt, transport, addresses, None, ConnectionError::NoAddress)
+        Connect::new(
+            rt,
+            transport,
+            addresses,
+            None,
+            ConnectionError::NoAddress,
+            false,
+        )
+    }
+
+    /// The same, where replies are read leniently from the greeting on: for servers that end a reply of several lines
+    /// with another code than it began with.
+    ///
+    /// # Errors
+    /// Those of `connect`.
+    pub fn connect_lenient<'r, R: AllocGlobal>(
+        rt: &'r R,
+        transport: Tr,
+        addresses: &[SocketAddr],
+    ) -> Connect<'r, R, Tr, K, E, B> {
+        Connect::new(
+            rt,
+            transport,
+            addresses,
+            None,
+            ConnectionError::NoAddress,
+            true,
+        )
     }
 
     /// Connects to this address within this time, and reads the server's greeting (220).
@@ -204,7 +269,14 @@ where
         let addresses = [address];
         let count = if limit.is_zero() { 0 } else { 1 };
         let tried = &addresses[..count];
-        Connect::new(rt, transport, tried, Some(limit), ConnectionError::TimedOut)
+        Connect::new(
+            rt,
+            transport,
+            tried,
+            Some(limit),
+            ConnectionError::TimedOut,
+            false,
+        )
     }
 
     /// Reads the server's greeting (220) on a connection that was made.
@@ -216,17 +288,18 @@ where
         transport: Tr,
         conn: Tr::Conn,
     ) -> Connect<'r, R, Tr, K, E, B> {
-        Connect {
-            rt,
-            transport: None,
-            addresses: None,
-            limit: None,
-            tried: Tried {
-                count: 0,
-                fault: ConnectionError::NoAddress,
-            },
-            session: Session::new(rt.alloc(), transport, conn).ok(),
-            greeting: PolledCall::alone(Call::Greet),
-        }
+        Connect::over(rt, Session::new(rt.alloc(), transport, conn))
+    }
+
+    /// The same, where replies are read leniently from the greeting on, as by `connect_lenient`.
+    ///
+    /// # Errors
+    /// Those of `connect_with_stream`.
+    pub fn connect_with_stream_lenient<'r, R: AllocGlobal>(
+        rt: &'r R,
+        transport: Tr,
+        conn: Tr::Conn,
+    ) -> Connect<'r, R, Tr, K, E, B> {
+        Connect::over(rt, Session::new_lenient(rt.alloc(), transport, conn))
     }
 }

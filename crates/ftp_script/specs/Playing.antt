@@ -19,6 +19,7 @@ use Rattle.ftp_dialogue.specs.Coding.{Coding}
 use Rattle.ftp_dialogue.specs.Link.{Link}
 use Rattle.ftp_runs.specs.Runs.{Runs}
 use Rattle.ftp_dialogue.specs.State.{SessionValue, Begins}
+use Rattle.ftp_script.specs.Script.{rule_by}
 use Rattle.ftp_script.specs.declared.script.Script.{Script}
 use Rattle.ftp_script.specs.declared.supplies.DataConn.{DataConn}
 use Rattle.ftp_script.specs.declared.supplies.DataConn.TheVariants.{Gives, Refused}
@@ -62,7 +63,7 @@ Makes (call ∷ calls) old new text =
 -- a transport with these data connections, reads the greeting and makes the calls
 pub record IsTranscript (script : Script) (text : List ℕ) : Type 0 where
   pub begun : SessionValue
-  pub begins : Begins (Unit {0}) (giving script.server (fresh_between unspecified server_address)) (first_net [] (map supply_of script.data_conns) []) begun
+  pub begins : Begins (Unit {0}) (rule_by script.lenient) (giving script.server (fresh_between unspecified server_address)) (first_net [] (map supply_of script.data_conns) []) begun
   pub ended : SessionValue
   pub calls : List ℕ
   pub makes : Makes (Greet ∷ script.calls) begun ended calls

@@ -1,7 +1,8 @@
 //! The lines of a script.
 //!
 //! `server TEXT` adds to what the server sends; `data TEXT` and `refused` say what becomes of the next data connection;
-//! `call NAME` and `call NAME ARGUMENTS` make a call; an empty line says nothing.
+//! `call NAME` and `call NAME ARGUMENTS` make a call; with `lenient`, wherever it stands, replies are read leniently; an
+//! empty line says nothing.
 
 ghost use Rattle.std.specs.Prelude.{◌≡◌, IfOk};
 ghost use Rattle.ftp_script.specs.Lines.{data_by, line_of, made_by, served_by};
@@ -25,6 +26,8 @@ pub(crate) enum Line {
     Data(DataConn),
     /// This call is made.
     Makes(Call),
+    /// Replies are read leniently.
+    Lenient,
 }
 
 /// What a line says, if it is understood.
@@ -38,6 +41,8 @@ pub(crate) fn line_of(alloc: Global, line: &[u8]) -> Result<Option<Line>, AllocE
         Ok(Some(Line::Empty))
     } else if is(line, b"refused") {
         Ok(Some(Line::Data(DataConn::Refused)))
+    } else if is(line, b"lenient") {
+        Ok(Some(Line::Lenient))
     } else if begins_with(line, b"server ") {
         Ok(served_by(unescaped(alloc, &line[7..])?))
     } else if begins_with(line, b"data ") {

@@ -8,11 +8,13 @@ ghost use Rattle.std.specs.Prelude.{◌≡◌, ◌++◌, OnOk, None, IfOk, ℕ, 
 ghost use Rattle.ftp_transport.specs.Memory.{fresh_between, unspecified};
 ghost use Rattle.ftp_dialogue.specs.State.{Begins};
 ghost use Rattle.ftp_dialogue.specs.Deals.{first_net};
+ghost use Rattle.ftp_script.specs.Script.{rule_by};
 ghost use Rattle.ftp_script.specs.Playing.{IsTranscript, MakesOne, giving, server_address, supply_of};
 
 use crate::script::Script;
 use crate::shown::{push_call, push_end};
 use crate::supplies::transport_of;
+use ftp_base::types::FtpResult;
 use ftp_calls::call::Call;
 use ftp_runs::RunCalls;
 use ftp_session::session::Session;
@@ -45,7 +47,7 @@ fn session_of(alloc: Global, script: &Script) -> Result<Session<MemoryTransport>
     ensures builder { IfOk result (λ session. session.builder ≡ None) }
     ensures mark { IfOk result (λ session. session.mark ≡ None) }
     ensures begins { IfOk result (λ session.
-        Begins (Unit {0}) (giving script.now.server (fresh_between unspecified server_address))
+        Begins (Unit {0}) (rule_by script.now.lenient) (giving script.now.server (fresh_between unspecified server_address))
         (first_net [] (map supply_of script.now.data_conns) []) session.machine) }
 {
     let transport = transport_of(alloc, script.data_conns.as_slice())?;
@@ -54,9 +56,29 @@ fn session_of(alloc: Global, script: &Script) -> Result<Session<MemoryTransport>
     let mut conn = MemoryConn::between(alloc, here, server);
     conn.feed(script.server.as_slice())?;
     conn.end();
-    match Session::new(alloc, transport, conn) {
+    match session_on(alloc, transport, conn, script.lenient) {
         Ok(session) => Ok(session),
         Err(_) => Err(AllocError),
+    }
+}
+
+/// A session that reads replies leniently, or doesn't.
+fn session_on(
+    alloc: Global,
+    transport: MemoryTransport,
+    conn: MemoryConn,
+    lenient: bool,
+) -> FtpResult<Session<MemoryTransport>>
+    ensures encoding { IfOk result (λ session. session.encoding.0 ≡ None) }
+    ensures builder { IfOk result (λ session. session.builder ≡ None) }
+    ensures mark { IfOk result (λ session. session.mark ≡ None) }
+    ensures begins { IfOk result (λ session. Begins (Unit {0}) (rule_by lenient) conn
+        (first_net transport.answered transport.ready transport.closed) session.machine) }
+{
+    if lenient {
+        Session::new_lenient(alloc, transport, conn)
+    } else {
+        Session::new(alloc, transport, conn)
     }
 }
 

@@ -1,8 +1,8 @@
 //! Scripts, read whole.
 
-ghost use Rattle.std.specs.Prelude.{◌≡◌, ◌++◌, OnOk, Ok, Err, MatchResult};
+ghost use Rattle.std.specs.Prelude.{◌≡◌, ◌++◌, ◌||◌, OnOk, Ok, Err, MatchResult};
 ghost use Rattle.ftp_script.specs.declared.script.ScriptError.TheVariants as wrong;
-ghost use Rattle.ftp_script.specs.Script.{called, script_of, served, supplied, IsWrong};
+ghost use Rattle.ftp_script.specs.Script.{called, loosens, script_of, served, supplied, IsWrong};
 
 use crate::cut::cut;
 use crate::line::{Line, line_of};
@@ -20,6 +20,8 @@ pub(crate) struct Script {
     pub data_conns: Items<DataConn>,
     /// The calls.
     pub calls: Items<Call>,
+    /// Whether replies are read leniently.
+    pub lenient: bool,
 }
 
 /// Why a text isn't read as a script.
@@ -50,24 +52,26 @@ pub(crate) fn script_of(alloc: Global, text: &[u8]) -> Result<Script, ScriptErro
     let mut server = Vec::new(alloc);
     let mut data_conns = Vec::new(alloc);
     let mut calls = Vec::new(alloc);
+    let mut lenient = false;
     let mut rest = text;
     let mut number = 1;
     while let Some((line, behind)) = cut(b'\n', rest) {
         let Some(line) = line_of(alloc, line)? else {
             return Err(ScriptError::NotUnderstood(number));
         };
-        add_line(line, &mut server, &mut data_conns, &mut calls)?;
+        add_line(line, &mut server, &mut data_conns, &mut calls, &mut lenient)?;
         number += 1;
         rest = behind;
     }
     let Some(line) = line_of(alloc, rest)? else {
         return Err(ScriptError::NotUnderstood(number));
     };
-    add_line(line, &mut server, &mut data_conns, &mut calls)?;
+    add_line(line, &mut server, &mut data_conns, &mut calls, &mut lenient)?;
     Ok(Script {
         server: Bytes::from_vec(server),
         data_conns: Items::from_vec(data_conns),
         calls: Items::from_vec(calls),
+        lenient,
     })
 }
 
@@ -77,10 +81,12 @@ fn add_line(
     server: &mut Vec<u8>,
     data_conns: &mut Vec<DataConn>,
     calls: &mut Vec<Call>,
+    lenient: &mut bool,
 ) -> Result<(), AllocError>
     ensures server { OnOk result (server.new.items ≡ server.old.items ++ served line) }
     ensures data_conns { OnOk result (data_conns.new.items ≡ data_conns.old.items ++ supplied line) }
     ensures calls { OnOk result (calls.new.items ≡ calls.old.items ++ called line) }
+    ensures lenient { OnOk result (lenient.new ≡ (lenient.old || loosens line)) }
 {
     match line {
         Line::Empty => Ok(()),
@@ -91,6 +97,10 @@ fn add_line(
         }
         Line::Makes(call) => {
             calls.push(call)?;
+            Ok(())
+        }
+        Line::Lenient => {
+            *lenient = true;
             Ok(())
         }
     }

@@ -9,6 +9,7 @@ use Rattle.ftp_base.specs.declared.types.reply.Response.{Response}
 use Rattle.ftp_base.specs.declared.types.fault.FtpError.{FtpError}
 use Rattle.ftp_transport.specs.Told.{Told}
 use Rattle.ftp_control.specs.Channel.{IsSound}
+use Rattle.ftp_control.specs.declared.control.rule.ReplyRule.{ReplyRule}
 use Rattle.ftp_dialogue.specs.Deals.{Net}
 use Rattle.ftp_calls.specs.declared.call.Answer.{Answer}
 use Rattle.ftp_calls.specs.declared.call.Answer.TheVariants.{Unit as Done, Reply, Fault}
@@ -59,14 +60,14 @@ abbrev pub lines_answer : Result (Vec (String Global) Global) FtpError → Answe
 lines_answer (Ok lines) = answers.Lines (map string_bytes lines.items)
 lines_answer (Err fault) = Fault fault
 
--- a session begins and makes the greeting's dialogue; its channel is sound, so that it has met the end of the input only
+-- a session that reads replies by this rule begins and makes the greeting's dialogue; its channel is sound, so that it has met the end of the input only
 -- where the connection has
-pub record Connects (link : Link) (coding : Coding) (told : Told) (beside : Net) (new : SessionValue) (result : Result (Unit {0}) FtpError) : Type 0 where
+pub record Connects (link : Link) (coding : Coding) (rule : ReplyRule) (told : Told) (beside : Net) (new : SessionValue) (result : Result (Unit {0}) FtpError) : Type 0 where
   pub old : SessionValue
-  pub begins : Begins link.tells told beside old
+  pub begins : Begins link.tells rule told beside old
   pub greets : PlaysAlone link coding Greet old new (unit_answer result)
   pub sound : IsSound link.tells new.channel
 
 -- no session is connected, and this is why
-abbrev pub FailsToConnect : Link → Coding → Told → Net → FtpError → Type 0
-FailsToConnect link coding told beside fault = (new : SessionValue) × Connects link coding told beside new (Err fault)
+abbrev pub FailsToConnect : Link → Coding → ReplyRule → Told → Net → FtpError → Type 0
+FailsToConnect link coding rule told beside fault = (new : SessionValue) × Connects link coding rule told beside new (Err fault)

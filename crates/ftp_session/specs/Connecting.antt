@@ -16,6 +16,7 @@ use Rattle.ftp_transport.specs.declared.request.RequestOutcome.TheVariants.{Done
 use Rattle.ftp_transport.specs.declared.supply.Supply.{Supply}
 use Rattle.ftp_calls.specs.declared.call.Answer.TheVariants.{Fault}
 use Rattle.ftp_calls.specs.declared.call.Call.TheVariants.{Greet}
+use Rattle.ftp_control.specs.declared.control.rule.ReplyRule.{ReplyRule}
 use Rattle.ftp_dialogue.specs.declared.state.State.{State}
 use Rattle.ftp_dialogue.specs.declared.model.DealOutcome.{DealOutcome}
 use Rattle.ftp_dialogue.specs.declared.model.DealOutcome.TheVariants.{Answered}
@@ -70,12 +71,12 @@ pub record IsConnected (link : Link) (coding : Coding) (refuses : List Supply �
   pub in_turn : link.tells → ConnectsInTurn refuses requests fault told ready unused asked asked'
   pub asks : link.tells → AsksAll (connecting coding requests fault) (dialogue coding Greet) asked asked'
 
--- the connection was asked for, and the greeting's dialogue was made on it
-pub record ConnectsBy (link : Link) (coding : Coding) (refuses : List Supply → ConnectionError → Type 0) (requests : List Request) (fault : ConnectionError) (ready : List Supply) (closed : List Told) (asked : List Asked) (new : SessionValue) (result : Result (Unit {0}) FtpError) : Type 0 where
+-- the connection was asked for, and the greeting's dialogue was made on it, by this rule of replies
+pub record ConnectsBy (link : Link) (coding : Coding) (rule : ReplyRule) (refuses : List Supply → ConnectionError → Type 0) (requests : List Request) (fault : ConnectionError) (ready : List Supply) (closed : List Told) (asked : List Asked) (new : SessionValue) (result : Result (Unit {0}) FtpError) : Type 0 where
   pub told : Told
   pub asked_by : List Asked
   pub connected : IsConnected link coding refuses requests fault ready asked asked_by told
-  pub connects : Connects link coding told (first_net asked_by connected.unused closed) new result
+  pub connects : Connects link coding rule told (first_net asked_by connected.unused closed) new result
 
 -- each request was refused, and the last fault is the answer
 pub record NoneConnects (link : Link) (coding : Coding) (refuses : List Supply → ConnectionError → Type 0) (requests : List Request) (fault : ConnectionError) (ready : List Supply) (asked : List Asked) (answer : FtpError) : Type 0 where
@@ -88,6 +89,6 @@ pub record NoneConnects (link : Link) (coding : Coding) (refuses : List Supply �
 
 -- no session is connected: each request was refused; or the greeting's dialogue on the connection failed; or memory ran
 -- out
-abbrev pub FailsToConnectBy : Link → Coding → (List Supply → ConnectionError → Type 0) → List Request → ConnectionError → List Supply → List Told → List Asked → FtpError → Type 0
-FailsToConnectBy link coding refuses requests fault ready closed asked answer =
-    NoneConnects link coding refuses requests fault ready asked answer ⊎ ((new : SessionValue) × ConnectsBy link coding refuses requests fault ready closed asked new (Err answer)) ⊎ (answer ≡ OutOfMemory)
+abbrev pub FailsToConnectBy : Link → Coding → ReplyRule → (List Supply → ConnectionError → Type 0) → List Request → ConnectionError → List Supply → List Told → List Asked → FtpError → Type 0
+FailsToConnectBy link coding rule refuses requests fault ready closed asked answer =
+    NoneConnects link coding refuses requests fault ready asked answer ⊎ ((new : SessionValue) × ConnectsBy link coding rule refuses requests fault ready closed asked new (Err answer)) ⊎ (answer ≡ OutOfMemory)

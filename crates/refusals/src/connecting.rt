@@ -8,6 +8,7 @@ ghost use Rattle.ftp_dialogue.specs.Link.{blocking};
 
 use ftp_base::encoding::Encoding;
 use ftp_base::types::FtpResult;
+use ftp_control::control::ReplyRule;
 use ftp_session::session::Session;
 use ftp_transport::{Conn, Network};
 use std::alloc::Global;
@@ -24,9 +25,9 @@ where
     ensures builder { IfOk result (λ session. session.builder ≡ None) }
     ensures mark { IfOk result (λ session. session.mark ≡ None) }
     ensures connects { MatchResult result
-        (λ session. Connects (blocking Tr.Conn.Conn) (chosen E.decoded E.encoded None) (Tr.Conn.told conn)
+        (λ session. Connects (blocking Tr.Conn.Conn) (chosen E.decoded E.encoded None) ReplyRule.Strict (Tr.Conn.told conn)
         (first_net (Tr.asked transport) (Tr.ready transport) (Tr.closed transport)) session.machine (Ok tt))
-        (λ fault. FailsToConnect (blocking Tr.Conn.Conn) (chosen E.decoded E.encoded None) (Tr.Conn.told conn)
+        (λ fault. FailsToConnect (blocking Tr.Conn.Conn) (chosen E.decoded E.encoded None) ReplyRule.Strict (Tr.Conn.told conn)
         (first_net (Tr.asked transport) (Tr.ready transport) (Tr.closed transport)) fault) }
 {
     Session::connect_with_stream(alloc, transport, conn)

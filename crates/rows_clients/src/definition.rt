@@ -28,7 +28,7 @@ pub fn first(
         model::Standing {
             state,
             failed: false,
-            rule: ReplyRule::Lenient,
+            rule: rule_of(play),
             said: Bytes::new(alloc),
             unsent: Bytes::new(alloc),
             local,
@@ -39,6 +39,15 @@ pub fn first(
             outcomes,
         },
     )
+}
+
+/// By which rule the session reads replies.
+fn rule_of(play: &Play) -> ReplyRule {
+    if play.setup.lenient {
+        ReplyRule::Lenient
+    } else {
+        ReplyRule::Strict
+    }
 }
 
 /// Nothing was asked, and there is no data connection.

@@ -53,11 +53,28 @@ impl<'a> Tally<'a> {
             return self.play_lists(rt, row, longest);
         }
         for piece in PIECES {
-            let play = Play::of(rt.alloc(), &row.lines, row.has_events, piece)?;
-            let mut agreement = Agreement::new();
-            for face in faces_of(row) {
-                self.play_on(rt, row, *face, &play, &mut agreement)?;
+            for lenient in [false, true] {
+                self.play_by(rt, row, piece, lenient)?;
             }
+        }
+        Ok(())
+    }
+
+    /// Plays a row on all its faces, leniently or strictly, where it is to be played so.
+    fn play_by<R: Wait + Print + RandomSource + AllocGlobal>(
+        &mut self,
+        rt: &R,
+        row: &Row<'_>,
+        piece: usize,
+        lenient: bool,
+    ) -> Result<()> {
+        let mut play = Play::of(rt.alloc(), &row.lines, row.has_events, piece)?;
+        if !play.setup.reads(lenient) {
+            return Ok(());
+        }
+        let mut agreement = Agreement::new();
+        for face in faces_of(row) {
+            self.play_on(rt, row, *face, &play, &mut agreement)?;
         }
         Ok(())
     }
@@ -79,7 +96,12 @@ impl<'a> Tally<'a> {
         let agrees = agreement.agrees(&came) && came.transcript == due;
         self.count(agrees);
         if !agrees {
-            println!(rt; "{}, in pieces of {}", face.name(), play.piece)?;
+            let mode = if play.setup.lenient {
+                "lenient"
+            } else {
+                "strict"
+            };
+            println!(rt; "{}, {mode}, in pieces of {}", face.name(), play.piece)?;
             show(rt, row, &due, &came)?;
         }
         Ok(())

@@ -110,7 +110,7 @@ fn first(alloc: Global, answer: Answer) -> Result<Vec<Answer>, AllocError> {
 /// The session that connects as the row says: on the connection itself, or to addresses.
 fn connected(alloc: Global, play: &Play) -> FtpResult<Box<NamedSession>> {
     let session = match &play.dial {
-        Some(dial) => dialled(alloc, dial, play.piece),
+        Some(dial) => dialled(alloc, dial, play),
         None => on_the_connection(alloc, play),
     };
     let mut session = session?;
@@ -128,16 +128,23 @@ fn on_the_connection(alloc: Global, play: &Play) -> FtpResult<Box<NamedSession>>
             return Err(FtpError::OutOfMemory);
         }
     };
-    let session = Session::connect_with_stream(alloc, transport, conn)?;
-    Ok(boxed(alloc, session)?)
+    let session = if play.setup.lenient {
+        Session::connect_with_stream_lenient(alloc, transport, conn)
+    } else {
+        Session::connect_with_stream(alloc, transport, conn)
+    };
+    Ok(boxed(alloc, session?)?)
 }
 
 /// The session that connects to addresses.
-fn dialled(alloc: Global, dial: &Dial, piece: usize) -> FtpResult<Box<NamedSession>> {
-    let transport = dial.transport(alloc, piece)?;
+fn dialled(alloc: Global, dial: &Dial, play: &Play) -> FtpResult<Box<NamedSession>> {
+    let transport = dial.transport(alloc, play.piece)?;
     let session = match (dial.limit, dial.addresses.first()) {
         (Some(limit), Some(address)) => {
             Session::connect_timeout(alloc, &(), transport, *address, limit)
+        }
+        _ if play.setup.lenient => {
+            Session::connect_lenient(alloc, &(), transport, &dial.addresses)
         }
         _ => Session::connect(alloc, &(), transport, &dial.addresses),
     };

@@ -41,7 +41,12 @@ fn session_on(alloc: Global, conn: MemoryConn, play: &Play) -> Result<Box<NamedS
             return Err(RowError::OutOfMemory);
         }
     };
-    let mut session = boxed(alloc, had(Session::new(alloc, transport, conn))?)?;
+    let session = if play.setup.lenient {
+        Session::new_lenient(alloc, transport, conn)
+    } else {
+        Session::new(alloc, transport, conn)
+    };
+    let mut session = boxed(alloc, had(session)?)?;
     play.setup.set(&mut session)?;
     Ok(session)
 }

@@ -28,6 +28,10 @@ enum Item {
 /// The settings of a row's session, the ends of its connection and what its transport is supplied with.
 #[derive(Drop)]
 pub struct Setup {
+    /// Whether the session reads replies leniently.
+    pub lenient: bool,
+    // The one way in which it does, where the row is played in one alone.
+    only: Option<bool>,
     settings: Settings,
     local: SocketAddr,
     peer: SocketAddr,
@@ -41,6 +45,8 @@ impl Setup {
     pub fn new(alloc: Global) -> Setup {
         let unspecified = SocketAddr::V4(SocketAddrV4::new(Ipv4Addr::new(0, 0, 0, 0), 0));
         Setup {
+            lenient: false,
+            only: None,
             settings: State::new().settings,
             local: unspecified,
             peer: unspecified,
@@ -53,6 +59,8 @@ impl Setup {
     /// Takes a word of a setting, an end or a supply, with what stands after it.
     pub fn take(&mut self, alloc: Global, word: &str, argument: &str) -> Result<(), RowError> {
         match word {
+            "lenient" => self.only = Some(true),
+            "strict" => self.only = Some(false),
             "local" => self.local = value(argument)?,
             "peer" => self.peer = value(argument)?,
             "listens" => self.port = value(argument)?,
@@ -61,6 +69,12 @@ impl Setup {
             _ => self.change(setting(alloc, word, argument)?),
         }
         Ok(())
+    }
+
+    /// Has the session read replies leniently, or strictly; whether the row is played so.
+    pub fn reads(&mut self, lenient: bool) -> bool {
+        self.lenient = lenient;
+        self.only.is_none_or(|only| only == lenient)
     }
 
     /// A setting changes.

@@ -81,7 +81,9 @@ const WITH_ARGUMENT: [(&str, Kind); 22] = [
 ];
 
 /// Words that stand alone.
-const BARE: [(&str, Kind); 10] = [
+const BARE: [(&str, Kind); 12] = [
+    ("lenient", Kind::Set),
+    ("strict", Kind::Set),
     ("refuses", Kind::Refuses),
     ("connects", Kind::Connects),
     ("builds", Kind::Builds),

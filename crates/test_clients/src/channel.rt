@@ -5,7 +5,7 @@ use ftp_base::command::Command;
 use ftp_base::encoding::Utf8Encoding;
 use ftp_base::status::Status;
 use ftp_base::types::FtpResult;
-use ftp_control::control::{ControlChannel, WireLine};
+use ftp_control::control::{ControlChannel, ReplyRule, WireLine};
 use ftp_transport::MemoryConn;
 use futures::task::Poll;
 use std::alloc::Global;
@@ -62,7 +62,7 @@ fn lines(alloc: Global, channel: &mut ControlChannel<MemoryConn>) -> FtpResult<[
 
 /// A channel over memory.
 fn channel_on(alloc: Global, conn: MemoryConn) -> FtpResult<Box<ControlChannel<MemoryConn>>> {
-    boxed(alloc, ControlChannel::new(alloc, conn))
+    boxed(alloc, ControlChannel::new(alloc, conn, ReplyRule::Strict))
 }
 
 #[test]

@@ -1,7 +1,7 @@
 //! Clients over tokio's sockets that connect by themselves, and what they were set to.
 
 use crate::counted::polled;
-use crate::scene::{Client, Scene, done, greeted, listening, running, send, transport};
+use crate::scene::{Client, Scene, done, greeted, listening, pair, running, send, transport};
 use ftp_base::encoding::Utf8Encoding;
 use ftp_base::types::{FtpError, FtpResult};
 use ftp_polled::ImplAsyncFtpStream;
@@ -47,6 +47,50 @@ fn a_client_connects_to_the_first_that_listens(rt: HostRuntime) -> Result<(), Fa
     let answer = noop(&rt, &[dead, address])?;
     let received = serving.join(&rt)?;
     assert_eq!(rt; (answer, received.as_str()), (0, "NOOP\r\n"));
+    Ok(())
+}
+
+/// Greets two clients by a reply that opens with a plus.
+fn greet(listener: &TcpListener) -> io::Result<()> {
+    for _ in 0..2 {
+        let (mut server, _address) = listener.accept()?;
+        server.write_all(b"+22 hello\r\n220 ready\r\n")?;
+    }
+    Ok(())
+}
+
+/// The numbers of the faults of clients that connect to this address, strictly and leniently.
+fn greeted_so<R>(rt: &R, address: SocketAddr) -> Result<(u8, u8), Fail>
+where
+    R: Net<Listener = TcpListener, Stream = TcpStream> + Wait + Clock + RandomSource + AllocGlobal,
+{
+    let mut runtime = running(rt)?;
+    let strict = Client::connect(rt, transport(&runtime)?, &[address]);
+    let strict = done(rt, &mut runtime, strict);
+    let lenient = Client::connect_lenient(rt, transport(&runtime)?, &[address]);
+    Ok((strict, done(rt, &mut runtime, lenient)))
+}
+
+/// The number of the fault of a client that reads such a greeting leniently on a connection.
+fn greeted_on<R>(rt: &R) -> io::Result<u8>
+where
+    R: Net<Listener = TcpListener, Stream = TcpStream> + Wait + Clock + RandomSource + AllocGlobal,
+{
+    let mut runtime = running(rt)?;
+    let (conn, _server) = pair(rt, &runtime, b"+22 hello\r\n220 ready\r\n")?;
+    let connect = Client::connect_with_stream_lenient(rt, transport(&runtime)?, conn);
+    Ok(done(rt, &mut runtime, connect))
+}
+
+#[test]
+fn a_lenient_client_takes_a_greeting_that_opens_with_a_plus(rt: HostRuntime) -> Result<(), Fail> {
+    let (listener, address) = listening(&rt)?;
+    let serving = thread::spawn(&rt, move || greet(&listener))?;
+    let faults = greeted_so(&rt, address)?;
+    let served = serving.join(&rt).is_ok();
+    let on = greeted_on(&rt)?;
+    // `BadResponse` is 11
+    assert_eq!(rt; (faults, served, on), ((11, 0), true, 0));
     Ok(())
 }
 

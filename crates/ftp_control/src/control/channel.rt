@@ -102,8 +102,9 @@ impl<C: Tells + Drop> ControlChannel<C> {
         result
     }
 
-    /// A channel on a connection: nothing is read, nothing is sent.
-    pub fn new(alloc: Global, mut conn: C) -> ControlChannel<C>
+    /// A channel on a connection, which reads replies by this rule: nothing is read, nothing is sent.
+    pub fn new(alloc: Global, mut conn: C, rule: ReplyRule) -> ControlChannel<C>
+        ensures rule { result.rule ≡ rule }
         ensures begins { C.tells → result.told ≡ begun (C.told conn) }
         ensures idle { IsIdle result }
         ensures sound { IsSound C.tells result }
@@ -122,7 +123,7 @@ impl<C: Tells + Drop> ControlChannel<C> {
             },
             ended: false,
             failed: false,
-            rule: ReplyRule::Lenient,
+            rule,
         }
     }
 

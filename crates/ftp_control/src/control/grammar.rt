@@ -143,6 +143,9 @@ pub(crate) fn opens(rule: ReplyRule, line: &[u8]) -> bool
     ensures { result ≡ opens rule line.now }
 {
     match rule {
+        ReplyRule::Strict => {
+            line.len() >= 5 && begins_with_digits(line) && (line[3] == b' ' || line[3] == b'-')
+        }
         ReplyRule::Lenient => {
             line.len() >= 5
                 && (begins_with_digits(line) || line[0] == b'+' && are_digits(&line[1..3]))
@@ -155,6 +158,12 @@ pub(crate) fn ends(rule: ReplyRule, dash: bool, reply: &[u8], line: &[u8]) -> bo
     ensures { result ≡ ends rule dash reply.now line.now }
 {
     match rule {
+        ReplyRule::Strict => {
+            line.len() >= 4
+                && begins_with_digits(line)
+                && line[3] == b' '
+                && have_same_code(line, reply)
+        }
         ReplyRule::Lenient => {
             line.len() >= 4
                 && begins_with_digits(line)

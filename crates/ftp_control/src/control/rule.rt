@@ -7,7 +7,10 @@
 /// The rule that distinguishes a reply's first and last line from others.
 #[derive(Clone, Copy, Debug, PartialEq, Eq)]
 pub enum ReplyRule {
+    /// The RFC's: three digits and a space or `-` open a reply, and the first line's three digits and a space end it,
+    /// whatever is asked of it.
+    Strict,
     /// Any three digits and a space end a reply, whatever code it opened with; `+` and two digits open one,
-    /// too.
+    /// too. Where a status of 211 is expected, or the answer to FEAT, its first line ends a reply.
     Lenient,
 }

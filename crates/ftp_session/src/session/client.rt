@@ -18,6 +18,7 @@ use super::parameters::{NoStreamBuilder, NoTlsConnector};
 use super::{Call, Counts, State};
 use ftp_base::encoding::{Encoding, Utf8Encoding};
 use ftp_base::types::{FtpError, FtpResult};
+use ftp_control::control::ReplyRule;
 use ftp_dialogue::machine::Machine;
 use ftp_transfer::mark::SessionEnd;
 use ftp_transport::{Conn, Network};
@@ -46,14 +47,55 @@ pub struct Session<
 }
 
 impl<Tr: Network, K: Drop, E: Encoding, B: Drop> Session<Tr, K, E, B> {
-    /// A session on a connection. Nothing is read and nothing is sent.
+    /// A session on a connection, which reads replies as RFC 959, section 4.2, has them. Nothing is read and nothing is
+    /// sent.
     ///
     /// # Errors
     /// None today: the result leaves room for a session that makes a buffer.
     pub fn new(alloc: Global, transport: Tr, conn: Tr::Conn) -> FtpResult<Session<Tr, K, E, B>>
         ensures succeeds { IsOk result }
         ensures begins { IfOk result (λ session.
-            Begins Tr.Conn.tells (Tr.Conn.told conn)
+            Begins Tr.Conn.tells ReplyRule.Strict (Tr.Conn.told conn)
+            (first_net (Tr.asked transport) (Tr.ready transport) (Tr.closed transport)) session.machine) }
+        ensures sound { IfOk result (λ session. IsSound Tr.Conn.tells session.machine.channel) }
+        ensures encoding { IfOk result (λ session. session.encoding.0 ≡ None) }
+        ensures builder { IfOk result (λ session. session.builder ≡ None) }
+        ensures mark { IfOk result (λ session. session.mark ≡ None) }
+    {
+        Session::by_rule(alloc, transport, conn, ReplyRule::Strict)
+    }
+
+    /// The same, which reads replies leniently (`ReplyRule::Lenient`).
+    ///
+    /// # Errors
+    /// None today, as of `new`.
+    pub fn new_lenient(
+        alloc: Global,
+        transport: Tr,
+        conn: Tr::Conn,
+    ) -> FtpResult<Session<Tr, K, E, B>>
+        ensures succeeds { IsOk result }
+        ensures begins { IfOk result (λ session.
+            Begins Tr.Conn.tells ReplyRule.Lenient (Tr.Conn.told conn)
+            (first_net (Tr.asked transport) (Tr.ready transport) (Tr.closed transport)) session.machine) }
+        ensures sound { IfOk result (λ session. IsSound Tr.Conn.tells session.machine.channel) }
+        ensures encoding { IfOk result (λ session. session.encoding.0 ≡ None) }
+        ensures builder { IfOk result (λ session. session.builder ≡ None) }
+        ensures mark { IfOk result (λ session. session.mark ≡ None) }
+    {
+        Session::by_rule(alloc, transport, conn, ReplyRule::Lenient)
+    }
+
+    /// A session on a connection, which reads replies by this rule.
+    fn by_rule(
+        alloc: Global,
+        transport: Tr,
+        conn: Tr::Conn,
+        rule: ReplyRule,
+    ) -> FtpResult<Session<Tr, K, E, B>>
+        ensures succeeds { IsOk result }
+        ensures begins { IfOk result (λ session.
+            Begins Tr.Conn.tells rule (Tr.Conn.told conn)
             (first_net (Tr.asked transport) (Tr.ready transport) (Tr.closed transport)) session.machine) }
         ensures sound { IfOk result (λ session. IsSound Tr.Conn.tells session.machine.channel) }
         ensures encoding { IfOk result (λ session. session.encoding.0 ≡ None) }
@@ -61,7 +103,7 @@ impl<Tr: Network, K: Drop, E: Encoding, B: Drop> Session<Tr, K, E, B> {
         ensures mark { IfOk result (λ session. session.mark ≡ None) }
     {
         Ok(Session {
-            machine: Machine::new(alloc, transport, conn),
+            machine: Machine::new(alloc, transport, conn, rule),
             encoding: Chosen(None),
             connector: None,
             builder: None,
@@ -85,12 +127,56 @@ impl<Tr: Network, K: Drop, E: Encoding, B: Drop> Session<Tr, K, E, B> {
         ensures builder { IfOk result (λ session. session.builder ≡ None) }
         ensures mark { IfOk result (λ session. session.mark ≡ None) }
         ensures connects { MatchResult result
-            (λ session. Connects (blocking Tr.Conn.Conn) (chosen E.decoded E.encoded None) (Tr.Conn.told conn)
+            (λ session. Connects (blocking Tr.Conn.Conn) (chosen E.decoded E.encoded None) ReplyRule.Strict (Tr.Conn.told conn)
             (first_net (Tr.asked transport) (Tr.ready transport) (Tr.closed transport)) session.machine (Ok tt))
-            (λ fault. FailsToConnect (blocking Tr.Conn.Conn) (chosen E.decoded E.encoded None) (Tr.Conn.told conn)
+            (λ fault. FailsToConnect (blocking Tr.Conn.Conn) (chosen E.decoded E.encoded None) ReplyRule.Strict (Tr.Conn.told conn)
             (first_net (Tr.asked transport) (Tr.ready transport) (Tr.closed transport)) fault) }
     {
-        let mut session = Session::new(alloc, transport, conn)?;
+        Session::greeted(alloc, transport, conn, ReplyRule::Strict)
+    }
+
+    /// The same, where replies are read leniently from the greeting on (`ReplyRule::Lenient`).
+    ///
+    /// # Errors
+    /// Those of `connect_with_stream`.
+    pub fn connect_with_stream_lenient(
+        alloc: Global,
+        transport: Tr,
+        conn: Tr::Conn,
+    ) -> FtpResult<Session<Tr, K, E, B>>
+    where
+        Tr::Conn: Conn,
+        ensures encoding { IfOk result (λ session. session.encoding.0 ≡ None) }
+        ensures builder { IfOk result (λ session. session.builder ≡ None) }
+        ensures mark { IfOk result (λ session. session.mark ≡ None) }
+        ensures connects { MatchResult result
+            (λ session. Connects (blocking Tr.Conn.Conn) (chosen E.decoded E.encoded None) ReplyRule.Lenient (Tr.Conn.told conn)
+            (first_net (Tr.asked transport) (Tr.ready transport) (Tr.closed transport)) session.machine (Ok tt))
+            (λ fault. FailsToConnect (blocking Tr.Conn.Conn) (chosen E.decoded E.encoded None) ReplyRule.Lenient (Tr.Conn.told conn)
+            (first_net (Tr.asked transport) (Tr.ready transport) (Tr.closed transport)) fault) }
+    {
+        Session::greeted(alloc, transport, conn, ReplyRule::Lenient)
+    }
+
+    /// A session on a connection, which reads replies by this rule, once the server's greeting was read.
+    pub(super) fn greeted(
+        alloc: Global,
+        transport: Tr,
+        conn: Tr::Conn,
+        rule: ReplyRule,
+    ) -> FtpResult<Session<Tr, K, E, B>>
+    where
+        Tr::Conn: Conn,
+        ensures encoding { IfOk result (λ session. session.encoding.0 ≡ None) }
+        ensures builder { IfOk result (λ session. session.builder ≡ None) }
+        ensures mark { IfOk result (λ session. session.mark ≡ None) }
+        ensures connects { MatchResult result
+            (λ session. Connects (blocking Tr.Conn.Conn) (chosen E.decoded E.encoded None) rule (Tr.Conn.told conn)
+            (first_net (Tr.asked transport) (Tr.ready transport) (Tr.closed transport)) session.machine (Ok tt))
+            (λ fault. FailsToConnect (blocking Tr.Conn.Conn) (chosen E.decoded E.encoded None) rule (Tr.Conn.told conn)
+            (first_net (Tr.asked transport) (Tr.ready transport) (Tr.closed transport)) fault) }
+    {
+        let mut session = Session::by_rule(alloc, transport, conn, rule)?;
         match session.greet(alloc) {
             Ok(()) => Ok(session),
             Err(fault) => {

@@ -14,6 +14,7 @@ ghost use Rattle.ftp_dialogue.specs.Link.{blocking};
 use super::client::Session;
 use ftp_base::encoding::Encoding;
 use ftp_base::types::{ConnectionError, FtpError, FtpResult};
+use ftp_control::control::ReplyRule;
 use ftp_transport::{Conn, Network, NeverWaits, Transport, Tried, poll_connect_in_turn};
 use futures::task::Poll;
 use std::alloc::{AllocError, Global};
@@ -43,8 +44,8 @@ where
         ensures nowhere { length addresses.now ≡ 0 →
             result ≡ Err (FtpError.ConnectionError faults.NoAddress) }
         ensures connects { MatchResult result
-            (λ session. ConnectsBy (blocking Tr.Conn.Conn) (chosen E.decoded E.encoded None) Tr.refuses (connects_to None addresses.now) faults.NoAddress (Tr.ready transport) (Tr.closed transport) (Tr.asked transport) session.machine (Ok tt))
-            (λ fault. FailsToConnectBy (blocking Tr.Conn.Conn) (chosen E.decoded E.encoded None) Tr.refuses (connects_to None addresses.now) faults.NoAddress (Tr.ready transport) (Tr.closed transport) (Tr.asked transport) fault) }
+            (λ session. ConnectsBy (blocking Tr.Conn.Conn) (chosen E.decoded E.encoded None) ReplyRule.Strict Tr.refuses (connects_to None addresses.now) faults.NoAddress (Tr.ready transport) (Tr.closed transport) (Tr.asked transport) session.machine (Ok tt))
+            (λ fault. FailsToConnectBy (blocking Tr.Conn.Conn) (chosen E.decoded E.encoded None) ReplyRule.Strict Tr.refuses (connects_to None addresses.now) faults.NoAddress (Tr.ready transport) (Tr.closed transport) (Tr.asked transport) fault) }
     {
         Session::connect_in_turn(
             alloc,
@@ -53,6 +54,39 @@ where
             addresses,
             None,
             ConnectionError::NoAddress,
+            ReplyRule::Strict,
+        )
+    }
+
+    /// The same, where replies are read leniently from the greeting on (`ReplyRule::Lenient`).
+    ///
+    /// # Errors
+    /// Those of `connect`.
+    pub fn connect_lenient<R>(
+        alloc: Global,
+        rt: &R,
+        transport: Tr,
+        addresses: &[SocketAddr],
+    ) -> FtpResult<Session<Tr, K, E, B>>
+    where
+        Tr: Transport<R>,
+        ensures encoding { IfOk result (λ session. session.encoding.0 ≡ None) }
+        ensures builder { IfOk result (λ session. session.builder ≡ None) }
+        ensures mark { IfOk result (λ session. session.mark ≡ None) }
+        ensures nowhere { length addresses.now ≡ 0 →
+            result ≡ Err (FtpError.ConnectionError faults.NoAddress) }
+        ensures connects { MatchResult result
+            (λ session. ConnectsBy (blocking Tr.Conn.Conn) (chosen E.decoded E.encoded None) ReplyRule.Lenient Tr.refuses (connects_to None addresses.now) faults.NoAddress (Tr.ready transport) (Tr.closed transport) (Tr.asked transport) session.machine (Ok tt))
+            (λ fault. FailsToConnectBy (blocking Tr.Conn.Conn) (chosen E.decoded E.encoded None) ReplyRule.Lenient Tr.refuses (connects_to None addresses.now) faults.NoAddress (Tr.ready transport) (Tr.closed transport) (Tr.asked transport) fault) }
+    {
+        Session::connect_in_turn(
+            alloc,
+            rt,
+            transport,
+            addresses,
+            None,
+            ConnectionError::NoAddress,
+            ReplyRule::Lenient,
         )
     }
 
@@ -77,8 +111,8 @@ where
         ensures no_time { as_nanos limit ≡ 0 →
             result ≡ Err (FtpError.ConnectionError faults.TimedOut) }
         ensures connects { MatchResult result
-            (λ session. ConnectsBy (blocking Tr.Conn.Conn) (chosen E.decoded E.encoded None) Tr.refuses (connects_within limit address) faults.TimedOut (Tr.ready transport) (Tr.closed transport) (Tr.asked transport) session.machine (Ok tt))
-            (λ fault. FailsToConnectBy (blocking Tr.Conn.Conn) (chosen E.decoded E.encoded None) Tr.refuses (connects_within limit address) faults.TimedOut (Tr.ready transport) (Tr.closed transport) (Tr.asked transport) fault) }
+            (λ session. ConnectsBy (blocking Tr.Conn.Conn) (chosen E.decoded E.encoded None) ReplyRule.Strict Tr.refuses (connects_within limit address) faults.TimedOut (Tr.ready transport) (Tr.closed transport) (Tr.asked transport) session.machine (Ok tt))
+            (λ fault. FailsToConnectBy (blocking Tr.Conn.Conn) (chosen E.decoded E.encoded None) ReplyRule.Strict Tr.refuses (connects_within limit address) faults.TimedOut (Tr.ready transport) (Tr.closed transport) (Tr.asked transport) fault) }
     {
         let addresses = [address];
         let count = if limit.is_zero() { 0 } else { 1 };
@@ -89,11 +123,12 @@ where
             &addresses[..count],
             Some(limit),
             ConnectionError::TimedOut,
+            ReplyRule::Strict,
         )
     }
 
     /// Connects to the first of these addresses that doesn't refuse, each within this time where there is a limit;
-    /// where there is no address this is the fault.
+    /// where there is no address this is the fault. Replies are read by this rule.
     fn connect_in_turn<R>(
         alloc: Global,
         rt: &R,
@@ -101,6 +136,7 @@ where
         addresses: &[SocketAddr],
         limit: Option<Duration>,
         fault: ConnectionError,
+        rule: ReplyRule,
     ) -> FtpResult<Session<Tr, K, E, B>>
     where
         Tr: Transport<R>,
@@ -110,8 +146,8 @@ where
         ensures nowhere { length addresses.now ≡ 0 →
             result ≡ Err (FtpError.ConnectionError fault) }
         ensures connects { MatchResult result
-            (λ session. ConnectsBy (blocking Tr.Conn.Conn) (chosen E.decoded E.encoded None) Tr.refuses (connects_to limit addresses.now) fault (Tr.ready transport) (Tr.closed transport) (Tr.asked transport) session.machine (Ok tt))
-            (λ cause. FailsToConnectBy (blocking Tr.Conn.Conn) (chosen E.decoded E.encoded None) Tr.refuses (connects_to limit addresses.now) fault (Tr.ready transport) (Tr.closed transport) (Tr.asked transport) cause) }
+            (λ session. ConnectsBy (blocking Tr.Conn.Conn) (chosen E.decoded E.encoded None) rule Tr.refuses (connects_to limit addresses.now) fault (Tr.ready transport) (Tr.closed transport) (Tr.asked transport) session.machine (Ok tt))
+            (λ cause. FailsToConnectBy (blocking Tr.Conn.Conn) (chosen E.decoded E.encoded None) rule Tr.refuses (connects_to limit addresses.now) fault (Tr.ready transport) (Tr.closed transport) (Tr.asked transport) cause) }
     {
         let mut tried = Tried { count: 0, fault };
         match poll_connect_in_turn(
@@ -122,9 +158,7 @@ where
             limit,
             &mut tried,
         ) {
-            Poll::Ready(Ok(Ok(conn))) => match Session::connect_with_stream(
-                alloc, transport, conn,
-            ) {
+            Poll::Ready(Ok(Ok(conn))) => match Session::greeted(alloc, transport, conn, rule) {
                 Ok(session) => Ok(session),
                 Err(cause) => Err(cause),
             },

@@ -5,7 +5,7 @@ use Rattle.ftp_script.proofs.script.script_of.Given as goal
 
 abbrev pub invariant-loop-line : goal.invariant-loop-line
 invariant-loop-line l = record {
-  read : script_of l.text ≡ after l.server.items l.data_conns.items l.calls.items (script_from l.number (lines_of l.rest));
+  read : script_of l.text ≡ after l.server.items l.data_conns.items l.calls.items l.lenient (script_from l.number (lines_of l.rest));
   counted : l.number + length l.rest ≤ length l.text + 1;
 }
 

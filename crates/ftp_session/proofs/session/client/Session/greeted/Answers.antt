@@ -1,4 +1,4 @@
-use Rattle.ftp_session.proofs.session.client.Session.connect_with_stream.Goals as goal
+use Rattle.ftp_session.proofs.session.client.Session.greeted.Goals as goal
 
 pub returns-in-Ok-clause-connects : goal.returns-in-Ok-clause-connects
 returns-in-Ok-clause-connects g c =
