@@ -79,13 +79,13 @@ ends Lenient dash first line =
     && begins_with_digits line
     && ((slice_index line 3 == 32) || (dash && (slice_index line 3 == 45) && pointwise nat_eq (take 3 line) (take 3 first)))
 
--- a dash ends a reply of 211, be it a system status or the first line of the answer to FEAT
+-- leniently a dash ends a reply of 211, be it a system status or the first line of the answer to FEAT
 abbrev pub by_dash : ReplyForm → Bool
 by_dash Plain = false
 by_dash System = true
 by_dash Features = true
 
--- a reply that is followed by a list of features: RFC 2389, section 3.2
+-- a reply that leniently is followed by a list of features: RFC 2389, section 3.2
 abbrev pub lists : ReplyForm → Bool
 lists Plain = false
 lists System = false

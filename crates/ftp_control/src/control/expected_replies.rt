@@ -1,7 +1,7 @@
 //! Reads of a reply whose status is among those expected.
 //!
-//! Which statuses those are also decides the reply's form: where 211 is among them, a first line `211-` may be the whole
-//! answer, as to `STAT`. The answer to `FEAT` has a form of its own. The status is tested once the reply is whole, so a
+//! Where replies are read leniently, which statuses those are also decides the reply's form: where 211 is among them, a
+//! first line `211-` may be the whole answer, as to `STAT`; the answer to `FEAT` has a form of its own. The status is tested once the reply is whole, so a
 //! reply that wasn't expected is consumed and given to the caller.
 
 ghost use Rattle.std.specs.Prelude.{◌≡◌, Err, true, false, ◌∷◌, []};

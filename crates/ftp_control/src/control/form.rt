@@ -1,8 +1,9 @@
-//! How far a reply reaches, which depends on the reply that is expected.
+//! How far a reply reaches that is read leniently, which depends on the reply that is expected.
 //!
-//! RFC 959, section 4.2, ends a reply with its code and a space. Some servers answer a system status (211) and stop after
-//! a first line `211-`; and the answer to `FEAT` is a reply of one line, `211 ` or `211-`, which the dash has follow by
-//! a list of features (RFC 2389, section 3.2). So who reads a reply says which of these it may be.
+//! RFC 959, section 4.2, ends a reply with its code and a space, and strictly each ends so. Some servers answer a system
+//! status (211) and stop after a first line `211-`; and the answer to `FEAT` is then a reply of one line, `211 ` or `211-`,
+//! which the dash has follow by a list of features (RFC 2389, section 3.2). So who reads a reply says which of these it
+//! may be.
 
 ghost use Rattle.std.specs.Prelude.{◌≡◌};
 ghost use Rattle.ftp_control.specs.Answer.{form_of};
@@ -15,9 +16,9 @@ use ftp_base::status::Status;
 pub enum ReplyForm {
     /// A code and a space end the reply.
     Plain,
-    /// So does the first line's code with a dash.
+    /// Leniently, so does the first line's code with a dash.
     System,
-    /// As `System`; a last line `211-` is followed by a list of features, which ends with a line `211 ` or with the
+    /// As `System`; leniently, a last line `211-` is followed by a list of features, which ends with a line `211 ` or with the
     /// input and belongs to the reply.
     Features,
 }

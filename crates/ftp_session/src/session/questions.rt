@@ -108,11 +108,12 @@ where
         }
     }
 
-    /// What the server can do beyond RFC 959: `FEAT` (211), and after `211-` the list up to a line `211 ` or the end of
-    /// the input (RFC 2389, section 3). A reply of one line, `211 `, is a server without features.
+    /// What the server can do beyond RFC 959: `FEAT` (211; RFC 2389, section 3), whose reply has a feature in each line
+    /// between its first and its last; read leniently, the end of the input ends it as well. A reply of one line, `211 `,
+    /// is a server without features.
     ///
     /// # Errors
-    /// Those of a command and its reply, the list being part of the reply; `BadResponse` where a line of the list
+    /// Those of a command and its reply; `BadResponse` where a line of the list
     /// doesn't begin with a space.
     pub fn feat(&mut self, alloc: Global) -> FtpResult<Features>
         ensures plays { PlaysCommand (blocking Tr.Conn.Conn) (feat_tree (chosen E.decoded E.encoded self.old.encoding.0))
