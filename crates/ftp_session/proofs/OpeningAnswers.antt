@@ -41,9 +41,12 @@ module _ (replies : Bool) (coding : Coding) (state : State) (after : State → T
   exchange_tells : (exchange : Exchange) → exchange.ending ≡ Opens replies → Tells (IsOpened replies) (doing coding (Exchanges exchange) state after)
   exchange_tells exchange is = said exchange.says
     where
+      heard : Tells (IsOpened replies) (awaiting coding (expected_of exchange.hears) exchange.ending state after)
+      heard = let P : Ending → Type 0 = λ e. (heard : Result Response FtpError) → Tells (IsOpened replies) (concluded coding e state after heard) in subst P (sym is) heard_tells
+
       said : (command : Option Command) → Tells (IsOpened replies) (saying coding command (awaiting coding (expected_of exchange.hears) exchange.ending state after))
-      said None = let P : Ending → Type 0 = λ e. (heard : Result Response FtpError) → Tells (IsOpened replies) (concluded coding e state after heard) in subst P (sym is) heard_tells
-      said (Some command) = said None
+      said None = heard
+      said (Some command) = heard
 
   row_tells : (row : Row) → OpensRow replies row → Tells (IsOpened replies) (doing coding row state after)
   row_tells (Exchanges exchange) is = exchange_tells exchange is

@@ -1,5 +1,5 @@
 -- What a connection, a connect and a listener wait for.
-use Rattle.std.specs.Prelude.{◌≡◌, ◌⊎◌, ℕ, Bool, true, false, Option, Some, None, Result, Ok, Err, IsSomeAnd}
+use Rattle.std.specs.Prelude.{◌≡◌, ◌≢◌, ◌⊎◌, ◌+◌, min, ℕ, Bool, true, false, Option, Some, None, Result, Ok, Err, IsSomeAnd}
 use Rattle.std.specs.declared.io.ErrorKind.{ErrorKind}
 use Rattle.futures.specs.declared.task.Poll.{Poll}
 use Rattle.futures.specs.declared.task.Poll.TheVariants.{Ready, Pending}
@@ -14,6 +14,12 @@ abbrev pub Remembers : {A : Type 0} → Result (Poll A) ErrorKind → Bool → T
 Remembers (Ok Pending) flag = flag ≡ true
 Remembers (Ok (Ready value)) flag = flag ≡ false
 Remembers (Err kind) flag = flag ≡ false
+
+-- so many calls go on in a row, and one more waits; after one that waits they are counted anew
+abbrev pub TakesTurns : {A : Type 0} → Result (Poll A) ErrorKind → ℕ → ℕ → Type 0
+TakesTurns (Ok (Ready value)) before after = (before ≢ 32) × (after ≡ min (before + 1) 255)
+TakesTurns (Ok Pending) before after = after ≡ 0
+TakesTurns (Err kind) before after = Unit {0}
 
 -- a read that waits, of this socket, waits until it can be read
 abbrev pub ReadNeeds : Option TcpStream → Bool → ℕ → Type 0

@@ -5,14 +5,14 @@
 //! didn't wait one does, whatever the socket has, and so for writes: other tasks run before a long transfer goes on. What a
 //! socket carries is not covered by any proof: its record is never true.
 
-ghost use Rattle.std.specs.Prelude.{◌≡◌, ◌≢◌, ℕ, Err, None, Ok, false, length, true};
+ghost use Rattle.std.specs.Prelude.{◌≡◌, ◌≢◌, ℕ, Err, None, Ok, false, length, true, ◌+◌, min};
 ghost use Rattle.std.specs.Option.{option_copied};
 ghost use Rattle.std.specs.declared.io.ErrorKind.TheVariants.{NotConnected, WouldBlock};
 ghost use Rattle.futures.specs.Task.{Covers, Keeps};
 ghost use Rattle.ftp_transport.specs.Memory.{fresh_memory};
 ghost use Rattle.ftp_transport.specs.Told.{ReadsAtMost, WritesSome};
 ghost use Rattle.ftp_transport.specs.declared.waiting.Waiting.TheVariants as waits;
-ghost use Rattle.ftp_tokio.specs.Needs.{ConnNeeds, IsOverOn, ReadNeeds, Remembers, WriteNeeds};
+ghost use Rattle.ftp_tokio.specs.Needs.{ConnNeeds, IsOverOn, ReadNeeds, Remembers, TakesTurns, WriteNeeds};
 ghost use Rattle.ftp_tokio.specs.Outcomes.{conn_over};
 
 use ftp_base::retry::{read_retrying, write_retrying};
@@ -66,6 +66,8 @@ impl TokioConn {
         ensures bound { ReadsAtMost result (length buffer.old) }
         ensures closed { self.old.stream ≡ None → result ≡ Err NotConnected }
         ensures other { self.new.write_waits ≡ self.old.write_waits }
+        ensures turn { self.old.reads ≡ 32 → TakesTurns result 32 0 }
+        ensures reads { self.new.reads ≡ self.old.reads }
     {
         let Some(stream) = &mut self.stream else {
             return Err(ErrorKind::NotConnected);
@@ -84,6 +86,8 @@ impl TokioConn {
         ensures bound { WritesSome result (length bytes.now) }
         ensures closed { self.old.stream ≡ None → result ≡ Err NotConnected }
         ensures other { self.new.read_waits ≡ self.old.read_waits }
+        ensures turn { self.old.writes ≡ 32 → TakesTurns result 32 0 }
+        ensures writes { self.new.writes ≡ self.old.writes }
     {
         let Some(stream) = &mut self.stream else {
             return Err(ErrorKind::NotConnected);
@@ -154,7 +158,10 @@ impl TokioConn {
 }
 
 /// How many calls in a row haven't waited, after one more.
-fn in_a_row(calls: u8, waits: bool) -> u8 {
+fn in_a_row(calls: u8, waits: bool) -> u8
+    ensures waited { waits ≡ true → result ≡ 0 }
+    ensures more { waits ≡ false → result ≡ min (calls + 1) 255 }
+{
     if waits { 0 } else { calls.saturating_add(1) }
 }
 
@@ -223,6 +230,7 @@ impl PollConn<()> for TokioConn {
     fn poll_read(&mut self, _w: &mut (), buffer: &mut [u8]) -> Result<Poll<usize>, ErrorKind>
         ensures bound { ReadsAtMost result (length buffer.old) }
         ensures remembered { Remembers result self.new.read_waits }
+        ensures turns { TakesTurns result self.old.reads self.new.reads }
         ensures closed { self.old.stream ≡ None → result ≡ Err NotConnected }
         ensures other { self.new.write_waits ≡ self.old.write_waits }
     {
@@ -235,6 +243,7 @@ impl PollConn<()> for TokioConn {
     fn poll_write(&mut self, _w: &mut (), bytes: &[u8]) -> Result<Poll<usize>, ErrorKind>
         ensures bound { WritesSome result (length bytes.now) }
         ensures remembered { Remembers result self.new.write_waits }
+        ensures turns { TakesTurns result self.old.writes self.new.writes }
         ensures closed { self.old.stream ≡ None → result ≡ Err NotConnected }
         ensures other { self.new.read_waits ≡ self.old.read_waits }
     {

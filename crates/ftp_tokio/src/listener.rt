@@ -4,8 +4,9 @@
 //! Once it has passed the socket is looked at once more, so that a peer that came in time is taken, however late the
 //! task is polled.
 
-ghost use Rattle.std.specs.Prelude.{◌≡◌, ℕ, true, false, IsSome, IfSome, None};
+ghost use Rattle.std.specs.Prelude.{◌≡◌, ℕ, true, false, IsSome, IfSome, None, Err};
 ghost use Rattle.futures.specs.Poll.{IfReady, OnPending};
+ghost use Rattle.ftp_base.specs.declared.types.fault.ConnectionError.TheVariants.{TimedOut};
 ghost use Rattle.futures.specs.Task.{Covers, Hears, IsArmed, Keeps};
 ghost use Rattle.tokio.specs.Timers.{sleep_source};
 ghost use Rattle.ftp_transport.specs.declared.waiting.Waiting.TheVariants as waits;
@@ -81,6 +82,7 @@ impl TokioListener {
         ensures kept { IfSome self.old.accepted
             (λ accepted. result ≡ Poll.Ready (with_fault accepted)) }
         ensures empty { self.new.accepted ≡ None }
+        ensures late { result ≡ Poll.Ready (Err TimedOut) → self.old.missed ≡ true }
     {
         self.waits = false;
         if let Some(accepted) = self.accepted.take() {
@@ -110,6 +112,7 @@ impl TokioListener {
             IfSome self.new.alarm.sleep (λ sleep. Hears cx.new (sleep_source sleep)) }
         ensures waits { self.new.waits ≡ self.old.waits }
         ensures first { IsSome self.old.accepted → self.new.accepted ≡ self.old.accepted }
+        ensures missed { self.old.late ≡ false → self.new.missed ≡ self.old.missed }
         ensures kept { Keeps cx.old cx.new }
     {
         if !self.waits {
@@ -138,6 +141,7 @@ impl TokioListener {
         ensures again { self.old.alarm.sleep ≡ None → cx.new.is_woken ≡ true }
         ensures rings { IfSome self.old.alarm.sleep (λ sleep. Hears cx.new (sleep_source sleep)) }
         ensures same { self.new ≡ record self.old { missed = self.new.missed } }
+        ensures missed { self.old.late ≡ false → self.new.missed ≡ self.old.missed }
         ensures kept { Keeps cx.old cx.new }
     {
         if self.late {

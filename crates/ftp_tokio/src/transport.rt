@@ -5,7 +5,7 @@
 //! the task is woken at its end, by a timer of the runtime's; made with a reactor alone the transport has none, and then
 //! the task is polled again at once.
 
-ghost use Rattle.std.specs.Prelude.{◌≡◌, [], ℕ, IfOk, IfSome, None, Ok, false, true};
+ghost use Rattle.std.specs.Prelude.{◌≡◌, [], ℕ, IfOk, IfSome, None, Ok, false, is_none, true};
 ghost use Rattle.futures.specs.Poll.{IfReady, OnPending};
 ghost use Rattle.futures.specs.Task.{Covers, Keeps};
 ghost use Rattle.ftp_transport.specs.declared.waiting.Waiting.TheVariants as waits;
@@ -44,7 +44,8 @@ impl TokioTransport {
     /// # Errors
     /// Where an allocation fails.
     pub fn of_runtime(handle: &RuntimeHandle) -> Result<TokioTransport, AllocError>
-        ensures { IfOk result (λ made. made.attempt ≡ None) }
+        ensures attempt { IfOk result (λ made. made.attempt ≡ None) }
+        ensures timers { IfOk result (λ made. is_none made.timers ≡ false) }
     {
         let reactor = handle.reactor().clone()?;
         let timers = handle.time().clone()?;

@@ -27,7 +27,9 @@ pub fn extended(alloc: Global, input: &str) -> Result<Vec<u8>, RowError> {
 /// The line of the command that tells an address.
 pub fn command(alloc: Global, input: &str) -> Result<Vec<u8>, RowError> {
     let command = port_command(alloc, value(input)?)?;
-    Ok(format!(in alloc; "{command}")?.into_bytes())
+    let line = format!(in alloc; "{command}");
+    drop(command);
+    Ok(line?.into_bytes())
 }
 
 /// Why there is no address, as rows write it.

@@ -8,8 +8,9 @@ use std::alloc::Global;
 /// The line of a command.
 pub fn line(alloc: Global, input: &str) -> Result<Vec<u8>, RowError> {
     let command = command(alloc, input)?;
-    let line = format!(in alloc; "{command}")?;
-    Ok(line.into_bytes())
+    let line = format!(in alloc; "{command}");
+    drop(command);
+    Ok(line?.into_bytes())
 }
 
 /// The command that words write: its name, and what it takes.
