@@ -14,7 +14,7 @@ use Rattle.ftp_base.specs.declared.types.fault.FtpError.TheVariants as fault
 use Rattle.ftp_base.specs.declared.types.fault.ConnectionError.{ConnectionError as Cause}
 use Rattle.ftp_base.specs.declared.types.fault.ConnectionError.TheVariants as connection
 use Rattle.ftp_control.specs.declared.control.rule.ReplyRule.{ReplyRule}
-use Rattle.ftp_control.specs.declared.control.rule.ReplyRule.TheVariants.{Lenient}
+use Rattle.ftp_control.specs.declared.control.rule.ReplyRule.TheVariants.{Strict, Lenient}
 use Rattle.ftp_transport.specs.declared.room.Room.{Room}
 use Rattle.ftp_transport.specs.declared.request.RequestOutcome.{RequestOutcome}
 use Rattle.ftp_control.specs.declared.plain.Found.{Found}
@@ -68,21 +68,22 @@ line_found b line (Reply others number) bytes code is = omega (arith, ap length 
 line_found b line (NoReply other) bytes code is = let clash : NoReply other ≡ Reply bytes code = is in cc
 line_found b line Unfinished bytes code is = let clash : Unfinished ≡ Reply bytes code = is in cc
 
-reply_found : (form : ReplyForm) (ended : Bool) (lines : List (List ℕ)) (bytes : List ℕ) (code : ℕ) → reply_in Lenient form ended lines ≡ Reply bytes code → 0 < length bytes
-reply_found form ended [] bytes code is = let clash : Unfinished ≡ Reply bytes code = is in cc
-reply_found form ended ([] ∷ lines) bytes code is = let clash : NoReply [] ≡ Reply bytes code = is in cc
-reply_found form ended ((b ∷ line) ∷ lines) bytes code is =
+reply_found : (rule : ReplyRule) (form : ReplyForm) (ended : Bool) (lines : List (List ℕ)) (bytes : List ℕ) (code : ℕ) → reply_in rule form ended lines ≡ Reply bytes code → 0 < length bytes
+reply_found rule form ended [] bytes code is = let clash : Unfinished ≡ Reply bytes code = is in cc
+reply_found Strict form ended ([] ∷ lines) bytes code is = let clash : NoReply [] ≡ Reply bytes code = is in cc
+reply_found Lenient form ended ([] ∷ lines) bytes code is = let clash : NoReply [] ≡ Reply bytes code = is in cc
+reply_found rule form ended ((b ∷ line) ∷ lines) bytes code is =
     let first : List ℕ = b ∷ line in
-    let others : Found = after_line first (to_end Lenient form ended first lines) in
+    let others : Found = after_line first (to_end rule form ended first lines) in
     let listed : Found = after_line first (to_list_end ended lines) in
     let number : ℕ = code_at_start first in
-    elim (opens Lenient first) as (λ o. cond o (cond (ends Lenient (by_dash form) first first) (cond (lists form && opens_list first) listed (Reply first number)) others) (NoReply first) ≡ Reply bytes code → 0 < length bytes) [
-      | true ↦ λ e. (elim (ends Lenient (by_dash form) first first) as (λ t. cond t (cond (lists form && opens_list first) listed (Reply first number)) others ≡ Reply bytes code → 0 < length bytes) [
+    elim (opens rule first) as (λ o. cond o (cond (ends rule (by_dash form) first first) (cond (lists form && opens_list first) listed (Reply first number)) others) (NoReply first) ≡ Reply bytes code → 0 < length bytes) [
+      | true ↦ λ e. (elim (ends rule (by_dash form) first first) as (λ t. cond t (cond (lists form && opens_list first) listed (Reply first number)) others ≡ Reply bytes code → 0 < length bytes) [
         | true ↦ λ f. (elim (lists form && opens_list first) as (λ t. cond t listed (Reply first number) ≡ Reply bytes code → 0 < length bytes) [
           | true ↦ λ g. line_found b line (to_list_end ended lines) bytes code g
           | false ↦ λ g. omega (arith, ap length (ap bytes_found g))
         ] f)
-        | false ↦ λ f. line_found b line (to_end Lenient form ended first lines) bytes code f
+        | false ↦ λ f. line_found b line (to_end rule form ended first lines) bytes code f
       ] e)
       | false ↦ λ e. (let clash : NoReply first ≡ Reply bytes code = e in cc)
     ] is
@@ -120,8 +121,8 @@ within_some count ended Unfinished reply code some is = absurd (unfinished count
 
 whole_some : (rule : ReplyRule) (form : ReplyForm) (bytes : List ℕ) (ended : Bool) (reply : List ℕ) (code : ℕ) → outcome rule form bytes ended ≡ Whole reply code → 0 < length reply
 unfolding outcome
-whole_some Lenient form bytes ended reply code is =
-    within_some (length bytes) ended (reply_in Lenient form ended (lines bytes ended)) reply code (reply_found form ended (lines bytes ended)) is
+whole_some rule form bytes ended reply code is =
+    within_some (length bytes) ended (reply_in rule form ended (lines bytes ended)) reply code (reply_found rule form ended (lines bytes ended)) is
 
 some_bytes : (rule : ReplyRule) (form : ReplyForm) (bytes : List ℕ) (ended : Bool) (reply : List ℕ) (code : ℕ) → outcome rule form bytes ended ≡ Whole reply code → 0 < length bytes
 unfolding outcome
