@@ -1,5 +1,7 @@
 //! How often a call is polled that waits.
 
+ghost use Rattle.std.specs.Prelude.{◌≡◌};
+
 use crate::clients::write_passive;
 use crate::scene::{Runtime, Scene, greeted, listening, number, send};
 use ftp_base::types::FtpResult;

@@ -1,8 +1,10 @@
 //! A client that the tasks of several threads share.
 
 use crate::scene::{Client, listening};
+use ftp_base::types::FtpResult;
 use ftp_tokio::TokioTransport;
-use futures::{FutureExt, StreamExt, stream};
+use futures::task::{Context, Poll};
+use futures::{Future, stream};
 use std::alloc::AllocGlobal;
 use std::io::{Read, Write};
 use std::net::{Net, SocketAddr, TcpListener, TcpStream};
@@ -31,6 +33,39 @@ fn serve(listener: &TcpListener) -> io::Result<()> {
     Ok(())
 }
 
+/// A task of a call for a file's size: it is counted where this is its answer.
+#[derive(Drop)]
+struct Sized<'a, F: Future> {
+    call: F,
+    size: usize,
+    right: &'a AtomicU32,
+}
+
+impl<F: Future<Output = FtpResult<usize>>> Future for Sized<'_, F> {
+    type Output = ();
+
+    ghost can_poll = { λ task. F.can_poll task.call };
+
+    ghost needs = { λ task source. F.needs task.call source };
+
+    fn poll(&mut self, cx: &mut Context<'_>) -> Poll<()> {
+        match self.call.poll(cx) {
+            Poll::Ready(answer) => {
+                if number_of(answer) == Some(self.size) {
+                    self.right.fetch_add(1, SeqCst);
+                }
+                Poll::Ready(())
+            }
+            Poll::Pending => Poll::Pending,
+        }
+    }
+}
+
+/// The size that a call gave.
+fn number_of(answer: FtpResult<usize>) -> Option<usize> {
+    answer.ok()
+}
+
 /// How many of the tasks of a runtime of two threads, which share a client, were given their own file's size.
 fn right<R>(rt: &R, address: SocketAddr) -> Result<u32, Fail>
 where
@@ -46,16 +81,19 @@ where
     let transport = TokioTransport::of_runtime(runtime.handle())?;
     let client = runtime.block_on(rt, Client::connect(rt, transport, &[address]))??;
     let right = AtomicU32::new(0);
-    let count = &right;
-    let calls = [(1, client.size(rt, "1")), (2, client.size(rt, "2"))];
-    let tasks = stream::iter(calls).map(move |(size, call)| {
-        call.map(move |answer| {
-            if matches!(answer, Ok(given) if given == size) {
-                count.fetch_add(1, SeqCst);
-            }
-        })
-    });
-    runtime.run_all(rt, tasks)?;
+    let calls = [
+        Sized {
+            call: client.size(rt, "1"),
+            size: 1,
+            right: &right,
+        },
+        Sized {
+            call: client.size(rt, "2"),
+            size: 2,
+            right: &right,
+        },
+    ];
+    runtime.run_all(rt, stream::iter(calls))?;
     Ok(right.load(SeqCst))
 }
 
