@@ -57,7 +57,7 @@ answers_of (Finished answers s) = answers
 answers_of (Waiting answers wait s) = answers
 
 -- what the definition says of these bytes, where no transfer was opened
-played : (decode : List ℕ → List ℕ) (state : State) (said unsent : List ℕ) (local peer : SocketAddr) (dealings : Dealings) (outcomes : List DealOutcome) (ended : Bool) → answers_of (run Any (as_it_is decode) (Greet ∷ Noop ∷ []) (record { state = record state { counts = no_transfers }; failed = false; rule = Strict; said = said; unsent = unsent; local = local; peer = peer; dealings = dealings; bytes = server; ended = ended; outcomes = outcomes })) ≡ Done ∷ Done ∷ []
+played : (decode : List ℕ → List ℕ) (state : State) (said unsent : List ℕ) (local peer : SocketAddr) (dealings : Dealings) (outcomes : List DealOutcome) (ended : Bool) → answers_of (run Any (as_it_is decode) (Greet ∷ Noop ∷ []) (record { state = record state { settings = record state.settings { reply_rule = Strict }; counts = no_transfers }; failed = false; said = said; unsent = unsent; local = local; peer = peer; dealings = dealings; bytes = server; ended = ended; outcomes = outcomes })) ≡ Done ∷ Done ∷ []
 unfolding run play outcome text_of words_of
 played decode state said unsent local peer dealings outcomes ended = refl
 
@@ -69,8 +69,8 @@ module _ (builds : Builds) (decode : List ℕ → List ℕ) (old new : SessionVa
   calls = Greet ∷ Noop ∷ []
 
   -- where a run of these bytes begins
-  abbrev begin_at : List DealOutcome → Bool → ReplyRule → List ℕ → Standing
-  begin_at outcomes failed rule bytes = record (standing old [] new.channel.ended outcomes) { failed = failed; rule = rule; bytes = bytes }
+  abbrev begin_at : List DealOutcome → Bool → List ℕ → Standing
+  begin_at outcomes failed bytes = record (standing old [] new.channel.ended outcomes) { failed = failed; bytes = bytes }
 
   -- all bytes that were fed came
   all_came : (runs : RunsTo (over_memory builds) (as_it_is decode) calls old new answers) → untaken old.channel ++ (runs.came ++ given.ahead) ≡ server
@@ -85,17 +85,18 @@ module _ (builds : Builds) (decode : List ℕ → List ℕ) (old new : SessionVa
   finished runs =
       let coding = as_it_is decode in
       let outcomes = outcomes_of runs.answered ++ [] in
-      let one_view : old.channel.failed ≡ false → OneView old.channel.rule old.channel.kept coding calls = λ going. (let P : List ℕ → Type 0 = λ k. OneView old.channel.rule k coding calls in subst P (sym begins.idle.kept) (nothing_views coding old.channel.rule calls)) in
+      let one_view : old.channel.failed ≡ false → OneView old.channel.rule old.channel.kept coding calls old.state = λ going. (let P : List ℕ → Type 0 = λ k. OneView old.channel.rule k coding calls old.state in subst P (sym begins.idle.kept) (nothing_views coding old.channel.rule calls old.state)) in
       let on : GoesOn new.channel.ended given.ahead new.channel.ended = record { nothing = λ e. given.over (sound.ended tt ∙ e); over = λ e. e } in
       let there = runs.runs tt one_view Any given.ahead new.channel.ended [] tt on in
       let F : Standing → List Answer = λ s. answers_of (run Any coding calls s) in
-      let B : Bool → ReplyRule → List ℕ → List Answer = λ f r b. F (begin_at outcomes f r b) in
+      let B : Bool → List ℕ → List Answer = λ f b. F (begin_at outcomes f b) in
+      let ruled : ReplyRule → State = λ r. record old.state { settings = record old.state.settings { reply_rule = r } } in
       let bytes = untaken old.channel ++ (runs.came ++ given.ahead) in
       sym (ap answers_of there)
-      ∙ ap (λ f. B f old.channel.rule bytes) begins.idle.failed
-      ∙ ap (λ r. B false r bytes) begins.rule_is
-      ∙ ap (λ b. B false Strict b) (all_came runs)
-      ∙ ap (λ c. F (record (begin_at outcomes false Strict server) { state = record old.state { counts = c } })) begins.first.transfers
+      ∙ ap (λ f. B f bytes) begins.idle.failed
+      ∙ ap (λ b. B false b) (all_came runs)
+      ∙ ap (λ r. F (record (begin_at outcomes false server) { state = ruled r })) begins.rule_is
+      ∙ ap (λ c. F (record (begin_at outcomes false server) { state = record (ruled Strict) { counts = c } })) begins.first.transfers
       ∙ played decode old.state old.channel.told.sent old.channel.unsent _ _ _ outcomes new.channel.ended
 
   aborted : RunAborts (over_memory builds) (as_it_is decode) calls [] old new answers → WasAborted answers

@@ -37,6 +37,13 @@ impl<Tr: Network, K: Drop, E: Encoding, B: Drop> ControlSocket<'_, Tr, K, E, B> 
 }
 
 impl<Tr: Network, K: Drop, E: Encoding, B: Drop> ImplFtpStream<Tr, K, E, B> {
+    /// Whether the session has failed: a read or a write of the control connection did, its input ended where a reply
+    /// was due, a reply was too large, or memory ran out inside a dialogue. Each later command returns `SessionFailed`;
+    /// connect anew.
+    pub fn failed<R: Wait>(&self, rt: &R) -> bool {
+        self.session.lock(rt).failed()
+    }
+
     /// Takes the lock, and keeps it for as long as the result lives, which lends the control connection.
     pub fn get_ref<R: Wait>(&self, rt: &R) -> ControlSocket<'_, Tr, K, E, B> {
         ControlSocket {

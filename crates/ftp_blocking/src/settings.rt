@@ -30,6 +30,12 @@ impl<Tr: Network, K: Drop, E: Encoding, B: Drop> ImplFtpStream<Tr, K, E, B> {
         self.session.lock(rt).set_active_deadline(deadline);
     }
 
+    /// Whether the replies that begin from now on are read leniently (`ReplyRule::Lenient`), or as RFC 959, section 4.2,
+    /// has it. A client begins strict, unless a call with `lenient` in its name connected it.
+    pub fn set_lenient_replies<R: Wait>(&self, rt: &R, lenient: bool) {
+        self.session.lock(rt).set_lenient_replies(lenient);
+    }
+
     /// The client in the mode `Active`, which waits so long for a data connection.
     pub fn active_mode<R: Wait>(self, rt: &R, deadline: Duration) -> Self {
         self.set_mode(rt, Mode::Active);

@@ -38,6 +38,8 @@ pub enum Setting {
     ActivePeerCheck(ActivePeerCheck),
     /// How long an active data connection is waited for.
     ActiveDeadline(Duration),
+    /// Whether replies that begin from now on are read leniently.
+    LenientReplies(bool),
 }
 
 /// A call of a session, with its arguments.

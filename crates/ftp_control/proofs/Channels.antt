@@ -2,9 +2,9 @@
 use Rattle.std.proofs.Common.{◌≡◌, ℕ, Bool, true, false, List, [], ◌++◌, length, drop, Result, Ok, Err, refl, ap, sym, ◌∙◌, subst, append_assoc, append-nil, arith}
 use Rattle.ftp_control.specs.declared.control.rule.ReplyRule.{ReplyRule}
 use Rattle.ftp_control.specs.declared.control.form.ReplyForm.TheVariants.{Features}
-use Rattle.ftp_control.specs.declared.control.grammar.Phase.{Phase}
-use Rattle.ftp_control.specs.declared.control.grammar.Phase.TheVariants.{InReply}
-use Rattle.ftp_control.specs.Inside.Verdict.{waiting_form}
+use Rattle.ftp_control.specs.declared.control.lenient.Phase.{Phase}
+use Rattle.ftp_control.specs.declared.control.lenient.Phase.TheVariants.{InReply}
+use Rattle.ftp_control.specs.Inside.Phases.{waiting_form}
 use Rattle.ftp_transport.specs.declared.room.Room.{Room}
 use Rattle.ftp_transport.specs.declared.room.Room.TheVariants.{Any, UpTo}
 use Rattle.ftp_control.specs.declared.control.broken.Broken.{Broken}
@@ -100,6 +100,24 @@ idle_holds tells t rule begins = record {
     fits = λ h. fresh_fits t.given.room t.sent (begins h).1;
   };
 }
+
+-- the rule of the next reply is chosen, where nothing of one is kept
+pub rule_holds : (tells : Type 0) (t : Told) (kept : List ℕ) (start : ℕ) (phase : Phase) (line : List ℕ) (sent : ℕ) (ended failed : Bool) (rule chosen : ReplyRule) → kept ≡ [] → Holds tells t kept start phase line sent ended failed rule → Holds tells t kept start phase line sent ended failed chosen
+unfolding Rattle.ftp_control.specs.Grammar.outcome
+rule_holds tells t kept start phase line sent ended failed rule chosen none held =
+    let U : List ℕ → Type 0 = λ k. IsUnderWay rule k start phase → IsUnderWay chosen k start phase in
+    let under : IsUnderWay chosen kept start phase = subst U (sym none) (λ way. record { split = way.split; phase_is = way.phase_is; waits = way.waits }) held.under_way in
+    record {
+      under_way = under;
+      within = held.within;
+      sound = record {
+        waits = (waiting_form phase, under.waits);
+        kept = held.sound.kept;
+        lines = held.sound.lines;
+        ended = held.sound.ended;
+        fits = held.sound.fits;
+      };
+    }
 
 -- a line is taken whole, to go out
 pub push_holds : (tells : Type 0) (t : Told) (kept : List ℕ) (start : ℕ) (phase : Phase) (old line : List ℕ) (sent : ℕ) (ended failed : Bool) (rule : ReplyRule) → Holds tells t kept start phase old sent ended failed rule → drop sent old ≡ [] → is_wire_line line ≡ true → Holds tells t kept start phase line 0 ended failed rule

@@ -10,9 +10,11 @@ use Rattle.ftp_control.specs.declared.plain.Found.{Found}
 use Rattle.ftp_control.specs.declared.plain.Found.TheVariants.{Reply, NoReply, Unfinished}
 use Rattle.ftp_base.specs.Features.{is_last}
 use Rattle.ftp_control.specs.declared.control.form.ReplyForm.{ReplyForm}
-use Rattle.ftp_control.specs.declared.control.grammar.Phase.{Phase}
-use Rattle.ftp_control.specs.Inside.Verdict.{is_listing, phase_in}
-use Rattle.ftp_control.specs.Grammar.{whole_lines, rest, last_line, lines, joined, opens, ends, by_dash, lists, opens_list, code_at_start, after_line, to_list_end, to_end, reply_in, reply_limit, within, outcome}
+use Rattle.ftp_control.specs.declared.control.lenient.Phase.{Phase}
+use Rattle.ftp_control.specs.Inside.Phases.{is_listing, phase_in}
+use Rattle.ftp_control.specs.Grammar.{whole_lines, rest, last_line, lines, joined, opens, ends, code_at_start, to_end, reply_in, reply_limit, within, outcome}
+use Rattle.ftp_control.specs.Found.{after_line}
+use Rattle.ftp_control.specs.Lenient.{by_dash, lists, opens_list, to_list_end}
 use Rattle.ftp_control.specs.Law.{IsSettled, SettledStays}
 use Rattle.ftp_control.proofs.Lines.{lines-append, joined-whole_lines, first_line_length, has_line_feed-rest}
 use Rattle.ftp_control.proofs.Replies.{after_lines, after_lines-Reply, after_lines-Unfinished, found_in, found_after, reply_in-append, reply_in-stays, to_end-NoReply, to_list_end-NoReply}

@@ -10,16 +10,18 @@ use Rattle.ftp_control.specs.declared.control.rule.ReplyRule.TheVariants.{Strict
 use Rattle.ftp_control.specs.declared.control.outcome.Outcome.TheVariants.{Whole, Bad, TooLarge, Ended, Waits}
 use Rattle.ftp_control.specs.declared.control.grammar.Verdict.{Verdict}
 use Rattle.ftp_control.specs.declared.control.grammar.Verdict.TheVariants.{Refused, Ends, GoesOn}
-use Rattle.ftp_control.specs.Grammar.{is_line_feed, whole_lines, rest, last_line, lines, joined, begins_with_digits, opens, ends, by_dash, lists, opens_list, code_at_start, to_list_end, to_end, reply_in, reply_limit, within, outcome, line_outcome}
+use Rattle.ftp_control.specs.Grammar.{is_line_feed, whole_lines, rest, last_line, lines, joined, begins_with_digits, opens, ends, code_at_start, to_end, reply_in, reply_limit, within, outcome, line_outcome}
+use Rattle.ftp_control.specs.Lenient.{by_dash, lists, opens_list, to_list_end}
 use Rattle.ftp_control.specs.declared.plain.Found.{Found}
 use Rattle.ftp_control.specs.declared.plain.Found.TheVariants.{Reply, NoReply, Unfinished}
 use Rattle.ftp_control.specs.Inside.ReadLoop.{TakesAll}
 use Rattle.ftp_base.specs.Features.{is_last}
 use Rattle.ftp_control.specs.declared.control.form.ReplyForm.{ReplyForm}
 use Rattle.ftp_control.specs.declared.control.form.ReplyForm.TheVariants.{Plain, System, Features}
-use Rattle.ftp_control.specs.declared.control.grammar.Phase.{Phase}
-use Rattle.ftp_control.specs.declared.control.grammar.Phase.TheVariants.{InReply, InList, Past}
-use Rattle.ftp_control.specs.Inside.Verdict.{verdict, line_verdict, outcome_by, ended_by, in_list, in_reply, is_listing, phase_after, phase_in, phase_left, phase_of, waiting_form}
+use Rattle.ftp_control.specs.declared.control.lenient.Phase.{Phase}
+use Rattle.ftp_control.specs.declared.control.lenient.Phase.TheVariants.{InReply, InList, Past}
+use Rattle.ftp_control.specs.Inside.Phases.{in_list, in_reply, is_listing, phase_after, phase_in, phase_of, waiting_form}
+use Rattle.ftp_control.specs.Inside.Verdict.{verdict, line_verdict, outcome_by, ended_by, phase_left}
 use Rattle.ftp_control.proofs.Lines.{joined-whole_lines, whole_lines-line_feed, rest-closed, whole_lines-other, rest-other, first_nonempty}
 use Rattle.ftp_control.proofs.Replies.{after_lines, after_lines-Reply, after_lines-Unfinished, found_after, found_in, reply_in-append, reply_never_past, opened}
 

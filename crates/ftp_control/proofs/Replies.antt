@@ -1,15 +1,17 @@
 -- Lemmas on replies: how what lines hold goes on with more lines.
 use Rattle.std.proofs.Common.{◌≡◌, ◌≢◌, ℕ, Bool, true, false, ◌&&◌, cond, List, [], ◌∷◌, ◌++◌, refl, sym, append_assoc}
 use Rattle.ftp_base.specs.Features.{is_last}
-use Rattle.ftp_control.specs.Grammar.{joined, opens, ends, by_dash, lists, opens_list, code_at_start, after_line, to_list_end, to_end, reply_in}
-use Rattle.ftp_control.specs.Inside.Verdict.{is_listing, phase_in, phase_of}
+use Rattle.ftp_control.specs.Grammar.{joined, opens, ends, code_at_start, to_end, reply_in}
+use Rattle.ftp_control.specs.Found.{after_line}
+use Rattle.ftp_control.specs.Lenient.{by_dash, lists, opens_list, to_list_end}
+use Rattle.ftp_control.specs.Inside.Phases.{is_listing, phase_in, phase_of}
 use Rattle.ftp_control.specs.declared.plain.Found.{Found}
 use Rattle.ftp_control.specs.declared.plain.Found.TheVariants.{Reply, NoReply, Unfinished}
 use Rattle.ftp_control.specs.declared.control.rule.ReplyRule.{ReplyRule}
 use Rattle.ftp_control.specs.declared.control.form.ReplyForm.{ReplyForm}
 use Rattle.ftp_control.specs.declared.control.form.ReplyForm.TheVariants.{Plain, System, Features}
-use Rattle.ftp_control.specs.declared.control.grammar.Phase.{Phase}
-use Rattle.ftp_control.specs.declared.control.grammar.Phase.TheVariants.{Past}
+use Rattle.ftp_control.specs.declared.control.lenient.Phase.{Phase}
+use Rattle.ftp_control.specs.declared.control.lenient.Phase.TheVariants.{Past}
 
 -- lines before what is found behind them
 abbrev pub after_lines : List (List ℕ) → Found → Found

@@ -1,10 +1,12 @@
 -- A strict read ends as it does whatever is asked of it, and as a lenient one where no line inside its reply could end that.
-use Rattle.std.proofs.Common.{◌≡◌, ◌<◌, ◌≤◌, ◌+◌, ◌-◌, ◌==◌, ◌&&◌, ◌||◌, ℕ, nat_eq, nat_le, nat_lt, slice_index, Bool, true, false, cond, List, [], ◌∷◌, ◌++◌, length, drop, take, length-append, arith, refl, sym, ap, subst, ◌∙◌}
+use Rattle.std.proofs.Common.{◌≡◌, ◌<◌, ◌≤◌, ◌+◌, ◌-◌, ◌==◌, ◌&&◌, ◌||◌, ℕ, nat_eq, nat_le, nat_lt, slice_index, Bool, true, false, cond, List, [], ◌∷◌, ◌++◌, length, drop, take, length-append, arith, refl, ap, subst, ◌∙◌}
 use Rattle.std.proofs.lemmas.Bool.{leb-true, lt-ltb}
 use Rattle.std.specs.Char.{is_ascii_digit}
 use Rattle.std.specs.Cmp.Lexicographic.{pointwise}
 use Rattle.std.specs.List.{list_all, list_any}
-use Rattle.ftp_control.specs.Grammar.{begins_with_digits, opens, ends, lists, opens_list, code_at_start, after_line, lines, to_list_end, to_end, reply_in, within, outcome}
+use Rattle.ftp_control.specs.Grammar.{begins_with_digits, opens, ends, code_at_start, lines, to_end, reply_in, within, outcome}
+use Rattle.ftp_control.specs.Found.{after_line}
+use Rattle.ftp_control.specs.Lenient.{lists, opens_list, to_list_end}
 use Rattle.ftp_control.specs.Law.{OneForm, StrictAsLenient, is_spaced, lines_before}
 use Rattle.ftp_control.specs.declared.plain.Found.{Found}
 use Rattle.ftp_control.specs.declared.plain.Found.TheVariants.{Reply, NoReply, Unfinished}

@@ -1,5 +1,5 @@
 -- The control channel as one value, and what always holds of it.
-use Rattle.std.specs.Prelude.{◌≡◌, ℕ, ◌+◌, ◌≤◌, ◌<◌, length, Bool, true, false, ◌||◌, List, [], ◌++◌, Result, Ok, Err}
+use Rattle.std.specs.Prelude.{◌≡◌, ℕ, ◌+◌, ◌≤◌, ◌<◌, length, Bool, true, false, ◌||◌, List, [], ◌∷◌, ◌++◌, Result, Ok, Err}
 use Rattle.std.specs.declared.io.ErrorKind.{ErrorKind}
 use Rattle.futures.specs.declared.task.Poll.{Poll}
 use Rattle.ftp_control.specs.declared.control.rule.ReplyRule.{ReplyRule}
@@ -15,7 +15,7 @@ use Rattle.ftp_control.specs.Sending.{IsLines, Flushes}
 
 -- what its connection records; the bytes of the reply under way; received bytes that come after those and that no
 -- read has looked at yet; the unsent tail of the line that goes out; whether the end of the input was met, whether
--- the channel failed, and the rule of replies
+-- the channel failed, and the rule of the reply under way, or of the next where nothing of one is kept
 pub record Channel : Type 0 where
   pub told : Told
   pub kept : List ℕ
@@ -28,6 +28,11 @@ pub record Channel : Type 0 where
 -- all received bytes that no reply has taken
 abbrev pub untaken : Channel → List ℕ
 untaken c = c.kept ++ c.ahead
+
+-- the rule by which a reply is read where another one is chosen: its own, once a byte of it was kept
+abbrev pub rule_left : List ℕ → ReplyRule → ReplyRule → ReplyRule
+rule_left [] rule chosen = chosen
+rule_left (b ∷ kept) rule chosen = rule
 
 -- a part that the whole ends with
 pub record IsEndOf (part whole : List ℕ) : Type 0 where

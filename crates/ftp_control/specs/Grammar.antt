@@ -1,16 +1,16 @@
 -- The grammar of replies: RFC 959, section 4.2. A definition speaks of all bytes that came, and of whether
 -- they have ended.
-use Rattle.std.specs.Prelude.{ℕ, ◌+◌, ◌*◌, ◌-◌, Bool, true, false, ◌||◌, ◌&&◌, ◌==◌, codes, nat_eq, nat_le, nat_lt, List, [], ◌∷◌, ◌++◌, length, take, drop, slice_index, if◌then◌else◌}
-use Rattle.std.specs.List.{list_any, list_all, starts_with}
+use Rattle.std.specs.Prelude.{ℕ, ◌+◌, ◌*◌, ◌-◌, Bool, ◌||◌, ◌&&◌, ◌==◌, nat_eq, nat_le, nat_lt, List, [], ◌∷◌, ◌++◌, length, take, drop, slice_index, if◌then◌else◌}
+use Rattle.std.specs.List.{list_any, list_all}
 use Rattle.std.specs.Cmp.Lexicographic.{pointwise}
 use Rattle.std.specs.Char.{is_ascii_digit}
 use Rattle.ftp_control.specs.declared.control.rule.ReplyRule.{ReplyRule}
 use Rattle.ftp_control.specs.declared.control.rule.ReplyRule.TheVariants.{Strict, Lenient}
 use Rattle.ftp_control.specs.declared.control.form.ReplyForm.{ReplyForm}
-use Rattle.ftp_control.specs.declared.control.form.ReplyForm.TheVariants.{Plain, System, Features}
-use Rattle.ftp_base.specs.Features.{is_last}
 use Rattle.ftp_control.specs.declared.plain.Found.{Found}
 use Rattle.ftp_control.specs.declared.plain.Found.TheVariants.{Reply, NoReply, Unfinished}
+use Rattle.ftp_control.specs.Found.{after_line}
+use Rattle.ftp_control.specs.Lenient.{by_dash, lists, opens_list, to_list_end}
 use Rattle.ftp_control.specs.declared.control.outcome.Outcome.{Outcome}
 use Rattle.ftp_control.specs.declared.control.outcome.Outcome.TheVariants.{Whole, Bad, TooLarge, Ended, Waits}
 
@@ -79,36 +79,7 @@ ends Lenient dash first line =
     && begins_with_digits line
     && ((slice_index line 3 == 32) || (dash && (slice_index line 3 == 45) && pointwise nat_eq (take 3 line) (take 3 first)))
 
--- leniently a dash ends a reply of 211, be it a system status or the first line of the answer to FEAT
-abbrev pub by_dash : ReplyForm → Bool
-by_dash Plain = false
-by_dash System = true
-by_dash Features = true
-
--- a reply that leniently is followed by a list of features: RFC 2389, section 3.2
-abbrev pub lists : ReplyForm → Bool
-lists Plain = false
-lists System = false
-lists Features = true
-
--- a line that ends a reply and opens the list
-abbrev pub opens_list : List ℕ → Bool
-opens_list line = starts_with nat_eq line (codes "211-")
-
 -- A reply
-
--- what lines hold: a reply's bytes and its code; a first line that opens none; or too little (`Found`)
-
--- a line before what is found behind it
-abbrev pub after_line : List ℕ → Found → Found
-after_line line (Reply bytes code) = Reply (line ++ bytes) code
-after_line line (NoReply other) = NoReply other
-after_line line Unfinished = Unfinished
-
--- the lines of a list of features: those up to and with the first that begins "211 ", or all where the input has ended
-abbrev pub to_list_end : Bool → List (List ℕ) → Found
-to_list_end ended [] = if ended then Reply [] 211 else Unfinished
-to_list_end ended (line ∷ lines) = if is_last line then Reply line 211 else after_line line (to_list_end ended lines)
 
 -- the lines up to and with the first that ends the reply, and the list of features that it opens
 abbrev pub to_end : ReplyRule → ReplyForm → Bool → List ℕ → List (List ℕ) → Found

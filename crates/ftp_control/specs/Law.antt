@@ -1,6 +1,6 @@
 -- The laws of outcomes: what is settled stays, however the input goes on; a strict read ends as it does whatever is asked of
 -- it, and as a lenient one where no line inside its reply could end that.
-use Rattle.std.specs.Prelude.{◌≡◌, ◌-◌, ◌==◌, ◌&&◌, ◌||◌, ℕ, nat_le, nat_lt, slice_index, Bool, true, false, List, [], ◌∷◌, ◌++◌, length, if◌then◌else◌}
+use Rattle.std.specs.Prelude.{◌≡◌, ◌-◌, ◌==◌, ◌&&◌, ℕ, nat_le, nat_lt, slice_index, Bool, false, List, [], ◌∷◌, ◌++◌, length, if◌then◌else◌}
 use Rattle.std.specs.List.{list_any}
 use Rattle.ftp_control.specs.declared.control.form.ReplyForm.{ReplyForm}
 use Rattle.ftp_control.specs.declared.control.form.ReplyForm.TheVariants.{Plain}

@@ -1,8 +1,10 @@
 pub mod Answer
 pub mod Channel
+pub mod Found
 pub mod Grammar
 pub mod Inside
 pub mod Law
+pub mod Lenient
 pub mod LineAnswer
 pub mod Performing
 pub mod Reading

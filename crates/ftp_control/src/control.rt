@@ -1,7 +1,7 @@
 //! The control connection: replies delivered whole and in order, commands sent as one line each.
 //!
 //! `channel` holds what both directions need. Inwards, `read_loop` takes byte after byte, `sought` says what for: a
-//! reply (`reply_buffer`, with the rules of its lines in `grammar`) or a single line (`line_buffer`); the result is an
+//! reply (`reply_buffer`, with the rules of its lines in `grammar`, and what lenient replies have besides in `lenient`) or a single line (`line_buffer`); the result is an
 //! `Outcome`, which `expected_replies` and `single_lines` turn into what a caller wants. Outwards, a command becomes a
 //! `WireLine`, the only thing that can be sent, and stands in the `outbox` until all of it went out (`sends`).
 //!
@@ -15,6 +15,7 @@ mod expected_statuses;
 mod feeding;
 mod form;
 pub(crate) mod grammar;
+pub(crate) mod lenient;
 mod line_buffer;
 mod outbox;
 mod outcome;

@@ -5,11 +5,12 @@
 
 ghost use Rattle.std.specs.Prelude.{◌≡◌, ◌∷◌, [], ◌++◌, IfOk};
 ghost use Rattle.ftp_control.specs.Law.{OneForm, SettledStays, StrictAsLenient};
-ghost use Rattle.ftp_control.specs.Grammar.{whole_lines, rest, last_line, lines, to_end, to_list_end, reply_in, after_line, within, outcome, has_line_feed};
+ghost use Rattle.ftp_control.specs.Grammar.{whole_lines, rest, last_line, lines, to_end, reply_in, within, outcome, has_line_feed};
+ghost use Rattle.ftp_control.specs.Found.{after_line};
+ghost use Rattle.ftp_control.specs.Lenient.{to_list_end};
 
-use crate::control::grammar::{
-    by_dash, closes_list, code_at_start, ends, lists, opens, opens_list,
-};
+use crate::control::grammar::{code_at_start, ends, opens};
+use crate::control::lenient::{by_dash, closes_list, lists, opens_list};
 use crate::control::{Outcome, REPLY_LIMIT, ReplyForm, ReplyRule};
 use ftp_base::types::Bytes;
 use std::alloc::{AllocError, Global};

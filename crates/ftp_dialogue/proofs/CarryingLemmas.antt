@@ -4,7 +4,6 @@ use Rattle.ftp_base.specs.declared.command.Command.{Command}
 use Rattle.ftp_base.specs.declared.types.fault.FtpError.{FtpError}
 use Rattle.ftp_base.specs.declared.types.fault.FtpError.TheVariants.{OutOfMemory, SessionFailed}
 use Rattle.ftp_base.specs.declared.types.reply.Response.{Response}
-use Rattle.ftp_control.specs.declared.control.rule.ReplyRule.{ReplyRule}
 use Rattle.ftp_calls.specs.declared.call.Answer.{Answer}
 use Rattle.ftp_calls.specs.declared.call.Answer.TheVariants.{Unit, Fault, NoTransfer}
 use Rattle.ftp_calls.specs.declared.call.Call.{Call}
@@ -35,7 +34,7 @@ use Rattle.ftp_dialogue.specs.Dialogue.{Tree, Move, Leaf, accepted, awaiting, ca
 use Rattle.ftp_dialogue.specs.Link.{Link}
 use Rattle.ftp_dialogue.specs.Play.{Refusal, Taken, Lacking, Failing, finally, leaving, play, play_call, play_unless, lacks, refusal, refused_if_failed, needs_data}
 use Rattle.ftp_dialogue.specs.Promises.{Aborts, Goes, IsFault, IsRefusal, IsRefused, IsSuccess, standing, LeavesIf, Refuses, begun_by, lacks_of, refusal_of, IsApart}
-use Rattle.ftp_dialogue.specs.Resuming.{Resumes}
+use Rattle.ftp_dialogue.specs.Resuming.{Modes, Resumes}
 use Rattle.ftp_dialogue.specs.Sound.{Transfers, left_behind}
 use Rattle.ftp_dialogue.specs.State.{SessionValue, LetsGo}
 use Rattle.std.specs.declared.io.ErrorKind.{ErrorKind}
@@ -139,16 +138,16 @@ pub local_dialogue : (coding : Coding) (call : Call) (state : State) → is_loca
 local_dialogue coding call state local = plain_dialogue coding call state (local_opens_none call local) (local_finishes_none call local)
 
 -- what is left of a reply doesn't matter to a call that hears none
-pub local_resumes : (rule : ReplyRule) (kept : List ℕ) (coding : Coding) (call : Call) (state : State) → is_local call ≡ true → Resumes rule kept (dialogue coding call state)
-local_resumes rule kept coding call state local =
-    let P : Tree → Type 0 = λ t. Resumes rule kept t in
+pub local_resumes : (modes : Modes) (kept : List ℕ) (coding : Coding) (call : Call) (state : State) → is_local call ≡ true → Resumes modes kept (dialogue coding call state)
+local_resumes modes kept coding call state local =
+    let P : Tree → Type 0 = λ t. Resumes modes kept t in
     subst P (sym (local_dialogue coding call state local)) (row (row_of call First) local)
   where
-    carries : (b : Bool) (answer : Answer) (moves : Movement) → Resumes rule kept (cond b (Leaf answer state) (Move moves (λ came. Leaf (moved_answer came) state)))
+    carries : (b : Bool) (answer : Answer) (moves : Movement) → Resumes modes kept (cond b (Leaf answer state) (Move moves (λ came. Leaf (moved_answer came) state)))
     carries true answer moves = tt
     carries false answer moves = λ came. tt
 
-    row : (r : Row) → local_row r ≡ true → Resumes rule kept (doing coding r state (later coding call First))
+    row : (r : Row) → local_row r ≡ true → Resumes modes kept (doing coding r state (later coding call First))
     row (Exchanges e) is = let clash : false ≡ true = is in cc
     row (Arms offset) is = let clash : false ≡ true = is in cc
     row (Sets setting) is = tt
@@ -196,9 +195,9 @@ carrying_is (movement.Read most) state = refl
 carrying_is (movement.Write bytes) state = refl
 carrying_is movement.Close state = refl
 
-pub carrying_resumes : (rule : ReplyRule) (kept : List ℕ) (moves : Movement) (state : State) → Resumes rule kept (carrying moves state)
-carrying_resumes rule kept moves state =
-    let P : Tree → Type 0 = λ t. Resumes rule kept t in
+pub carrying_resumes : (modes : Modes) (kept : List ℕ) (moves : Movement) (state : State) → Resumes modes kept (carrying moves state)
+carrying_resumes modes kept moves state =
+    let P : Tree → Type 0 = λ t. Resumes modes kept t in
     let next : Tree = Move moves (λ came. Leaf (answer_moved moves came) (state_moved moves state)) in
     subst P (sym (carrying_is moves state)) (elim (moves_nothing moves) as (λ b. P (cond b (Leaf (nothing_moved moves) state) next)) [
       | true ↦ tt
@@ -459,7 +458,6 @@ beside_goes link answered v w same deals =
       untaken = omega arith;
       at_hand = λ h is. is;
       deals = deals;
-      rule = refl;
     })
 
 -- a call that was refused is refused by the definition, too
@@ -581,11 +579,11 @@ taken_plays coding room call v more ended outcomes taken =
     ap (λ x. play_unless x room coding call s) (ap (λ n. refusal call v.channel.failed (lacks call n v.state.counts.owed)) (lacks_alike traffic_of v.net.data_conn) ∙ taken)
 
 -- what is left of a reply is resumed by a call that is taken
-pub taken_resumes : (rule : ReplyRule) (kept : List ℕ) (coding : Coding) (call : Call) (v : SessionValue) → refusal_of call v ≡ Taken → (v.channel.failed ≡ false → Resumes rule kept (dialogue coding call v.state)) → Resumes rule kept (dialogue coding call v.state)
-taken_resumes rule kept coding call v taken resumes = go (is_local call) refl
+pub taken_resumes : (modes : Modes) (kept : List ℕ) (coding : Coding) (call : Call) (v : SessionValue) → refusal_of call v ≡ Taken → (v.channel.failed ≡ false → Resumes modes kept (dialogue coding call v.state)) → Resumes modes kept (dialogue coding call v.state)
+taken_resumes modes kept coding call v taken resumes = go (is_local call) refl
   where
-    go : (b : Bool) → is_local call ≡ b → Resumes rule kept (dialogue coding call v.state)
-    go true local = local_resumes rule kept coding call v.state local
+    go : (b : Bool) → is_local call ≡ b → Resumes modes kept (dialogue coding call v.state)
+    go true local = local_resumes modes kept coding call v.state local
     go false abroad = resumes (taken_going call v.channel.failed (lacks_of call v) taken abroad)
 
 -- a session that goes on after a call that was taken went on before it

@@ -310,7 +310,7 @@ module _ (Sort : Request → Type 0) where
   play_reaches room (Say (Err cause) next) s none keeps = stays s.dealings.asked (Done (Fault (ConnectionError cause)) s) none refl
   play_reaches room (Hear expected next) s none keeps =
       let k : Result Response FtpError → Standing → Played = λ heard t. play room (next heard) t in
-      elim (outcome s.rule expected.form s.bytes s.ended) as (λ o. Reaches Sort s.dealings.asked (heard_then o expected s k)) [
+      elim (outcome s.state.settings.reply_rule expected.form s.bytes s.ended) as (λ o. Reaches Sort s.dealings.asked (heard_then o expected s k)) [
         | Whole reply code ↦ (let heard = expected_reply expected.statuses (record { status = status_of code; body = reply }) in play_reaches room (next heard) (taken (left_by (Whole reply code) s.bytes) s) none (keeps heard))
         | Bad line ↦ play_reaches room (next (Err BadResponse)) (taken (left_by (Bad line) s.bytes) s) none (keeps (Err BadResponse))
         | TooLarge ↦ play_reaches room (next (Err (ConnectionError ReplyTooLarge))) (record (taken (left_by TooLarge s.bytes) s) { failed = true }) none (keeps (Err (ConnectionError ReplyTooLarge)))

@@ -195,7 +195,7 @@ unit_is (answers.Fault fault) is = let clash : false ≡ true = is in cc
 
 -- what goes on from where a call begins goes on from before it
 pub goes_from : (link : Link) (came : List ℕ) (answered : List Deal) (call : Call) (old new : SessionValue) → Goes link came answered (begun_by call old) new → Goes link came answered old new
-goes_from link came answered call old new goes = record { over = goes.over; received = goes.received; given = goes.given; failures = goes.failures; sent = goes.sent; said = goes.said; untaken = goes.untaken; at_hand = goes.at_hand; deals = goes.deals; rule = goes.rule }
+goes_from link came answered call old new goes = record { over = goes.over; received = goes.received; given = goes.given; failures = goes.failures; sent = goes.sent; said = goes.said; untaken = goes.untaken; at_hand = goes.at_hand; deals = goes.deals }
 
 -- what is made of a call is its dialogue
 pub made_plays : (link : Link) (coding : Coding) (call : Call) (old new : SessionValue) (answer : Answer) → Made link coding call old new answer → PlaysAlone link coding call old new answer

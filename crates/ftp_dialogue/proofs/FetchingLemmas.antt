@@ -1,5 +1,5 @@
 -- Lemmas on the steps of a call that reads a whole data connection.
-use Rattle.std.proofs.Common.{◌≡◌, ◌<◌, ◌-◌, ◌+◌, ◌⊎◌, ◌&&◌, Option, Some, None, ℕ, zero, suc, Bool, true, false, cond, nat_le, List, [], ◌∷◌, ◌++◌, length, Result, Ok, Err, inl, inr, refl, ap, sym, ◌∙◌, subst, arith}
+use Rattle.std.proofs.Common.{◌≡◌, ◌<◌, ◌-◌, ◌+◌, ◌⊎◌, ◌&&◌, Option, Some, None, ℕ, zero, suc, Bool, true, false, cond, nat_le, List, [], ◌∷◌, ◌++◌, length, Result, Err, inl, inr, refl, ap, sym, ◌∙◌, subst, arith}
 use Rattle.futures.specs.declared.task.Poll.{Poll}
 use Rattle.std.proofs.lemmas.Bool.{ne_eqb}
 use Rattle.futures.specs.declared.task.Poll.TheVariants as poll
@@ -18,7 +18,7 @@ use Rattle.ftp_calls.specs.declared.exchange.Fetch.TheVariants.{Whole, Listed}
 use Rattle.ftp_calls.specs.declared.exchange.Task.TheVariants as task
 use Rattle.ftp_calls.specs.declared.exchange.Movement.TheVariants as movement
 use Rattle.ftp_calls.specs.declared.exchange.Turn.TheVariants.{First}
-use Rattle.ftp_calls.specs.Exchanges.{Kind, given_by, kind_of_fetch, row_of}
+use Rattle.ftp_calls.specs.Exchanges.{Kind, kind_of_fetch}
 use Rattle.ftp_dialogue.specs.declared.gathered.More.{More}
 use Rattle.ftp_dialogue.specs.declared.gathered.More.TheVariants as more
 use Rattle.ftp_dialogue.specs.declared.model.DealOutcome.{DealOutcome}
@@ -32,11 +32,11 @@ use Rattle.ftp_dialogue.specs.declared.state.State.{State}
 use Rattle.ftp_dialogue.specs.Coding.{Coding}
 use Rattle.ftp_dialogue.specs.Deals.{MovementIs, Net, ReadIs, answers}
 use Rattle.ftp_dialogue.specs.Gathering.{GrowsBy}
-use Rattle.ftp_dialogue.specs.Dialogue.{Tree, Hear, Move, Leaf, chunk, closed_as, expecting, fetch_concluded, fetch_ending, fetch_parting, fetched, fetching, first_fault, gathering, grown, most_bytes, most_reads, on_data, sending, told_of_close, too_long, unfetched, after_fetch, wants_memory, with_abandoned, with_fetched}
+use Rattle.ftp_dialogue.specs.Dialogue.{Tree, Move, Leaf, chunk, closed_as, expecting, fetch_concluded, fetch_ending, fetch_parting, fetched, fetching, first_fault, gathering, grown, most_bytes, most_reads, on_data, sending, told_of_close, too_long, unfetched, wants_memory, with_abandoned, with_fetched}
 use Rattle.ftp_dialogue.specs.Link.{Link}
-use Rattle.ftp_dialogue.specs.Promises.{Aborts, AbortsRead, FailsRead, IsFault, Untouched, failed_from, lacking_at, state_at}
+use Rattle.ftp_dialogue.specs.Promises.{Aborts, AbortsRead, FailsRead, IsFault, Untouched, failed_from, state_at}
 use Rattle.ftp_dialogue.specs.State.{SessionValue}
-use Rattle.ftp_dialogue.specs.Steps.Moving.{Advances, AsksFirst, BreaksOff, Ends, EndsFetch, FetchFailsIf, Follows, Grows, HeardFault, Hears, Moves, ReadsBy, Still, after_fault}
+use Rattle.ftp_dialogue.specs.Steps.Moving.{Advances, AsksFirst, BreaksOff, Ends, EndsFetch, FetchFailsIf, Follows, Grows, HeardFault, Hears, Moves, ReadsBy, Still}
 use Rattle.ftp_dialogue.specs.Steps.Stages.{AnswersKind, FetchOf, MayAnswer, MayFetch, fetch_left, nodes_of_fetch}
 use Rattle.ftp_dialogue.proofs.Moving.{leaf_ends}
 use Rattle.ftp_dialogue.proofs.NegotiationLemmas.{moved_through, unasked_through, moved_still, still_fails, unchanged_still}

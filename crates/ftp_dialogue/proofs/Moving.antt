@@ -26,7 +26,7 @@ use Rattle.ftp_dialogue.specs.declared.model.Played.TheVariants as played
 use Rattle.ftp_dialogue.specs.State.{SessionValue, LetsGo}
 use Rattle.ftp_dialogue.specs.Dialogue.{Tree, Say, Hear, Look, Ask, Build, Move, Leaf}
 use Rattle.ftp_dialogue.specs.Play.{ended, finally, play, fits, said_then}
-use Rattle.ftp_dialogue.specs.Resuming.{Resumes, Silent}
+use Rattle.ftp_dialogue.specs.Resuming.{Resumes, Silent, modes_of}
 use Rattle.ftp_dialogue.specs.Promises.{IsFault, IsOf, However, SaidOrTaken, standing, Rests, Goes, Leads, Fails, Touched, Untouched, LacksMemory, Aborts, KeepsNoReply, failed_from, lacking_at, state_at}
 use Rattle.ftp_dialogue.specs.Within.{Within}
 use Rattle.ftp_dialogue.proofs.Places.{here, within_on}
@@ -66,7 +66,6 @@ nothing_goes link v = record {
   untaken = omega arith;
   at_hand = λ h is. is;
   deals = λ h. refl;
-  rule = refl;
 }
 
 pub nothing_shrinks : (n : ℕ) → n ≤ n + 0
@@ -91,8 +90,8 @@ stays_put link tree tree' v same =
         leads = nothing_leads link tree v;
         state = refl;
         resumes = λ r. r;
-        keeps = λ silent. inr (refl, refl, refl, silent);
-        calm = λ calm. inr (refl, refl, refl, calm);
+        keeps = λ from to silent. inr (refl, refl, refl, silent, refl);
+        calm = λ calm. inr (refl, refl, refl, calm, refl);
         shrinks = nothing_shrinks (length v.channel.ahead);
         says = λ line next is h. inl (record { rest = line; next = next; is = is; count = refl; resumes = λ rule kept r. r; plays = λ room more ended outcomes fit on. refl });
         apart = λ apart. (refl, apart);
@@ -132,7 +131,6 @@ module _ (link : Link) (state : State) (net : Net) (a : Channel) (told : Told) (
     untaken = omega arith;
     at_hand = λ h is. (let P : Told → Type 0 = IsGiven in subst P (sym (nothing h)) (record { ahead = is.ahead; front = is.front; over = is.over }));
     deals = λ h. refl;
-    rule = refl;
   }
 
   -- what was said stays said
@@ -162,8 +160,8 @@ module _ (link : Link) (state : State) (net : Net) (a : Channel) (told : Told) (
         };
         state = refl;
         resumes = λ r. r;
-        keeps = λ silent. inr (refl, refl, refl, silent);
-        calm = λ calm. inr (refl, refl, refl, tt);
+        keeps = λ from to silent. inr (refl, refl, refl, silent, refl);
+        calm = λ calm. inr (refl, refl, refl, tt, refl);
         shrinks = nothing_shrinks (length a.ahead);
         says = λ l n is h.
             let all : told.sent ≡ a.told.sent ++ a.unsent ++ due line = joined_whole a.told.sent told.sent a.unsent unsent (due line) (due line') says.leaves.0 (ap due says.leaves.1) (says.said h) in
@@ -202,8 +200,8 @@ module _ (link : Link) (state : State) (net : Net) (a : Channel) (told : Told) (
           leads = said_part says.whole says.leaves.2 says.said (said_goes says.hears_nothing says.leaves.3 says.sends (λ h. said_grows line line' says.whole (says.said h)));
           state = refl;
           resumes = λ r. r;
-          keeps = λ silent. inr (refl, refl, refl, silent);
-          calm = λ calm. inr (refl, refl, refl, tt);
+          keeps = λ from to silent. inr (refl, refl, refl, silent, refl);
+          calm = λ calm. inr (refl, refl, refl, tt, refl);
           shrinks = nothing_shrinks (length a.ahead);
           says = λ l n is h. inl (record {
             rest = due line';
@@ -279,7 +277,7 @@ line_said link state net a b line line' answer going says begun next =
 -- what is kept of a reply under way
 kept_none : (untouched : Type 0) (came : List ℕ) (old new : SessionValue) → Keeps untouched came old new → KeepsNoReply came old new
 kept_none untouched came old new (inl none) = inl none
-kept_none untouched came old new (inr (kept, ahead, nothing, rest)) = inr (kept, nothing)
+kept_none untouched came old new (inr same) = inr (same.0, same.2, same.4)
 
 -- a leaf was reached, and only the state changes
 pub leaf_ends : (link : Link) (tree : Tree) (answer : Answer) (old mid new : SessionValue) → Moves link tree (Leaf answer new.state) old mid → (mid.channel.failed ≡ true → (old.channel.failed ≡ true) ⊎ IsFault answer) → new.channel ≡ mid.channel → new.net ≡ mid.net → Ends link tree answer old new
@@ -292,13 +290,13 @@ leaf_ends link tree answer old mid new moves fails channel net =
         is_of = inr (new.state, moves.leads.within);
         came = moves.leads.came;
         answered = moves.leads.answered;
-        goes = record { over = moves.leads.goes.over; received = moves.leads.goes.received; given = moves.leads.goes.given; failures = moves.leads.goes.failures; sent = moves.leads.goes.sent; said = moves.leads.goes.said; untaken = moves.leads.goes.untaken; at_hand = moves.leads.goes.at_hand; deals = moves.leads.goes.deals; rule = moves.leads.goes.rule };
-        keeps = kept_none (Silent tree) moves.leads.came old mid (moves.keeps tt);
+        goes = record { over = moves.leads.goes.over; received = moves.leads.goes.received; given = moves.leads.goes.given; failures = moves.leads.goes.failures; sent = moves.leads.goes.sent; said = moves.leads.goes.said; untaken = moves.leads.goes.untaken; at_hand = moves.leads.goes.at_hand; deals = moves.leads.goes.deals };
+        keeps = kept_none (Silent old.state new.state tree) moves.leads.came old mid (moves.keeps old.state new.state refl);
         plays = λ h resumes room more ended outcomes fit on.
             moves.leads.plays h resumes room more ended outcomes fit on ∙ play-Leaf room answer new.state (standing mid more ended outcomes);
       };
       fails = fails;
-      keeps = moves.keeps tt;
+      keeps = moves.keeps old.state new.state refl;
       calm = moves.calm tt;
       shrinks = moves.shrinks;
       gone = λ line next is h. out line (moves.says line next is h);
@@ -316,12 +314,12 @@ refused_line link cause next v = record {
     came = [];
     answered = [];
     goes = nothing_goes link v;
-    keeps = inr (refl, refl);
+    keeps = inr (refl, refl, refl);
     plays = λ h resumes room more ended outcomes fit on. play-Refused room cause next _;
   };
   fails = λ f. inl f;
-  keeps = inr (refl, refl, refl, tt);
-  calm = inr (refl, refl, refl, tt);
+  keeps = inr (refl, refl, refl, refl, refl);
+  calm = inr (refl, refl, refl, tt, refl);
   shrinks = nothing_shrinks (length v.channel.ahead);
   gone = λ line after is h. let clash : Say (Err cause) next ≡ Say (Ok line) after = is in cc;
 }
@@ -373,7 +371,6 @@ joined_goes link one two asked more a b c first second = record {
   untaken = omega (arith, first.untaken, second.untaken, length-append one two);
   at_hand = λ h is. second.at_hand h (first.at_hand h is);
   deals = λ h. deals-append link.builds asked more a.net b.net c.net (first.deals h) (second.deals h);
-  rule = second.rule ∙ first.rule;
 }
 
 -- what came first, and what comes after it
@@ -389,7 +386,7 @@ keeps_after P Q one two a b c first (inr same) = go (first same.3)
   where
     go : Keeps P one a b → Keeps P (one ++ two) a c
     go (inl none) = inl (same.0 ∙ none)
-    go (inr before) = inr (same.0 ∙ before.0, same.1 ∙ before.1, rw (before.2, same.2), before.3)
+    go (inr before) = inr (same.0 ∙ before.0, same.1 ∙ before.1, rw (before.2, same.2), before.3, same.4 ∙ before.4)
 
 pub shrinks_after : (one two : List ℕ) (a b c : SessionValue) → Shrinks one a b → Shrinks two b c → Shrinks (one ++ two) a c
 shrinks_after one two a b c first second = omega (arith, first, second, length-append one two)
@@ -451,7 +448,7 @@ module _ (link : Link) (tree tree' : Tree) (a b c : SessionValue) (first : Moves
     leads = leads_on last second.leads;
     state = second.state ∙ first.state;
     resumes = λ r. second.resumes (first.resumes r);
-    keeps = λ silent. keeps_after (Silent tree) (Silent tree') first.leads.came second.leads.came a b c first.keeps (second.keeps silent);
+    keeps = λ from to silent. keeps_after (Silent from to tree) (Silent from to tree') first.leads.came second.leads.came a b c (first.keeps from to) (second.keeps from to silent);
     calm = λ calm. keeps_after (Calm tree) (Calm tree') first.leads.came second.leads.came a b c first.calm (second.calm calm);
     shrinks = shrinks_after first.leads.came second.leads.came a b c first.shrinks second.shrinks;
     says = λ line next is h. saying line h (first.says line next is h);
@@ -467,7 +464,7 @@ module _ (link : Link) (tree tree' : Tree) (a b c : SessionValue) (first : Moves
         next = later.next;
         is = later.is;
         count = later.count ∙ still.count;
-        resumes = λ rule kept r. later.resumes rule kept (still.resumes rule kept r);
+        resumes = λ modes kept r. later.resumes modes kept (still.resumes modes kept r);
         plays = λ room more ended outcomes fit on.
             first_plays second.leads.came second.leads.answered second.leads.goes h still.plays room more ended outcomes fit on
             ∙ later.plays room more ended outcomes fit on;
@@ -487,17 +484,22 @@ module _ (link : Link) (tree tree' : Tree) (a b c : SessionValue) (first : Moves
       came = first.leads.came ++ second.completes.came;
       answered = first.leads.answered ++ second.completes.answered;
       goes = joined_goes link first.leads.came second.completes.came first.leads.answered second.completes.answered a b c first.leads.goes second.completes.goes;
-      keeps = kept_none (Silent tree) (first.leads.came ++ second.completes.came) a c (keeps_after (Silent tree) (Silent tree') first.leads.came second.completes.came a b c first.keeps second.keeps);
+      keeps = kept_none (Silent a.state c.state tree) (first.leads.came ++ second.completes.came) a c kept;
       plays = λ h resumes room more ended outcomes fit on.
           first_plays second.completes.came second.completes.answered second.completes.goes h (first.leads.plays h resumes) room more ended outcomes fit on
           ∙ second.completes.plays h (first.resumes resumes) room more ended outcomes fit on;
     };
-    keeps = keeps_after (Silent tree) (Silent tree') first.leads.came second.completes.came a b c first.keeps second.keeps;
+    keeps = kept;
     calm = keeps_after (Calm tree) (Calm tree') first.leads.came second.completes.came a b c first.calm second.calm;
     shrinks = shrinks_after first.leads.came second.completes.came a b c first.shrinks second.shrinks;
     gone = λ line next is h. out line h (first.says line next is h);
   }
     where
+      kept : Keeps (Silent a.state c.state tree) (first.leads.came ++ second.completes.came) a c
+      kept =
+          let P : State → Type 0 = λ from. Keeps (Silent from c.state tree') second.completes.came b c in
+          keeps_after (Silent a.state c.state tree) (Silent a.state c.state tree') first.leads.came second.completes.came a b c (first.keeps a.state c.state) (subst P first.state second.keeps)
+
       leaf_on : IsOf answer tree' → IsOf answer tree
       leaf_on (inl fault) = inl fault
       leaf_on (inr (state, within)) = inr (state, within_on (Leaf answer state) tree' tree within first.leads.within)
@@ -560,9 +562,9 @@ pub record Finishes (link : Link) (tree : Tree) (answer : Answer) (old new : Ses
   pub came : List ℕ
   pub answered : List Deal
   pub goes : Goes link came answered old new
-  pub plays : link.tells → Resumes old.channel.rule old.channel.kept tree → However old came answered new (λ room s t. finally (play room tree s) ≡ played.Done answer t)
+  pub plays : link.tells → Resumes (modes_of old) old.channel.kept tree → However old came answered new (λ room s t. finally (play room tree s) ≡ played.Done answer t)
   pub fails : new.channel.failed ≡ true → (old.channel.failed ≡ true) ⊎ IsFault answer
-  pub keeps : Keeps (Silent tree) came old new
+  pub keeps : Keeps (Silent old.state new.state tree) came old new
   pub calm : Keeps (Calm tree) came old new
   pub shrinks : Shrinks came old new
   pub gone : (line : List ℕ) (next : Tree) → tree ≡ Say (Ok line) next → link.tells → HasGoneOut line old new
@@ -587,7 +589,6 @@ letting_goes link v w is =
       untaken = omega arith;
       at_hand = λ h is. is;
       deals = λ h. letting_deals link.tells v w link.builds h is;
-      rule = refl;
     })
 
 pub goes_letting : (link : Link) (came : List ℕ) (answered : List Deal) (old last new : SessionValue) → Goes link came answered old last → LetsGo link.tells last new → Goes link came (answered ++ drops last.state.counts.owed) old new

@@ -58,7 +58,7 @@ use Rattle.ftp_dialogue.proofs.Places.{here}
 use Rattle.ftp_dialogue.specs.Promises.{standing, Goes, Aborts, Untouched, failed_from, state_at}
 use Rattle.ftp_dialogue.specs.State.{SessionValue}
 use Rattle.ftp_dialogue.specs.Steps.Moving.{AsksFirst, LetsIn, dropped, Accepts, Concludes, ConnectsTo, Ends, LooksUp, Meets, MeetsIf, Moves, NothingTouched, Speaks, Still, TurnsAway, Walks}
-use Rattle.ftp_dialogue.specs.Steps.Stages.{GoesOnTo, MayAnswer, MayPerform, OpeningOf, many, opened_by, StageOf, StepAnswers, TurnOf, is_later, begun_at, first_by, has_asked, nodes_from, nodes_left, nodes_of, remaining, way_of}
+use Rattle.ftp_dialogue.specs.Steps.Stages.{GoesOnTo, MayPerform, OpeningOf, many, opened_by, StageOf, StepAnswers, TurnOf, is_later, begun_at, first_by, has_asked, nodes_from, nodes_left, nodes_of, remaining, way_of}
 use Rattle.ftp_dialogue.proofs.Moving.{advances_on, leads_on, moves_on, leaf_ends, lacks_memory_at, nothing_leads, nothing_shrinks, stays_put}
 
 pub play-Ask : (room : Room) (request : Request) (next : RequestOutcome → Tree) (outcome : RequestOutcome) (outcomes : List DealOutcome) (s : Standing) → play room (Ask request next) (record s { outcomes = Answered outcome ∷ outcomes }) ≡ play room (next outcome) (record s { dealings = dealt request outcome s.dealings; outcomes = outcomes })
@@ -106,7 +106,6 @@ module _ (link : Link) (old : SessionValue) (net' : Net) where
     untaken = omega arith;
     at_hand = λ h is. is;
     deals = deals;
-    rule = refl;
   }
 
   nothing_said : Untouched link [] old after
@@ -129,8 +128,8 @@ module _ (link : Link) (old : SessionValue) (net' : Net) where
         };
         state = refl;
         resumes = λ r. r outcome;
-        keeps = λ silent. inr (refl, refl, refl, (outcome, silent));
-        calm = λ calm. inr (refl, refl, refl, tt);
+        keeps = λ from to silent. inr (refl, refl, refl, (outcome, silent), refl);
+        calm = λ calm. inr (refl, refl, refl, tt, refl);
         shrinks = nothing_shrinks (length old.channel.ahead);
         says = λ line next' is. let clash : Ask request next ≡ Say (Ok line) next' = is in cc;
         apart = λ apart. absurd apart;
@@ -158,8 +157,8 @@ module _ (link : Link) (old : SessionValue) (net' : Net) where
         };
         state = refl;
         resumes = λ r. r fault;
-        keeps = λ silent. inr (refl, refl, refl, (fault, silent));
-        calm = λ calm. inr (refl, refl, refl, tt);
+        keeps = λ from to silent. inr (refl, refl, refl, (fault, silent), refl);
+        calm = λ calm. inr (refl, refl, refl, tt, refl);
         shrinks = nothing_shrinks (length old.channel.ahead);
         says = λ line next' is. let clash : Build address next ≡ Say (Ok line) next' = is in cc;
         apart = λ apart. absurd apart;
@@ -187,8 +186,8 @@ module _ (link : Link) (old : SessionValue) (net' : Net) where
         };
         state = refl;
         resumes = λ r. r outcome;
-        keeps = λ silent. inr (refl, refl, refl, (outcome, silent));
-        calm = λ calm. inr (refl, refl, refl, tt);
+        keeps = λ from to silent. inr (refl, refl, refl, (outcome, silent), refl);
+        calm = λ calm. inr (refl, refl, refl, tt, refl);
         shrinks = nothing_shrinks (length old.channel.ahead);
         says = λ line next' is. let clash : Move moves next ≡ Say (Ok line) next' = is in cc;
         apart = λ apart. absurd apart;
@@ -213,8 +212,8 @@ module _ (link : Link) (old : SessionValue) (net' : Net) where
         };
         state = refl;
         resumes = λ r. r;
-        keeps = λ silent. inr (refl, refl, refl, silent);
-        calm = λ calm. inr (refl, refl, refl, calm);
+        keeps = λ from to silent. inr (refl, refl, refl, silent, refl);
+        calm = λ calm. inr (refl, refl, refl, calm, refl);
         shrinks = nothing_shrinks (length old.channel.ahead);
         says = λ line next is h. inl (record { rest = line; next = next; is = is; count = refl; resumes = λ rule kept r. r; plays = same h });
         apart = λ apart. (refl, apart);
@@ -288,8 +287,8 @@ dropped_still link deadline next v = record {
       };
       state = refl;
       resumes = λ r. r;
-      keeps = λ silent. inr (refl, refl, refl, silent);
-      calm = λ calm. inr (refl, refl, refl, tt);
+      keeps = λ from to silent. inr (refl, refl, refl, silent, refl);
+      calm = λ calm. inr (refl, refl, refl, tt, refl);
       shrinks = nothing_shrinks (length v.channel.ahead);
       says = λ line next' is. let clash : Ask (Accept deadline) next ≡ Say (Ok line) next' = is in cc;
       apart = λ apart. absurd apart;
@@ -327,7 +326,6 @@ module _ (link : Link) (old : SessionValue) (told' : Told) where
             untaken = omega arith;
             at_hand = λ h is. (let P : Told → Type 0 = IsGiven in subst P (sym (tie h).1) is);
             deals = λ h. refl;
-            rule = refl;
           };
           plays = λ h resumes room more ended outcomes fit on.
               let s : Standing = standing old more ended outcomes in
@@ -337,8 +335,8 @@ module _ (link : Link) (old : SessionValue) (told' : Told) where
         };
         state = refl;
         resumes = λ r. r address;
-        keeps = λ silent. inr (refl, refl, refl, (address, silent));
-        calm = λ calm. inr (refl, refl, refl, tt);
+        keeps = λ from to silent. inr (refl, refl, refl, (address, silent), refl);
+        calm = λ calm. inr (refl, refl, refl, tt, refl);
         shrinks = nothing_shrinks (length old.channel.ahead);
         says = λ line next' is. let clash : Look end next ≡ Say (Ok line) next' = is in cc;
         apart = λ apart. (refl, apart address);

@@ -1,5 +1,5 @@
 -- Places of a tree: the tree itself is one, and a place of a place is a place.
-use Rattle.std.proofs.Common.{◌≡◌, ◌⊎◌, [], Ok, Err, inl, inr, refl, subst, sym}
+use Rattle.std.proofs.Common.{◌≡◌, ◌⊎◌, [], Ok, Err, inl, inr, refl, subst}
 use Rattle.ftp_dialogue.specs.Dialogue.{Tree, Say, Hear, Look, Ask, Build, Move, Leaf}
 use Rattle.ftp_dialogue.specs.Within.{Within}
 

@@ -1,5 +1,5 @@
 -- Lemmas on the steps of a whole upload.
-use Rattle.std.proofs.Common.{◌≡◌, ◌<◌, ◌≤◌, ◌-◌, ◌+◌, ℕ, zero, suc, Bool, true, false, cond, nat_le, Option, Some, None, List, [], ◌∷◌, drop, length, Result, Ok, Err, inl, inr, refl, ap, sym, ◌∙◌, subst, arith}
+use Rattle.std.proofs.Common.{◌≡◌, ◌≤◌, ◌-◌, ℕ, zero, suc, Bool, true, false, cond, nat_le, Option, Some, None, List, [], ◌∷◌, drop, length, Result, Ok, Err, inl, inr, refl, ap, sym, ◌∙◌, subst, arith}
 use Rattle.std.proofs.lemmas.Bool.{leb-true}
 use Rattle.std.specs.declared.io.ErrorKind.{ErrorKind}
 use Rattle.std.specs.declared.io.ErrorKind.TheVariants.{WriteZero}
@@ -8,8 +8,7 @@ use Rattle.futures.specs.declared.task.Poll.TheVariants as poll
 use Rattle.ftp_base.specs.declared.types.fault.FtpError.{FtpError}
 use Rattle.ftp_base.specs.declared.types.fault.FtpError.TheVariants.{ConnectionError}
 use Rattle.ftp_base.specs.declared.types.fault.ConnectionError.TheVariants.{Io, SourceTooLarge}
-use Rattle.ftp_transport.specs.Told.{HasFailed, Told}
-use Rattle.ftp_calls.specs.declared.call.Answer.{Answer}
+use Rattle.ftp_transport.specs.Told.{Told}
 use Rattle.ftp_calls.specs.declared.call.Answer.TheVariants.{Count, Fault}
 use Rattle.ftp_calls.specs.declared.call.Call.{Call}
 use Rattle.ftp_calls.specs.declared.exchange.Fetch.TheVariants.{Whole}
@@ -22,7 +21,6 @@ use Rattle.ftp_dialogue.specs.declared.stage.Fetching.{Fetching as Fetched}
 use Rattle.ftp_dialogue.specs.declared.stage.Fetching.TheVariants.{Starting, Sending, Parting}
 use Rattle.ftp_dialogue.specs.declared.stage.Stage.{Stage}
 use Rattle.ftp_dialogue.specs.declared.stage.Stage.TheVariants.{Fetching}
-use Rattle.ftp_dialogue.specs.declared.stage.Step.{Step}
 use Rattle.ftp_dialogue.specs.declared.stage.Step.TheVariants.{Next, Pending, Done}
 use Rattle.ftp_dialogue.specs.declared.state.State.{State}
 use Rattle.ftp_dialogue.specs.Coding.{Coding}

@@ -10,7 +10,6 @@ use Rattle.ftp_base.specs.declared.types.fault.ConnectionError.{ConnectionError 
 use Rattle.ftp_base.specs.declared.types.fault.ConnectionError.TheVariants.{Io}
 use Rattle.ftp_calls.specs.declared.exchange.Ending.{Ending}
 use Rattle.ftp_calls.specs.declared.exchange.Ending.TheVariants as ending
-use Rattle.ftp_control.specs.Refusal.{IsRefusalOf}
 use Rattle.ftp_transport.specs.Told.{Told, EndsAsTold, HasFailed}
 use Rattle.ftp_dialogue.specs.declared.state.State.{State}
 use Rattle.ftp_calls.specs.declared.call.Answer.{Answer}
@@ -43,7 +42,7 @@ use Rattle.ftp_dialogue.specs.Dialogue.{Expected, expected_of, Tree, Say, Hear, 
 use Rattle.ftp_dialogue.proofs.DrainingLemmas.{failed_undue, makes_undue}
 use Rattle.ftp_dialogue.specs.Promises.{DrainsIf, PlaysAlone, due_of, AbortsRead, FailsRead, IsFault, HasFault, Aborts, Fails, SaidOrTaken, Touched, Untouched, LacksMemory, Plays, GivesFault, Reads, Rests, begun_by, failed_from, lacking_at, refusal_of, state_at}
 use Rattle.ftp_control.specs.Channel.{untaken}
-use Rattle.ftp_dialogue.specs.Resuming.{Resumes}
+use Rattle.ftp_dialogue.specs.Resuming.{Resumes, modes_of}
 use Rattle.ftp_dialogue.specs.Steps.Polls.{StageIn, entered_at, entered_state, entered_tree, is_first, is_first_turn}
 use Rattle.ftp_dialogue.specs.Steps.Stages.{NotBegun, is_later, remaining, awaited, begun_at, StageOf, line_of}
 use Rattle.ftp_dialogue.specs.Steps.Moving.{Moves, Advances, Ends, Steps, PollSteps, Hears, BeginsExchange, Concludes, Made, NothingTouched, NothingYet, Quiet, Still, HasBegun, HeardFault, BeginsHere, EndsFaulty, FaultLeaves, FaultLeavesIf, Speaks, Takes, Tracks, takes_memory, withheld, after_fault}
@@ -204,7 +203,7 @@ accepted_begins link coding call a reply stage' old mid new Next takes on done =
     let here = subst P (sym done.0) takes in
     (λ has. inr (λ h first. heard h first (here h)), λ none. let clash : true ≡ false = sym (on refl) ∙ none in cc)
   where
-    heard : link.tells → Speaks (awaited coding call old.state a) ⊎ Resumes old.channel.rule old.channel.kept (awaited coding call old.state a) → (Resumes old.channel.rule old.channel.kept (awaited coding call old.state a) → length old.channel.told.received + length (untaken new.channel) < length new.channel.told.received + length (untaken old.channel)) → SaidOrTaken old new
+    heard : link.tells → Speaks (awaited coding call old.state a) ⊎ Resumes (modes_of old) old.channel.kept (awaited coding call old.state a) → (Resumes (modes_of old) old.channel.kept (awaited coding call old.state a) → length old.channel.told.received + length (untaken new.channel) < length new.channel.told.received + length (untaken old.channel)) → SaidOrTaken old new
     heard h (inl speaks) takes = absurd speaks
     heard h (inr resumes) takes = inr (takes resumes)
 accepted_begins link coding call a reply stage' old mid new Pending takes on done = absurd done
@@ -426,7 +425,7 @@ module _ (link : Link) (coding : Coding) (call : Call) (stage stage' : Stage) (a
           here' : BeginsHere link (remaining coding call a.state stage') b c
           here' = let P : State → Type 0 = λ s. BeginsHere link (remaining coding call s stage') b c in subst P so_far.moved.moves.state here
 
-          first_of : Speaks (remaining coding call a.state stage) ⊎ Resumes a.channel.rule a.channel.kept (remaining coding call a.state stage) → Speaks (remaining coding call a.state stage') ⊎ Resumes b.channel.rule b.channel.kept (remaining coding call a.state stage')
+          first_of : Speaks (remaining coding call a.state stage) ⊎ Resumes (modes_of a) a.channel.kept (remaining coding call a.state stage) → Speaks (remaining coding call a.state stage') ⊎ Resumes (modes_of b) b.channel.kept (remaining coding call a.state stage')
           first_of (inl speaks) = inl (quiet.speaks speaks)
           first_of (inr resumes) = inr (so_far.moved.moves.resumes resumes)
 

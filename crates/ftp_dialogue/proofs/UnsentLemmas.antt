@@ -1,11 +1,11 @@
 -- Lemmas on the bytes of an upload that haven't gone out.
-use Rattle.std.proofs.Common.{◌≡◌, ◌≤◌, ◌<◌, ◌+◌, ◌-◌, ◌==◌, ◌&&◌, not, ℕ, zero, suc, Bool, true, false, cond, nat_le, Option, Some, None, List, [], ◌∷◌, ◌++◌, drop, take, length, refl, ap, sym, subst, ◌∙◌, arith}
+use Rattle.std.proofs.Common.{◌≡◌, ◌≤◌, ◌<◌, ◌+◌, ◌-◌, ◌==◌, ◌&&◌, not, ℕ, zero, suc, Bool, true, false, cond, nat_le, Some, None, List, [], ◌∷◌, ◌++◌, drop, take, length, refl, ap, sym, subst, ◌∙◌, arith}
 use Rattle.std.specs.Prelude.{slice_index}
 use Rattle.std.proofs.lemmas.Bool.{eqb-false, eqb-true, le-leb, leb-true, ne_eqb}
 use Rattle.std.proofs.lemmas.List.{length-drop, length-take-le, take-append-drop, take_at}
-use Rattle.ftp_base.specs.Ascii.{converted, last_return, on_wire as byte_on_wire}
+use Rattle.ftp_base.specs.Ascii.{converted, last_return}
 use Rattle.ftp_base.proofs.AsciiLemmas.{converted-append, crlf-converted, front_plain}
-use Rattle.ftp_dialogue.specs.Sending.{IsPlain, MayEnd, MayEndAt, on_wire}
+use Rattle.ftp_dialogue.specs.Sending.{IsPlain, MayEnd, on_wire}
 use Rattle.ftp_dialogue.specs.Dialogue.{most_bytes, size_to_send, wire_data}
 
 -- where none has gone out

@@ -45,7 +45,8 @@ use Rattle.ftp_dialogue.specs.Dialogue.{Expected, expected_of, Tree, Say, Move, 
 use Rattle.ftp_dialogue.specs.Play.{play, heard_then, moved_then}
 use Rattle.ftp_dialogue.specs.Promises.{standing, begun_by, Completes, IsSuccess, Says, Exchanged, ExchangedIf, IsSilent, Succeeds, SucceedsBy, SucceedsUnless, Wired, goes_on_with}
 use Rattle.ftp_dialogue.proofs.Moving.{play-Say, play-Leaf, play-Refused}
-use Rattle.ftp_dialogue.proofs.Hearing.{play-Hear}
+use Rattle.ftp_control.specs.declared.control.rule.ReplyRule.{ReplyRule}
+use Rattle.ftp_dialogue.proofs.Hearing.{begun_resumes, entered_rule, play-Hear}
 use Rattle.ftp_dialogue.specs.Link.{Link}
 use Rattle.ftp_base.specs.declared.status.Status.TheVariants.{TransferAborted}
 
@@ -66,7 +67,7 @@ leaf_at answer answer' state s t is =
 pub record HeardOne (coding : Coding) (codes : Expected) (how : Ending) (state : State) (next : State → Tree) (answer : Answer) (s t : Standing) : Type 0 where
   pub reply : Response
   pub code : ℕ
-  pub whole : outcome s.rule codes.form s.bytes s.ended ≡ Whole reply.body code
+  pub whole : outcome s.state.settings.reply_rule codes.form s.bytes s.ended ≡ Whole reply.body code
   pub status : reply.status ≡ status_of code
   pub among : is_among codes.statuses reply.status ≡ true
   pub goes : play Any (accepted coding how state reply next) (record s { bytes = left_by (Whole reply.body code) s.bytes }) ≡ Done answer t
@@ -82,9 +83,9 @@ module _ (coding : Coding) (codes : Expected) (how : Ending) (state : State) (ne
       no_success told.0 answer (record x { state = after_fault_of how fault state }) t (subst D told.1 (sym (play-Leaf Any (answer_to_fault how fault) (after_fault_of how fault state) x) ∙ is)) success
 
   pub one_reply : play Any (awaiting coding codes how state next) s ≡ Done answer t → HeardOne coding codes how state next answer s t
-  one_reply is = go (outcome s.rule codes.form s.bytes s.ended) refl (sym (play-Hear Any codes (concluded coding how state next) s) ∙ is)
+  one_reply is = go (outcome s.state.settings.reply_rule codes.form s.bytes s.ended) refl (sym (play-Hear Any codes (concluded coding how state next) s) ∙ is)
     where
-      go : (o : Outcome) → outcome s.rule codes.form s.bytes s.ended ≡ o → heard_then o codes s (λ a x. play Any (concluded coding how state next a) x) ≡ Done answer t → HeardOne coding codes how state next answer s t
+      go : (o : Outcome) → outcome s.state.settings.reply_rule codes.form s.bytes s.ended ≡ o → heard_then o codes s (λ a x. play Any (concluded coding how state next a) x) ≡ Done answer t → HeardOne coding codes how state next answer s t
       go (Whole body code) whole done =
           let reply : Response = record { status = status_of code; body = body } in
           let here : Standing = record s { bytes = left_by (Whole body code) s.bytes } in
@@ -275,8 +276,8 @@ call_succeeds coding call answer s t state success is =
     ] refl is
 
 -- where a call began doesn't matter to what it did on the wire
-begun_succeeds : (coding : Coding) (call : Call) (s t : Standing) (state : State) → Succeeds coding call (record s { state = state }) t → Succeeds coding call s t
-begun_succeeds coding call s t state =
+begun_succeeds : (coding : Coding) (call : Call) (s t : Standing) (state : State) → state.settings.reply_rule ≡ s.state.settings.reply_rule → Succeeds coding call (record s { state = state }) t → Succeeds coding call s t
+begun_succeeds coding call s t state rule =
     elim (negotiates call || finishes call || drains call) as (λ b. SucceedsUnless b coding call (record s { state = state }) t → SucceedsUnless b coding call s t) [
       | true ↦ λ e. tt
       | false ↦ λ e. by_row (row_of call First) e
@@ -286,6 +287,9 @@ begun_succeeds coding call s t state =
     says None u told = told
     says (Some command) u told = told
 
+    whole : (e : Exchange) (reply : Response) (code : ℕ) → outcome state.settings.reply_rule (expected_of e.hears).form s.bytes s.ended ≡ Whole reply.body code → outcome s.state.settings.reply_rule (expected_of e.hears).form s.bytes s.ended ≡ Whole reply.body code
+    whole e reply code is = (let P : ReplyRule → Type 0 = λ r. outcome r (expected_of e.hears).form s.bytes s.ended ≡ Whole reply.body code in subst P rule is)
+
     by_row : (r : Row) → SucceedsBy coding r (row_of call Second) (record s { state = state }) t → SucceedsBy coding r (row_of call Second) s t
     by_row (Arms offset) silent = silent
     by_row (Sets setting) silent = silent
@@ -293,7 +297,7 @@ begun_succeeds coding call s t state =
     by_row (Exchanges e) two = record {
       reply = two.reply;
       between = two.between;
-      first = record { says = says e.says two.between two.first.says; code = two.first.code; whole = two.first.whole; status = two.first.status; accepted = two.first.accepted; consumed = two.first.consumed };
+      first = record { says = says e.says two.between two.first.says; code = two.first.code; whole = whole e two.reply two.first.code two.first.whole; status = two.first.status; accepted = two.first.accepted; consumed = two.first.consumed };
       second = two.second;
     }
 
@@ -307,11 +311,11 @@ wired link coding call old last new lets_go answer done success = record {
   goes = done.goes;
   succeeds = λ h resumes.
       let ended = last.channel.ended in
-      let played = done.plays h resumes Any [] ended [] tt (record { nothing = λ e. refl; over = λ e. e }) in
+      let played = done.plays h (begun_resumes call old (dialogue coding call old.state) resumes) Any [] ended [] tt (record { nothing = λ e. refl; over = λ e. e }) in
       let F : List ℕ → Standing = λ c. standing (begun_by call old) c ended (outcomes_of done.answered ++ []) in
       let G : List DealOutcome → Standing = λ o. standing (begun_by call old) done.came ended o in
       let same : standing (begun_by call old) (done.came ++ []) ended (outcomes_of done.answered ++ []) ≡ standing (begun_by call old) done.came ended (outcomes_of done.answered) = ap F (append-nil done.came) ∙ ap G (append-nil (outcomes_of done.answered)) in
       let P : Standing → Type 0 = λ s. play Any (dialogue coding call old.state) s ≡ Done answer (standing last [] ended []) in
-      begun_succeeds coding call (standing old done.came ended (outcomes_of done.answered)) (standing last [] ended []) (entered call old.state)
+      begun_succeeds coding call (standing old done.came ended (outcomes_of done.answered)) (standing last [] ended []) (entered call old.state) (entered_rule call old.state)
       (call_succeeds coding call answer (standing (begun_by call old) done.came ended (outcomes_of done.answered)) (standing last [] ended []) old.state success (subst P same played));
 }

@@ -18,6 +18,8 @@ use Rattle.ftp_base.specs.Command.{text_of}
 use Rattle.ftp_base.specs.Wire.{wire}
 use Rattle.ftp_base.specs.Ascii.{crlf}
 use Rattle.ftp_base.specs.Welcome.{Welcome, welcome_text}
+use Rattle.ftp_control.specs.declared.control.rule.ReplyRule.{ReplyRule}
+use Rattle.ftp_control.specs.declared.control.rule.ReplyRule.TheVariants.{Strict, Lenient}
 use Rattle.ftp_control.specs.declared.control.form.ReplyForm.{ReplyForm}
 use Rattle.ftp_control.specs.declared.control.form.ReplyForm.TheVariants as form
 use Rattle.ftp_control.specs.Answer.{form_of}
@@ -465,12 +467,17 @@ exchanging coding exchange state later =
 abbrev pub armed : ℕ → State → State
 armed offset state = record state { settings = record state.settings { restart_offset = offset } }
 
+-- strictly as RFC 959, section 4.2, has it, or leniently
+abbrev pub rule_by : Bool → ReplyRule
+rule_by lenient = if lenient then Lenient else Strict
+
 -- a setting changes
 abbrev pub changed : Setting → Settings → Settings
 changed (setting.Mode mode) s = record s { mode = mode }
 changed (setting.PassiveNatWorkaround enabled) s = record s { passive_nat_workaround = enabled }
 changed (setting.ActivePeerCheck check) s = record s { active_peer_check = check }
 changed (setting.ActiveDeadline deadline) s = record s { active_deadline = deadline }
+changed (setting.LenientReplies lenient) s = record s { reply_rule = rule_by lenient }
 
 abbrev pub set_to : Setting → State → State
 set_to setting state = record state { settings = changed setting state.settings }

@@ -90,7 +90,7 @@ unfoldable pub play : Rooms → Tree → Standing → Played
 play room (Say (Ok line) next) s = said_then room line s (λ t. play room next t)
 play room (Say (Err cause) next) s = Done (Fault (fault.ConnectionError cause)) s
 play room (Hear codes next) s =
-    heard_then (outcome s.rule codes.form s.bytes s.ended) codes s (λ heard t. play room (next heard) t)
+    heard_then (outcome s.state.settings.reply_rule codes.form s.bytes s.ended) codes s (λ heard t. play room (next heard) t)
 play room (Look end next) s = play room (next (address_at end s)) s
 play room (Ask request next) s = asked_then s.outcomes request s (λ answer t. play room (next answer) t)
 play room (Build address next) s = built_then s.outcomes address s (λ fault t. play room (next fault) t)

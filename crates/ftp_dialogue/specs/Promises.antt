@@ -43,7 +43,7 @@ use Rattle.ftp_dialogue.specs.declared.state.State.{State}
 use Rattle.ftp_calls.specs.Exchanges.{row_of, drains, finishes, is_local, negotiates}
 use Rattle.ftp_dialogue.specs.Dialogue.{Expected, expected_of, Tree, Say, Hear, Look, Ask, Build, Move, Leaf, dialogue, entered, with_left}
 use Rattle.ftp_dialogue.specs.Play.{Refusal, Taken, Lacking, Failing, is_due, is_unit, lacks, play, refusal}
-use Rattle.ftp_dialogue.specs.Resuming.{Resumes}
+use Rattle.ftp_dialogue.specs.Resuming.{Resumes, modes_of}
 use Rattle.ftp_dialogue.specs.Within.{Within}
 use Rattle.ftp_dialogue.specs.Link.{Link}
 
@@ -73,7 +73,7 @@ Says coding (Some command) s t = (line : List ℕ) × (wire coding.encode (text_
 pub record Exchanged (coding : Coding) (exchange : Exchange) (reply : Response) (s t : Standing) : Type 0 where
   pub says : Says coding exchange.says s t
   pub code : ℕ
-  pub whole : outcome s.rule (expected_of exchange.hears).form s.bytes s.ended ≡ Whole reply.body code
+  pub whole : outcome s.state.settings.reply_rule (expected_of exchange.hears).form s.bytes s.ended ≡ Whole reply.body code
   pub status : reply.status ≡ status_of code
   pub accepted : is_among (expected_of exchange.hears).statuses reply.status ≡ true
   pub consumed : t.bytes ≡ left_by (Whole reply.body code) s.bytes
@@ -162,7 +162,6 @@ abbrev pub standing : SessionValue → List ℕ → Bool → List DealOutcome �
 standing v more ended outcomes = record {
   state = v.state;
   failed = v.channel.failed;
-  rule = v.channel.rule;
   said = v.channel.told.sent;
   unsent = v.channel.unsent;
   local = v.channel.told.given.local;
@@ -193,7 +192,6 @@ pub record Goes (link : Link) (came : List ℕ) (answered : List Deal) (old new 
   pub untaken : length (untaken new.channel) ≤ length (untaken old.channel) + length came
   pub at_hand : link.tells → IsGiven old.channel.told → IsGiven new.channel.told
   pub deals : link.tells → Deals link.builds answered old.net new.net
-  pub rule : new.channel.rule ≡ old.channel.rule
 
 -- one tree is left of another, and is a place of it
 pub record Leads (link : Link) (tree tree' : Tree) (old new : SessionValue) : Type 0 where
@@ -201,11 +199,11 @@ pub record Leads (link : Link) (tree tree' : Tree) (old new : SessionValue) : Ty
   pub came : List ℕ
   pub answered : List Deal
   pub goes : Goes link came answered old new
-  pub plays : link.tells → Resumes old.channel.rule old.channel.kept tree → However old came answered new (λ room s t. play room tree s ≡ play room tree' t)
+  pub plays : link.tells → Resumes (modes_of old) old.channel.kept tree → However old came answered new (λ room s t. play room tree s ≡ play room tree' t)
 
--- of a reply under way nothing is kept, as after a reply; or what was, where nothing came
+-- of a reply under way nothing is kept, as after a reply; or what was, by its rule, where nothing came
 abbrev pub KeepsNoReply : List ℕ → SessionValue → SessionValue → Type 0
-KeepsNoReply came old new = (new.channel.kept ≡ []) ⊎ ((new.channel.kept ≡ old.channel.kept) × (came ≡ []))
+KeepsNoReply came old new = (new.channel.kept ≡ []) ⊎ ((new.channel.kept ≡ old.channel.kept) × (came ≡ []) × (new.channel.rule ≡ old.channel.rule))
 
 -- an answer is a fault, or that of a leaf of the tree
 abbrev pub IsOf : Answer → Tree → Type 0
@@ -218,7 +216,7 @@ pub record Completes (link : Link) (tree : Tree) (answer : Answer) (old new : Se
   pub answered : List Deal
   pub goes : Goes link came answered old new
   pub keeps : KeepsNoReply came old new
-  pub plays : link.tells → Resumes old.channel.rule old.channel.kept tree → However old came answered new (λ room s t. play room tree s ≡ played.Done answer t)
+  pub plays : link.tells → Resumes (modes_of old) old.channel.kept tree → However old came answered new (λ room s t. play room tree s ≡ played.Done answer t)
 
 -- a node fails where a line is said, a reply is read or an address is looked up, with a fault that the connection may
 -- answer there
@@ -279,7 +277,7 @@ SaidOrTaken old new =
     (length (said old.channel) < length (said new.channel)) ⊎ (length old.channel.told.received + length (untaken new.channel) < length new.channel.told.received + length (untaken old.channel))
 
 abbrev pub Touched : Link → Tree → SessionValue → SessionValue → Type 0
-Touched link tree old new = link.tells → Resumes old.channel.rule old.channel.kept tree → SaidOrTaken old new
+Touched link tree old new = link.tells → Resumes (modes_of old) old.channel.kept tree → SaidOrTaken old new
 
 abbrev pub failed_from : SessionValue → SessionValue
 failed_from v = record v { channel = record v.channel { failed = true } }
@@ -352,7 +350,7 @@ pub record Wired (link : Link) (coding : Coding) (call : Call) (old new : Sessio
   pub came : List ℕ
   pub answered : List Deal
   pub goes : Goes link came answered (begun_by call old) last
-  pub succeeds : link.tells → Resumes old.channel.rule old.channel.kept (dialogue coding call old.state) → Succeeds coding call (standing old came last.channel.ended (outcomes_of answered)) (standing last [] last.channel.ended [])
+  pub succeeds : link.tells → Resumes (modes_of old) old.channel.kept (dialogue coding call old.state) → Succeeds coding call (standing old came last.channel.ended (outcomes_of answered)) (standing last [] last.channel.ended [])
 
 pub record PlaysAlone (link : Link) (coding : Coding) (call : Call) (old new : SessionValue) (answer : Answer) : Type 0 where
   pub wired : IsSuccess answer → Wired link coding call old new

@@ -1,32 +1,55 @@
--- One view of System: what earlier reads left of a reply is no whole reply under the list that goes on with it.
+-- How a reply under way is read on: by the rule by which it began; and leniently as one of a form under which it says
+-- nothing yet, which is one view of System.
 use Rattle.std.specs.Prelude.{◌≡◌, false, ℕ, List, Option, Ok, Err}
 use Rattle.std.specs.declared.net.socket_addr.SocketAddr.{SocketAddr}
+use Rattle.ftp_control.specs.declared.control.form.ReplyForm.{ReplyForm}
 use Rattle.ftp_control.specs.declared.control.rule.ReplyRule.{ReplyRule}
+use Rattle.ftp_control.specs.declared.control.rule.ReplyRule.TheVariants.{Strict, Lenient}
 use Rattle.ftp_control.specs.declared.control.outcome.Outcome.TheVariants.{Waits}
+use Rattle.ftp_control.specs.Channel.{rule_left}
 use Rattle.ftp_control.specs.Grammar.{outcome}
 use Rattle.ftp_base.specs.declared.types.fault.FtpError.{FtpError}
 use Rattle.ftp_transport.specs.declared.request.RequestOutcome.{RequestOutcome}
 use Rattle.ftp_dialogue.specs.declared.model.DealOutcome.{DealOutcome}
+use Rattle.ftp_dialogue.specs.declared.state.State.{State}
+use Rattle.ftp_dialogue.specs.State.{SessionValue}
 use Rattle.ftp_dialogue.specs.Dialogue.{Tree, Say, Hear, Look, Ask, Build, Move, Leaf}
 
--- the tree hears nothing
-abbrev pub Silent : Tree → Type 0
-Silent (Say (Ok line) next) = Silent next
-Silent (Say (Err cause) next) = Unit {0}
-Silent (Hear codes next) = ⊥
-Silent (Look end next) = (address : SocketAddr) × Silent (next address)
-Silent (Ask request next) = (answer : RequestOutcome) × Silent (next answer)
-Silent (Build address next) = (fault : Option FtpError) × Silent (next fault)
-Silent (Move movement next) = (came : DealOutcome) × Silent (next came)
-Silent (Leaf answer state) = Unit {0}
+-- the rule of the reply under way, and the setting, by which the replies are read that begin
+pub record Modes : Type 0 where
+  pub under : ReplyRule
+  pub setting : ReplyRule
 
--- the first list under which the tree hears
-abbrev pub Resumes : ReplyRule → List ℕ → Tree → Type 0
-Resumes rule seen (Say (Ok line) next) = Resumes rule seen next
-Resumes rule seen (Say (Err cause) next) = Unit {0}
-Resumes rule seen (Hear codes next) = outcome rule codes.form seen false ≡ Waits
-Resumes rule seen (Look end next) = (address : SocketAddr) → Resumes rule seen (next address)
-Resumes rule seen (Ask request next) = (answer : RequestOutcome) → Resumes rule seen (next answer)
-Resumes rule seen (Build address next) = (fault : Option FtpError) → Resumes rule seen (next fault)
-Resumes rule seen (Move movement next) = (came : DealOutcome) → Resumes rule seen (next came)
-Resumes rule seen (Leaf answer state) = Unit {0}
+-- where this is kept of a reply, by this rule
+abbrev pub modes_in : List ℕ → ReplyRule → State → Modes
+modes_in kept rule state = record { under = rule_left kept rule state.settings.reply_rule; setting = state.settings.reply_rule }
+
+abbrev pub modes_of : SessionValue → Modes
+modes_of v = modes_in v.channel.kept v.channel.rule v.state
+
+-- what is kept says nothing yet as one of this form; strictly it says nothing as one of any, which isn't asked
+abbrev pub SaysNothingYet : ReplyRule → ReplyForm → List ℕ → Type 0
+SaysNothingYet Strict form kept = Unit {0}
+SaysNothingYet Lenient form kept = outcome Lenient form kept false ≡ Waits
+
+-- the tree may come to its end without hearing a reply, and leaves this state, where it began in that one
+abbrev pub Silent : State → State → Tree → Type 0
+Silent from to (Say (Ok line) next) = Silent from to next
+Silent from to (Say (Err cause) next) = to ≡ from
+Silent from to (Hear codes next) = ⊥
+Silent from to (Look end next) = (address : SocketAddr) × Silent from to (next address)
+Silent from to (Ask request next) = (answer : RequestOutcome) × Silent from to (next answer)
+Silent from to (Build address next) = (fault : Option FtpError) × Silent from to (next fault)
+Silent from to (Move movement next) = (came : DealOutcome) × Silent from to (next came)
+Silent from to (Leaf answer state) = to ≡ state
+
+-- where the tree hears first, what is kept of a reply goes on in the mode in which it began, and says nothing yet
+abbrev pub Resumes : Modes → List ℕ → Tree → Type 0
+Resumes modes kept (Say (Ok line) next) = Resumes modes kept next
+Resumes modes kept (Say (Err cause) next) = Unit {0}
+Resumes modes kept (Hear codes next) = (modes.under ≡ modes.setting) × SaysNothingYet modes.setting codes.form kept
+Resumes modes kept (Look end next) = (address : SocketAddr) → Resumes modes kept (next address)
+Resumes modes kept (Ask request next) = (answer : RequestOutcome) → Resumes modes kept (next answer)
+Resumes modes kept (Build address next) = (fault : Option FtpError) → Resumes modes kept (next fault)
+Resumes modes kept (Move movement next) = (came : DealOutcome) → Resumes modes kept (next came)
+Resumes modes kept (Leaf answer state) = Unit {0}

@@ -37,7 +37,7 @@ pub record IsFirst (state : State) : Type 0 where
 -- a session that reads replies by this rule begins on a connection that told this, and this stands beside it: nothing is
 -- read or sent, and what came and wasn't read is still to come
 pub record Begins (tells : Type 0) (rule : ReplyRule) (before : Told) (beside : Net) (new : SessionValue) : Type 0 where
-  pub rule_is : new.channel.rule ≡ rule
+  pub rule_is : new.state.settings.reply_rule ≡ rule
   pub idle : IsIdle new.channel
   pub told : tells → new.channel.told ≡ begun before
   pub first : IsFirst new.state

@@ -16,7 +16,7 @@ ghost use Rattle.ftp_dialogue.specs.Steps.Moving.{Carries, CarriesOut, Sets, Wal
 use super::asks::Asks;
 use super::machine::Machine;
 use super::stage::{Stage, Step, go_to};
-use super::{Answer, Call, Owed, Setting};
+use super::{Answer, Call, Owed, Setting, rule_by};
 use crate::model::DealOutcome;
 use ftp_base::types::{Bytes, ConnectionError, FtpError};
 use ftp_calls::exchange::{Turn, drains, finishes, is_local, of_transfer};
@@ -162,6 +162,7 @@ where
             }
             Setting::ActivePeerCheck(check) => self.state.settings.active_peer_check = check,
             Setting::ActiveDeadline(deadline) => self.state.settings.active_deadline = deadline,
+            Setting::LenientReplies(lenient) => self.state.settings.reply_rule = rule_by(lenient),
         }
         Answer::Unit
     }

@@ -32,4 +32,4 @@ pub mod unsent;
 
 pub use draining::unless_unit;
 pub use ftp_calls::call::{Answer, Call, Setting};
-pub use state::{Counts, Owed, Settings, State};
+pub use state::{Counts, Owed, Settings, State, rule_by};

@@ -59,10 +59,12 @@ impl<Tr: Network> Machine<Tr> {
             (first_net (Tr.asked transport) (Tr.ready transport) (Tr.closed transport)) result }
         ensures sound { IsSound Tr.Conn.tells result.channel }
     {
+        let mut state = State::new();
+        state.settings.reply_rule = rule;
         Machine {
             transport,
             channel: ControlChannel::new(alloc, conn, rule),
-            state: State::new(),
+            state,
             listener: None,
             data_conn: None,
         }

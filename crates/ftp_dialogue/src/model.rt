@@ -6,7 +6,7 @@
 
 use crate::{Answer, Call, State};
 use ftp_base::types::{Bytes, FtpError, Items};
-use ftp_control::control::{ReplyForm, ReplyRule};
+use ftp_control::control::ReplyForm;
 use ftp_transport::{Request, RequestOutcome, Room};
 use std::io::ErrorKind;
 use std::net::SocketAddr;
@@ -56,8 +56,6 @@ pub enum DealOutcome {
 pub struct Standing {
     /// Whether the session has failed.
     pub failed: bool,
-    /// Which lines open and end a reply.
-    pub rule: ReplyRule,
     /// All that was said: it goes out as far as there is room.
     pub said: Bytes,
     /// The unsent tail of a line that was begun before, which goes out before the next line.

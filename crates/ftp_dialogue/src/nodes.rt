@@ -79,7 +79,8 @@ impl<Tr: Network> Machine<Tr> {
         self.hear_reply_of(asker, alloc, form_of(expected), expected, w)
     }
 
-    /// Reads a reply of this form and one of these statuses.
+    /// Reads a reply of this form and one of these statuses, by the rule by which it began, or by the setting where it
+    /// begins.
     fn hear_reply_of<W, A: Asks<Tr, W>>(
         &mut self,
         _asker: &A,
@@ -99,6 +100,7 @@ impl<Tr: Network> Machine<Tr> {
             Hears (asking (A.builds _asker.now) A.may_wait (polling Tr.Conn.PollConn)) (record { form = form; statuses = expected.now })
             next self.old self.new result }
     {
+        self.channel.set_rule(self.state.settings.reply_rule);
         self.channel.poll_read_reply(alloc, form, expected, w)
     }
 

@@ -4,11 +4,13 @@
 //! that was opened was finished, aborted or drained, or is owed.
 
 ghost use Rattle.std.specs.Prelude.{◌≡◌};
+ghost use Rattle.ftp_dialogue.specs.Dialogue.{rule_by};
 ghost use Rattle.ftp_dialogue.specs.Sound.{SoundCounts, cannot_open, is_live, is_owed, left_behind, next_number, no_transfers, one_aborted, one_drained, one_finished, one_more};
 ghost use Rattle.ftp_dialogue.specs.State.{IsFirst};
 
 use ftp_base::encoding::WelcomeMessage;
 use ftp_base::types::{ActivePeerCheck, FtpError, Mode};
+use ftp_control::control::ReplyRule;
 use std::marker::Model;
 use std::time::Duration;
 
@@ -26,6 +28,8 @@ pub struct Settings {
     pub active_peer_check: ActivePeerCheck,
     /// How long an active data connection is waited for.
     pub active_deadline: Duration,
+    /// Which lines open and end the replies that begin (RFC 959, section 4.2).
+    pub reply_rule: ReplyRule,
     /// Whether transfers are of text.
     pub text: bool,
     /// Whether data connections are secure.
@@ -34,6 +38,17 @@ pub struct Settings {
     pub restart_offset: u64,
     /// Whether the caller's builder makes passive data connections, in the transport's place.
     pub stream_builder: bool,
+}
+
+/// The rule of lenient replies, or of strict ones.
+pub fn rule_by(lenient: bool) -> ReplyRule
+    ensures { result ≡ rule_by lenient }
+{
+    if lenient {
+        ReplyRule::Lenient
+    } else {
+        ReplyRule::Strict
+    }
 }
 
 /// The transfer whose last reply hasn't been read.
@@ -252,9 +267,10 @@ pub struct State {
 }
 
 impl State {
-    /// A session begins: passive, its transfers of text, the control peer alone let in.
+    /// A session begins: passive, its transfers of text, the control peer alone let in, its replies strict.
     pub fn new() -> State
-        ensures { IsFirst result }
+        ensures first { IsFirst result }
+        ensures rule { result.settings.reply_rule ≡ ReplyRule.Strict }
     {
         State {
             settings: Settings {
@@ -262,6 +278,7 @@ impl State {
                 passive_nat_workaround: false,
                 active_peer_check: ActivePeerCheck::ControlPeer,
                 active_deadline: Duration::from_secs(ACTIVE_DEADLINE_SECONDS),
+                reply_rule: ReplyRule::Strict,
                 text: true,
                 secure: false,
                 restart_offset: 0,

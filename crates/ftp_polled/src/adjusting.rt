@@ -18,6 +18,7 @@ pub(crate) enum Adjustment<E: Drop, B: Drop> {
     PassiveNatWorkaround(bool),
     ActivePeerCheck(ActivePeerCheck),
     ActiveDeadline(Duration),
+    LenientReplies(bool),
     ActiveMode(Duration),
     Encoding(E),
     Builder(B),
@@ -75,6 +76,7 @@ where
         Adjustment::PassiveNatWorkaround(enabled) => session.set_passive_nat_workaround(enabled),
         Adjustment::ActivePeerCheck(check) => session.set_active_peer_check(check),
         Adjustment::ActiveDeadline(deadline) => session.set_active_deadline(deadline),
+        Adjustment::LenientReplies(lenient) => session.set_lenient_replies(lenient),
         Adjustment::ActiveMode(deadline) => {
             session.set_mode(Mode::Active);
             session.set_active_deadline(deadline);
@@ -128,6 +130,17 @@ where
         deadline: Duration,
     ) -> Adjust<'r, R, Tr, K, E, B> {
         self.set(rt, Adjustment::ActiveDeadline(deadline))
+    }
+
+    /// Sets whether the replies that begin from now on are read leniently (`ReplyRule::Lenient`), or as RFC 959,
+    /// section 4.2, has it. A reply that was read in part, as by a read that was dropped, is read on as it began. A
+    /// client begins strict, unless a call with `lenient` in its name connected it.
+    pub fn set_lenient_replies<'r, R>(
+        &self,
+        rt: &'r R,
+        lenient: bool,
+    ) -> Adjust<'r, R, Tr, K, E, B> {
+        self.set(rt, Adjustment::LenientReplies(lenient))
     }
 
     /// Sets active mode, and how long a peer's data connection is waited for.

@@ -171,11 +171,9 @@ fn session_on<Tr: TaskTransport, K: Drop, E: Encoding, B: Drop>(
 where
     Tr::Conn: TaskConn,
 {
-    if lenient {
-        Session::new_lenient(alloc, transport, conn)
-    } else {
-        Session::new(alloc, transport, conn)
-    }
+    let mut session = Session::new(alloc, transport, conn)?;
+    session.set_lenient_replies(lenient);
+    Ok(session)
 }
 
 /// The client over a session whose greeting was read.
@@ -300,6 +298,6 @@ where
         transport: Tr,
         conn: Tr::Conn,
     ) -> Connect<'r, R, Tr, K, E, B> {
-        Connect::over(rt, Session::new_lenient(rt.alloc(), transport, conn))
+        Connect::over(rt, session_on(rt.alloc(), transport, conn, true))
     }
 }

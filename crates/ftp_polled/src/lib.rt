@@ -10,7 +10,13 @@
 //! read before the next command. The reply to a command that went out stays for the next call.
 //!
 //! A poll that waits has registered its task for what it waits for, or asks to be polled again at once: no wake-up is
-//! lost. While a deadline runs a state asks to be polled again at once, since no timer is used.
+//! lost. A deadline is waited for by a timer of the transport's, where it was made with one, as by
+//! `TokioTransport::of_runtime`; else a state asks to be polled again at once while it runs.
+//!
+//! Three things are left to the caller. A future that was polled once has to be polled on or dropped: till then it keeps
+//! the lock that it was handed, and every other call of its client waits. A source, a reader or a builder that a call was
+//! handed must not call its own client, whose lock that call holds. And a client belongs to the runtime that its
+//! transport was made of, which has to run for the tasks that wait to be woken.
 #![tactic(auto)]
 
 mod adjusting;
@@ -38,7 +44,7 @@ pub use client::ImplAsyncFtpStream;
 pub use connect::Connect;
 pub use dialogue::{Dialogue, Lines, ReadReply};
 pub use ending::{Abort, Finish};
-pub use lock::{ControlSocket, Lock};
+pub use lock::{ControlSocket, Failed, Lock};
 pub use opening::{OpenTransfer, OpenWithReply};
 pub use outcome::Outcome;
 pub use retrieve::{RetrReader, Retrieve};

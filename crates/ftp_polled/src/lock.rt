@@ -59,6 +59,11 @@ where
     pub fn get_welcome_msg(&self) -> Option<&str> {
         self.session.get_welcome_msg()
     }
+
+    /// Whether the session has failed, as [`ImplAsyncFtpStream::failed`] tells.
+    pub fn failed(&self) -> bool {
+        self.session.failed()
+    }
 }
 
 /// The lock of a client is waited for.
@@ -101,10 +106,46 @@ where
     }
 }
 
+/// The lock of a client is waited for, to ask whether its session has failed.
+///
+/// # Errors
+/// Those of [`Lock`].
+#[derive(Drop)]
+pub struct Failed<Tr: TaskTransport, K: Drop, E: Encoding, B: Drop>
+where
+    Tr::Conn: TaskConn,
+{
+    lock: Lock<Tr, K, E, B>,
+}
+
+impl<Tr: TaskTransport, K: Drop, E: Encoding, B: Drop> Future for Failed<Tr, K, E, B>
+where
+    Tr::Conn: TaskConn,
+{
+    type Output = FtpResult<bool>;
+
+    fn poll(&mut self, cx: &mut Context<'_>) -> Poll<FtpResult<bool>> {
+        match self.lock.poll(cx) {
+            Poll::Ready(Ok(socket)) => Poll::Ready(Ok(socket.failed())),
+            Poll::Ready(Err(fault)) => Poll::Ready(Err(fault)),
+            Poll::Pending => Poll::Pending,
+        }
+    }
+}
+
 impl<Tr: TaskTransport, K: Drop, E: Encoding, B: Drop> ImplAsyncFtpStream<Tr, K, E, B>
 where
     Tr::Conn: TaskConn,
 {
+    /// Whether the session has failed: a read or a write of the control connection did, its input ended where a reply
+    /// was due, a reply was too large, or memory ran out inside a dialogue. Each later command returns `SessionFailed`;
+    /// connect anew.
+    pub fn failed(&self) -> Failed<Tr, K, E, B> {
+        Failed {
+            lock: self.get_ref(),
+        }
+    }
+
     /// The control connection, once the lock is held.
     pub fn get_ref(&self) -> Lock<Tr, K, E, B> {
         Lock {

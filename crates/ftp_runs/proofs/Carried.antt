@@ -10,6 +10,7 @@ use Rattle.ftp_dialogue.proofs.Deals.{outcomes-append}
 use Rattle.ftp_dialogue.specs.declared.model.DealOutcome.{DealOutcome}
 use Rattle.ftp_transport.specs.Told.{Told, HasRoomFor, HasNoRoom, EndsAsTold}
 use Rattle.ftp_transport.specs.Memory.{IsGiven}
+use Rattle.ftp_control.specs.declared.control.rule.ReplyRule.{ReplyRule}
 use Rattle.ftp_control.specs.Reading.{GoesOn}
 use Rattle.ftp_control.specs.Channel.{Channel, IsSound, untaken}
 use Rattle.ftp_control.specs.Saying.{said}
@@ -100,9 +101,15 @@ seen_kept P s v w came seen untaken_is split shrinks (inr same) =
     seen_same s (untaken w.channel ++ unread w.channel.told) left ∙ seen ∙ ap length (sym same.0)
 
 -- what is kept says nothing yet under the list that it was read under
-pub waits_kept : (P : Type 0) (s : Script) (v w : SessionValue) (came : List ℕ) → w.channel.rule ≡ v.channel.rule → outcome v.channel.rule s.form v.channel.kept false ≡ Waits → Keeps P came v w → outcome w.channel.rule s.form w.channel.kept false ≡ Waits
-waits_kept P s v w came rule waits (inl none) = rw none (nothing_says w.channel.rule s.form)
-waits_kept P s v w came rule waits (inr same) = rw (same.0, rule) waits
+pub waits_kept : (P : Type 0) (s : Script) (v w : SessionValue) (came : List ℕ) → outcome v.channel.rule s.form v.channel.kept false ≡ Waits → Keeps P came v w → outcome w.channel.rule s.form w.channel.kept false ≡ Waits
+waits_kept P s v w came waits (inl none) = rw none (nothing_says w.channel.rule s.form)
+waits_kept P s v w came waits (inr same) = rw (same.0, same.4) waits
+
+-- and was read by this rule
+pub rule_kept : (P : Type 0) (rule : ReplyRule) (v w : SessionValue) (came : List ℕ) → (v.channel.kept ≡ []) ⊎ (v.channel.rule ≡ rule) → Keeps P came v w → (w.channel.kept ≡ []) ⊎ (w.channel.rule ≡ rule)
+rule_kept P rule v w came before (inl none) = inl none
+rule_kept P rule v w came (inl none) (inr same) = inl (same.0 ∙ none)
+rule_kept P rule v w came (inr is) (inr same) = inr (same.4 ∙ is)
 
 pub positive : (l : List ℕ) → (l ≡ [] → ⊥) → 0 < length l
 positive [] some = absurd (some refl)
@@ -119,7 +126,6 @@ full_room (UpTo most) sent unsent line fit full some =
 -- what a poll leaves of a connection
 pub record Carried (builds : Builds) (v w : SessionValue) (came : List ℕ) (asked : List Deal) : Type 0 where
   pub deals : Deals builds asked v.net w.net
-  pub rule : w.channel.rule ≡ v.channel.rule
   pub received : w.channel.told.received ≡ v.channel.told.received ++ came
   pub failures : w.channel.told.failures ≡ v.channel.told.failures
   pub split : unread v.channel.told ≡ came ++ unread w.channel.told
@@ -131,7 +137,6 @@ pub record Carried (builds : Builds) (v w : SessionValue) (came : List ℕ) (ask
 pub carried : (builds : Builds) (v w : SessionValue) (state : State) (came : List ℕ) (answered : List Deal) → Goes (over_memory builds) came answered (record v { state = state }) w → IsSound (Unit {0}) v.channel → EndsAsTold v.channel.ended w.channel.ended v.channel.told → IsGiven w.channel.told → IsSound (Unit {0}) w.channel → Carried builds v w came answered
 carried builds v w state came answered goes sound end given sound' = record {
   deals = goes.deals tt;
-  rule = goes.rule;
   received = goes.received tt;
   failures = (goes.failures tt).failures;
   split = unread_split v.channel.told w.channel.told came given (goes.given tt) (goes.received tt);
@@ -146,7 +151,7 @@ carried builds v w state came answered goes sound end given sound' = record {
     go (inr e) = inr e
 
 pub carried_none : (builds : Builds) (v : SessionValue) → IsGiven v.channel.told → IsSound (Unit {0}) v.channel → Carried builds v v [] []
-carried_none builds v given sound = record { deals = refl; rule = refl; received = sym (append-nil v.channel.told.received); failures = refl; split = refl; given = refl; over = refl; has = given; sound = sound }
+carried_none builds v given sound = record { deals = refl; received = sym (append-nil v.channel.told.received); failures = refl; split = refl; given = refl; over = refl; has = given; sound = sound }
 
 -- what went out and is unsent begins what is said with the next line
 pub line_front : (c : Channel) (line : List ℕ) → (c.unsent ≡ [] → ⊥) → SaysFrontOf c ((c.told.sent ++ c.unsent ++ line) ++ [])

@@ -28,7 +28,7 @@ use Rattle.ftp_dialogue.specs.Dialogue.{answer_to_fault, entered, expecting, lat
 use Rattle.ftp_dialogue.specs.Link.{Builds, over_memory}
 use Rattle.ftp_dialogue.specs.Play.{Taken, finally, heard_then, is_due, is_unit, play, taken}
 use Rattle.ftp_dialogue.specs.Promises.{FailsWith, HasFault, IsFault, begun_by, due_of, refusal_of, standing}
-use Rattle.ftp_dialogue.specs.Resuming.{Resumes, Silent}
+use Rattle.ftp_dialogue.specs.Resuming.{Resumes, Silent, modes_of}
 use Rattle.ftp_runs.specs.Script.{is_over, start_of, unread, draining, drained_as, drained_to, last_of, poll_if, poll_next, poll_script, polled_as, run_with, succeeded, without_call, MayPoll, MayPollIf, MayPollNext}
 use Rattle.ftp_runs.specs.Scripted.{AreRefused, IsDrained, IsPolledIf, IsPolled}
 use Rattle.ftp_dialogue.specs.Sound.{none_left}
@@ -96,7 +96,7 @@ remembered statuses reply = elim (is_among statuses reply.status) as (λ b. Reme
 ]
 
 drained_state : (coding : Coding) (room : Room) (expected : Expected) (state : State) (later : State → Tree) (s t : Standing) (answer : Answer) → finally (play room (Hear expected (concluded coding Drains state later)) s) ≡ played.Done answer t → t.state ≡ with_drained state
-drained_state coding room expected state later s t answer is = go (outcome s.rule expected.form s.bytes s.ended) (sym (ap finally (play-Hear room expected (concluded coding Drains state later) s)) ∙ is)
+drained_state coding room expected state later s t answer is = go (outcome s.state.settings.reply_rule expected.form s.bytes s.ended) (sym (ap finally (play-Hear room expected (concluded coding Drains state later) s)) ∙ is)
   where
     next : Result Response FtpError → Tree
     next = concluded coding Drains state later
@@ -204,10 +204,10 @@ module _ (builds : Builds) (coding : Coding) (outcomes : List DealOutcome) where
     takes : refusal_of Drain v ≡ Taken
     takes = due_taken call v is_due'
 
-    resumes : Resumes v.channel.rule v.channel.kept (dialogue coding Drain v.state)
+    resumes : Resumes (modes_of v) v.channel.kept (dialogue coding Drain v.state)
     resumes = go (placed builds coding outcomes due old (draining s) v Drain (At First) answers d (may_drain due old s v call stage answers f is_due' may) takes)
       where
-        go : Goes_on builds coding outcomes old (draining s) d.came d.answered v Drain (At First) ⊎ Kept builds coding outcomes old (draining s) d.came d.answered v Drain (At First) → Resumes v.channel.rule v.channel.kept (dialogue coding Drain v.state)
+        go : Goes_on builds coding outcomes old (draining s) d.came d.answered v Drain (At First) ⊎ Kept builds coding outcomes old (draining s) d.came d.answered v Drain (At First) → Resumes (modes_of v) v.channel.kept (dialogue coding Drain v.state)
         go (inl from) = from.resumes
         go (inr from) = let clash : true ≡ false = from.plain in cc
 
@@ -235,14 +235,14 @@ module _ (builds : Builds) (coding : Coding) (outcomes : List DealOutcome) where
     kept_none : w.channel.kept ≡ []
     kept_none = go ends.keeps
       where
-        go : Keeps (Silent (dialogue coding Drain v.state)) ends.came (begun_by Drain v) w → w.channel.kept ≡ []
+        go : Keeps (Silent v.state w.state (dialogue coding Drain v.state)) ends.came (begun_by Drain v) w → w.channel.kept ≡ []
         go (inl none) = none
         go (inr same) = absurd same.3
 
     may_then : MayPoll coding from_here (Some call) (drained_to call s done)
     may_then unheard going =
         let seen : (drained_to call s done).seen ≡ 0 = over.seen ∙ ap length kept_none in
-        inr (inl (rw seen (nothing_resumes from_here.rule (dialogue coding call (drained_to call s done).state))))
+        inr (inl (rw seen (nothing_resumes (drained_to call s done).state.settings.reply_rule (dialogue coding call (drained_to call s done).state))))
 
     undue_then : due_of call w ≡ false
     undue_then = go (none_left w.state.counts.owed) refl

@@ -309,7 +309,7 @@ module _ (builds : Builds) (coding : Coding) (outcomes left : List DealOutcome) 
     outcomes_are = all;
     dealings = refl;
     place = λ later room more ended outcomes' fit on. refl;
-    rule = refl;
+    rule = inr refl;
     failures = refl;
     given = given;
     sound = sound;

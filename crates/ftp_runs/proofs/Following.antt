@@ -12,6 +12,7 @@ use Rattle.ftp_base.specs.declared.command.Command.{Command}
 use Rattle.ftp_base.specs.Command.{text_of}
 use Rattle.ftp_base.specs.Wire.{wire}
 use Rattle.ftp_control.specs.declared.control.rule.ReplyRule.{ReplyRule}
+use Rattle.ftp_control.specs.declared.control.rule.ReplyRule.TheVariants.{Strict, Lenient}
 use Rattle.ftp_transport.specs.declared.room.Room.{Room}
 use Rattle.ftp_transport.specs.declared.room.Room.TheVariants.{Any, UpTo}
 use Rattle.ftp_transport.specs.declared.request.RequestOutcome.{RequestOutcome}
@@ -56,11 +57,11 @@ use Rattle.ftp_dialogue.specs.Sound.{cannot_open}
 use Rattle.ftp_dialogue.specs.Dialogue.{agreeing, at_port, closing, entered, opened_from, told_of_close, with_left, from_turn, negotiating, negotiating_unless, on_address, Expected, expected_of, Tree, Say, Hear, saying, awaiting, doing, later, dialogue, parting, aborting, breaking_off}
 use Rattle.ftp_dialogue.specs.Play.{ended, finally, play, fits, heard_then, needs_data}
 use Rattle.ftp_dialogue.specs.declared.model.Played.{Played}
-use Rattle.ftp_dialogue.specs.Resuming.{Resumes, Silent}
+use Rattle.ftp_dialogue.specs.Resuming.{Modes, Resumes, SaysNothingYet, Silent, modes_in, modes_of}
 use Rattle.ftp_runs.specs.Run.{replay, before, and_then}
 use Rattle.ftp_dialogue.specs.Promises.{due_of, lacks_of, refusal_of, begun_by, failed_from, lacking_at, standing, However, Fails, LacksMemory, Touched, Untouched, Goes, Leads, Rests, Aborts}
 use Rattle.ftp_runs.specs.Runs.{before_all}
-use Rattle.ftp_runs.specs.Script.{unread, is_over, start_of, front, seen_at, form_at, first_form, heard_form, polled_as, run_with, poll_script, HearsNothing, MayCancel, MayPoll}
+use Rattle.ftp_runs.specs.Script.{unread, is_over, start_of, front, kept_in, modes_at, rule_at, seen_at, form_at, first_form, heard_form, polled_as, run_with, poll_script, HearsNothing, MayCancel, MayPoll, SameForm, SameMode}
 use Rattle.ftp_runs.specs.Scripted.{MayGoOn, SaysFrontOf, SaysNothing, Stands, SaysOrTakes, CallHasBegun, Reaches, LeftOf, entering}
 use Rattle.ftp_dialogue.specs.Steps.Stages.{StageOf, remaining, begun_at}
 use Rattle.ftp_dialogue.specs.Steps.Moving.{Apart, BeginsHere, HasBegun, HasGoneOut, NothingTouched, Speaks, StillSays, Keeps, Shrinks, Calm, Advances, PollsTo, WaitsFor, WaitsToSay}
@@ -68,7 +69,7 @@ use Rattle.ftp_runs.specs.Following.{Since, Started, UnderWay, Unheard, Place, F
 use Rattle.ftp_dialogue.specs.Steps.Polls.{MayPollAt, MayPollFrom, is_first, entered_at, entered_state, entered_tree}
 use Rattle.ftp_dialogue.proofs.Deals.{deals-append, drops, outcomes-append, letting_deals}
 use Rattle.ftp_dialogue.proofs.Moving.{Finishes, finishes as finishes_by, goes_after, fitted, play-Say}
-use Rattle.ftp_dialogue.proofs.Hearing.{play-Hear}
+use Rattle.ftp_dialogue.proofs.Hearing.{begun_resumes, kept_waits, play-Hear, set_waits}
 use Rattle.ftp_runs.proofs.Unheard.{LacksRoomFor, lacks_room, says_no_read}
 use Rattle.ftp_dialogue.proofs.CarryingLemmas.{RefusedSo, beside_goes, carrying_resumes, local_resumes, may_go_on, needs_none, plain_dialogue, plain_entered, plain_finishes_none, read_apart, refused_so, taken_going, taken_plays}
 use Rattle.ftp_dialogue.proofs.Sorts.{stage_no_local, unheld_drains_none}
@@ -79,7 +80,7 @@ use Rattle.ftp_runs.proofs.Parting.{HasParted, began, end_waits, leaves_on, same
 use Rattle.ftp_runs.proofs.Replay.{replay-nil, replay-shown, shown_on}
 use Rattle.ftp_runs.proofs.Running.{before_all-snoc, before_all-Finished, before_all-Waiting}
 use Rattle.ftp_dialogue.specs.Link.{Builds, over_memory}
-use Rattle.ftp_runs.proofs.Carried.{front_fits, outcomes_on, over_at_end, seen_kept, waits_kept, full_room, Carried, carried, carried_none, line_front, all_said}
+use Rattle.ftp_runs.proofs.Carried.{front_fits, outcomes_on, over_at_end, seen_kept, waits_kept, rule_kept, full_room, Carried, carried, carried_none, line_front, all_said}
 use Rattle.ftp_base.specs.declared.command.Command.TheVariants.{Abor}
 
 -- what a poll comes to
@@ -101,7 +102,7 @@ module _ (builds : Builds) (coding : Coding) (outcomes : List DealOutcome) where
 
   module _ (old v w : SessionValue) (items : List Item) (came : List ℕ) (answered : List Deal) (answers : List Answer) (call : Call) where
     -- the call has its answer
-    pub reaches_stands : (tree : Tree) (answer : Answer) → Reaches coding old items came answered v answers call tree → (ends : Finishes (over_memory builds) tree answer v w) → Resumes v.channel.rule v.channel.kept tree → Stands coding old (items ++ Shown call ∷ []) (came ++ ends.came) (answered ++ ends.answered) w (answers ++ answer ∷ [])
+    pub reaches_stands : (tree : Tree) (answer : Answer) → Reaches coding old items came answered v answers call tree → (ends : Finishes (over_memory builds) tree answer v w) → Resumes (modes_of v) v.channel.kept tree → Stands coding old (items ++ Shown call ∷ []) (came ++ ends.came) (answered ++ ends.answered) w (answers ++ answer ∷ [])
     reaches_stands tree answer reaches ends resumes = λ later room more ended outcomes' fit on.
         let done = ends in
         let next : Standing → Ran = λ t. replay room coding later t in
@@ -144,51 +145,51 @@ module _ (builds : Builds) (coding : Coding) (outcomes : List DealOutcome) where
       let R : List DealOutcome → Ran = λ o. replay room coding (items ++ later) (standing old (came ++ more) ended (o ++ outcomes')) in
       ap R (sym same) ∙ stands later room more ended outcomes' fit on
 
-  -- a reply that says nothing yet as one of a call's form is resumed by the call
-  module _ (rule : ReplyRule) (kept : List ℕ) (call : Call) where
-    resumes_row : (turn : Turn) (state : State) → outcome rule (heard_form (row_of call turn)) kept false ≡ Waits → Resumes rule kept (from_turn coding call turn state)
+  -- a reply that says nothing yet as one of a call's form is resumed by the call, in one mode
+  module _ (modes : Modes) (kept : List ℕ) (one_mode : modes.under ≡ modes.setting) (call : Call) where
+    resumes_row : (turn : Turn) (state : State) → SaysNothingYet modes.setting (heard_form (row_of call turn)) kept → Resumes modes kept (from_turn coding call turn state)
     resumes_row turn state waits = row (row_of call turn) waits
       where
-        line : (e : Exchange) → outcome rule (expected_of e.hears).form kept false ≡ Waits → (l : Result (List ℕ) Cause) → Resumes rule kept (Say l (awaiting coding (expected_of e.hears) e.ending state (later coding call turn)))
-        line e waits (Ok bytes) = waits
+        line : (e : Exchange) → SaysNothingYet modes.setting (expected_of e.hears).form kept → (l : Result (List ℕ) Cause) → Resumes modes kept (Say l (awaiting coding (expected_of e.hears) e.ending state (later coding call turn)))
+        line e waits (Ok bytes) = (one_mode, waits)
         line e waits (Err cause) = tt
 
-        go : (e : Exchange) → outcome rule (expected_of e.hears).form kept false ≡ Waits → (command : Option Command) → Resumes rule kept (saying coding command (awaiting coding (expected_of e.hears) e.ending state (later coding call turn)))
-        go e waits None = waits
+        go : (e : Exchange) → SaysNothingYet modes.setting (expected_of e.hears).form kept → (command : Option Command) → Resumes modes kept (saying coding command (awaiting coding (expected_of e.hears) e.ending state (later coding call turn)))
+        go e waits None = (one_mode, waits)
         go e waits (Some command) = line e waits (wire coding.encode (text_of command))
 
-        row : (r : Row) → outcome rule (heard_form r) kept false ≡ Waits → Resumes rule kept (doing coding r state (later coding call turn))
+        row : (r : Row) → SaysNothingYet modes.setting (heard_form r) kept → Resumes modes kept (doing coding r state (later coding call turn))
         row (Exchanges e) waits = go e waits e.says
         row (Arms offset) waits = tt
         row (Sets setting) waits = tt
-        row (Moves moves) waits = carrying_resumes rule kept moves state
+        row (Moves moves) waits = carrying_resumes modes kept moves state
 
     -- no way to a data connection hears a list
-    resumes_bound : (offset : ℕ) (state : State) (local : SocketAddr) → outcome rule Plain kept false ≡ Waits → (answer : RequestOutcome) → Resumes rule kept (on_address state (λ bound. from_turn coding call (Active (at_port (socket_port bound) local) offset) state) answer)
+    resumes_bound : (offset : ℕ) (state : State) (local : SocketAddr) → SaysNothingYet modes.setting Plain kept → (answer : RequestOutcome) → Resumes modes kept (on_address state (λ bound. from_turn coding call (Active (at_port (socket_port bound) local) offset) state) answer)
     resumes_bound offset state local waits asked.Done = tt
     resumes_bound offset state local waits (asked.Address bound) = resumes_row (Active (at_port (socket_port bound) local) offset) state waits
     resumes_bound offset state local waits (asked.Refused fault) = tt
 
-    resumes_mode : (m : Mode) (offset : ℕ) (state : State) → outcome rule Plain kept false ≡ Waits → Resumes rule kept (agreeing m coding call offset state)
+    resumes_mode : (m : Mode) (offset : ℕ) (state : State) → SaysNothingYet modes.setting Plain kept → Resumes modes kept (agreeing m coding call offset state)
     resumes_mode mode.Active offset state waits = λ local answer. resumes_bound offset state local waits answer
     resumes_mode mode.Passive offset state waits = resumes_row (Passive offset) state waits
     resumes_mode mode.ExtendedPassive offset state waits = resumes_row (ExtendedPassive offset) state waits
 
-    resumes_unless : (cannot : Option FtpError) (offset : ℕ) (state : State) → outcome rule Plain kept false ≡ Waits → Resumes rule kept (negotiating_unless cannot coding call offset state)
+    resumes_unless : (cannot : Option FtpError) (offset : ℕ) (state : State) → SaysNothingYet modes.setting Plain kept → Resumes modes kept (negotiating_unless cannot coding call offset state)
     resumes_unless (Some fault) offset state waits = tt
     resumes_unless None offset state waits = resumes_mode state.settings.mode offset state waits
 
-    resumes_dialogue : (state : State) → outcome rule (first_form call) kept false ≡ Waits → Resumes rule kept (dialogue coding call state)
+    resumes_dialogue : (state : State) → SaysNothingYet modes.setting (first_form call) kept → Resumes modes kept (dialogue coding call state)
     resumes_dialogue state waits = go (negotiates call) (finishes call) waits
       where
-        go : (b f : Bool) → outcome rule (cond (b || f) Plain (heard_form (row_of call First))) kept false ≡ Waits → Resumes rule kept (cond b (negotiating coding call state.settings.restart_offset (opened_from call state)) (cond f (parting coding call (with_left state)) (from_turn coding call First state)))
+        go : (b f : Bool) → SaysNothingYet modes.setting (cond (b || f) Plain (heard_form (row_of call First))) kept → Resumes modes kept (cond b (negotiating coding call state.settings.restart_offset (opened_from call state)) (cond f (parting coding call (with_left state)) (from_turn coding call First state)))
         go true f waits = resumes_unless (cannot_open state.counts) state.settings.restart_offset (opened_from call state) waits
-        go false true waits = (elim (aborts call) as (λ a. Resumes rule kept (cond a (aborting coding call (with_left state)) (closing coding call (with_left state)))) [
+        go false true waits = (elim (aborts call) as (λ a. Resumes modes kept (cond a (aborting coding call (with_left state)) (closing coding call (with_left state)))) [
           | true ↦ said (wire coding.encode (text_of Abor))
           | false ↦ λ came. resumes_row (Closed (told_of_close state.uploads came)) (with_left state) waits
         ])
           where
-            said : (line : Result (List ℕ) Cause) → Resumes rule kept (Say line (breaking_off coding call (with_left state)))
+            said : (line : Result (List ℕ) Cause) → Resumes modes kept (Say line (breaking_off coding call (with_left state)))
             said (Ok line) = λ came. resumes_row Aborted (with_left state) waits
             said (Err cause) = tt
         go false false waits = resumes_row First state waits
@@ -274,7 +275,7 @@ module _ (builds : Builds) (coding : Coding) (outcomes : List DealOutcome) where
       outcomes_are = all_outcomes;
       dealings = refl;
       place = place;
-      rule = c.rule ∙ f.rule;
+      rule = rule_kept P s.rule v w came f.rule keeps;
       failures = c.failures ∙ f.failures;
       given = c.has;
       sound = c.sound;
@@ -287,7 +288,7 @@ module _ (builds : Builds) (coding : Coding) (outcomes : List DealOutcome) where
       unsent = λ may. refl;
       untaken = refl;
       seen = seen_kept P s v w came f.seen f.untaken c.split shrinks keeps;
-      waits = waits_kept P s v w came c.rule f.waits keeps;
+      waits = waits_kept P s v w came f.waits keeps;
       state = refl;
       failed = refl;
       call_is = refl;
@@ -356,8 +357,8 @@ module _ (builds : Builds) (coding : Coding) (outcomes : List DealOutcome) where
             cc
 
     -- the call waits
-    wait_on : (tree : Tree) (stage' : Stage) (wait : Wait) (t : Standing) → Reaches coding old s.items (f.came ++ came) (f.answered ++ asked) w s.answers call tree → play s.room tree here ≡ played.Pending wait t → front s.room t.said ≡ w.channel.told.sent → SaysFrontOf w.channel (t.said ++ t.unsent) → t.bytes ≡ untaken w.channel ++ unread w.channel.told → seen_at wait s t.bytes ≡ length w.channel.kept → outcome w.channel.rule (form_at wait s) w.channel.kept false ≡ Waits → t.state ≡ w.state → t.failed ≡ w.channel.failed → t.dealings ≡ dealings_of w.net → (MayCancel (Some call) true → s.unsent ≡ w.channel.unsent) → Place coding old (polled_as (Waiting s.answers wait t) call s) (f.came ++ came) (f.answered ++ asked) w (Some call) stage' → Follows builds coding outcomes left old (poll_script coding (start_of old outcomes) (Some call) s) w (Some call) stage' answers
-    wait_on tree stage' wait t reaches waits sent begins bytes seen says_nothing state failed dealings unsent place =
+    wait_on : (tree : Tree) (stage' : Stage) (wait : Wait) (t : Standing) → Reaches coding old s.items (f.came ++ came) (f.answered ++ asked) w s.answers call tree → play s.room tree here ≡ played.Pending wait t → front s.room t.said ≡ w.channel.told.sent → SaysFrontOf w.channel (t.said ++ t.unsent) → t.bytes ≡ untaken w.channel ++ unread w.channel.told → seen_at wait s t.bytes ≡ length w.channel.kept → outcome w.channel.rule (form_at wait s) w.channel.kept false ≡ Waits → (w.channel.kept ≡ []) ⊎ (w.channel.rule ≡ rule_at wait s t.state) → t.state ≡ w.state → t.failed ≡ w.channel.failed → t.dealings ≡ dealings_of w.net → (MayCancel (Some call) true → s.unsent ≡ w.channel.unsent) → Place coding old (polled_as (Waiting s.answers wait t) call s) (f.came ++ came) (f.answered ++ asked) w (Some call) stage' → Follows builds coding outcomes left old (poll_script coding (start_of old outcomes) (Some call) s) w (Some call) stage' answers
+    wait_on tree stage' wait t reaches waits sent begins bytes seen says_nothing by state failed dealings unsent place =
         let ran = waits_ran tree wait t reaches waits in
         let Q : Ran → Type 0 = λ r. Follows builds coding outcomes left old (polled_as r call s) w (Some call) stage' answers in
         let follows : Follows builds coding outcomes left old (polled_as (Waiting s.answers wait t) call s) w (Some call) stage' answers = record {
@@ -367,7 +368,7 @@ module _ (builds : Builds) (coding : Coding) (outcomes : List DealOutcome) where
           outcomes_are = all_outcomes;
           dealings = dealings;
           place = place;
-          rule = c.rule ∙ f.rule;
+          rule = by;
           failures = c.failures ∙ f.failures;
           given = c.has;
           sound = c.sound;
@@ -403,15 +404,17 @@ module _ (builds : Builds) (coding : Coding) (outcomes : List DealOutcome) where
         let none : unread t ≡ [] = ap (λ r. drop (length r) t.given.bytes) dry.all ∙ drop-length t.given.bytes in
         ap (λ u. untaken w.channel ++ u) none ∙ append-nil (untaken w.channel) ∙ ap (λ a. w.channel.kept ++ a) none_ahead ∙ append-nil w.channel.kept
 
-    hear_waits : (codes : Expected) (next : Result Response FtpError → Tree) → IsDry w.channel.told → w.channel.ahead ≡ [] → w.channel.ended ≡ false → Resumes w.channel.rule w.channel.kept (Hear codes next) → play s.room (Hear codes next) here ≡ played.Pending (wait.Bytes codes.form) here
+    hear_waits : (codes : Expected) (next : Result Response FtpError → Tree) → IsDry w.channel.told → w.channel.ahead ≡ [] → w.channel.ended ≡ false → Resumes (modes_of w) w.channel.kept (Hear codes next) → play s.room (Hear codes next) here ≡ played.Pending (wait.Bytes codes.form) here
     hear_waits codes next dry none_ahead unended resumes =
         let t = w.channel.told in
         let on : is_over t ≡ false = ap (λ b. b || t.ended) dry.open_end ∙ c.sound.ended tt ∙ unended in
         let form = codes.form in
-        let more : outcome w.channel.rule form (untaken w.channel ++ unread t) (is_over t) ≡ Waits =
-        ap (λ k. outcome w.channel.rule form k (is_over t)) (all_read none_ahead dry)
-        ∙ ap (λ o. outcome w.channel.rule form w.channel.kept o) on
-        ∙ resumes in
+        let setting : ReplyRule = w.state.settings.reply_rule in
+        let says = kept_waits w.channel.kept w.channel.rule setting form c.sound.waits resumes.0 resumes.1 in
+        let more : outcome setting form (untaken w.channel ++ unread t) (is_over t) ≡ Waits =
+        ap (λ k. outcome setting form k (is_over t)) (all_read none_ahead dry)
+        ∙ ap (λ o. outcome setting form w.channel.kept o) on
+        ∙ says.1 in
         play-Hear s.room codes next here ∙ ap (λ h. heard_then h codes here (λ heard u. play s.room (next heard) u)) more
 
   -- how a call goes on since the calls before it were done
@@ -433,7 +436,7 @@ module _ (builds : Builds) (coding : Coding) (outcomes : List DealOutcome) where
     not_begun = λ none. (refl, sym (append-nil (untaken v.channel)));
   }
 
-  since_on : (old : SessionValue) (items : List Item) (answers : List Answer) (came : List ℕ) (asked : List Deal) (v w : SessionValue) (begun begun' : Bool) (tree : Tree) (since : Since coding old items answers came asked v begun) → Speaks tree ⊎ Resumes v.channel.rule v.channel.kept tree → (more : List ℕ) (answered : List Deal) → Goes (over_memory builds) more answered v w → HasBegun (over_memory builds) begun begun' tree v w → Since coding old items answers (came ++ more) (asked ++ answered) w begun'
+  since_on : (old : SessionValue) (items : List Item) (answers : List Answer) (came : List ℕ) (asked : List Deal) (v w : SessionValue) (begun begun' : Bool) (tree : Tree) (since : Since coding old items answers came asked v begun) → Speaks tree ⊎ Resumes (modes_of v) v.channel.kept tree → (more : List ℕ) (answered : List Deal) → Goes (over_memory builds) more answered v w → HasBegun (over_memory builds) begun begun' tree v w → Since coding old items answers (came ++ more) (asked ++ answered) w begun'
   since_on old items answers came asked v w begun begun' tree since resumes more answered goes here = record {
     start = since.start;
     before = since.before;
@@ -480,7 +483,7 @@ module _ (builds : Builds) (coding : Coding) (outcomes : List DealOutcome) where
   -- where a poll begins
   pub record Resumed (old : SessionValue) (s : Script) (came : List ℕ) (asked : List Deal) (v : SessionValue) (call : Call) (begun : Bool) (e : SessionValue) (tree : Tree) : Type 0 where
     pub reaches : Reaches coding old s.items came asked e s.answers call tree
-    pub resumes : Resumes v.channel.rule v.channel.kept tree
+    pub resumes : Resumes (modes_of e) e.channel.kept tree
     pub apart : is_read call ≡ true → Apart tree
     pub read : is_read call ≡ true → Stands coding old s.items came asked v s.answers
     pub since : Since coding old s.items s.answers came asked e begun
@@ -491,7 +494,7 @@ module _ (builds : Builds) (coding : Coding) (outcomes : List DealOutcome) where
     pub plain : needs_data call ≡ false
     pub no_read : is_read call ≡ false
     pub reaches : Reaches coding old s.items came asked e s.answers call tree
-    pub resumes : (rule : ReplyRule) (kept : List ℕ) → Resumes rule kept (dialogue coding call state) → Resumes rule kept tree
+    pub resumes : (modes : Modes) (kept : List ℕ) → Resumes modes kept (dialogue coding call state) → Resumes modes kept tree
     pub since : Since coding old s.items s.answers came asked e begun
     pub nothing : HearsNothing (run_with coding (start_of old outcomes) call s) s
     pub lacks : LacksRoomFor s.room (standing v (unread v.channel.told) (is_over v.channel.told) []) tree
@@ -518,10 +521,11 @@ module _ (builds : Builds) (coding : Coding) (outcomes : List DealOutcome) where
         let stuck = say_waits left asked old s v w call stage answers f moves.leads.came c says.line says.next says.some (says.full tt) in
         let calm = moves.calm (subst C (sym says.is) tt) in
         let seen = seen_kept (Calm before) s v w moves.leads.came f.seen f.untaken c.split moves.shrinks calm in
-        let says_nothing = waits_kept (Calm before) s v w moves.leads.came c.rule f.waits calm in
+        let says_nothing = waits_kept (Calm before) s v w moves.leads.came f.waits calm in
+        let by = rule_kept (Calm before) s.rule v w moves.leads.came f.rule calm in
         let there = subst P says.is reaches' in
         let ran = waits_ran left asked old s v w call stage answers f moves.leads.came c (Say (Ok says.line) says.next) wait.Room t there stuck.0 in
-        wait_on left asked old s v w call stage answers f moves.leads.came c (Say (Ok says.line) says.next) stage' wait.Room t there stuck.0 stuck.1 (line_front w.channel says.line says.some) refl seen says_nothing refl refl refl (unsent' t ran) (place t ran)
+        wait_on left asked old s v w call stage answers f moves.leads.came c (Say (Ok says.line) says.next) stage' wait.Room t there stuck.0 stuck.1 (line_front w.channel says.line says.some) refl seen says_nothing by refl refl refl (unsent' t ran) (place t ran)
 
     -- it still waits for room, where it was kept waiting
     still_waits : due_of call v ≡ false → v.channel.failed ≡ false → Kept old s f.came f.answered v call stage → StageOf call stage' → WaitsFor (over_memory builds) (remaining coding call (entered_state call stage v.state) stage') w → HasBegun (over_memory builds) (begun_at stage) (begun_at stage') (entered_tree coding call stage v.state) (entered_at call stage v) w → Follows builds coding outcomes left old (poll_script coding (start_of old outcomes) (Some call) s) w (Some call) stage' answers
@@ -554,7 +558,7 @@ module _ (builds : Builds) (coding : Coding) (outcomes : List DealOutcome) where
           going = advances.failed ∙ going;
           no_read = from.no_read;
           reaches = let P : State → Type 0 = λ state. Reaches coding old s.items (f.came ++ advances.moves.leads.came) (f.answered ++ advances.moves.leads.answered) w s.answers call (remaining coding call state stage') in subst P (sym advances.moves.state) reaches';
-          resumes = let P : State → Type 0 = λ state. (rule : ReplyRule) (kept : List ℕ) → Resumes rule kept (dialogue coding call state) → Resumes rule kept (remaining coding call state stage') in subst P (sym advances.moves.state) (λ rule kept r. still.resumes rule kept (from.resumes rule kept r));
+          resumes = let P : State → Type 0 = λ state. (modes : Modes) (kept : List ℕ) → Resumes modes kept (dialogue coding call state) → Resumes modes kept (remaining coding call state stage') in subst P (sym advances.moves.state) (λ modes kept r. still.resumes modes kept (from.resumes modes kept r));
           since = since_on old s.items s.answers f.came f.answered e w (begun_at stage) (begun_at stage') before from.since (inl speaks) advances.moves.leads.came advances.moves.leads.answered advances.moves.leads.goes begun;
         }))
 
@@ -589,7 +593,7 @@ module _ (builds : Builds) (coding : Coding) (outcomes : List DealOutcome) where
         reaches' : Reaches coding old s.items came' asked' w s.answers call tree'
         reaches' = reaches_on old e w s.items f.came f.answered s.answers call before tree' from.reaches advances.moves.leads (advances.moves.leads.plays tt from.resumes)
 
-        resumes' : Resumes w.channel.rule w.channel.kept tree'
+        resumes' : Resumes (modes_of w) w.channel.kept tree'
         resumes' = advances.moves.resumes from.resumes
 
         read' : is_read call ≡ true → Stands coding old s.items came' asked' w s.answers
@@ -638,7 +642,7 @@ module _ (builds : Builds) (coding : Coding) (outcomes : List DealOutcome) where
           undue = undue_on call stage v w advances.moves.state advances.failed undue;
           going = advances.failed ∙ going;
           reaches = let P : State → Type 0 = λ state. Reaches coding old s.items came' asked' w s.answers call (remaining coding call state stage') in subst P (sym advances.moves.state) reaches';
-          resumes = let P : State → Type 0 = λ state. Resumes w.channel.rule w.channel.kept (remaining coding call state stage') in subst P (sym advances.moves.state) resumes';
+          resumes = let P : State → Type 0 = λ state. Resumes (modes_of w) w.channel.kept (remaining coding call state stage') in subst P (sym advances.moves.state) resumes';
           apart = λ is. let P : State → Type 0 = λ state. Apart (remaining coding call state stage') in subst P (sym advances.moves.state) (advances.moves.apart (from.apart is)).1;
           read = read';
           since = since';
@@ -653,9 +657,10 @@ module _ (builds : Builds) (coding : Coding) (outcomes : List DealOutcome) where
             let moves = advances.moves in
             let asked = moves.leads.answered in
             let P : Tree → Type 0 = λ x. Reaches coding old s.items came' asked' w s.answers call x in
-            let R : Tree → Type 0 = λ x. Resumes w.channel.rule w.channel.kept x in
+            let R : Tree → Type 0 = λ x. Resumes (modes_of w) w.channel.kept x in
             let t : Standing = here left asked old s v w call stage answers f moves.leads.came c in
             let resumed = subst R hears.is resumes' in
+            let says = kept_waits w.channel.kept w.channel.rule w.state.settings.reply_rule hears.codes.form c.sound.waits resumed.0 resumed.1 in
             let stuck = hear_waits left asked old s v w call stage answers f moves.leads.came c hears.codes hears.next (hears.dry tt) hears.none_ahead hears.unended resumed in
             let seen : length (untaken w.channel ++ unread w.channel.told) ≡ length w.channel.kept = ap length (all_read left asked old s v w call stage answers f moves.leads.came c hears.none_ahead (hears.dry tt)) in
             let sent = front_fits s.room w.channel.told.sent fits' in
@@ -665,7 +670,7 @@ module _ (builds : Builds) (coding : Coding) (outcomes : List DealOutcome) where
             let parted : call ≡ Finish → Parts b t = λ is. parts b t (λ same. (let clash : wait.Bytes hears.codes.form ≡ wait.Outcome = same in cc)) ran is in
             let unsent : call ≡ Finish → w.channel.unsent ≡ since'.start.channel.unsent = λ is. same_unsent coding old s.items s.answers came' asked' w (begun_at stage') since' s.room (unread w.channel.told) (is_over w.channel.told) left fits' on' b (parted is) in
             let leaves : call ≡ Finish → Stands coding old (s.items ++ Hidden Leave ∷ []) came' asked' w s.answers = λ is. leaves_on coding old s.items s.answers came' asked' w (begun_at stage') since' s.room (unread w.channel.told) (is_over w.channel.told) left fits' on' b (parted is) in
-            wait_on left asked old s v w call stage answers f moves.leads.came c (Hear hears.codes hears.next) stage' b t there stuck sent (all_said w.channel) refl seen resumed refl refl refl (unsent' (λ is. f.unsent (inr (inr is)) ∙ from.unsent is ∙ sym (unsent is))) (inr (inl (under_way t b leaves unsent)))
+            wait_on left asked old s v w call stage answers f moves.leads.came c (Hear hears.codes hears.next) stage' b t there stuck sent (all_said w.channel) refl seen says.0 says.2 refl refl refl (unsent' (λ is. f.unsent (inr (inr is)) ∙ from.unsent is ∙ sym (unsent is))) (inr (inl (under_way t b leaves unsent)))
 
   module _ (left : List DealOutcome) (old : SessionValue) (s : Script) (v w : SessionValue) (call : Call) (stage : Stage) (answers : List Answer) (answer : Answer) (ends : Finishes (over_memory builds) (entered_tree coding call stage v.state) answer (entered_at call stage v) w) (f : Follows builds coding outcomes (outcomes_of ends.answered ++ left) old s v (Some call) stage answers) (c : Carried builds v w ends.came ends.answered) where
     -- a call that is kept waiting has no answer yet
@@ -675,7 +680,7 @@ module _ (builds : Builds) (coding : Coding) (outcomes : List DealOutcome) where
     -- a poll that completes the call
     completed : (stage' : Stage) → Goes_on old s f.came f.answered v call stage → Follows builds coding outcomes left old (poll_script coding (start_of old outcomes) (Some call) s) w None stage' (answers ++ answer ∷ [])
     completed stage' from =
-        finish left ends.answered old s v w call stage answers f ends.came c (Silent (entered_tree coding call stage v.state)) stage' answer
+        finish left ends.answered old s v w call stage answers f ends.came c (Silent (entered_at call stage v).state w.state (entered_tree coding call stage v.state)) stage' answer
         (reaches_stands old (entered_at call stage v) w s.items f.came f.answered s.answers call (entered_tree coding call stage v.state) answer from.reaches ends from.resumes)
         ends.shrinks ends.keeps
 
@@ -685,24 +690,40 @@ module _ (builds : Builds) (coding : Coding) (outcomes : List DealOutcome) where
       finish left so.answered old s v w call stage answers f [] c (Unit {0}) stage' answer
       (stands_refused old v w s.items f.came f.answered s.answers call answer so stands)
       (omega (arith, ap length (ap (λ x. x.ahead) so.channel)))
-      (inr (ap (λ x. x.kept) so.channel, ap (λ x. x.ahead) so.channel, refl, tt))
+      (inr (ap (λ x. x.kept) so.channel, ap (λ x. x.ahead) so.channel, refl, tt, ap (λ x. x.rule) so.channel))
 
   -- where a poll of the call under way begins
   module _ (due : List DealOutcome) (old : SessionValue) (s : Script) (v : SessionValue) (call : Call) (stage : Stage) (answers : List Answer) (f : Follows builds coding outcomes due old s v (Some call) stage answers) (may : MayPoll coding (start_of old outcomes) (Some call) s) where
     -- the form of before goes on, or the call is kept waiting
-    agreed : s.heard ≡ false → v.channel.failed ≡ false → Resumes v.channel.rule v.channel.kept (dialogue coding call v.state) ⊎ ((needs_data call ≡ false) × HearsNothing (run_with coding (start_of old outcomes) call s) s)
+    agreed : s.heard ≡ false → v.channel.failed ≡ false → Resumes (modes_of v) v.channel.kept (dialogue coding call v.state) ⊎ ((needs_data call ≡ false) × HearsNothing (run_with coding (start_of old outcomes) call s) s)
     agreed unheard going = pick (may unheard (f.failed ∙ going))
       where
         kept : take s.seen s.untaken ≡ v.channel.kept
         kept = ap (λ n. take n s.untaken) f.seen ∙ ap (λ u. take (length v.channel.kept) u) (f.untaken ∙ append_assoc v.channel.kept v.channel.ahead (unread v.channel.told)) ∙ take-append_seam v.channel.kept (v.channel.ahead ++ unread v.channel.told)
 
-        pick : (first_form call ≡ s.form) ⊎ Resumes old.channel.rule (take s.seen s.untaken) (dialogue coding call s.state) ⊎ ((needs_data call ≡ false) × HearsNothing (run_with coding (start_of old outcomes) call s) s) → Resumes v.channel.rule v.channel.kept (dialogue coding call v.state) ⊎ ((needs_data call ≡ false) × HearsNothing (run_with coding (start_of old outcomes) call s) s)
-        pick (inl same) = inl (resumes_dialogue v.channel.rule v.channel.kept call v.state (ap (λ b. outcome v.channel.rule b v.channel.kept false) same ∙ f.waits))
+        -- the script's modes are the session's
+        by : (v.channel.kept ≡ []) ⊎ (v.channel.rule ≡ s.rule) → modes_in v.channel.kept s.rule v.state ≡ modes_of v
+        by (inl none) = rw none refl
+        by (inr is) = ap (λ r. modes_in v.channel.kept r v.state) (sym is)
+
+        modes_are : modes_at s ≡ modes_of v
+        modes_are = ap (λ k. modes_in k s.rule s.state) kept ∙ ap (λ x. modes_in v.channel.kept s.rule x) f.state ∙ by f.rule
+
+        says : (setting : ReplyRule) → SameForm setting call s.form → outcome setting s.form v.channel.kept false ≡ Waits → SaysNothingYet setting (first_form call) v.channel.kept
+        says Strict same waits = tt
+        says Lenient same waits = ap (λ b. outcome Lenient b v.channel.kept false) same ∙ waits
+
+        pick : (SameMode (modes_at s) × SameForm s.state.settings.reply_rule call s.form) ⊎ Resumes (modes_at s) (kept_in s) (dialogue coding call s.state) ⊎ ((needs_data call ≡ false) × HearsNothing (run_with coding (start_of old outcomes) call s) s) → Resumes (modes_of v) v.channel.kept (dialogue coding call v.state) ⊎ ((needs_data call ≡ false) × HearsNothing (run_with coding (start_of old outcomes) call s) s)
+        pick (inl same) =
+            let F : State → Type 0 = λ x. SameForm x.settings.reply_rule call s.form in
+            let one_mode : SameMode (modes_of v) = subst SameMode modes_are same.0 in
+            let setting : ReplyRule = v.state.settings.reply_rule in
+            inl (resumes_dialogue (modes_of v) v.channel.kept one_mode call v.state (says setting (subst F f.state same.1) (set_waits v.channel.kept v.channel.rule setting s.form one_mode f.waits)))
         pick (inr (inl waits)) =
-            let P : State → Type 0 = λ state. Resumes old.channel.rule (take s.seen s.untaken) (dialogue coding call state) in
-            let Q : List ℕ → Type 0 = λ k. Resumes old.channel.rule k (dialogue coding call v.state) in
-            let R : ReplyRule → Type 0 = λ r. Resumes r v.channel.kept (dialogue coding call v.state) in
-            inl (subst R (sym f.rule) (subst Q kept (subst P f.state waits)))
+            let P : State → Type 0 = λ state. Resumes (modes_at s) (kept_in s) (dialogue coding call state) in
+            let Q : List ℕ → Type 0 = λ k. Resumes (modes_at s) k (dialogue coding call v.state) in
+            let R : Modes → Type 0 = λ m. Resumes m v.channel.kept (dialogue coding call v.state) in
+            inl (subst R modes_are (subst Q kept (subst P f.state waits)))
         pick (inr (inr nothing)) = inr nothing
 
     -- the line that doesn't go out
@@ -713,12 +734,12 @@ module _ (builds : Builds) (coding : Coding) (outcomes : List DealOutcome) where
         let lacks = unheard_lacks due [] old s v v call stage answers f [] (carried_none builds v f.given f.sound) v.state stage' plain stage_of (subst P (sym (append-nil f.came)) (subst A (sym (append-nil f.answered)) reaches)) nothing (sym f.untaken) in
         record { line = lacks.line; next = lacks.next; is = lacks.is; full = lacks.full }
 
-    begun_anew : Started coding old s f.came f.answered v call stage → refusal_of call v ≡ Taken → Resumes v.channel.rule v.channel.kept (dialogue coding call v.state) ⊎ ((is_local call ≡ false) × (needs_data call ≡ false) × HearsNothing (run_with coding (start_of old outcomes) call s) s) → Goes_on old s f.came f.answered v call (At First) ⊎ Kept old s f.came f.answered v call (At First)
+    begun_anew : Started coding old s f.came f.answered v call stage → refusal_of call v ≡ Taken → Resumes (modes_of v) v.channel.kept (dialogue coding call v.state) ⊎ ((is_local call ≡ false) × (needs_data call ≡ false) × HearsNothing (run_with coding (start_of old outcomes) call s) s) → Goes_on old s f.came f.answered v call (At First) ⊎ Kept old s f.came f.answered v call (At First)
     unfolding since_start
     begun_anew started going (inl resumes) =
         inl (record {
           reaches = stands_reaches old v s.items f.came f.answered s.answers call going started.stands;
-          resumes = resumes;
+          resumes = begun_resumes call v (dialogue coding call v.state) resumes;
           apart = λ r. read_apart coding call v.state r;
           read = λ r. started.stands;
           since = since_start old s.items s.answers f.came f.answered v (entered call v.state) started.stands;
@@ -732,7 +753,7 @@ module _ (builds : Builds) (coding : Coding) (outcomes : List DealOutcome) where
         let same = plain_entered call v.state none.0 ends in
         let R : Tree → Type 0 = λ t. Reaches coding old s.items f.came f.answered v s.answers call t in
         let S : State → Type 0 = λ x. Reaches coding old s.items f.came f.answered (record v { state = x }) s.answers call (dialogue coding call v.state) in
-        let D : State → Type 0 = λ x. (rule : ReplyRule) (kept : List ℕ) → Resumes rule kept (dialogue coding call x) → Resumes rule kept (dialogue coding call v.state) in
+        let D : State → Type 0 = λ x. (modes : Modes) (kept : List ℕ) → Resumes modes kept (dialogue coding call x) → Resumes modes kept (dialogue coding call v.state) in
         let L : Tree → Type 0 = λ t. LacksRoomFor s.room (standing v (unread v.channel.told) (is_over v.channel.told) []) t in
         let reaches = stands_reaches old v s.items f.came f.answered s.answers call going started.stands in
         let lacks = subst L (sym is) (lacking (At First) plain (none.0, nothing.0, ends) (subst R is (subst S same reaches)) nothing.2) in
@@ -740,18 +761,18 @@ module _ (builds : Builds) (coding : Coding) (outcomes : List DealOutcome) where
           plain = plain;
           no_read = says_no_read coding call v.state lacks.line lacks.next (none.0, nothing.0, ends) lacks.is;
           reaches = reaches;
-          resumes = subst D (sym same) (λ rule kept r. r);
+          resumes = subst D (sym same) (λ modes kept r. r);
           since = since_start old s.items s.answers f.came f.answered v (entered call v.state) started.stands;
           nothing = nothing.2;
           lacks = lacks;
         })
 
-    going_on_unheard : Unheard coding old s f.came f.answered v call stage → Resumes v.channel.rule v.channel.kept (dialogue coding call v.state) ⊎ ((needs_data call ≡ false) × HearsNothing (run_with coding (start_of old outcomes) call s) s) → Goes_on old s f.came f.answered v call stage ⊎ Kept old s f.came f.answered v call stage
+    going_on_unheard : Unheard coding old s f.came f.answered v call stage → Resumes (modes_of v) v.channel.kept (dialogue coding call v.state) ⊎ ((needs_data call ≡ false) × HearsNothing (run_with coding (start_of old outcomes) call s) s) → Goes_on old s f.came f.answered v call stage ⊎ Kept old s f.came f.answered v call stage
     going_on_unheard u (inl resumes) =
         let P : SessionValue → State → Tree → Type 0 = λ e x t. Resumed old s f.came f.answered v call (begun_at stage) e t in
         inl (settle call stage v u.stage_of P (record {
           reaches = u.reaches;
-          resumes = u.resumes v.channel.rule v.channel.kept resumes;
+          resumes = u.resumes (modes_of v) v.channel.kept resumes;
           apart = λ is. (let clash : true ≡ false = sym is ∙ u.no_read in cc);
           read = λ is. let clash : true ≡ false = sym is ∙ u.no_read in cc;
           since = u.since;
@@ -773,12 +794,12 @@ module _ (builds : Builds) (coding : Coding) (outcomes : List DealOutcome) where
     anew : Started coding old s f.came f.answered v call stage → refusal_of call v ≡ Taken → Goes_on old s f.came f.answered v call (At First) ⊎ Kept old s f.came f.answered v call (At First)
     anew started taken = go (is_local call) refl
       where
-        add : is_local call ≡ false → Resumes v.channel.rule v.channel.kept (dialogue coding call v.state) ⊎ ((needs_data call ≡ false) × HearsNothing (run_with coding (start_of old outcomes) call s) s) → Resumes v.channel.rule v.channel.kept (dialogue coding call v.state) ⊎ ((is_local call ≡ false) × (needs_data call ≡ false) × HearsNothing (run_with coding (start_of old outcomes) call s) s)
+        add : is_local call ≡ false → Resumes (modes_of v) v.channel.kept (dialogue coding call v.state) ⊎ ((needs_data call ≡ false) × HearsNothing (run_with coding (start_of old outcomes) call s) s) → Resumes (modes_of v) v.channel.kept (dialogue coding call v.state) ⊎ ((is_local call ≡ false) × (needs_data call ≡ false) × HearsNothing (run_with coding (start_of old outcomes) call s) s)
         add abroad (inl resumes) = inl resumes
         add abroad (inr nothing) = inr (abroad, nothing.0, nothing.1)
 
         go : (b : Bool) → is_local call ≡ b → Goes_on old s f.came f.answered v call (At First) ⊎ Kept old s f.came f.answered v call (At First)
-        go true local = begun_anew started taken (inl (local_resumes v.channel.rule v.channel.kept coding call v.state local))
+        go true local = begun_anew started taken (inl (local_resumes (modes_of v) v.channel.kept coding call v.state local))
         go false abroad = begun_anew started taken (add abroad (agreed started.unheard (taken_going call v.channel.failed (lacks_of call v) taken abroad)))
 
     pub placed : MayPollAt stage call v → Goes_on old s f.came f.answered v call stage ⊎ Kept old s f.came f.answered v call stage

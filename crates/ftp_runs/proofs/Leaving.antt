@@ -15,7 +15,7 @@ use Rattle.ftp_dialogue.specs.Dialogue.{dialogue, entered}
 use Rattle.ftp_dialogue.specs.Link.{Builds, over_memory}
 use Rattle.ftp_dialogue.specs.Play.{Taken, Lacking, refused_if_failed, is_due}
 use Rattle.ftp_dialogue.specs.Promises.{FailsWith, begun_by, refusal_of}
-use Rattle.ftp_dialogue.specs.Resuming.{Resumes}
+use Rattle.ftp_dialogue.specs.Resuming.{Resumes, modes_of}
 use Rattle.ftp_dialogue.specs.Sound.{holds, left_of}
 use Rattle.ftp_dialogue.specs.State.{SessionValue}
 use Rattle.ftp_dialogue.specs.declared.model.DealOutcome.{DealOutcome}
@@ -168,8 +168,8 @@ module _ (builds : Builds) (coding : Coding) where
       takes : refusal_of Leave v ≡ Taken
       takes = held_taken v held
 
-      resumes : Resumes v.channel.rule v.channel.kept (dialogue coding Leave v.state)
-      resumes = local_resumes v.channel.rule v.channel.kept coding Leave v.state refl
+      resumes : Resumes (modes_of v) v.channel.kept (dialogue coding Leave v.state)
+      resumes = local_resumes (modes_of v) v.channel.kept coding Leave v.state refl
 
       ends : Finishes (over_memory builds) (dialogue coding Leave v.state) Nothing (begun_by Leave v) w
       ends = go (polled.polls takes)

@@ -122,7 +122,7 @@ module _ (coding : Coding) (room : Room) (u t : Standing) (due : Wait) (none_ask
     heard s (Err fault) is = leaf s (answer_to_fault (Finishing (told_of_close state.uploads came)) fault) (after_fault_of (Finishing (told_of_close state.uploads came)) fault state) is
 
     hears : (expected : Expected) → finally (play room (Hear expected next) at) ≡ Pending due t → (due ≡ wait.Bytes expected.form) × (t ≡ at)
-    hears expected is = go (outcome at.rule expected.form at.bytes at.ended) (sym (ap finally (play-Hear room expected next at)) ∙ is)
+    hears expected is = go (outcome at.state.settings.reply_rule expected.form at.bytes at.ended) (sym (ap finally (play-Hear room expected next at)) ∙ is)
       where
         go : (o : Outcome) → finally (heard_then o expected at (λ heard s. play room (next heard) s)) ≡ Pending due t → (due ≡ wait.Bytes expected.form) × (t ≡ at)
         go (Whole reply code) is = absurd (heard (taken (left_by (Whole reply code) at.bytes) at) (expected_reply expected.statuses (record { status = status_of code; body = reply })) is)

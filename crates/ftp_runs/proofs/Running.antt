@@ -19,17 +19,17 @@ use Rattle.ftp_runs.specs.declared.model.Ran.{Ran}
 use Rattle.ftp_runs.specs.declared.model.Ran.TheVariants.{Finished, Waiting}
 use Rattle.ftp_dialogue.specs.State.{SessionValue, LetsGo}
 use Rattle.ftp_dialogue.specs.Coding.{Coding}
-use Rattle.ftp_dialogue.specs.Dialogue.{dialogue}
+use Rattle.ftp_dialogue.specs.Dialogue.{dialogue, entered}
 use Rattle.ftp_calls.specs.Exchanges.{drains_first, is_local}
 use Rattle.ftp_dialogue.specs.declared.model.DealOutcome.{DealOutcome}
 use Rattle.ftp_dialogue.specs.Play.{Taken, after_drain, is_unit, play_call, play_drained, play_drained_if}
 use Rattle.ftp_dialogue.proofs.CarryingLemmas.{beside_goes, refused_so, taken_going, taken_goes_on, taken_plays, taken_resumes}
-use Rattle.ftp_dialogue.specs.Resuming.{Resumes, Silent}
+use Rattle.ftp_dialogue.specs.Resuming.{Resumes, Silent, modes_in, modes_of}
 use Rattle.ftp_runs.specs.Run.{run, before, and_then, MayBeSilent, OneView, ResumesDrain}
 use Rattle.ftp_dialogue.specs.Promises.{begun_by, lacks_of, DrainsFirst, DrainsIf, However, MakesAfter, Goes, FailsWith, HasFault, standing, Completes, Aborts, Plays, PlaysAlone, IsRefusal, IsRefused, IsPlayed, IsWithheld, due_of, refusal_of}
 use Rattle.ftp_runs.specs.Runs.{BeginsAfter, before_all, Agrees, AllRefused, Makes, RanTo, RunsTo, RunAborts, Runs}
 use Rattle.ftp_dialogue.specs.Steps.Moving.{Keeps, Ends, IsMade, Made, MadeDrained}
-use Rattle.ftp_dialogue.proofs.Hearing.{nothing_resumes}
+use Rattle.ftp_dialogue.proofs.Hearing.{begun_resumes, nothing_resumes}
 use Rattle.ftp_dialogue.proofs.DrainingLemmas.{Due, drained_plays, due_so, due_taken, failed_undue, goes_from, taken_unrefused, unit_is}
 use Rattle.ftp_dialogue.proofs.Moving.{Finishes, finishes, nothing_goes, joined_goes, goes_after, fitted}
 use Rattle.ftp_dialogue.specs.Link.{Link}
@@ -86,25 +86,25 @@ keeps_from P came call old new keeps = keeps
 
 module _ (coding : Coding) where
   -- where nothing is kept, every list has the same view
-  nothing_resumes_drain : (rule : ReplyRule) (first : Bool) (state : State) → ResumesDrain first rule [] coding state
-  nothing_resumes_drain rule true state = nothing_resumes rule (dialogue coding Drain state)
+  nothing_resumes_drain : (rule : ReplyRule) (first : Bool) (state : State) → ResumesDrain first (modes_in [] rule state) [] coding state
+  nothing_resumes_drain rule true state = nothing_resumes state.settings.reply_rule (dialogue coding Drain state)
   nothing_resumes_drain rule false state = tt
 
-  pub nothing_views : (rule : ReplyRule) (calls : List Call) → OneView rule [] coding calls
-  nothing_views rule [] = tt
-  nothing_views rule (call ∷ calls) = λ state. (nothing_resumes_drain rule (drains_first call) state, nothing_resumes rule (dialogue coding call state), λ silent. nothing_views rule calls)
+  pub nothing_views : (rule : ReplyRule) (calls : List Call) (state : State) → OneView rule [] coding calls state
+  nothing_views rule [] state = tt
+  nothing_views rule (call ∷ calls) state = (nothing_resumes_drain rule (drains_first call) state, nothing_resumes state.settings.reply_rule (dialogue coding call state), λ to silent. nothing_views rule calls to)
 
   -- what these calls see of what is kept, the first of them without a drain
   abbrev pub SeesCall : Call → List Call → SessionValue → Type 0
-  SeesCall call later v = (state : State) → Resumes v.channel.rule v.channel.kept (dialogue coding call state) × (MayBeSilent coding call state → OneView v.channel.rule v.channel.kept coding later)
+  SeesCall call later v = Resumes (modes_of v) v.channel.kept (dialogue coding call v.state) × ((to : State) → MayBeSilent coding call v.state to → OneView v.channel.rule v.channel.kept coding later to)
 
   nothing_seen : (call : Call) (later : List Call) (v : SessionValue) → v.channel.kept ≡ [] → SeesCall call later v
-  nothing_seen call later v none = λ state. (rw none (nothing_resumes v.channel.rule (dialogue coding call state)), λ silent. rw none (nothing_views v.channel.rule later))
+  nothing_seen call later v none = (rw none (nothing_resumes v.state.settings.reply_rule (dialogue coding call v.state)), λ to silent. rw none (nothing_views v.channel.rule later to))
 
   -- the view of the calls after one that is done
-  views_on : (call : Call) (later : List Call) (came : List ℕ) (mid new : SessionValue) (state : State) → new.channel.rule ≡ mid.channel.rule → Keeps (Silent (dialogue coding call state)) came mid new → SeesCall call later mid → OneView new.channel.rule new.channel.kept coding later
-  views_on call later came mid new state rule (inl none) view = rw none (nothing_views new.channel.rule later)
-  views_on call later came mid new state rule (inr same) view = rw (same.0, rule) ((view state).1 (inl same.3))
+  views_on : (call : Call) (later : List Call) (came : List ℕ) (mid new : SessionValue) → Keeps (Silent (entered call mid.state) new.state (dialogue coding call mid.state)) came mid new → SeesCall call later mid → OneView new.channel.rule new.channel.kept coding later new.state
+  views_on call later came mid new (inl none) view = rw none (nothing_views new.channel.rule later new.state)
+  views_on call later came mid new (inr same) view = rw (same.0, same.4) (view.1 new.state (inl same.3))
 
 -- a run that got so far, with the view of the calls that are left
 pub record Reached (link : Link) (coding : Coding) (calls to_make : List Call) (old new : SessionValue) (answers : List Answer) : Type 0 where
@@ -164,7 +164,7 @@ module _ (link : Link) (coding : Coding) (calls later : List Call) (call : Call)
             let next : Standing → Ran = λ u. run room coding later u in
             ran.runs h agrees room more ended outcomes fit on
             ∙ ap (before_all answers) (run-cons coding room call later s ∙ ap (λ b. and_then (play_drained_if b room coding call s) next) none);
-        agrees = λ agrees going state. let sees = reached.agrees agrees going state in (sees.1, sees.2);
+        agrees = λ agrees going. let sees = reached.agrees agrees going in (sees.1, sees.2);
       }
 
   module _ (new : SessionValue) (first : Answer) (due : due_of call mid ≡ true) (drains : Finishes link (dialogue coding Drain mid.state) first (begun_by Drain mid) new) where
@@ -174,10 +174,10 @@ module _ (link : Link) (coding : Coding) (calls later : List Call) (call : Call)
     so : Due call mid.channel.failed mid.state.counts.owed
     so = due_so call mid.channel.failed mid.state.counts.owed due
 
-    resumes : Agrees coding old calls → Resumes mid.channel.rule mid.channel.kept (dialogue coding Drain mid.state)
+    resumes : Agrees coding old calls → Resumes (modes_of mid) mid.channel.kept (dialogue coding Drain mid.state)
     resumes agrees =
-        let P : Bool → Type 0 = λ b. ResumesDrain b mid.channel.rule mid.channel.kept coding mid.state in
-        subst P so.first (reached.agrees agrees so.going mid.state).0
+        let P : Bool → Type 0 = λ b. ResumesDrain b (modes_of mid) mid.channel.kept coding mid.state in
+        subst P so.first (reached.agrees agrees so.going).0
 
     goes : Goes link (reached.ran.came ++ drains.came) (reached.ran.answered ++ drains.answered) old new
     goes = joined_goes link reached.ran.came drains.came reached.ran.answered drains.answered old mid new reached.ran.goes (goes_from link drains.came drains.answered Drain mid new drains.goes)
@@ -202,7 +202,7 @@ module _ (link : Link) (coding : Coding) (calls later : List Call) (call : Call)
     nothing_kept : new.channel.kept ≡ []
     nothing_kept = go drains.keeps
       where
-        go : Keeps (Silent (dialogue coding Drain mid.state)) drains.came (begun_by Drain mid) new → new.channel.kept ≡ []
+        go : Keeps (Silent mid.state new.state (dialogue coding Drain mid.state)) drains.came (begun_by Drain mid) new → new.channel.kept ≡ []
         go (inl none) = none
         go (inr same) = absurd same.3
 
@@ -244,7 +244,7 @@ module _ (link : Link) (coding : Coding) (calls later : List Call) (call : Call)
                 let t : Standing = standing new more ended outcomes in
                 comes_to h agrees room more ended outcomes fit on ∙ ap (λ b. before_all answers (and_then (if_unit b room t) next)) fault ∙ sym (before_all-snoc answers first (next t));
           };
-          agrees = λ agrees going. rw nothing_kept (nothing_views coding new.channel.rule later);
+          agrees = λ agrees going. rw nothing_kept (nothing_views coding new.channel.rule later new.state);
         }
       where
         if_unit : Bool → Room → Standing → Played
@@ -264,7 +264,7 @@ module _ (link : Link) (coding : Coding) (calls later : List Call) (call : Call)
           goes = joined_goes link reached.came done.came reached.answered done.answered old mid new reached.goes (goes_from link done.came done.answered call mid new done.goes);
           runs = λ h agrees room more ended outcomes fit on.
               let next : Standing → Ran = λ u. run room coding later u in
-              let resumes = taken_resumes mid.channel.rule mid.channel.kept coding call mid taken (λ going. (reached.agrees agrees going mid.state).0) in
+              let resumes = begun_resumes call mid (dialogue coding call mid.state) (taken_resumes (modes_of mid) mid.channel.kept coding call mid taken (λ going. (reached.agrees agrees going).0)) in
               let first = reached.runs h agrees room (done.came ++ more) ended (outcomes_of done.answered ++ outcomes) (fitted room _ _ (done.goes.sent h) fit) (goes_after mid.channel.ended done.came more new.channel.ended ended done.goes.over on) in
               let played = done.plays h resumes room more ended outcomes fit on in
               rw (append_assoc reached.came done.came more, outcomes-append reached.answered done.answered, append_assoc (outcomes_of reached.answered) (outcomes_of done.answered) outcomes)
@@ -272,7 +272,7 @@ module _ (link : Link) (coding : Coding) (calls later : List Call) (call : Call)
               ∙ ap (λ p. before_all answers (and_then p next)) (taken_plays coding room call mid (done.came ++ more) ended (outcomes_of done.answered ++ outcomes) taken ∙ played)
               ∙ sym (before_all-snoc answers answer (run room coding later (standing new more ended outcomes))));
         };
-        agrees = λ agrees going'. views_on coding call later done.came mid new mid.state done.goes.rule (keeps_from (Silent (dialogue coding call mid.state)) done.came call mid new done.keeps) (reached.agrees agrees (taken_goes_on call mid new taken apart going'));
+        agrees = λ agrees going'. views_on coding call later done.came mid new (keeps_from (Silent (entered call mid.state) new.state (dialogue coding call mid.state)) done.came call mid new done.keeps) (reached.agrees agrees (taken_goes_on call mid new taken apart going'));
       }
 
   -- it is refused
@@ -302,8 +302,8 @@ module _ (link : Link) (coding : Coding) (calls later : List Call) (call : Call)
         agrees = λ agrees going.
             let on = so.goes_on going in
             let V : SessionValue → Type 0 = λ v. v.channel.failed ≡ false in
-            let P : SessionValue → Type 0 = λ v. OneView v.channel.rule v.channel.kept coding later in
-            subst P (sym on.0) ((reached.agrees agrees (subst V on.0 going) mid.state).1 (inr on.1));
+            let P : SessionValue → Type 0 = λ v. OneView v.channel.rule v.channel.kept coding later v.state in
+            subst P (sym on.0) ((reached.agrees agrees (subst V on.0 going)).1 mid.state (inr (on.1, refl)));
       }
 
 -- a dialogue of a call is aborted

@@ -21,7 +21,9 @@ use Rattle.ftp_control.specs.declared.plain.Found.{Found}
 use Rattle.ftp_control.specs.declared.plain.Found.TheVariants.{Reply, NoReply, Unfinished}
 use Rattle.ftp_control.specs.declared.control.outcome.Outcome.{Outcome}
 use Rattle.ftp_control.specs.declared.control.outcome.Outcome.TheVariants.{Whole, Bad, TooLarge, Ended, Waits}
-use Rattle.ftp_control.specs.Grammar.{outcome, within, reply_in, to_end, to_list_end, ends, by_dash, lists, opens, opens_list, lines, code_at_start, left_by, after_line, reply_limit}
+use Rattle.ftp_control.specs.Grammar.{outcome, within, reply_in, to_end, ends, opens, lines, code_at_start, left_by, reply_limit}
+use Rattle.ftp_control.specs.Found.{after_line}
+use Rattle.ftp_control.specs.Lenient.{to_list_end, by_dash, lists, opens_list}
 use Rattle.ftp_control.specs.Answer.{expected_reply}
 use Rattle.ftp_control.specs.Saying.{due}
 use Rattle.ftp_calls.specs.declared.call.Answer.TheVariants.{Fault}
@@ -154,7 +156,7 @@ play_shrinks room (Say (Ok line) next) s how t is =
 play_shrinks room (Say (Err cause) next) s how t is = let clash : Done (Fault (fault.ConnectionError cause)) s ≡ Pending how t = is in cc
 play_shrinks room (Hear codes next) s how t is =
     let k : Result Response FtpError → Standing → Played = λ heard u. play room (next heard) u in
-    elim (outcome s.rule codes.form s.bytes s.ended) as (λ o. heard_then o codes s k ≡ Pending how t → length t.bytes ≤ length s.bytes) [
+    elim (outcome s.state.settings.reply_rule codes.form s.bytes s.ended) as (λ o. heard_then o codes s k ≡ Pending how t → length t.bytes ≤ length s.bytes) [
       | Whole reply code ↦ λ e. (let heard = expected_reply codes.statuses (record { status = status_of code; body = reply }) in omega (arith, play_shrinks room (next heard) (taken (left_by (Whole reply code) s.bytes) s) how t e, left_shrinks (Whole reply code) s.bytes))
       | Bad line ↦ λ e. omega (arith, play_shrinks room (next (Err fault.BadResponse)) (taken (left_by (Bad line) s.bytes) s) how t e, left_shrinks (Bad line) s.bytes)
       | TooLarge ↦ λ e. omega (arith, play_shrinks room (next (Err (fault.ConnectionError connection.ReplyTooLarge))) (record (taken (left_by TooLarge s.bytes) s) { failed = true }) how t e, left_shrinks TooLarge s.bytes)
@@ -231,7 +233,7 @@ pub record LacksRoomFor (room : Room) (s : Standing) (tree : Tree) : Type 0 wher
 module _ (coding : Coding) (room : Room) (script : Script) (s : Standing) (untaken : s.bytes ≡ script.untaken) (how : Wait) (t : Standing) (unheard : heard_at how script t.bytes ≡ false) where
   -- a reply that is awaited is heard, or waited for
   hears_none : (codes : Expected) (ending : Ending) (state : State) (after : State → Tree) (said unsent : List ℕ) → play room (awaiting coding codes ending state after) (record s { said = said; unsent = unsent }) ≡ Pending how t → ⊥
-  hears_none codes ending state after said unsent is = go (outcome s.rule codes.form s.bytes s.ended) refl (sym (play-Hear room codes (concluded coding ending state after) here) ∙ is)
+  hears_none codes ending state after said unsent is = go (outcome s.state.settings.reply_rule codes.form s.bytes s.ended) refl (sym (play-Hear room codes (concluded coding ending state after) here) ∙ is)
     where
       here : Standing
       here = record s { said = said; unsent = unsent }
@@ -242,11 +244,11 @@ module _ (coding : Coding) (room : Room) (script : Script) (s : Standing) (untak
       fails : (cause : FtpError) (u : Standing) → k (Err cause) u ≡ Pending how t → ⊥
       fails cause u e = let clash : Done (answer_to_fault ending cause) (record u { state = after_fault_of ending cause state }) ≡ Pending how t = sym (play-Leaf room (answer_to_fault ending cause) (after_fault_of ending cause state) u) ∙ e in cc
 
-      go : (o : Outcome) → outcome s.rule codes.form s.bytes s.ended ≡ o → heard_then o codes here k ≡ Pending how t → ⊥
+      go : (o : Outcome) → outcome s.state.settings.reply_rule codes.form s.bytes s.ended ≡ o → heard_then o codes here k ≡ Pending how t → ⊥
       go (Whole reply code) is e =
           let heard = expected_reply codes.statuses (record { status = status_of code; body = reply }) in
           let less = play_shrinks room (concluded coding ending state after heard) (taken (left_by (Whole reply code) s.bytes) here) how t e in
-          let fewer : length t.bytes < length script.untaken = omega (arith, less, length-drop (length reply) s.bytes, whole_some s.rule codes.form s.bytes s.ended reply code is, some_bytes s.rule codes.form s.bytes s.ended reply code is, ap length untaken) in
+          let fewer : length t.bytes < length script.untaken = omega (arith, less, length-drop (length reply) s.bytes, whole_some s.state.settings.reply_rule codes.form s.bytes s.ended reply code is, some_bytes s.state.settings.reply_rule codes.form s.bytes s.ended reply code is, ap length untaken) in
           let clash : true ≡ false = sym (fewer_heard how script t.bytes fewer) ∙ unheard in
           cc
       go (Bad line) is e = fails fault.BadResponse _ e

@@ -25,9 +25,8 @@ use Rattle.ftp_dialogue.specs.declared.stage.Stage.TheVariants.{At}
 use Rattle.ftp_dialogue.specs.State.{SessionValue, LetsGo}
 use Rattle.ftp_dialogue.specs.Coding.{Coding}
 use Rattle.ftp_calls.specs.Exchanges.{aborts, finishes, is_read}
-use Rattle.ftp_control.specs.declared.control.rule.ReplyRule.{ReplyRule}
 use Rattle.ftp_dialogue.specs.Dialogue.{dialogue}
-use Rattle.ftp_dialogue.specs.Resuming.{Resumes}
+use Rattle.ftp_dialogue.specs.Resuming.{Modes, Resumes, modes_of}
 use Rattle.ftp_dialogue.specs.Sound.{holds}
 use Rattle.ftp_runs.specs.declared.events.Course.{Course}
 use Rattle.ftp_runs.specs.Scripted.{AreRefused, IsPolled, LeavesHeld, LeavesThen, SaysFrontOf, SaysNothing, SaysOrTakes, Stands, Reaches}
@@ -66,7 +65,7 @@ pub record UnderWay (coding : Coding) (old : SessionValue) (s : Script) (came : 
   pub undue : due_of call v ≡ false
   pub going : v.channel.failed ≡ false
   pub reaches : Reaches coding old s.items came answered v s.answers call (remaining coding call v.state stage)
-  pub resumes : Resumes v.channel.rule v.channel.kept (remaining coding call v.state stage)
+  pub resumes : Resumes (modes_of v) v.channel.kept (remaining coding call v.state stage)
   pub apart : is_read call ≡ true → Apart (remaining coding call v.state stage)
   pub read : is_read call ≡ true → Stands coding old s.items came answered v s.answers
   pub since : Since coding old s.items s.answers came answered v (begun_at stage)
@@ -83,7 +82,7 @@ pub record Unheard (coding : Coding) (old : SessionValue) (s : Script) (came : L
   pub going : v.channel.failed ≡ false
   pub no_read : is_read call ≡ false
   pub reaches : Reaches coding old s.items came answered v s.answers call (remaining coding call v.state stage)
-  pub resumes : (rule : ReplyRule) (kept : List ℕ) → Resumes rule kept (dialogue coding call v.state) → Resumes rule kept (remaining coding call v.state stage)
+  pub resumes : (modes : Modes) (kept : List ℕ) → Resumes modes kept (dialogue coding call v.state) → Resumes modes kept (remaining coding call v.state stage)
   pub since : Since coding old s.items s.answers came answered v (begun_at stage)
 
 -- a call that wasn't polled
@@ -105,7 +104,7 @@ pub record Follows (builds : Builds) (coding : Coding) (outcomes left : List Dea
   pub outcomes_are : outcomes ≡ outcomes_of answered ++ left
   pub dealings : s.dealings ≡ dealings_of v.net
   pub place : Place coding old s came answered v call stage
-  pub rule : v.channel.rule ≡ old.channel.rule
+  pub rule : (v.channel.kept ≡ []) ⊎ (v.channel.rule ≡ s.rule)
   pub failures : v.channel.told.failures ≡ old.channel.told.failures
   pub given : IsGiven v.channel.told
   pub sound : IsSound (Unit {0}) v.channel

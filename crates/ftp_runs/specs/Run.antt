@@ -1,4 +1,4 @@
--- A list of calls, played one after another, and one view of System for all of them.
+-- A list of calls, played one after another, and one mode and one view of System for the reply under way before them.
 use Rattle.std.specs.Prelude.{◌≡◌, ◌⊎◌, Bool, true, false, ℕ, List, [], ◌∷◌}
 use Rattle.ftp_control.specs.declared.control.rule.ReplyRule.{ReplyRule}
 use Rattle.ftp_transport.specs.declared.room.Room.{Room}
@@ -13,11 +13,11 @@ use Rattle.ftp_runs.specs.declared.model.Ran.TheVariants.{Finished, Waiting}
 use Rattle.ftp_calls.specs.declared.call.Call.TheVariants.{Drain}
 use Rattle.ftp_calls.specs.Exchanges.{drains_first, of_transfer}
 use Rattle.ftp_dialogue.specs.Coding.{Coding}
-use Rattle.ftp_dialogue.specs.Dialogue.{dialogue}
+use Rattle.ftp_dialogue.specs.Dialogue.{dialogue, entered}
 use Rattle.ftp_runs.specs.declared.model.Item.{Item}
 use Rattle.ftp_runs.specs.declared.model.Item.TheVariants.{Shown, Hidden}
 use Rattle.ftp_dialogue.specs.Play.{play_call, play_drained}
-use Rattle.ftp_dialogue.specs.Resuming.{Resumes, Silent}
+use Rattle.ftp_dialogue.specs.Resuming.{Modes, Resumes, Silent, modes_in}
 
 -- an answer before those of later calls
 abbrev pub before : Answer → Ran → Ran
@@ -45,19 +45,20 @@ replay room coding [] s = Finished [] s
 replay room coding (Shown call ∷ items) s = and_then (play_call room coding call s) (λ t. replay room coding items t)
 replay room coding (Hidden call ∷ items) s = and_on (play_call room coding call s) (λ t. replay room coding items t)
 
--- One view of System: what earlier reads left of a reply is no whole reply under the list that goes on with it
+-- One mode, and one view of System: what earlier reads left of a reply goes on by the rule by which it began, and says
+-- nothing yet under the list of codes that goes on with it
 
--- a call may hear nothing: its dialogue doesn't, or it is of a transfer, and none is held
-abbrev pub MayBeSilent : Coding → Call → State → Type 0
-MayBeSilent coding call state = Silent (dialogue coding call state) ⊎ (of_transfer call ≡ true)
+-- a call may hear nothing, and leave this state: its dialogue does, or it is of a transfer, and none is held
+abbrev pub MayBeSilent : Coding → Call → State → State → Type 0
+MayBeSilent coding call state to = Silent (entered call state) to (dialogue coding call state) ⊎ ((of_transfer call ≡ true) × (to ≡ state))
 
 -- the list under which the last reply of a transfer that was left is heard, where a call may come after one
-abbrev pub ResumesDrain : Bool → ReplyRule → List ℕ → Coding → State → Type 0
-ResumesDrain true rule seen coding state = Resumes rule seen (dialogue coding Drain state)
-ResumesDrain false rule seen coding state = Unit {0}
+abbrev pub ResumesDrain : Bool → Modes → List ℕ → Coding → State → Type 0
+ResumesDrain true modes kept coding state = Resumes modes kept (dialogue coding Drain state)
+ResumesDrain false modes kept coding state = Unit {0}
 
--- the first list under which these calls hear
-abbrev pub OneView : ReplyRule → List ℕ → Coding → List Call → Type 0
-OneView rule seen coding [] = Unit {0}
-OneView rule seen coding (call ∷ calls) =
-    (state : State) → ResumesDrain (drains_first call) rule seen coding state × Resumes rule seen (dialogue coding call state) × (MayBeSilent coding call state → OneView rule seen coding calls)
+-- where these calls first hear, from a state on; this is kept of a reply, by this rule
+abbrev pub OneView : ReplyRule → List ℕ → Coding → List Call → State → Type 0
+OneView rule kept coding [] state = Unit {0}
+OneView rule kept coding (call ∷ calls) state =
+    ResumesDrain (drains_first call) (modes_in kept rule state) kept coding state × Resumes (modes_in kept rule state) kept (dialogue coding call state) × ((to : State) → MayBeSilent coding call state to → OneView rule kept coding calls to)

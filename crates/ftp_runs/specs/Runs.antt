@@ -1,6 +1,6 @@
 -- What a session promises of a list of calls: what their definition says of all that the server sends, until the
 -- connection fails or memory runs out.
-use Rattle.std.specs.Prelude.{◌≡◌, ◌⊎◌, ◌+◌, ℕ, Bool, true, false, List, [], ◌∷◌, ◌++◌, length}
+use Rattle.std.specs.Prelude.{◌≡◌, ◌⊎◌, ℕ, Bool, true, false, List, [], ◌∷◌, ◌++◌, length}
 use Rattle.ftp_base.specs.declared.types.fault.FtpError.{FtpError}
 use Rattle.ftp_calls.specs.declared.call.Answer.{Answer}
 use Rattle.ftp_calls.specs.declared.call.Answer.TheVariants.{Fault}
@@ -15,13 +15,13 @@ use Rattle.ftp_dialogue.specs.Deals.{Deal}
 use Rattle.ftp_calls.specs.Exchanges.{is_local}
 use Rattle.ftp_dialogue.specs.Dialogue.{dialogue}
 use Rattle.ftp_dialogue.specs.Play.{Taken}
-use Rattle.ftp_dialogue.specs.Promises.{standing, However, Goes, IsRefusal, Plays, IsPlayed, refusal_of, Aborts, begun_by, due_of}
+use Rattle.ftp_dialogue.specs.Promises.{However, Goes, IsRefusal, Plays, IsPlayed, refusal_of, Aborts, begun_by, due_of}
 use Rattle.ftp_runs.specs.Run.{run, before, OneView}
 use Rattle.ftp_dialogue.specs.Link.{Link}
 
--- one view of System: what is kept is no whole reply under the first list that these calls hear under
+-- one mode, and one view of System: what is kept goes on by its own rule, and says nothing yet where these calls first hear
 abbrev pub Agrees : Coding → SessionValue → List Call → Type 0
-Agrees coding v calls = v.channel.failed ≡ false → OneView v.channel.rule v.channel.kept coding calls
+Agrees coding v calls = v.channel.failed ≡ false → OneView v.channel.rule v.channel.kept coding calls v.state
 
 -- answers before those of later calls
 abbrev pub before_all : List Answer → Ran → Ran

@@ -23,7 +23,10 @@ use Rattle.ftp_calls.specs.declared.exchange.Row.{Row}
 use Rattle.ftp_calls.specs.declared.exchange.Row.TheVariants.{Exchanges, Arms, Sets, Moves}
 use Rattle.ftp_control.specs.declared.control.form.ReplyForm.TheVariants.{Plain}
 use Rattle.ftp_dialogue.specs.Dialogue.{expected_of, dialogue}
-use Rattle.ftp_dialogue.specs.Resuming.{Resumes}
+use Rattle.ftp_dialogue.specs.declared.state.State.{State}
+use Rattle.ftp_control.specs.declared.control.rule.ReplyRule.{ReplyRule}
+use Rattle.ftp_control.specs.declared.control.rule.ReplyRule.TheVariants.{Strict, Lenient}
+use Rattle.ftp_dialogue.specs.Resuming.{Modes, Resumes, modes_in}
 use Rattle.ftp_runs.specs.Run.{replay}
 use Rattle.ftp_dialogue.specs.Play.{is_due, is_unit, needs_data}
 use Rattle.ftp_runs.specs.declared.model.Item.TheVariants.{Shown, Hidden}
@@ -48,7 +51,7 @@ is_over t = t.given.closed || t.ended
 abbrev pub start_of : SessionValue → List DealOutcome → Standing
 start_of v outcomes = standing v (unread v.channel.told) (is_over v.channel.told) outcomes
 
--- a script begins; what an earlier read left was read as a reply of this form
+-- a script begins; what an earlier read left was read as a reply of this form, by the channel's rule
 abbrev pub script_of : SessionValue → ReplyForm → Script
 script_of v form = record {
   items = [];
@@ -67,6 +70,7 @@ script_of v form = record {
   dealings = dealings_of v.net;
   seen = length v.channel.kept;
   form = form;
+  rule = v.channel.rule;
   state = v.state;
   failed = v.channel.failed;
 }
@@ -105,6 +109,12 @@ form_at wait.Room s = s.form
 form_at (wait.Bytes form) s = form
 form_at wait.Outcome s = s.form
 
+-- the rule by which they were read: where more are awaited, the setting
+abbrev pub rule_at : Wait → Script → State → ReplyRule
+rule_at wait.Room s state = s.rule
+rule_at (wait.Bytes form) s state = state.settings.reply_rule
+rule_at wait.Outcome s state = s.rule
+
 abbrev pub seen_at : Wait → Script → List ℕ → ℕ
 seen_at wait.Room s left = seen_in s left
 seen_at (wait.Bytes form) s left = length left
@@ -136,6 +146,7 @@ polled_as (Waiting answers wait t) call s = record s {
   dealings = t.dealings;
   seen = seen_at wait s t.bytes;
   form = form_at wait s;
+  rule = rule_at wait s t.state;
   state = t.state;
   failed = t.failed;
 }
@@ -278,9 +289,10 @@ abbrev pub script : Coding → Standing → Script → List Event → Script
 script coding start s [] = s
 script coding start s (event ∷ events) = script coding start (after_event coding start s event) events
 
--- Lawful lists: a call is dropped before its first Poll, or it is a plain read, or `Finish`; and a reply under way is resumed as one of the form that it was read as before, unless it is no whole reply of the
--- call's form. Of a session that has failed, of a call that is refused and of one that needs no data connection and waits
--- for room before it hears, nothing is asked
+-- Lawful lists: a call is dropped before its first Poll, or it is a plain read, or `Finish`; and a reply under way is
+-- resumed in the mode in which it was read before, leniently as one of the form that it was read as, unless it is no
+-- whole reply of the call's form. Of a session that has failed, of a call that is refused and of one that needs no data
+-- connection and waits for room before it hears, nothing is asked
 
 abbrev pub MayCancel : Option Call → Bool → Type 0
 MayCancel None polled = Unit {0}
@@ -291,10 +303,25 @@ abbrev pub HearsNothing : Ran → Script → Type 0
 HearsNothing (Finished answers t) s = ⊥
 HearsNothing (Waiting answers wait t) s = heard_at wait s t.bytes ≡ false
 
+-- what was read of the reply under way, and the modes in which it was read and would be resumed
+abbrev pub kept_in : Script → List ℕ
+kept_in s = take s.seen s.untaken
+
+abbrev pub modes_at : Script → Modes
+modes_at s = modes_in (kept_in s) s.rule s.state
+
+abbrev pub SameMode : Modes → Type 0
+SameMode modes = modes.under ≡ modes.setting
+
+-- leniently the call hears a reply of the form that was read; strictly that isn't asked
+abbrev pub SameForm : ReplyRule → Call → ReplyForm → Type 0
+SameForm Strict call form = Unit {0}
+SameForm Lenient call form = first_form call ≡ form
+
 abbrev pub MayPoll : Coding → Standing → Option Call → Script → Type 0
 MayPoll coding start None s = Unit {0}
 MayPoll coding start (Some call) s =
-    s.heard ≡ false → s.failed ≡ false → (first_form call ≡ s.form) ⊎ Resumes start.rule (take s.seen s.untaken) (dialogue coding call s.state) ⊎ ((needs_data call ≡ false) × HearsNothing (run_with coding start call s) s)
+    s.heard ≡ false → s.failed ≡ false → (SameMode (modes_at s) × SameForm s.state.settings.reply_rule call s.form) ⊎ Resumes (modes_at s) (kept_in s) (dialogue coding call s.state) ⊎ ((needs_data call ≡ false) × HearsNothing (run_with coding start call s) s)
 
 -- where a drain is due it is the drain that is polled first
 abbrev pub MayPollIf : Bool → Coding → Standing → Call → Script → Type 0

@@ -65,7 +65,7 @@ pub record Answered (builds : Builds) (outcomes left : List DealOutcome) (old ne
   pub outcomes_are : outcomes ≡ outcomes_of answered ++ left
 
 -- the events come to their script, where these are the outcomes of the transport's requests; what was received and what
--- is unread are the bytes that came; nothing fails, and which lines open and end a reply stays
+-- is unread are the bytes that came; nothing fails, and what is kept of a reply was read by the rule that the script says
 pub record HoldsAt (builds : Builds) (outcomes : List DealOutcome) (old : SessionValue) (s : Script) (new : SessionValue) (answers : List Answer) : Type 0 where
   pub at : StandsAt s new answers
   pub left : List DealOutcome
@@ -73,7 +73,7 @@ pub record HoldsAt (builds : Builds) (outcomes : List DealOutcome) (old : Sessio
   pub came : List ℕ
   pub received : new.channel.told.received ≡ old.channel.told.received ++ came
   pub bytes : s.bytes ≡ untaken old.channel ++ came ++ unread new.channel.told
-  pub rule : new.channel.rule ≡ old.channel.rule
+  pub rule : (new.channel.kept ≡ []) ⊎ (new.channel.rule ≡ s.rule)
   pub failures : new.channel.told.failures ≡ old.channel.told.failures
 
 -- a call under way leaves a transfer where it is dropped: it brings it to its end, or the transfer was to be left once the

@@ -4,7 +4,7 @@
 //! with them.
 
 use ftp_base::types::{Bytes, Items};
-use ftp_control::control::ReplyForm;
+use ftp_control::control::{ReplyForm, ReplyRule};
 use ftp_dialogue::model::{Dealings, Standing, Wait};
 use ftp_session::session::{Answer, Call, State};
 use ftp_transport::Room;
@@ -62,6 +62,8 @@ pub struct Script {
     pub seen: usize,
     /// The form of the reply that it read them as.
     pub form: ReplyForm,
+    /// The rule by which it read them.
+    pub rule: ReplyRule,
     /// What the session keeps beside its channel.
     pub state: State,
     /// Whether it has failed.

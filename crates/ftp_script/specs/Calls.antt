@@ -7,7 +7,7 @@ use Rattle.ftp_base.specs.declared.types.mode.Mode.TheVariants.{ExtendedPassive}
 use Rattle.ftp_base.specs.Scan.{number_up_to}
 use Rattle.ftp_calls.specs.declared.call.Call.{Call}
 use Rattle.ftp_calls.specs.declared.call.Call.TheVariants.{Noop, Quit, Pwd, Feat, Cwd, Size, CustomCommand, Login, ResumeTransfer, Retr, List as Listing, Set, Finish}
-use Rattle.ftp_calls.specs.declared.call.Setting.TheVariants.{Mode as OfMode, PassiveNatWorkaround}
+use Rattle.ftp_calls.specs.declared.call.Setting.TheVariants.{LenientReplies, Mode as OfMode, PassiveNatWorkaround}
 use Rattle.ftp_script.specs.Escapes.{unescaped}
 
 -- bytes that are ASCII
@@ -35,8 +35,10 @@ abbrev pub setting_named : List ℕ → Option Call
 setting_named name =
     if bytes_eq name (codes "nat on") then Some (Set (PassiveNatWorkaround true))
     else (if bytes_eq name (codes "nat off") then Some (Set (PassiveNatWorkaround false))
+    else (if bytes_eq name (codes "lenient on") then Some (Set (LenientReplies true))
+    else (if bytes_eq name (codes "lenient off") then Some (Set (LenientReplies false))
     else (if bytes_eq name (codes "epsv") then Some (Set (OfMode ExtendedPassive))
-    else None))
+    else None))))
 
 abbrev pub cwd_of : Option (List ℕ) → Option Call
 cwd_of None = None

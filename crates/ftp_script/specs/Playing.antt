@@ -19,7 +19,7 @@ use Rattle.ftp_dialogue.specs.Coding.{Coding}
 use Rattle.ftp_dialogue.specs.Link.{Link}
 use Rattle.ftp_runs.specs.Runs.{Runs}
 use Rattle.ftp_dialogue.specs.State.{SessionValue, Begins}
-use Rattle.ftp_script.specs.Script.{rule_by}
+use Rattle.ftp_dialogue.specs.Dialogue.{rule_by}
 use Rattle.ftp_script.specs.declared.script.Script.{Script}
 use Rattle.ftp_script.specs.declared.supplies.DataConn.{DataConn}
 use Rattle.ftp_script.specs.declared.supplies.DataConn.TheVariants.{Gives, Refused}

@@ -2,8 +2,6 @@
 use Rattle.std.specs.Prelude.{◌≡◌, ◌||◌, ℕ, ◌+◌, ◌==◌, Bool, true, false, if◌then◌else◌, List, [], ◌∷◌, ◌++◌, Option, Some, None, Result, Ok, Err}
 use Rattle.std.specs.List.{slice_split}
 use Rattle.ftp_calls.specs.declared.call.Call.{Call}
-use Rattle.ftp_control.specs.declared.control.rule.ReplyRule.{ReplyRule}
-use Rattle.ftp_control.specs.declared.control.rule.ReplyRule.TheVariants as rule
 use Rattle.ftp_script.specs.declared.line.Line.{Line}
 use Rattle.ftp_script.specs.declared.line.Line.TheVariants.{Empty, Server, Data, Makes, Lenient}
 use Rattle.ftp_script.specs.declared.script.Script.{Script}
@@ -59,11 +57,6 @@ with_line number (Some line) (Ok later) = Ok (record { server = served line ++ l
 unfoldable pub script_from : ℕ → List (List ℕ) → Result Script ℕ
 script_from number [] = Ok (record { server = []; data_conns = []; calls = []; lenient = false })
 script_from number (line ∷ lines) = with_line number (line_of line) (script_from (number + 1) lines)
-
--- the rule by which its replies are read
-abbrev pub rule_by : Bool → ReplyRule
-rule_by true = rule.Lenient
-rule_by false = rule.Strict
 
 -- the script that a text writes, or the number of the first line that isn't understood, from 1
 abbrev pub script_of : List ℕ → Result Script ℕ

@@ -63,6 +63,10 @@ fn setting_named(name: &[u8]) -> Option<Call>
         Some(Call::Set(Setting::PassiveNatWorkaround(true)))
     } else if is(name, b"nat off") {
         Some(Call::Set(Setting::PassiveNatWorkaround(false)))
+    } else if is(name, b"lenient on") {
+        Some(Call::Set(Setting::LenientReplies(true)))
+    } else if is(name, b"lenient off") {
+        Some(Call::Set(Setting::LenientReplies(false)))
     } else if is(name, b"epsv") {
         Some(Call::Set(Setting::Mode(Mode::ExtendedPassive)))
     } else {

@@ -8,7 +8,7 @@ ghost use Rattle.std.specs.Prelude.{◌≡◌, ◌++◌, OnOk, None, IfOk, ℕ, 
 ghost use Rattle.ftp_transport.specs.Memory.{fresh_between, unspecified};
 ghost use Rattle.ftp_dialogue.specs.State.{Begins};
 ghost use Rattle.ftp_dialogue.specs.Deals.{first_net};
-ghost use Rattle.ftp_script.specs.Script.{rule_by};
+ghost use Rattle.ftp_dialogue.specs.Dialogue.{rule_by};
 ghost use Rattle.ftp_script.specs.Playing.{IsTranscript, MakesOne, giving, server_address, supply_of};
 
 use crate::script::Script;
@@ -75,11 +75,9 @@ fn session_on(
     ensures begins { IfOk result (λ session. Begins (Unit {0}) (rule_by lenient) conn
         (first_net transport.answered transport.ready transport.closed) session.machine) }
 {
-    if lenient {
-        Session::new_lenient(alloc, transport, conn)
-    } else {
-        Session::new(alloc, transport, conn)
-    }
+    let mut session = Session::new(alloc, transport, conn)?;
+    session.set_lenient_replies(lenient);
+    Ok(session)
 }
 
 /// Makes a call, and adds the lines that went out in it, the addresses that were asked for, and its answer.

@@ -102,14 +102,14 @@ ends_silent answer answer' state s t is =
     (ap (λ x. x.said) same, ap (λ x. x.unsent) same, ap (λ x. x.bytes) same)
 
 heard_on_wire : (expected : Expected) (next : Result Response FtpError → Tree) (answer : Answer) (s t : Standing) → ((fault : FtpError) → (state : State) × (next (Err fault) ≡ Leaf (Fault fault) state)) → IsSuccess answer → ((reply : Response) (u : Standing) → play Any (next (Ok reply)) u ≡ played.Done answer t → OnWire (next (Ok reply)) u t) → play Any (Hear expected next) s ≡ played.Done answer t → OnWire (Hear expected next) s t
-heard_on_wire expected next answer s t stops success then_on_wire is = go (outcome s.rule expected.form s.bytes s.ended) refl (sym (play-Hear Any expected next s) ∙ is)
+heard_on_wire expected next answer s t stops success then_on_wire is = go (outcome s.state.settings.reply_rule expected.form s.bytes s.ended) refl (sym (play-Hear Any expected next s) ∙ is)
   where
     found : (fault : FtpError) (u : Standing) → play Any (next (Err fault)) u ≡ played.Done answer t → ⊥
     found fault u done =
         let P : Tree → Type 0 = λ x. play Any x u ≡ played.Done answer t in
         no_success fault answer (record u { state = (stops fault).0 }) t (sym (play-Leaf Any (Fault fault) (stops fault).0 u) ∙ subst P (stops fault).1 done) success
 
-    go : (o : Outcome) → outcome s.rule expected.form s.bytes s.ended ≡ o → heard_then o expected s (λ heard u. play Any (next heard) u) ≡ played.Done answer t → OnWire (Hear expected next) s t
+    go : (o : Outcome) → outcome s.state.settings.reply_rule expected.form s.bytes s.ended ≡ o → heard_then o expected s (λ heard u. play Any (next heard) u) ≡ played.Done answer t → OnWire (Hear expected next) s t
     go (Whole body code) whole done =
         let reply : Response = record { status = status_of code; body = body } in
         let here : Standing = taken (left_by (Whole body code) s.bytes) s in

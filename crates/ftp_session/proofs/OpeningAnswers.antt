@@ -3,7 +3,7 @@ use Rattle.std.proofs.Common.{◌≡◌, Bool, true, false, Option, Some, None, 
 use Rattle.ftp_base.specs.declared.command.Command.{Command}
 use Rattle.ftp_base.specs.declared.types.fault.FtpError.{FtpError}
 use Rattle.ftp_base.specs.declared.types.reply.Response.{Response}
-use Rattle.ftp_calls.specs.Exchanges.{drained_row, drains_first, follows_reply, row_of}
+use Rattle.ftp_calls.specs.Exchanges.{drained_row, follows_reply, row_of}
 use Rattle.ftp_calls.specs.declared.call.Answer.{Answer}
 use Rattle.ftp_calls.specs.declared.call.Answer.TheVariants.{Fault, Unit as Nothing}
 use Rattle.ftp_calls.specs.declared.call.Call.{Call}

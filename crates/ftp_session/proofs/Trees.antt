@@ -1,9 +1,8 @@
 -- The dialogue of each call of one command is the tree that its method names.
 use Rattle.std.proofs.Common.{◌≡◌, ℕ, [], ◌∷◌, List, Option, Bool, true, false, cond, eqb, Result, Ok, Err, refl, ap, ◌∙◌}
-use Rattle.std.specs.declared.net.socket_addr.SocketAddr.{SocketAddr}
 use Rattle.ftp_base.specs.Status.{code_of}
 use Rattle.ftp_base.specs.declared.status.Status.{Status}
-use Rattle.ftp_base.specs.declared.status.Status.TheVariants.{CommandOk, File, Closing, LoggedIn, RequestedFileActionOk, PathCreated, NeedPassword, RequestFilePending}
+use Rattle.ftp_base.specs.declared.status.Status.TheVariants.{CommandOk, File, LoggedIn, RequestedFileActionOk, PathCreated, NeedPassword, RequestFilePending}
 use Rattle.ftp_base.specs.declared.types.file_type.FileType.{FileType}
 use Rattle.ftp_base.specs.declared.types.reply.Response.{Response}
 use Rattle.ftp_base.specs.declared.types.fault.FtpError.{FtpError}

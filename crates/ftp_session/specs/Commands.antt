@@ -16,7 +16,7 @@ use Rattle.ftp_dialogue.specs.Dialogue.{Expected, Tree, Say, Hear, Leaf}
 use Rattle.ftp_dialogue.specs.Link.{Link}
 use Rattle.ftp_dialogue.specs.Play.{is_unit, taken}
 use Rattle.ftp_dialogue.specs.Promises.{Aborts, Completes, Goes, IsFault, IsSilent, IsSuccess, IsWithheld, MakesAfter, standing}
-use Rattle.ftp_dialogue.specs.Resuming.{Resumes}
+use Rattle.ftp_dialogue.specs.Resuming.{Resumes, modes_of}
 use Rattle.ftp_dialogue.specs.Sound.{none_left}
 use Rattle.ftp_dialogue.specs.State.{SessionValue, LetsGo}
 use Rattle.ftp_session.specs.Handed.{LooksIf, as_seen, watches}
@@ -26,7 +26,7 @@ use Rattle.ftp_session.specs.Trees.{drain_tree}
 
 -- the next reply is whole, with this code, and its status is accepted
 pub record IsAccepted (expected : Expected) (reply : Response) (code : ℕ) (s : Standing) : Type 0 where
-  pub whole : outcome s.rule expected.form s.bytes s.ended ≡ Whole reply.body code
+  pub whole : outcome s.state.settings.reply_rule expected.form s.bytes s.ended ≡ Whole reply.body code
   pub status : reply.status ≡ status_of code
   pub accepted : is_among expected.statuses reply.status ≡ true
 
@@ -49,7 +49,7 @@ pub record SucceedsOnWire (link : Link) (tree : Tree) (old new : SessionValue) :
   pub came : List ℕ
   pub answered : List Deal
   pub goes : Goes link came answered old last
-  pub wire : link.tells → Resumes old.channel.rule old.channel.kept tree → OnWire tree (standing old came last.channel.ended (outcomes_of answered)) (standing last [] last.channel.ended [])
+  pub wire : link.tells → Resumes (modes_of old) old.channel.kept tree → OnWire tree (standing old came last.channel.ended (outcomes_of answered)) (standing last [] last.channel.ended [])
 
 -- The dialogue
 

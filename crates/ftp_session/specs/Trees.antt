@@ -1,8 +1,7 @@
 -- The dialogues of commands, a tree each: RFC 959, sections 4.1 and 5.4; RFC 2389; RFC 2428; RFC 3659.
 use Rattle.std.specs.Prelude.{ℕ, ◌==◌, List, [], ◌∷◌, Option, Result, Ok, Err, if◌then◌else◌}
-use Rattle.std.specs.declared.net.socket_addr.SocketAddr.{SocketAddr}
 use Rattle.ftp_base.specs.declared.status.Status.{Status}
-use Rattle.ftp_base.specs.declared.status.Status.TheVariants.{CommandOk, System, File, Closing, ClosingDataConnection, LoggedIn, RequestedFileActionOk, PathCreated, NeedPassword, RequestFilePending}
+use Rattle.ftp_base.specs.declared.status.Status.TheVariants.{CommandOk, System, File, ClosingDataConnection, LoggedIn, RequestedFileActionOk, PathCreated, NeedPassword, RequestFilePending}
 use Rattle.ftp_base.specs.Status.{code_of}
 use Rattle.ftp_base.specs.declared.types.reply.Response.{Response}
 use Rattle.ftp_base.specs.declared.types.file_type.FileType.{FileType}

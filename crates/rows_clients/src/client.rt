@@ -238,6 +238,7 @@ fn set<R: Wait>(rt: &R, client: &Client, setting: &Setting) -> Result<Answer, Al
         }
         Setting::ActivePeerCheck(check) => client.set_active_peer_check(rt, check.clone()?),
         Setting::ActiveDeadline(deadline) => client.set_active_deadline(rt, *deadline),
+        Setting::LenientReplies(lenient) => client.set_lenient_replies(rt, *lenient),
     }
     Ok(Answer::Unit)
 }

@@ -2,7 +2,6 @@
 
 use crate::beside::{answers_of, next_outcomes, of_requests, uploaded};
 use ftp_base::types::{Bytes, Items};
-use ftp_control::control::ReplyRule;
 use ftp_runs::model::Ran;
 use ftp_session::model::{self, DealOutcome, Dealings, Played, Wait};
 use ftp_session::session::{Answer, Call};
@@ -28,7 +27,6 @@ pub fn first(
         model::Standing {
             state,
             failed: false,
-            rule: rule_of(play),
             said: Bytes::new(alloc),
             unsent: Bytes::new(alloc),
             local,
@@ -39,15 +37,6 @@ pub fn first(
             outcomes,
         },
     )
-}
-
-/// By which rule the session reads replies.
-fn rule_of(play: &Play) -> ReplyRule {
-    if play.setup.lenient {
-        ReplyRule::Lenient
-    } else {
-        ReplyRule::Strict
-    }
 }
 
 /// Nothing was asked, and there is no data connection.

@@ -33,6 +33,7 @@ fn begun(alloc: Global, play: &Play) -> Result<Script, AllocError> {
         dealings: no_dealings(alloc),
         seen: 0,
         form: ReplyForm::Plain,
+        rule: state.settings.reply_rule,
         state,
         failed: false,
     })

@@ -326,6 +326,7 @@ fn set<R: Wait + RandomSource + AllocGlobal>(
             done(rt, client.set_active_peer_check(rt, check.clone()?))
         }
         Setting::ActiveDeadline(deadline) => done(rt, client.set_active_deadline(rt, *deadline)),
+        Setting::LenientReplies(lenient) => { done(rt, client.set_lenient_replies(rt, *lenient)) }
     })
 }
 

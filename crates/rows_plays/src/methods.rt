@@ -334,6 +334,7 @@ fn set(session: &mut NamedSession, setting: &Setting) -> Result<Answer, AllocErr
         Setting::PassiveNatWorkaround(enabled) => session.set_passive_nat_workaround(*enabled),
         Setting::ActivePeerCheck(check) => session.set_active_peer_check(check.clone()?),
         Setting::ActiveDeadline(deadline) => session.set_active_deadline(*deadline),
+        Setting::LenientReplies(lenient) => session.set_lenient_replies(*lenient),
     }
     Ok(Answer::Unit)
 }

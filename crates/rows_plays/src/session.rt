@@ -41,11 +41,7 @@ fn session_on(alloc: Global, conn: MemoryConn, play: &Play) -> Result<Box<NamedS
             return Err(RowError::OutOfMemory);
         }
     };
-    let session = if play.setup.lenient {
-        Session::new_lenient(alloc, transport, conn)
-    } else {
-        Session::new(alloc, transport, conn)
-    };
+    let session = Session::new(alloc, transport, conn);
     let mut session = boxed(alloc, had(session)?)?;
     play.setup.set(&mut session)?;
     Ok(session)

@@ -7,12 +7,14 @@ use std::alloc::Global;
 use std::net::IpAddr;
 use std::time::Duration;
 
-/// The setting of this name, with what it is set to: `mode KIND`, `nat on`, `peers PEERS`, `deadline SECONDS`.
+/// The setting of this name, with what it is set to: `mode KIND`, `nat on`, `peers PEERS`,
+/// `lenient on`, `deadline SECONDS`.
 pub fn setting(alloc: Global, name: &str, argument: &str) -> Result<Setting, RowError> {
     match name {
         "mode" => Ok(Setting::Mode(mode(argument)?)),
         "nat" => Ok(Setting::PassiveNatWorkaround(is_on(argument)?)),
         "peers" => Ok(Setting::ActivePeerCheck(peers(alloc, argument)?)),
+        "lenient" => Ok(Setting::LenientReplies(is_on(argument)?)),
         "deadline" => Ok(Setting::ActiveDeadline(Duration::from_secs(value(argument)?))),
         _ => Err(RowError::NotUnderstood),
     }

@@ -6,6 +6,7 @@ use crate::memory::ended;
 use crate::session::NamedSession;
 use crate::settings::setting;
 use ftp_base::types::{ConnectionError, FtpError};
+use ftp_dialogue::rule_by;
 use ftp_session::session::{Setting, Settings, State};
 use ftp_transport::{MemoryConn, MemoryTransport, Request, RequestOutcome, Supply};
 use rows_text::{RowError, bytes_of, value};
@@ -74,6 +75,7 @@ impl Setup {
     /// Has the session read replies leniently, or strictly; whether the row is played so.
     pub fn reads(&mut self, lenient: bool) -> bool {
         self.lenient = lenient;
+        self.settings.reply_rule = rule_by(lenient);
         self.only.is_none_or(|only| only == lenient)
     }
 
@@ -86,6 +88,7 @@ impl Setup {
             }
             Setting::ActivePeerCheck(check) => self.settings.active_peer_check = check,
             Setting::ActiveDeadline(deadline) => self.settings.active_deadline = deadline,
+            Setting::LenientReplies(lenient) => self.settings.reply_rule = rule_by(lenient),
         }
     }
 
@@ -128,6 +131,7 @@ impl Setup {
         session.set_passive_nat_workaround(self.settings.passive_nat_workaround);
         session.set_active_peer_check(self.settings.active_peer_check.clone()?);
         session.set_active_deadline(self.settings.active_deadline);
+        session.set_lenient_replies(self.lenient);
         if let Some(builder) = &self.builder {
             session.set_passive_stream_builder(builder.again()?);
         }

@@ -88,7 +88,7 @@ HearsAs said codes s (heard.Known reply here) =
     (here.state ≡ s.state) × ((next : Result Response FtpError → Standing → Played) → heard_then said codes s next ≡ next reply here)
 
 abbrev pub Hears : Expected → Standing → Heard → Type 0
-Hears codes s heard = HearsAs (outcome s.rule codes.form s.bytes s.ended) codes s heard
+Hears codes s heard = HearsAs (outcome s.state.settings.reply_rule codes.form s.bytes s.ended) codes s heard
 
 -- what follows a read of a whole data connection: others are read after these bytes, or this is the answer
 abbrev pub LeadsTo : Coding → Fetch → List ℕ → DealOutcome → Follows → Type 0

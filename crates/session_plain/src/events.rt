@@ -3,7 +3,7 @@
 ghost use Rattle.std.specs.Prelude.{◌≡◌, ℕ, List, [], ◌∷◌, ◌++◌, IfOk, OnOk, None, Some, length, true, false};
 ghost use Rattle.ftp_transport.specs.Memory.{more_room};
 ghost use Rattle.ftp_dialogue.specs.Coding.{coding_of};
-ghost use Rattle.ftp_runs.specs.Script.{after_event, drained_as, drained_to, draining, fed, front, heard_at, heard_in, poll_next, poll_script, polled_as, run_with, script, seen_at, seen_in, start_script, form_at, with_call};
+ghost use Rattle.ftp_runs.specs.Script.{after_event, drained_as, drained_to, draining, fed, front, heard_at, heard_in, poll_next, poll_script, polled_as, run_with, script, rule_at, seen_at, seen_in, start_script, form_at, with_call};
 ghost use Rattle.ftp_runs.specs.declared.model.Ran.TheVariants.{Finished, Waiting};
 ghost use Rattle.ftp_calls.specs.declared.call.Answer.{Answer as Answers};
 
@@ -333,6 +333,7 @@ fn suspend(here: &mut Script, call: Call, wait: Wait, there: Standing) -> Result
       dealings = there.dealings;
       seen = seen_at wait here.old there.bytes;
       form = form_at wait here.old;
+      rule = rule_at wait here.old there.state;
       state = there.state;
       failed = there.failed;
     }) }
@@ -346,6 +347,7 @@ fn suspend(here: &mut Script, call: Call, wait: Wait, there: Standing) -> Result
             here.seen = there.bytes.len();
             here.heard = true;
             here.form = form;
+            here.rule = there.state.settings.reply_rule;
         }
     }
     drop(mem::replace(&mut here.call, Some(call)));

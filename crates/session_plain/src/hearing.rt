@@ -31,8 +31,9 @@ pub(crate) fn hear_reply(
     ensures { IfOk result (λ heard.
         Hears (record { form = form; statuses = codes.now }) standing heard) }
 {
+    let rule = standing.state.settings.reply_rule;
     let bytes = standing.bytes.as_slice();
-    let Ok(said) = outcome(alloc, standing.rule, form, bytes, standing.ended) else {
+    let Ok(said) = outcome(alloc, rule, form, bytes, standing.ended) else {
         drop(standing);
         return Err(AllocError);
     };

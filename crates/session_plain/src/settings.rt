@@ -3,6 +3,7 @@
 ghost use Rattle.std.specs.Prelude.{◌≡◌};
 ghost use Rattle.ftp_dialogue.specs.Dialogue.{armed, changed, set_to};
 
+use ftp_dialogue::rule_by;
 use ftp_session::model::Standing;
 use ftp_session::session::{Setting, Settings};
 
@@ -23,6 +24,7 @@ fn change(setting: Setting, settings: &mut Settings)
         Setting::PassiveNatWorkaround(enabled) => settings.passive_nat_workaround = enabled,
         Setting::ActivePeerCheck(check) => settings.active_peer_check = check,
         Setting::ActiveDeadline(deadline) => settings.active_deadline = deadline,
+        Setting::LenientReplies(lenient) => settings.reply_rule = rule_by(lenient),
     }
 }
 

@@ -5,8 +5,8 @@
 
 pub use ftp_polled::{
     Abort, Adjust, AsyncNoTlsStream, AsyncTlsConnector, AsyncTlsStream, Connect, ControlSocket,
-    Dialogue, Finish, ImplAsyncFtpStream, Lines, Lock, OpenTransfer, OpenWithReply, Outcome,
-    ReadReply, RetrReader, Retrieve, Settle, TransferStream, Upload,
+    Dialogue, Failed, Finish, ImplAsyncFtpStream, Lines, Lock, OpenTransfer, OpenWithReply,
+    Outcome, ReadReply, RetrReader, Retrieve, Settle, TransferStream, Upload,
 };
 pub use ftp_tokio::{TokioConn, TokioListener, TokioTransport};
 

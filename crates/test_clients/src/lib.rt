@@ -10,6 +10,8 @@ mod clients;
 #[cfg(test)]
 mod data_sockets;
 #[cfg(test)]
+mod failing;
+#[cfg(test)]
 mod greetings;
 #[cfg(test)]
 mod room;

@@ -16,6 +16,7 @@ use std::sync::Wait;
 use std::test::Fail;
 use std::time::{Clock, Duration, Instant};
 use std::{io, thread};
+use tokio::runtime::LocalRuntime;
 
 /// A server that sends this and reads to the end: what it read.
 fn serve(alloc: Global, listener: &TcpListener, replies: &str) -> io::Result<String> {
@@ -47,6 +48,60 @@ fn a_client_connects_to_the_first_that_listens(rt: HostRuntime) -> Result<(), Fa
     let answer = noop(&rt, &[dead, address])?;
     let received = serving.join(&rt)?;
     assert_eq!(rt; (answer, received.as_str()), (0, "NOOP\r\n"));
+    Ok(())
+}
+
+/// The numbers of the faults of two calls of a client that connects to this address, and whether it has failed after each.
+fn cut<R>(rt: &R, address: SocketAddr) -> Result<[(u8, u8); 2], Fail>
+where
+    R: Net<Listener = TcpListener, Stream = TcpStream> + Wait + Clock + RandomSource + AllocGlobal,
+{
+    let mut runtime = running(rt)?;
+    let connect = Client::connect(rt, transport(&runtime)?, &[address]);
+    let client = runtime.block_on(rt, connect)??;
+    let noop = client.noop(rt);
+    let refused = (
+        done(rt, &mut runtime, noop),
+        has_failed(rt, &mut runtime, &client),
+    );
+    let noop = client.noop(rt);
+    let cut = (
+        done(rt, &mut runtime, noop),
+        has_failed(rt, &mut runtime, &client),
+    );
+    drop(client);
+    Ok([refused, cut])
+}
+
+/// 1 where the client has failed, 0 where it hasn't, and 2 where it doesn't tell.
+fn has_failed<R>(rt: &R, runtime: &mut LocalRuntime, client: &Client) -> u8
+where
+    R: Wait + Clock + RandomSource + AllocGlobal,
+{
+    match runtime.block_on(rt, client.failed()) {
+        Ok(Ok(failed)) => u8::from(failed),
+        _ => 2,
+    }
+}
+
+/// Answers a command by 550, reads the next, and closes the connection.
+fn refuse(listener: &TcpListener) -> io::Result<()> {
+    let (mut server, _address) = listener.accept()?;
+    server.write_all(b"220 ready\r\n")?;
+    let mut line = [0u8; 6];
+    server.read_exact(&mut line)?;
+    server.write_all(b"550 no\r\n")?;
+    server.read_exact(&mut line)
+}
+
+#[test]
+fn a_client_tells_that_it_has_failed(rt: HostRuntime) -> Result<(), Fail> {
+    let (listener, address) = listening(&rt)?;
+    let serving = thread::spawn(&rt, move || refuse(&listener))?;
+    let calls = cut(&rt, address)?;
+    let served = serving.join(&rt).is_ok();
+    // `UnexpectedResponse` is 10, `UnexpectedEof` 2
+    assert_eq!(rt; (calls, served), ([(10, 0), (2, 1)], true));
     Ok(())
 }
 

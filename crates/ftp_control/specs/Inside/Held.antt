@@ -1,7 +1,7 @@
 -- What holds of a control channel's parts.
 use Rattle.std.specs.Prelude.{ℕ, ◌≤◌, Bool, List, [], length, drop}
 use Rattle.ftp_control.specs.declared.control.rule.ReplyRule.{ReplyRule}
-use Rattle.ftp_control.specs.declared.control.grammar.Phase.{Phase}
+use Rattle.ftp_control.specs.declared.control.lenient.Phase.{Phase}
 use Rattle.ftp_transport.specs.Told.{Told}
 use Rattle.ftp_control.specs.Inside.UnderWay.{IsUnderWay}
 use Rattle.ftp_control.specs.Channel.{IsSound}

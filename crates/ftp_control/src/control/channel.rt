@@ -14,7 +14,7 @@ ghost use Rattle.futures.specs.declared.task.Poll.TheVariants as poll;
 ghost use Rattle.ftp_control.specs.declared.control.outcome.Outcome.TheVariants as outcomes;
 ghost use Rattle.ftp_control.specs.Channel.{fails_by};
 
-use super::grammar::Phase;
+use super::lenient::Phase;
 use super::outbox::{Outbox, flush};
 use super::read_loop::hear;
 use super::reply_buffer::ReplyBuffer;
@@ -67,7 +67,7 @@ impl<C: Tells + Drop> ControlChannel<C> {
     ghost use Rattle.ftp_transport.specs.Memory.{IsGiven};
     ghost use Rattle.ftp_control.specs.Reading.{MayBreak};
     ghost use Rattle.ftp_transport.specs.Told.{EndsAsTold, before_fault, begun};
-    ghost use Rattle.ftp_control.specs.Channel.{Channel, IsIdle, IsSound, ReadsReply, FlushesTail, untaken};
+    ghost use Rattle.ftp_control.specs.Channel.{Channel, IsIdle, IsSound, ReadsReply, FlushesTail, rule_left, untaken};
 
     /// Reads a reply of this form as far as it has come, and consumes exactly its bytes. Returns `Waits` where the connection
     /// waits.
@@ -133,6 +133,17 @@ impl<C: Tells + Drop> ControlChannel<C> {
         ensures sound { IsSound C.tells self.now }
     {
         self.failed
+    }
+
+    /// Chooses the rule of the next reply, where nothing of one was read. A reply that was read in part is read on by
+    /// the rule by which it began, and this call changes nothing then.
+    pub fn set_rule(&mut self, rule: ReplyRule)
+        ensures under_way { self.new ≡ record self.old { rule = rule_left self.old.kept self.old.rule rule } }
+        ensures sound { IsSound C.tells self.new }
+    {
+        if self.reply.bytes.is_empty() {
+            self.rule = rule;
+        }
     }
 
     /// From now on the channel has failed, as after a fault in the middle of a dialogue.

@@ -4,14 +4,14 @@
 //! line of a code and a space. Servers deviate from this, so what opens and what ends a reply is a `ReplyRule`, and how
 //! far it reaches a `ReplyForm`. A line is judged once, when its LF has come or the input has ended.
 
-ghost use Rattle.std.specs.Prelude.{◌≡◌, codes, nat_eq, take, IsTrue};
-ghost use Rattle.std.specs.List.{list_all, starts_with};
+ghost use Rattle.std.specs.Prelude.{◌≡◌, nat_eq, take, IsTrue};
+ghost use Rattle.std.specs.List.{list_all};
 ghost use Rattle.std.specs.Char.{is_ascii_digit};
 ghost use Rattle.std.specs.Cmp.Lexicographic.{pointwise};
-ghost use Rattle.ftp_base.specs.Features.{is_last};
-ghost use Rattle.ftp_control.specs.Grammar.{opens, ends, by_dash, lists, opens_list, begins_with_digits, code_at_start};
-ghost use Rattle.ftp_control.specs.Inside.Verdict.{is_listing, line_verdict, phase_after, verdict};
+ghost use Rattle.ftp_control.specs.Grammar.{opens, ends, begins_with_digits, code_at_start};
+ghost use Rattle.ftp_control.specs.Inside.Verdict.{line_verdict, verdict};
 
+use super::lenient::{Phase, by_dash, closes_list, is_listing, lists, opens_list};
 use super::{ReplyForm, ReplyRule};
 
 /// What one more line means for a reply.
@@ -23,17 +23,6 @@ pub(crate) enum Verdict {
     Ends(u32),
     /// The reply goes on.
     GoesOn,
-}
-
-/// Where the next line of a reply stands, for a read that expects a list of features after it.
-#[derive(Clone, Copy, Debug, PartialEq, Eq)]
-pub(crate) enum Phase {
-    /// In the reply, which no line has ended.
-    InReply,
-    /// In the list of features that follows it.
-    InList,
-    /// After a reply that no list follows; a read of another form goes on in it.
-    Past,
 }
 
 /// What a line means that stands first in a reply, or after others that don't end it. `reply` is the reply so
@@ -74,68 +63,6 @@ fn judge_line(rule: ReplyRule, form: ReplyForm, phase: Phase, reply: &[u8], line
     } else {
         Verdict::Ends(code_at_start(line))
     }
-}
-
-/// The phase of a reply after one more line.
-pub(crate) fn phase_after(rule: ReplyRule, phase: Phase, reply: &[u8], line: &[u8]) -> Phase
-    ensures { result ≡ phase_after rule phase reply.now line.now }
-{
-    match phase {
-        Phase::InReply => {
-            if !ends(rule, true, reply, line) {
-                Phase::InReply
-            } else if opens_list(line) {
-                Phase::InList
-            } else {
-                Phase::Past
-            }
-        }
-        Phase::InList => Phase::InList,
-        Phase::Past => Phase::Past,
-    }
-}
-
-/// Whether the next line is one of the list of features.
-pub(crate) fn is_listing(form: ReplyForm, phase: Phase) -> bool
-    ensures { result ≡ is_listing form phase }
-{
-    lists(form) && matches!(phase, Phase::InList)
-}
-
-/// Whether a list of features may follow the reply.
-pub(crate) fn lists(form: ReplyForm) -> bool
-    ensures { result ≡ lists form }
-{
-    match form {
-        ReplyForm::Plain => false,
-        ReplyForm::System => false,
-        ReplyForm::Features => true,
-    }
-}
-
-/// Whether the first line's code with a dash ends the reply.
-pub(crate) fn by_dash(form: ReplyForm) -> bool
-    ensures { result ≡ by_dash form }
-{
-    match form {
-        ReplyForm::Plain => false,
-        ReplyForm::System => true,
-        ReplyForm::Features => true,
-    }
-}
-
-/// Whether a line that ends a reply opens a list of features.
-pub(crate) fn opens_list(line: &[u8]) -> bool
-    ensures { result ≡ opens_list line.now }
-{
-    line.starts_with(b"211-")
-}
-
-/// Whether a line ends a list of features.
-pub(crate) fn closes_list(line: &[u8]) -> bool
-    ensures { result ≡ is_last line.now }
-{
-    line.starts_with(b"211 ")
 }
 
 /// Whether a line opens a reply.

@@ -8,9 +8,11 @@ ghost use Rattle.std.specs.Prelude.{◌≡◌, ◌≤◌, ◌<◌, Ok, nat_eq, f
 ghost use Rattle.ftp_control.specs.Grammar.{outcome};
 ghost use Rattle.ftp_control.specs.Inside.ReadLoop.{TakesAll};
 ghost use Rattle.ftp_control.specs.Inside.UnderWay.{IsUnderWay};
-ghost use Rattle.ftp_control.specs.Inside.Verdict.{ended_by, is_listing, outcome_by, phase_after, phase_left, verdict};
+ghost use Rattle.ftp_control.specs.Inside.Phases.{is_listing, phase_after};
+ghost use Rattle.ftp_control.specs.Inside.Verdict.{ended_by, outcome_by, phase_left, verdict};
 
-use super::grammar::{Phase, Verdict, is_listing, judge, phase_after};
+use super::grammar::{Verdict, judge};
+use super::lenient::{Phase, is_listing, phase_after};
 use super::{Outcome, ReplyForm, ReplyRule};
 use ftp_base::types::Bytes;
 use std::alloc::Global;

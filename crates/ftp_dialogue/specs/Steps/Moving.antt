@@ -5,9 +5,8 @@ use Rattle.futures.specs.declared.task.Poll.{Poll}
 use Rattle.futures.specs.declared.task.Poll.TheVariants as poll
 use Rattle.ftp_base.specs.declared.types.reply.Response.{Response}
 use Rattle.ftp_base.specs.declared.types.fault.FtpError.{FtpError}
-use Rattle.ftp_base.specs.declared.types.fault.FtpError.TheVariants.{ConnectionError, SecureError, UnexpectedResponse, BadResponse, InvalidAddress, DataConnectionAlreadyOpen, OutOfMemory, SessionFailed}
+use Rattle.ftp_base.specs.declared.types.fault.FtpError.TheVariants.{ConnectionError, UnexpectedResponse, OutOfMemory, SessionFailed}
 use Rattle.ftp_transport.specs.Told.{IsDry, IsFull}
-use Rattle.ftp_control.specs.declared.control.rule.ReplyRule.{ReplyRule}
 use Rattle.ftp_transport.specs.declared.request.Request.{Request}
 use Rattle.ftp_transport.specs.declared.request.RequestOutcome.{RequestOutcome}
 use Rattle.ftp_transport.specs.declared.request.RequestOutcome.TheVariants as outcomes
@@ -57,14 +56,14 @@ use Rattle.ftp_calls.specs.declared.exchange.Row.TheVariants.{Exchanges, Arms}
 use Rattle.ftp_calls.specs.declared.exchange.Row.TheVariants as row
 use Rattle.ftp_calls.specs.Exchanges.{is_draining, is_local, is_read, row_of, Kind, Nothing, kind_of, kind_of_task}
 use Rattle.ftp_dialogue.specs.Dialogue.{Expected, End, Tree, Say, Hear, Look, Ask, Build, Move, Leaf, accepted, chunk, fetched, first_fault, later, lets_in, most_bytes, moved_answer, performing, too_long, unfetched, wants_memory, with_abandoned, with_fetched, set_to, answer_to_fault, after_fault_of, with_aborted, with_left, with_transfer, dialogue}
-use Rattle.ftp_dialogue.specs.Resuming.{Resumes, Silent}
+use Rattle.ftp_dialogue.specs.Resuming.{Modes, Resumes, Silent, modes_of}
 use Rattle.ftp_dialogue.specs.Promises.{DrainsIf, due_of, AbortsRead, IsFault, Leads, Completes, Aborts, However, SaidOrTaken, Untouched, Rests, IsRefused, begun_by, failed_from, refusal_of, IsApart}
 use Rattle.ftp_dialogue.specs.Steps.Stages.{AnswersKind, Begun, GoesOnTo, NotBegun, StageAfter, StepAnswers, asking_of, nodes_left, remaining, begun_at, is_later, is_out}
 use Rattle.ftp_dialogue.specs.Link.{Link}
 
--- what is kept afterwards: nothing, as after a reply; or what was, where none was read
+-- what is kept afterwards: nothing, as after a reply; or what was, by its rule, where none was read
 abbrev pub Keeps : Type 0 → List ℕ → SessionValue → SessionValue → Type 0
-Keeps untouched came old new = (new.channel.kept ≡ []) ⊎ ((new.channel.kept ≡ old.channel.kept) × (new.channel.ahead ≡ old.channel.ahead) × (came ≡ []) × untouched)
+Keeps untouched came old new = (new.channel.kept ≡ []) ⊎ ((new.channel.kept ≡ old.channel.kept) × (new.channel.ahead ≡ old.channel.ahead) × (came ≡ []) × untouched × (new.channel.rule ≡ old.channel.rule))
 
 -- no more lies ahead than lay there and came
 abbrev pub Shrinks : List ℕ → SessionValue → SessionValue → Type 0
@@ -108,7 +107,7 @@ pub record StillSays (link : Link) (tree tree' : Tree) (came : List ℕ) (answer
   pub next : Tree
   pub is : tree' ≡ Say (Ok rest) next
   pub count : length (said new.channel) + length rest ≡ length (said old.channel) + length line
-  pub resumes : (rule : ReplyRule) (kept : List ℕ) → Resumes rule kept tree → Resumes rule kept tree'
+  pub resumes : (modes : Modes) (kept : List ℕ) → Resumes modes kept tree → Resumes modes kept tree'
   pub plays : However old came answered new (λ room s t. play room tree s ≡ play room tree' t)
 
 -- all of a line has gone out
@@ -124,8 +123,8 @@ SaysFirst link tree tree' came answered old new =
 pub record Moves (link : Link) (tree tree' : Tree) (old new : SessionValue) : Type 0 where
   pub leads : Leads link tree tree' old new
   pub state : new.state ≡ old.state
-  pub resumes : Resumes old.channel.rule old.channel.kept tree → Resumes new.channel.rule new.channel.kept tree'
-  pub keeps : Silent tree' → Keeps (Silent tree) leads.came old new
+  pub resumes : Resumes (modes_of old) old.channel.kept tree → Resumes (modes_of new) new.channel.kept tree'
+  pub keeps : (from to : State) → Silent from to tree' → Keeps (Silent from to tree) leads.came old new
   pub calm : Calm tree' → Keeps (Calm tree) leads.came old new
   pub shrinks : Shrinks leads.came old new
   pub says : SaysFirst link tree tree' leads.came leads.answered old new
@@ -140,7 +139,7 @@ pub record Advances (link : Link) (tree tree' : Tree) (old new : SessionValue) :
 pub record Ends (link : Link) (tree : Tree) (answer : Answer) (old new : SessionValue) : Type 0 where
   pub completes : Completes link tree answer old new
   pub fails : new.channel.failed ≡ true → (old.channel.failed ≡ true) ⊎ IsFault answer
-  pub keeps : Keeps (Silent tree) completes.came old new
+  pub keeps : Keeps (Silent old.state new.state tree) completes.came old new
   pub calm : Keeps (Calm tree) completes.came old new
   pub shrinks : Shrinks completes.came old new
   pub gone : (line : List ℕ) (next : Tree) → tree ≡ Say (Ok line) next → link.tells → HasGoneOut line old new
@@ -217,7 +216,7 @@ SaysNode link line line' old new result =
 -- a reply was taken: fewer bytes are untaken than were and came
 abbrev pub Takes : Link → Tree → SessionValue → SessionValue → Type 0
 Takes link tree old new =
-    link.tells → Resumes old.channel.rule old.channel.kept tree → length old.channel.told.received + length (untaken new.channel) < length new.channel.told.received + length (untaken old.channel)
+    link.tells → Resumes (modes_of old) old.channel.kept tree → length old.channel.told.received + length (untaken new.channel) < length new.channel.told.received + length (untaken old.channel)
 
 -- nothing was said and no reply was taken: what came is untaken
 abbrev pub NothingTouched : Link → SessionValue → SessionValue → Type 0
@@ -309,7 +308,7 @@ BuildsFor link address old new (Err full) = (tree : Tree) → Still link tree tr
 
 -- a dialogue begins: a line that is said first is said, whatever is kept of a reply
 abbrev pub BeginsHere : Link → Tree → SessionValue → SessionValue → Type 0
-BeginsHere link tree old new = link.tells → Speaks tree ⊎ Resumes old.channel.rule old.channel.kept tree → SaidOrTaken old new
+BeginsHere link tree old new = link.tells → Speaks tree ⊎ Resumes (modes_of old) old.channel.kept tree → SaidOrTaken old new
 
 -- a dialogue that has begun had begun before, or something was said or taken; where it hasn't, nothing was
 abbrev pub HasBegun : Link → Bool → Bool → Tree → SessionValue → SessionValue → Type 0

@@ -65,27 +65,6 @@ impl<Tr: Network, K: Drop, E: Encoding, B: Drop> Session<Tr, K, E, B> {
         Session::by_rule(alloc, transport, conn, ReplyRule::Strict)
     }
 
-    /// The same, which reads replies leniently (`ReplyRule::Lenient`).
-    ///
-    /// # Errors
-    /// None today, as of `new`.
-    pub fn new_lenient(
-        alloc: Global,
-        transport: Tr,
-        conn: Tr::Conn,
-    ) -> FtpResult<Session<Tr, K, E, B>>
-        ensures succeeds { IsOk result }
-        ensures begins { IfOk result (λ session.
-            Begins Tr.Conn.tells ReplyRule.Lenient (Tr.Conn.told conn)
-            (first_net (Tr.asked transport) (Tr.ready transport) (Tr.closed transport)) session.machine) }
-        ensures sound { IfOk result (λ session. IsSound Tr.Conn.tells session.machine.channel) }
-        ensures encoding { IfOk result (λ session. session.encoding.0 ≡ None) }
-        ensures builder { IfOk result (λ session. session.builder ≡ None) }
-        ensures mark { IfOk result (λ session. session.mark ≡ None) }
-    {
-        Session::by_rule(alloc, transport, conn, ReplyRule::Lenient)
-    }
-
     /// A session on a connection, which reads replies by this rule.
     fn by_rule(
         alloc: Global,

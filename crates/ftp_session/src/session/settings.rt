@@ -1,15 +1,17 @@
 //! What a session is told to do, without a word to the server.
 //!
-//! Settings say how later data connections come about (RFC 959, section 3.2; RFC 2428). They stay as they were set
-//! whatever a call comes to.
+//! Settings say how later data connections come about (RFC 959, section 3.2; RFC 2428), and which lines open and end
+//! later replies (section 4.2). They stay as they were set whatever a call comes to.
 
 ghost use Rattle.std.specs.Prelude.{◌≡◌, Some, true};
 ghost use Rattle.ftp_base.specs.declared.types.mode.Mode.TheVariants as modes;
+ghost use Rattle.ftp_dialogue.specs.Dialogue.{rule_by};
 ghost use Rattle.ftp_dialogue.specs.State.{with_settings};
 
 use super::client::Session;
 use ftp_base::encoding::Encoding;
 use ftp_base::types::{ActivePeerCheck, Mode};
+use ftp_dialogue::rule_by;
 use ftp_transport::Network;
 use std::time::Duration;
 
@@ -61,6 +63,19 @@ impl<Tr: Network, K: Drop, E: Encoding, B: Drop> Session<Tr, K, E, B> {
         ensures former { self.new.former ≡ self.old.former }
     {
         self.machine.state.settings.active_deadline = deadline;
+    }
+
+    /// Whether the replies that begin from now on are read leniently (`ReplyRule::Lenient`), or as RFC 959, section 4.2,
+    /// has it. A reply that was read in part is read on as it began. A session begins strict.
+    pub fn set_lenient_replies(&mut self, lenient: bool)
+        ensures set { self.new.machine ≡
+            with_settings (λ s. record s { reply_rule = rule_by lenient }) self.old.machine }
+        ensures encoding { self.new.encoding ≡ self.old.encoding }
+        ensures mark { self.new.mark ≡ self.old.mark }
+        ensures builder { self.new.builder ≡ self.old.builder }
+        ensures former { self.new.former ≡ self.old.former }
+    {
+        self.machine.state.settings.reply_rule = rule_by(lenient);
     }
 
     /// The session in the mode `Active`, which waits so long for a data connection.

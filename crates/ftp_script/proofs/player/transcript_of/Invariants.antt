@@ -3,7 +3,7 @@ use Rattle.ftp_calls.specs.declared.call.Call.TheVariants.{Greet}
 use Rattle.ftp_transport.specs.Memory.{fresh_between, unspecified}
 use Rattle.ftp_dialogue.specs.Deals.{first_net}
 use Rattle.ftp_dialogue.specs.State.{SessionValue, Begins}
-use Rattle.ftp_script.specs.Script.{rule_by}
+use Rattle.ftp_dialogue.specs.Dialogue.{rule_by}
 use Rattle.ftp_script.specs.Playing.{giving, Makes, server_address, supply_of}
 use Rattle.ftp_script.proofs.player.transcript_of.Given as goal
 

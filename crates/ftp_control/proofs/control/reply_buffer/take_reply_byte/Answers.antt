@@ -1,7 +1,8 @@
 use Rattle.std.proofs.Common.{◌≡◌, ◌++◌, ◌∷◌, [], ◌+◌, length, length-append, arith, sym, ◌∙◌, ap, ne_eqb, false, Ok}
 use Rattle.ftp_control.specs.Grammar.{rest}
 use Rattle.ftp_control.specs.Inside.ReadLoop.{TakesAll}
-use Rattle.ftp_control.specs.Inside.Verdict.{is_listing, outcome_by, phase_after}
+use Rattle.ftp_control.specs.Inside.Phases.{is_listing, phase_after}
+use Rattle.ftp_control.specs.Inside.Verdict.{outcome_by}
 use Rattle.ftp_control.proofs.Outcomes.{too_little, byte_too_many, waits_on, line_more, byte_leaves, line_leaves, judged_line, phased_line, verdict_on, nothing_under_way}
 use Rattle.ftp_control.proofs.control.reply_buffer.take_reply_byte.Goals as goal
 

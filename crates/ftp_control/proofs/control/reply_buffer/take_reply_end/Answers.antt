@@ -1,7 +1,8 @@
 use Rattle.std.proofs.Common.{◌≡◌, ◌≢◌, length, sym, ◌∙◌, true, Ok}
 use Rattle.ftp_control.specs.Grammar.{whole_lines, rest}
 use Rattle.ftp_control.specs.Inside.ReadLoop.{TakesAll}
-use Rattle.ftp_control.specs.Inside.Verdict.{verdict, outcome_by, is_listing, phase_after}
+use Rattle.ftp_control.specs.Inside.Phases.{is_listing, phase_after}
+use Rattle.ftp_control.specs.Inside.Verdict.{verdict, outcome_by}
 use Rattle.ftp_control.proofs.Outcomes.{is_first_of, phase_so_far, ends_empty, ends_inside, judged_end, phased_end, end_leaves, end_phase, end_settled, empty_rest, open_rest, nothing_under_way}
 use Rattle.ftp_control.proofs.control.reply_buffer.take_reply_end.Goals as goal
 

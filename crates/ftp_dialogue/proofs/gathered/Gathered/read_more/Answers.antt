@@ -1,4 +1,4 @@
-use Rattle.std.proofs.Common.{◌≡◌, ◌≤◌, ◌-◌, ◌∙◌, ap, length, vec_len, arith, rules}
+use Rattle.std.proofs.Common.{◌≡◌, ◌≤◌, ◌-◌, ◌∙◌, length, vec_len, arith, rules}
 use Rattle.std.proofs.lemmas.List.{places}
 use Rattle.ftp_dialogue.proofs.GatheringLemmas.{grew_so}
 use Rattle.ftp_dialogue.proofs.gathered.Gathered.read_more.Goals as goal

@@ -1,5 +1,4 @@
 use Rattle.ftp_dialogue.specs.Coding.{coding_of}
-use Rattle.std.proofs.Common.{inl, inr}
 use Rattle.ftp_dialogue.proofs.machine.Machine.fetch.Goals as goal
 
 pub returns-in-Starting-Fetch-clause-breaks : goal.returns-in-Starting-Fetch-clause-breaks

@@ -1,0 +1,37 @@
+//! Whether a client has failed, and what its calls come to then.
+
+use crate::scene::number;
+use crate::server::serve;
+use ftp_base::types::FtpResult;
+use ftp_blocking::FtpStream;
+use std::net::{Net, SocketAddr, TcpListener, TcpStream};
+use std::sync::Wait;
+use std::test::Fail;
+use std::thread;
+use std::time::Clock;
+
+/// The numbers of the faults of three calls, and whether the client has failed after each.
+fn calls<R>(rt: &R, address: SocketAddr) -> FtpResult<[(u8, bool); 3]>
+where
+    R: Net<Listener = TcpListener, Stream = TcpStream> + Wait + Clock + AllocGlobal,
+{
+    let client = FtpStream::connect(rt, &[address])?;
+    let refused = (number(client.rm(rt, "a")), client.failed(rt));
+    let cut = (number(client.noop(rt)), client.failed(rt));
+    let late = (number(client.noop(rt)), client.failed(rt));
+    Ok([refused, cut, late])
+}
+
+#[test]
+fn a_client_tells_that_it_has_failed(rt: HostRuntime) -> Result<(), Fail> {
+    let listener = TcpListener::bind(&rt, "127.0.0.1:0")?;
+    let address = listener.local_addr()?;
+    let script = "send 220 ready;line;send 550 no;line";
+    let serving = thread::spawn(&rt, move || serve(&rt, &listener, script))?;
+    let calls = calls(&rt, address)?;
+    let noted = serving.join(&rt)?;
+    // `UnexpectedResponse` is 10, `UnexpectedEof` 2, `SessionFailed` 14
+    assert_eq!(rt; calls, [(10, false), (2, true), (14, true)]);
+    assert_eq!(rt; noted.as_str(), "DELE a|NOOP|");
+    Ok(())
+}
