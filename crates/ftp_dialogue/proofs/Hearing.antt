@@ -33,7 +33,8 @@ use Rattle.ftp_calls.specs.declared.call.Call.{Call}
 use Rattle.ftp_calls.specs.Exchanges.{finishes, negotiates}
 use Rattle.ftp_dialogue.specs.Dialogue.{Expected, Tree, Say, Hear, Look, Ask, Build, Move, Leaf, entered, opened_from, with_left}
 use Rattle.ftp_dialogue.specs.Play.{play, heard_then}
-use Rattle.ftp_dialogue.specs.Resuming.{Resumes, SaysNothingYet, modes_of}
+use Rattle.ftp_dialogue.specs.Lenient.{SaysNothingYet}
+use Rattle.ftp_dialogue.specs.Resuming.{Resumes, modes_of}
 use Rattle.ftp_dialogue.proofs.Places.{here}
 use Rattle.ftp_dialogue.specs.Promises.{AbortsRead, begun_by, standing, Goes, Leads, Rests}
 use Rattle.ftp_dialogue.specs.Steps.Moving.{Moves, Advances, WaitsFor, Hears, Takes}

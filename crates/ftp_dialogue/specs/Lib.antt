@@ -4,6 +4,7 @@ pub mod Dialogue
 pub mod Dropping
 pub mod Gathering
 pub mod Laws
+pub mod Lenient
 pub mod Link
 pub mod Play
 pub mod Promises

@@ -1,17 +1,14 @@
 -- How a reply under way is read on: by the rule by which it began; and leniently as one of a form under which it says
--- nothing yet, which is one view of System.
-use Rattle.std.specs.Prelude.{◌≡◌, false, ℕ, List, Option, Ok, Err}
+-- nothing yet.
+use Rattle.std.specs.Prelude.{◌≡◌, ℕ, List, Option, Ok, Err}
 use Rattle.std.specs.declared.net.socket_addr.SocketAddr.{SocketAddr}
-use Rattle.ftp_control.specs.declared.control.form.ReplyForm.{ReplyForm}
 use Rattle.ftp_control.specs.declared.control.rule.ReplyRule.{ReplyRule}
-use Rattle.ftp_control.specs.declared.control.rule.ReplyRule.TheVariants.{Strict, Lenient}
-use Rattle.ftp_control.specs.declared.control.outcome.Outcome.TheVariants.{Waits}
 use Rattle.ftp_control.specs.Channel.{rule_left}
-use Rattle.ftp_control.specs.Grammar.{outcome}
 use Rattle.ftp_base.specs.declared.types.fault.FtpError.{FtpError}
 use Rattle.ftp_transport.specs.declared.request.RequestOutcome.{RequestOutcome}
 use Rattle.ftp_dialogue.specs.declared.model.DealOutcome.{DealOutcome}
 use Rattle.ftp_dialogue.specs.declared.state.State.{State}
+use Rattle.ftp_dialogue.specs.Lenient.{SaysNothingYet}
 use Rattle.ftp_dialogue.specs.State.{SessionValue}
 use Rattle.ftp_dialogue.specs.Dialogue.{Tree, Say, Hear, Look, Ask, Build, Move, Leaf}
 
@@ -26,11 +23,6 @@ modes_in kept rule state = record { under = rule_left kept rule state.settings.r
 
 abbrev pub modes_of : SessionValue → Modes
 modes_of v = modes_in v.channel.kept v.channel.rule v.state
-
--- what is kept says nothing yet as one of this form; strictly it says nothing as one of any, which isn't asked
-abbrev pub SaysNothingYet : ReplyRule → ReplyForm → List ℕ → Type 0
-SaysNothingYet Strict form kept = Unit {0}
-SaysNothingYet Lenient form kept = outcome Lenient form kept false ≡ Waits
 
 -- the tree may come to its end without hearing a reply, and leaves this state, where it began in that one
 abbrev pub Silent : State → State → Tree → Type 0

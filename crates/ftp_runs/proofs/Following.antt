@@ -57,11 +57,12 @@ use Rattle.ftp_dialogue.specs.Sound.{cannot_open}
 use Rattle.ftp_dialogue.specs.Dialogue.{agreeing, at_port, closing, entered, opened_from, told_of_close, with_left, from_turn, negotiating, negotiating_unless, on_address, Expected, expected_of, Tree, Say, Hear, saying, awaiting, doing, later, dialogue, parting, aborting, breaking_off}
 use Rattle.ftp_dialogue.specs.Play.{ended, finally, play, fits, heard_then, needs_data}
 use Rattle.ftp_dialogue.specs.declared.model.Played.{Played}
-use Rattle.ftp_dialogue.specs.Resuming.{Modes, Resumes, SaysNothingYet, Silent, modes_in, modes_of}
+use Rattle.ftp_dialogue.specs.Lenient.{SameForm, SaysNothingYet, first_form, heard_form}
+use Rattle.ftp_dialogue.specs.Resuming.{Modes, Resumes, Silent, modes_in, modes_of}
 use Rattle.ftp_runs.specs.Run.{replay, before, and_then}
 use Rattle.ftp_dialogue.specs.Promises.{due_of, lacks_of, refusal_of, begun_by, failed_from, lacking_at, standing, However, Fails, LacksMemory, Touched, Untouched, Goes, Leads, Rests, Aborts}
 use Rattle.ftp_runs.specs.Runs.{before_all}
-use Rattle.ftp_runs.specs.Script.{unread, is_over, start_of, front, kept_in, modes_at, rule_at, seen_at, form_at, first_form, heard_form, polled_as, run_with, poll_script, HearsNothing, MayCancel, MayPoll, SameForm, SameMode}
+use Rattle.ftp_runs.specs.Script.{unread, is_over, start_of, front, kept_in, modes_at, rule_at, seen_at, form_at, polled_as, run_with, poll_script, HearsNothing, MayCancel, MayPoll, SameMode}
 use Rattle.ftp_runs.specs.Scripted.{MayGoOn, SaysFrontOf, SaysNothing, Stands, SaysOrTakes, CallHasBegun, Reaches, LeftOf, entering}
 use Rattle.ftp_dialogue.specs.Steps.Stages.{StageOf, remaining, begun_at}
 use Rattle.ftp_dialogue.specs.Steps.Moving.{Apart, BeginsHere, HasBegun, HasGoneOut, NothingTouched, Speaks, StillSays, Keeps, Shrinks, Calm, Advances, PollsTo, WaitsFor, WaitsToSay}

@@ -26,6 +26,7 @@ use Rattle.ftp_dialogue.specs.Dialogue.{expected_of, dialogue}
 use Rattle.ftp_dialogue.specs.declared.state.State.{State}
 use Rattle.ftp_control.specs.declared.control.rule.ReplyRule.{ReplyRule}
 use Rattle.ftp_control.specs.declared.control.rule.ReplyRule.TheVariants.{Strict, Lenient}
+use Rattle.ftp_dialogue.specs.Lenient.{SameForm}
 use Rattle.ftp_dialogue.specs.Resuming.{Modes, Resumes, modes_in}
 use Rattle.ftp_runs.specs.Run.{replay}
 use Rattle.ftp_dialogue.specs.Play.{is_due, is_unit, needs_data}
@@ -74,17 +75,6 @@ script_of v form = record {
   state = v.state;
   failed = v.channel.failed;
 }
-
--- the form of the reply that a row hears
-abbrev pub heard_form : Row → ReplyForm
-heard_form (Exchanges exchange) = (expected_of exchange.hears).form
-heard_form (Arms offset) = Plain
-heard_form (Sets setting) = Plain
-heard_form (Moves movement) = Plain
-
--- the form of the reply that a call first hears; neither a negotiation nor the end of a transfer hears a list
-abbrev pub first_form : Call → ReplyForm
-first_form call = if negotiates call || finishes call then Plain else heard_form (row_of call First)
 
 -- what goes out of what was said
 abbrev pub front : Room → List ℕ → List ℕ
@@ -312,11 +302,6 @@ modes_at s = modes_in (kept_in s) s.rule s.state
 
 abbrev pub SameMode : Modes → Type 0
 SameMode modes = modes.under ≡ modes.setting
-
--- leniently the call hears a reply of the form that was read; strictly that isn't asked
-abbrev pub SameForm : ReplyRule → Call → ReplyForm → Type 0
-SameForm Strict call form = Unit {0}
-SameForm Lenient call form = first_form call ≡ form
 
 abbrev pub MayPoll : Coding → Standing → Option Call → Script → Type 0
 MayPoll coding start None s = Unit {0}
