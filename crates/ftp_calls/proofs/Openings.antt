@@ -3,7 +3,7 @@
 use Rattle.std.proofs.Common.{◌≡◌, Bool, true, false, not, ◌&&◌, ◌||◌, is_none, refl, ap}
 use Rattle.ftp_calls.specs.declared.call.Call.{Call}
 use Rattle.ftp_calls.specs.declared.exchange.Ending.{Ending}
-use Rattle.ftp_calls.specs.declared.exchange.Ending.TheVariants.{Done, GivesReply, Greets, GivesPath, GivesSecondLine, GivesTime, GivesSize, GivesFeatures, SetsText, GoesOn, Continues, GivesAddress, GivesPort, Opens, Performs, Finishes, Drains, Stops}
+use Rattle.ftp_calls.specs.declared.exchange.Ending.TheVariants.{Done, GivesReply, TakesReply, Greets, GivesPath, GivesSecondLine, GivesTime, GivesSize, GivesFeatures, SetsText, GoesOn, Continues, GivesAddress, GivesPort, Opens, Performs, Finishes, Drains, Stops}
 use Rattle.ftp_calls.specs.declared.exchange.Row.{Row}
 use Rattle.ftp_calls.specs.declared.exchange.Row.TheVariants.{Exchanges, Arms, Sets, Moves}
 use Rattle.ftp_calls.specs.declared.exchange.Turn.TheVariants.{First, Second}
@@ -54,6 +54,7 @@ row_is_own call first = turn_is_own (own call) first
 ending_opens_none : (e : Ending) → is_opening e ≡ true → only_reads e ≡ false
 ending_opens_none Done is = refl
 ending_opens_none GivesReply is = let clash : false ≡ true = is in cc
+ending_opens_none TakesReply is = let clash : false ≡ true = is in cc
 ending_opens_none Greets is = refl
 ending_opens_none GivesPath is = refl
 ending_opens_none GivesSecondLine is = refl

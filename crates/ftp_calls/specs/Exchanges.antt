@@ -15,7 +15,7 @@ use Rattle.ftp_calls.specs.declared.exchange.Turn.TheVariants.{First, Second, Pa
 use Rattle.ftp_calls.specs.declared.exchange.Codes.{Codes}
 use Rattle.ftp_calls.specs.declared.exchange.Codes.TheVariants.{One, Either, Given, Features}
 use Rattle.ftp_calls.specs.declared.exchange.Ending.{Ending}
-use Rattle.ftp_calls.specs.declared.exchange.Ending.TheVariants.{Done, GivesReply, Greets, GivesPath, GivesSecondLine, GivesTime, GivesSize, GivesFeatures, SetsText, GoesOn, Continues, GivesAddress, GivesPort, Opens, Performs, Finishes, Drains, Stops}
+use Rattle.ftp_calls.specs.declared.exchange.Ending.TheVariants.{Done, GivesReply, TakesReply, Greets, GivesPath, GivesSecondLine, GivesTime, GivesSize, GivesFeatures, SetsText, GoesOn, Continues, GivesAddress, GivesPort, Opens, Performs, Finishes, Drains, Stops}
 use Rattle.ftp_calls.specs.declared.exchange.Fetch.{Fetch}
 use Rattle.ftp_calls.specs.declared.exchange.Fetch.TheVariants.{Whole, Listed}
 use Rattle.ftp_calls.specs.declared.exchange.Task.{Task}
@@ -101,8 +101,8 @@ own (Mdtm path) = Once (says (command.Mdtm path) (One File) GivesTime) refl
 own (Size path) = Once (says (command.Size path) (One File) GivesSize) refl
 own Feat = Once (says command.Feat Features GivesFeatures) refl
 own (CustomCommand line codes) = Once (says (command.Custom line) (Given codes) GivesReply) refl
-own (ReadResponse status) = Once (hears (One status) GivesReply) refl
-own (ReadResponseIn codes) = Once (hears (Given codes) GivesReply) refl
+own (ReadResponse status) = Once (hears (One status) TakesReply) refl
+own (ReadResponseIn codes) = Once (hears (Given codes) TakesReply) refl
 own (ResumeTransfer offset) = Once (Arms offset) refl
 own (RetrAsStream path) = Once (says (command.Retr path) (Either AboutToSend AlreadyOpen) (Opens false)) refl
 own (PutWithStream path) = Once (says (command.Store path) (Either AlreadyOpen AboutToSend) (Opens false)) refl
@@ -170,6 +170,7 @@ kind_of_task (task.Store bytes) = Movements
 abbrev pub kind_of : Ending → Kind
 kind_of Done = Nothing
 kind_of GivesReply = Replies
+kind_of TakesReply = Replies
 kind_of Greets = Nothing
 kind_of GivesPath = Texts
 kind_of GivesSecondLine = Texts
@@ -191,6 +192,7 @@ kind_of Stops = Nothing
 abbrev pub gives_reply : Ending → Bool
 gives_reply Done = false
 gives_reply GivesReply = true
+gives_reply TakesReply = true
 gives_reply Greets = false
 gives_reply GivesPath = false
 gives_reply GivesSecondLine = false
@@ -221,6 +223,10 @@ says_of (Exchanges exchange) = exchange.says
 says_of (Arms offset) = None
 says_of (Sets setting) = None
 says_of (Moves movement) = None
+
+-- a call says a command at this turn, rather than that it hears a reply alone
+abbrev pub says_at : Call → Turn → Bool
+says_at call turn = not (is_none (says_of (row_of call turn)))
 
 -- what a row gives where it succeeds
 abbrev pub given_by : Row → Kind

@@ -235,8 +235,8 @@ pub(crate) fn own_row(call: &Call, first: bool) -> Result<Row, AllocError>
         }
         Call::Feat => Ok(says(Command::Feat, Codes::Features, Ending::GivesFeatures)),
         Call::CustomCommand(line, codes) => custom(line, codes, Ending::GivesReply),
-        Call::ReadResponse(status) => Ok(hears(Codes::One(*status), Ending::GivesReply)),
-        Call::ReadResponseIn(codes) => Ok(hears(Codes::Given(codes.clone()?), Ending::GivesReply)),
+        Call::ReadResponse(status) => Ok(hears(Codes::One(*status), Ending::TakesReply)),
+        Call::ReadResponseIn(codes) => Ok(hears(Codes::Given(codes.clone()?), Ending::TakesReply)),
         Call::ResumeTransfer(offset) => Ok(Row::Arms(*offset)),
         Call::RetrAsStream(path) => {
             Ok(says(Command::Retr(path.clone()?), sent(), Ending::Opens(false)))

@@ -4,7 +4,7 @@
 //! All that the machine does with a call follows from its row.
 
 ghost use Rattle.std.specs.Prelude.{◌≡◌, IfErr, IfOk, false};
-ghost use Rattle.ftp_calls.specs.Exchanges.{aborting_row, aborts, drains, drains_first, finishes, is_local, negotiates, next_turn, of_transfer, restarted, restarts, row_of, uploads};
+ghost use Rattle.ftp_calls.specs.Exchanges.{aborting_row, aborts, drains, drains_first, finishes, is_local, is_read, negotiates, next_turn, of_transfer, restarted, restarts, row_of, says_at, uploads};
 
 use crate::active::port_command;
 use crate::call::{Call, Setting, own_row};
@@ -57,6 +57,8 @@ pub enum Ending {
     Done,
     /// The reply is the answer.
     GivesReply,
+    /// The reply is the answer, of a command that was dropped where one is due.
+    TakesReply,
     /// The reply is the server's greeting.
     Greets,
     /// The path between the reply's quotes is the answer.
@@ -226,6 +228,38 @@ pub fn finishes(call: &Call) -> bool
     ensures { result ≡ finishes call.now }
 {
     matches!(call, Call::Finish | Call::Abort)
+}
+
+/// Whether a call is a plain read of one reply, and says nothing.
+pub fn is_read(call: &Call) -> bool
+    ensures { result ≡ is_read call.now }
+{
+    matches!(
+        call,
+        Call::ReadResponse(_) | Call::ReadResponseIn(_) | Call::Drain
+    )
+}
+
+/// Whether a call says a command at this turn, rather than that it hears a reply alone.
+pub fn says_at(call: &Call, turn: Turn) -> bool
+    ensures { result ≡ says_at call.now turn }
+{
+    match turn {
+        Turn::First | Turn::Second => says_own(call),
+        Turn::Passive(_) | Turn::ExtendedPassive(_) | Turn::Active(..) | Turn::Restart(_) => true,
+        Turn::Closed(_) | Turn::Aborted => false,
+    }
+}
+
+/// Whether a call says a command of its own.
+fn says_own(call: &Call) -> bool
+    ensures first { result ≡ says_at call.now Turn.First }
+    ensures second { result ≡ says_at call.now Turn.Second }
+{
+    !is_local(call)
+        && !is_read(call)
+        && !finishes(call)
+        && !matches!(call, Call::Greet | Call::ResumeTransfer(_))
 }
 
 /// Whether a call aborts a transfer.

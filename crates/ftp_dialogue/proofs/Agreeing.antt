@@ -4,7 +4,7 @@ use Rattle.ftp_calls.proofs.Openings.{opens_alike, row_is_own}
 use Rattle.ftp_calls.specs.declared.call.Answer.{Answer}
 use Rattle.ftp_calls.specs.declared.call.Call.{Call}
 use Rattle.ftp_calls.specs.declared.exchange.Ending.{Ending}
-use Rattle.ftp_calls.specs.declared.exchange.Ending.TheVariants.{Done, GivesReply, Greets, GivesPath, GivesSecondLine, GivesTime, GivesSize, GivesFeatures, SetsText, GoesOn, Continues, GivesAddress, GivesPort, Opens, Performs, Finishes, Drains, Stops}
+use Rattle.ftp_calls.specs.declared.exchange.Ending.TheVariants.{Done, GivesReply, TakesReply, Greets, GivesPath, GivesSecondLine, GivesTime, GivesSize, GivesFeatures, SetsText, GoesOn, Continues, GivesAddress, GivesPort, Opens, Performs, Finishes, Drains, Stops}
 use Rattle.ftp_dialogue.proofs.Sorts.{finishing_moves, aborts_finish}
 use Rattle.ftp_calls.specs.declared.exchange.Task.{Task}
 use Rattle.ftp_calls.specs.declared.exchange.Row.{Row}
@@ -29,6 +29,7 @@ row_agrees (Some ending) = agrees ending
 ending_agrees : (e : Ending) (rest : Bool) → not (is_negotiating e) && rest ≡ true → agrees e ≡ is_opening e
 ending_agrees Done rest own = refl
 ending_agrees GivesReply rest own = refl
+ending_agrees TakesReply rest own = refl
 ending_agrees Greets rest own = refl
 ending_agrees GivesPath rest own = refl
 ending_agrees GivesSecondLine rest own = refl

@@ -10,7 +10,7 @@ use Rattle.ftp_calls.specs.declared.call.Call.{Call}
 use Rattle.ftp_calls.specs.declared.call.Call.TheVariants.{Set, Read, Write, Leave}
 use Rattle.ftp_calls.specs.declared.call.Setting.{Setting}
 use Rattle.ftp_calls.specs.declared.exchange.Ending.{Ending}
-use Rattle.ftp_calls.specs.declared.exchange.Ending.TheVariants.{GivesReply, Drains}
+use Rattle.ftp_calls.specs.declared.exchange.Ending.TheVariants.{GivesReply, TakesReply, Drains}
 use Rattle.ftp_calls.specs.declared.exchange.Exchange.{Exchange}
 use Rattle.ftp_calls.specs.declared.exchange.Movement.{Movement}
 use Rattle.ftp_calls.specs.declared.exchange.Movement.TheVariants as movement
@@ -169,16 +169,19 @@ read_apart coding call state read =
     both true b is = (refl, is)
     both false b is = let clash : false ≡ true = is in cc
 
-    heard : (e : Ending) → (e ≡ GivesReply) ⊎ (e ≡ Drains) → (h : Result Response FtpError) → Apart (concluded coding e state (later coding call First) h)
+    heard : (e : Ending) → (e ≡ GivesReply) ⊎ (e ≡ TakesReply) ⊎ (e ≡ Drains) → (h : Result Response FtpError) → Apart (concluded coding e state (later coding call First) h)
     heard e (inl is) (Ok reply) =
         let A : Ending → Type 0 = λ x. Apart (accepted coding x state reply (later coding call First)) in
         subst A (sym is) tt
-    heard e (inr is) (Ok reply) =
+    heard e (inr (inl is)) (Ok reply) =
+        let A : Ending → Type 0 = λ x. Apart (accepted coding x state reply (later coding call First)) in
+        subst A (sym is) tt
+    heard e (inr (inr is)) (Ok reply) =
         let A : Ending → Type 0 = λ x. Apart (accepted coding x state reply (later coding call First)) in
         subst A (sym is) tt
     heard e is (Err fault) = tt
 
-    saying_none : (e : Exchange) → (e.ending ≡ GivesReply) ⊎ (e.ending ≡ Drains) → (says : Option Command) → is_none says ≡ true → Apart (saying coding says (awaiting coding (expected_of e.hears) e.ending state (later coding call First)))
+    saying_none : (e : Exchange) → (e.ending ≡ GivesReply) ⊎ (e.ending ≡ TakesReply) ⊎ (e.ending ≡ Drains) → (says : Option Command) → is_none says ≡ true → Apart (saying coding says (awaiting coding (expected_of e.hears) e.ending state (later coding call First)))
     saying_none e gives None none = λ h. heard e.ending gives h
     saying_none e gives (Some command) none = let clash : false ≡ true = none in cc
 

@@ -5,7 +5,7 @@ use Rattle.ftp_calls.specs.declared.call.Answer.TheVariants as answers
 use Rattle.ftp_calls.specs.declared.call.Call.{Call}
 use Rattle.ftp_calls.specs.declared.call.Call.TheVariants.{Drain}
 use Rattle.ftp_calls.specs.declared.exchange.Ending.{Ending}
-use Rattle.ftp_calls.specs.declared.exchange.Ending.TheVariants.{Done, GivesReply, Greets, GivesPath, GivesSecondLine, GivesTime, GivesSize, GivesFeatures, SetsText, GoesOn, Continues, GivesAddress, GivesPort, Opens, Performs, Finishes, Drains, Stops}
+use Rattle.ftp_calls.specs.declared.exchange.Ending.TheVariants.{Done, GivesReply, TakesReply, Greets, GivesPath, GivesSecondLine, GivesTime, GivesSize, GivesFeatures, SetsText, GoesOn, Continues, GivesAddress, GivesPort, Opens, Performs, Finishes, Drains, Stops}
 use Rattle.ftp_calls.specs.declared.exchange.Row.{Row}
 use Rattle.ftp_calls.specs.declared.exchange.Row.TheVariants.{Exchanges, Arms, Sets, Moves}
 use Rattle.ftp_calls.specs.declared.exchange.Turn.{Turn}
@@ -59,6 +59,7 @@ finishing_follows (Finishes close) is = refl
 finishing_follows Stops is = refl
 finishing_follows Done is = let clash : false ≡ true = is in cc
 finishing_follows GivesReply is = let clash : false ≡ true = is in cc
+finishing_follows TakesReply is = let clash : false ≡ true = is in cc
 finishing_follows Greets is = let clash : false ≡ true = is in cc
 finishing_follows GivesPath is = let clash : false ≡ true = is in cc
 finishing_follows GivesSecondLine is = let clash : false ≡ true = is in cc

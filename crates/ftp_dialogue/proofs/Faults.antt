@@ -22,6 +22,7 @@ use Rattle.ftp_dialogue.specs.Steps.Stages.{AnswersKind, MayAnswer, TurnOf}
 pub told_fails : (how : Ending) (fault : FtpError) (old mid : SessionValue) → HeardFault fault old mid → mid.channel.failed ≡ true → (old.channel.failed ≡ true) ⊎ IsFault (answer_to_fault how fault)
 told_fails ending.Done fault old mid heard failed = inr tt
 told_fails ending.GivesReply fault old mid heard failed = inr tt
+told_fails ending.TakesReply fault old mid heard failed = inr tt
 told_fails ending.Greets fault old mid heard failed = inr tt
 told_fails ending.GivesPath fault old mid heard failed = inr tt
 told_fails ending.GivesSecondLine fault old mid heard failed = inr tt
@@ -50,6 +51,7 @@ told_fails ending.Drains (UnexpectedResponse reply) old mid heard failed = inl (
 pub told_failure : (how : Ending) (kind : ErrorKind) → (fault : FtpError) × (answer_to_fault how (ConnectionError (Io kind)) ≡ Fault fault)
 told_failure ending.Done kind = (_, refl)
 told_failure ending.GivesReply kind = (_, refl)
+told_failure ending.TakesReply kind = (_, refl)
 told_failure ending.Greets kind = (_, refl)
 told_failure ending.GivesPath kind = (_, refl)
 told_failure ending.GivesSecondLine kind = (_, refl)
@@ -71,6 +73,7 @@ told_failure ending.Stops kind = (_, refl)
 told_kind : (how : Ending) (fault : FtpError) → AnswersKind (kind_of how) (answer_to_fault how fault)
 told_kind ending.Done fault = tt
 told_kind ending.GivesReply fault = tt
+told_kind ending.TakesReply fault = tt
 told_kind ending.Greets fault = tt
 told_kind ending.GivesPath fault = tt
 told_kind ending.GivesSecondLine fault = tt
@@ -109,6 +112,7 @@ fault_answers call turn how begun fault old new told row of ends = go (wants_mem
 pub told_undrained : (how : Ending) (fault : FtpError) → is_draining how ≡ false → (found : FtpError) × (answer_to_fault how fault ≡ Fault found)
 told_undrained ending.Done fault none = (_, refl)
 told_undrained ending.GivesReply fault none = (_, refl)
+told_undrained ending.TakesReply fault none = (_, refl)
 told_undrained ending.Greets fault none = (_, refl)
 told_undrained ending.GivesPath fault none = (_, refl)
 told_undrained ending.GivesSecondLine fault none = (_, refl)

@@ -1,6 +1,7 @@
 pub mod AbortingLemmas
 pub mod Agreeing
 pub mod CarryingLemmas
+pub mod CatchingUpLemmas
 pub mod DataCommands
 pub mod DrainingLemmas
 pub mod Deals

@@ -21,6 +21,7 @@ use Rattle.ftp_dialogue.specs.Steps.Stages.{GoesOnTo, StageAfter, StageOf, TurnO
 goes_on_unread : (how : Ending) → kind_of how ≡ Nothing → is_draining how ≡ false → only_reads how ≡ false
 goes_on_unread ending.Done kind undrained = refl
 goes_on_unread ending.GivesReply kind undrained = let clash : Replies ≡ Nothing = kind in cc
+goes_on_unread ending.TakesReply kind undrained = let clash : Replies ≡ Nothing = kind in cc
 goes_on_unread ending.Greets kind undrained = refl
 goes_on_unread ending.GivesPath kind undrained = refl
 goes_on_unread ending.GivesSecondLine kind undrained = refl

@@ -3,7 +3,7 @@ use Rattle.std.proofs.Common.{◌≡◌, ◌⊎◌, inl, inr, Bool, true, false,
 use Rattle.ftp_calls.proofs.Openings.{local_alike}
 use Rattle.ftp_calls.specs.declared.call.Call.{Call}
 use Rattle.ftp_calls.specs.declared.exchange.Ending.{Ending}
-use Rattle.ftp_calls.specs.declared.exchange.Ending.TheVariants.{Done, GivesReply, Greets, GivesPath, GivesSecondLine, GivesTime, GivesSize, GivesFeatures, SetsText, GoesOn, Continues, GivesAddress, GivesPort, Opens, Performs, Finishes, Drains, Stops}
+use Rattle.ftp_calls.specs.declared.exchange.Ending.TheVariants.{Done, GivesReply, TakesReply, Greets, GivesPath, GivesSecondLine, GivesTime, GivesSize, GivesFeatures, SetsText, GoesOn, Continues, GivesAddress, GivesPort, Opens, Performs, Finishes, Drains, Stops}
 use Rattle.ftp_calls.specs.declared.exchange.Row.{Row}
 use Rattle.ftp_calls.specs.declared.exchange.Row.TheVariants.{Exchanges, Arms, Sets, Moves}
 use Rattle.ftp_calls.specs.declared.exchange.Turn.{Turn}
@@ -20,6 +20,7 @@ use Rattle.ftp_dialogue.specs.Steps.Stages.{FetchOf, StageOf, TurnOf}
 finishing_gives_none : (e : Ending) → is_finishing e ≡ true → only_reads e ≡ false
 finishing_gives_none Done is = refl
 finishing_gives_none GivesReply is = let clash : false ≡ true = is in cc
+finishing_gives_none TakesReply is = let clash : false ≡ true = is in cc
 finishing_gives_none Greets is = refl
 finishing_gives_none GivesPath is = refl
 finishing_gives_none GivesSecondLine is = refl
@@ -40,6 +41,7 @@ finishing_gives_none Stops is = refl
 finishing_opens_none : (e : Ending) → is_finishing e ≡ true → is_opening e ≡ false
 finishing_opens_none Done is = refl
 finishing_opens_none GivesReply is = refl
+finishing_opens_none TakesReply is = refl
 finishing_opens_none Greets is = refl
 finishing_opens_none GivesPath is = refl
 finishing_opens_none GivesSecondLine is = refl
@@ -57,9 +59,10 @@ finishing_opens_none (Finishes close) is = refl
 finishing_opens_none Drains is = refl
 finishing_opens_none Stops is = refl
 
-pub reply_ending : (e : Ending) → only_reads e ≡ true → (e ≡ GivesReply) ⊎ (e ≡ Drains)
+pub reply_ending : (e : Ending) → only_reads e ≡ true → (e ≡ GivesReply) ⊎ (e ≡ TakesReply) ⊎ (e ≡ Drains)
 reply_ending Done is = let clash : false ≡ true = is in cc
 reply_ending GivesReply is = inl refl
+reply_ending TakesReply is = inr (inl refl)
 reply_ending Greets is = let clash : false ≡ true = is in cc
 reply_ending GivesPath is = let clash : false ≡ true = is in cc
 reply_ending GivesSecondLine is = let clash : false ≡ true = is in cc
@@ -74,12 +77,13 @@ reply_ending GivesPort is = let clash : false ≡ true = is in cc
 reply_ending (Opens replies) is = let clash : false ≡ true = is in cc
 reply_ending (Performs task) is = let clash : false ≡ true = is in cc
 reply_ending (Finishes close) is = let clash : false ≡ true = is in cc
-reply_ending Drains is = inr refl
+reply_ending Drains is = inr (inr refl)
 reply_ending Stops is = let clash : false ≡ true = is in cc
 
 opening_drains_none : (e : Ending) → is_opening e ≡ true → is_draining e ≡ false
 opening_drains_none Done is = refl
 opening_drains_none GivesReply is = refl
+opening_drains_none TakesReply is = refl
 opening_drains_none Greets is = refl
 opening_drains_none GivesPath is = refl
 opening_drains_none GivesSecondLine is = refl
@@ -227,6 +231,7 @@ aborting_ends : (e : Ending) → is_aborting e ≡ true → is_finishing e ≡ t
 aborting_ends Stops is = refl
 aborting_ends Done is = let clash : false ≡ true = is in cc
 aborting_ends GivesReply is = let clash : false ≡ true = is in cc
+aborting_ends TakesReply is = let clash : false ≡ true = is in cc
 aborting_ends Greets is = let clash : false ≡ true = is in cc
 aborting_ends GivesPath is = let clash : false ≡ true = is in cc
 aborting_ends GivesSecondLine is = let clash : false ≡ true = is in cc

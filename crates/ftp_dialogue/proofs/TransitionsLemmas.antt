@@ -70,6 +70,7 @@ row_refused link coding (row.Moves movement) cause later v is = let clash : Ok [
 fault_stays : (ending : Ending) (state : State) → is_aborting ending ≡ false → after_fault_of ending OutOfMemory state ≡ state
 fault_stays ending.Done state none = refl
 fault_stays ending.GivesReply state none = refl
+fault_stays ending.TakesReply state none = refl
 fault_stays ending.Greets state none = refl
 fault_stays ending.GivesPath state none = refl
 fault_stays ending.GivesSecondLine state none = refl
@@ -112,6 +113,7 @@ row_stays coding (row.Moves m) next state none = carrying_stays m state
 accepted_unheard : (coding : Coding) (ending : Ending) (state other : State) (reply : Response) (next : State → Tree) → takes_memory ending ≡ true → state_at (accepted coding ending state reply next) OutOfMemory other ≡ other
 accepted_unheard coding ending.Done state other reply next takes = let clash : false ≡ true = takes in cc
 accepted_unheard coding ending.GivesReply state other reply next takes = let clash : false ≡ true = takes in cc
+accepted_unheard coding ending.TakesReply state other reply next takes = let clash : false ≡ true = takes in cc
 accepted_unheard coding ending.Greets state other reply next takes = refl
 accepted_unheard coding ending.GivesPath state other reply next takes = refl
 accepted_unheard coding ending.GivesSecondLine state other reply next takes = refl

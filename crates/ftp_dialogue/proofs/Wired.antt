@@ -139,6 +139,7 @@ one_exchange coding exchange state next answer s t undrained success is = go exc
 accepted_leaf : (coding : Coding) (how : Ending) (state : State) (reply : Response) → agrees how ≡ false → (answer : Answer) × (new : State) × (accepted coding how state reply (λ x. Leaf Unit x) ≡ Leaf answer new)
 accepted_leaf coding ending.Done state reply plain = (Unit, state, refl)
 accepted_leaf coding ending.GivesReply state reply plain = (Reply reply, state, refl)
+accepted_leaf coding ending.TakesReply state reply plain = (Reply reply, _, refl)
 accepted_leaf coding ending.Greets state reply plain = (Unit, _, refl)
 accepted_leaf coding ending.GivesPath state reply plain = (_, state, refl)
 accepted_leaf coding ending.GivesSecondLine state reply plain = (_, state, refl)
@@ -228,6 +229,7 @@ module _ (coding : Coding) (call : Call) (answer : Answer) (s t : Standing) (sta
   next : (how : Ending) (reply : Response) (m : Standing) → agrees how ≡ false → play Any (accepted coding how state reply (later coding call First)) m ≡ Done answer t → ExchangedIf (goes_on_with how reply) coding (row_of call Second) m t
   next ending.Done reply m plain done = stays m _ _ done
   next ending.GivesReply reply m plain done = stays m _ _ done
+  next ending.TakesReply reply m plain done = stays m _ _ done
   next ending.Greets reply m plain done = stays m _ _ done
   next ending.GivesPath reply m plain done = stays m _ _ done
   next ending.GivesSecondLine reply m plain done = stays m _ _ done

@@ -51,7 +51,7 @@ use Rattle.ftp_dialogue.specs.declared.state.Owed.TheVariants as owed
 use Rattle.ftp_calls.specs.declared.exchange.Turn.{Turn}
 use Rattle.ftp_calls.specs.declared.exchange.Turn.TheVariants.{First, Second, Passive, ExtendedPassive, Active, Restart, Closed, Aborted}
 use Rattle.ftp_calls.specs.declared.exchange.Ending.{Ending}
-use Rattle.ftp_calls.specs.declared.exchange.Ending.TheVariants.{Done, GivesReply, Greets, GivesPath, GivesSecondLine, GivesTime, GivesSize, GivesFeatures, SetsText, GoesOn, Continues, GivesAddress, GivesPort, Opens, Performs, Finishes, Drains, Stops}
+use Rattle.ftp_calls.specs.declared.exchange.Ending.TheVariants.{Done, GivesReply, TakesReply, Greets, GivesPath, GivesSecondLine, GivesTime, GivesSize, GivesFeatures, SetsText, GoesOn, Continues, GivesAddress, GivesPort, Opens, Performs, Finishes, Drains, Stops}
 use Rattle.ftp_calls.specs.declared.exchange.Fetch.{Fetch}
 use Rattle.ftp_calls.specs.declared.exchange.Fetch.TheVariants.{Whole, Listed}
 use Rattle.ftp_calls.specs.declared.exchange.Task.{Task}
@@ -69,6 +69,7 @@ use Rattle.ftp_answers.specs.Listing.{listing}
 use Rattle.ftp_answers.specs.Addresses.{passive_address_of, extended_port_of}
 use Rattle.ftp_answers.specs.declared.addresses.NoAddress.{NoAddress}
 use Rattle.ftp_answers.specs.declared.addresses.NoAddress.TheVariants.{Absent, Unreadable}
+use Rattle.ftp_dialogue.specs.Unanswered.{after_faulty, answered_by}
 use Rattle.ftp_dialogue.specs.Sound.{cannot_open, left_behind, one_aborted, one_drained, one_finished, one_more}
 
 -- a reply that is awaited: its form, and the statuses that are accepted
@@ -292,6 +293,7 @@ abbrev pub after_fault_of : Ending → FtpError → State → State
 after_fault_of (Finishes close) fault state = if wants_memory fault then state else with_finished state
 after_fault_of Drains fault state = if wants_memory fault then state else with_drained state
 after_fault_of Stops fault state = with_aborted state
+after_fault_of TakesReply fault state = after_faulty fault state
 after_fault_of other fault state = state
 
 -- A whole data connection: RFC 959, sections 4.1.3 (RETR, LIST, NLST) and 5.4; RFC 3659, section 7 (MLSD)
@@ -427,6 +429,7 @@ performing coding (task.Store bytes) state = storing bytes state
 abbrev pub accepted : Coding → Ending → State → Response → (State → Tree) → Tree
 accepted coding Done state reply later = Leaf Unit state
 accepted coding GivesReply state reply later = Leaf (Reply reply) state
+accepted coding TakesReply state reply later = Leaf (Reply reply) (answered_by reply.status state)
 accepted coding Greets state reply later = Leaf Unit (record state { welcome = Some (greeting_of coding reply.body) })
 accepted coding GivesPath state reply later = Leaf (path_answer reply (path_of coding.decode reply.body)) state
 accepted coding GivesSecondLine state reply later = Leaf (line_answer (second_line_of coding.decode reply.body)) state

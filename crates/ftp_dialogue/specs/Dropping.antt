@@ -1,10 +1,14 @@
 -- A call that waits is dropped: what it leaves. RFC 959, sections 3.2 and 5.4.
-use Rattle.std.specs.Prelude.{◌≡◌, ◌&&◌, Bool, true, false, if◌then◌else◌}
-use Rattle.ftp_calls.specs.Exchanges.{aborts, finishes}
+use Rattle.std.specs.Prelude.{◌≡◌, ◌&&◌, Bool, true, false, Some, None, if◌then◌else◌}
+use Rattle.ftp_calls.specs.Exchanges.{aborts, finishes, says_at}
 use Rattle.ftp_calls.specs.declared.call.Call.{Call}
 use Rattle.ftp_dialogue.specs.Dialogue.{with_aborted, with_abandoned, with_left}
 use Rattle.ftp_dialogue.specs.State.{LetsGo, SessionValue}
-use Rattle.ftp_dialogue.specs.Steps.Stages.{is_out}
+use Rattle.ftp_dialogue.specs.Steps.Stages.{has_sent, is_out}
+use Rattle.ftp_dialogue.specs.Unanswered.{missed}
+use Rattle.ftp_calls.specs.declared.exchange.Turn.{Turn}
+use Rattle.ftp_calls.specs.declared.exchange.Turn.TheVariants.{Aborted}
+use Rattle.ftp_dialogue.specs.declared.stage.Aborting.TheVariants.{Wording, Sending, Parting}
 use Rattle.ftp_dialogue.specs.declared.stage.Agreeing.{Agreeing}
 use Rattle.ftp_dialogue.specs.declared.stage.Agreeing.TheVariants.{Negotiating, Locating, Binding, Asking}
 use Rattle.ftp_dialogue.specs.declared.stage.Asking.TheVariants.{PeerPort, Connection, Peer, Accepting}
@@ -43,9 +47,41 @@ left_by call stage state = if owes_last_reply stage then with_abandoned state el
 abbrev pub aborted_by : Call → Stage → State → State
 aborted_by call stage state = if aborts call && is_out stage then with_aborted state else state
 
+-- a line of the call was begun, and its reply hasn't come
+abbrev pub line_unanswered : Call → Stage → Bool
+line_unanswered call (Saying None awaits) = true
+line_unanswered call (Saying (Some line) awaits) = false
+line_unanswered call (Hearing awaits) = says_at call awaits.turn
+line_unanswered call other = false
+
+-- ABOR was begun
+abbrev pub abort_unanswered : Stage → Bool
+abort_unanswered (Aborting aborting) = has_sent aborting
+abort_unanswered other = is_out other
+
+abbrev pub is_unanswered : Call → Stage → Bool
+is_unanswered call stage = if aborts call then abort_unanswered stage else line_unanswered call stage
+
+-- the first reply of ABOR, which has gone out, hasn't come: 426 may be that
+abbrev pub is_abort_turn : Turn → Bool
+is_abort_turn Aborted = true
+is_abort_turn other = false
+
+abbrev pub awaits_abort : Stage → Bool
+awaits_abort (At turn) = is_abort_turn turn
+awaits_abort (Hearing awaits) = is_abort_turn awaits.turn
+awaits_abort (Aborting Wording) = false
+awaits_abort (Aborting (Sending line)) = false
+awaits_abort (Aborting Parting) = true
+awaits_abort other = false
+
+-- the reply of a command that was begun is due from now on
+abbrev pub missed_by : Call → Stage → State → State
+missed_by call stage state = if is_unanswered call stage then missed (aborts call && awaits_abort stage) state else state
+
 -- a call that waits is dropped: nothing goes over the control connection, whose unsent tail and kept reply stay; the data
 -- connection of the call is closed
 pub record DropsCall (tells : Type 0) (call : Call) (stage : Stage) (old new : SessionValue) : Type 0 where
   pub closed : SessionValue
   pub lets_go : LetsGo tells (record old { state = left_by call stage old.state }) closed
-  pub ends : new ≡ record closed { state = aborted_by call stage closed.state }
+  pub ends : new ≡ record closed { state = missed_by call stage (aborted_by call stage closed.state) }

@@ -1,3 +1,4 @@
+pub mod CatchingUp
 pub mod Coding
 pub mod Deals
 pub mod Dialogue
@@ -14,4 +15,5 @@ pub mod Sending
 pub mod Sound
 pub mod State
 pub mod Steps
+pub mod Unanswered
 pub mod Within

@@ -56,6 +56,10 @@ polling c = link c.tells c.read_faults c.write_faults c.end_faults
 abbrev pub asking : Builds → Type 0 → Link → Link
 asking builds asks_wait link = record link { asks_wait = asks_wait; builds = builds }
 
+-- the same connection, where nothing is asked
+abbrev pub unasked : Link → Link
+unasked link = asking builds_nothing ⊥ link
+
 -- a polled connection over memory: no read fails and no question, and a write fails only for want of memory
 abbrev pub over_memory : Builds → Link
 over_memory builds = building builds (Unit {0}) (λ kind. ⊥) (λ told kind. kind ≡ kinds.OutOfMemory) (λ kind. ⊥) ⊥

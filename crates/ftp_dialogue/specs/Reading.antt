@@ -14,12 +14,24 @@ use Rattle.ftp_dialogue.specs.Coding.{Coding}
 use Rattle.ftp_dialogue.specs.Dialogue.{Expected, Tree}
 use Rattle.ftp_dialogue.specs.Link.{Link}
 use Rattle.ftp_dialogue.specs.Promises.{PlaysAlone, Reads, Rests, due_of}
+use Rattle.ftp_dialogue.specs.Unanswered.{after_heard}
+use Rattle.ftp_dialogue.specs.declared.state.State.{State}
 
--- a read by itself: a session that has failed reads nothing; else one reply is heard or waited for, whatever comes after
--- it
+-- one reply is heard or waited for, whatever comes after it; where replies are due to commands that were dropped it is
+-- counted
+abbrev pub after_poll : Poll (Result Response FtpError) → State → State
+after_poll (Ready heard) state = after_heard heard state
+after_poll Pending state = state
+
+pub record ReadsCounted (link : Link) (codes : Expected) (old new : SessionValue) (result : Poll (Result Response FtpError)) : Type 0 where
+  pub last : SessionValue
+  pub reads : (next : Result Response FtpError → Tree) → Reads link codes next old last result
+  pub counts : new ≡ record last { state = after_poll result last.state }
+
+-- a read by itself: a session that has failed reads nothing
 abbrev pub ReadsUnless : Bool → Link → Expected → SessionValue → SessionValue → Poll (Result Response FtpError) → Type 0
 ReadsUnless true link codes old new result = (result ≡ Ready (Err SessionFailed)) × (new ≡ old)
-ReadsUnless false link codes old new result = (next : Result Response FtpError → Tree) → Reads link codes next old new result
+ReadsUnless false link codes old new result = ReadsCounted link codes old new result
 
 abbrev pub ReadsAlone : Link → Expected → SessionValue → SessionValue → Poll (Result Response FtpError) → Type 0
 ReadsAlone link codes old new result = ReadsUnless old.channel.failed link codes old new result

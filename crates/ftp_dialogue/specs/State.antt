@@ -33,6 +33,8 @@ pub record IsFirst (state : State) : Type 0 where
   pub transfers : state.counts ≡ no_transfers
   pub downloads : state.uploads ≡ false
   pub ungreeted : state.welcome ≡ None
+  pub answered : state.unanswered ≡ 0
+  pub unaborted : state.aborting ≡ false
 
 -- a session that reads replies by this rule begins on a connection that told this, and this stands beside it: nothing is
 -- read or sent, and what came and wasn't read is still to come

@@ -12,7 +12,7 @@ ghost use Rattle.ftp_dialogue.specs.Dialogue.{expecting};
 ghost use Rattle.ftp_dialogue.specs.Link.{asking, blocking, polling};
 ghost use Rattle.ftp_dialogue.specs.Play.{is_unit};
 ghost use Rattle.ftp_dialogue.specs.Promises.{GivesFault, due_of};
-ghost use Rattle.ftp_dialogue.specs.Reading.{PollsDrain, PollsRead, ReadsAlone, drain_told, due_before_read};
+ghost use Rattle.ftp_dialogue.specs.Reading.{PollsDrain, PollsRead, ReadsAlone, after_poll, drain_told, due_before_read};
 ghost use Rattle.ftp_dialogue.specs.Steps.Moving.{MadeDrained};
 ghost use Rattle.ftp_dialogue.specs.Steps.Stages.{MayAnswer};
 
@@ -132,7 +132,7 @@ impl<Tr: Network> Machine<Tr> {
     }
 
     /// Polls a read of one reply by itself.
-    fn poll_read_alone<W>(
+    pub(super) fn poll_read_alone<W>(
         &mut self,
         alloc: Global,
         expected: &[Status],
@@ -149,12 +149,25 @@ impl<Tr: Network> Machine<Tr> {
         if self.channel.failed() {
             return Poll::Ready(Err(FtpError::SessionFailed));
         }
-        self.hear(&Nothing, alloc, expected, w)
+        let heard = self.hear(&Nothing, alloc, expected, w);
+        self.count_heard(&heard);
+        heard
+    }
+
+    /// A reply was read, or a fault took its place: it counts where replies are due to commands that were dropped.
+    fn count_heard(&mut self, heard: &Poll<FtpResult<Response>>)
+        ensures { self.new ≡ record self.old { state = after_poll heard.now self.old.state } }
+    {
+        match heard {
+            Poll::Ready(Ok(reply)) => self.state.answer(reply.status),
+            Poll::Ready(Err(fault)) => self.state.answer_faulty(fault),
+            Poll::Pending => {}
+        }
     }
 }
 
 /// The result of a drain.
-fn drained(answer: Answer) -> FtpResult<()>
+pub(super) fn drained(answer: Answer) -> FtpResult<()>
     requires { MayAnswer Call.Drain answer }
     ensures { drain_told result ≡ answer }
 {

@@ -4,25 +4,26 @@
 //! kept. A transfer that the call held is left, so that its last reply is read before the next command.
 
 ghost use Rattle.std.specs.Prelude.{◌≡◌};
-ghost use Rattle.ftp_dialogue.specs.Dropping.{DropsCall, aborted_by, left_by, owes_last_reply};
+ghost use Rattle.ftp_dialogue.specs.Dropping.{DropsCall, abort_unanswered, aborted_by, awaits_abort, is_unanswered, left_by, missed_by, owes_last_reply};
 
 use super::Call;
 use super::aborting::is_out;
 use super::machine::Machine;
-use super::stage::{Agreeing, Asking, Stage};
-use ftp_calls::exchange::{aborts, finishes};
+use super::stage::{Aborting, Agreeing, Asking, Stage};
+use ftp_calls::exchange::{Turn, aborts, finishes, says_at};
 use ftp_transport::Network;
 
 impl<Tr: Network> Machine<Tr> {
     /// A call that waits at this stage is dropped. One that brings a transfer to its end leaves it, but for an abort whose
     /// `ABOR` has gone out whole: that transfer is over. The transfer of a data command that was accepted, of a whole file
-    /// or listing that is under way too, is left.
+    /// or listing that is under way too, is left. The reply of a command whose line was begun is due before later calls.
     pub fn drop_call(&mut self, call: &Call, stage: &Stage)
         ensures drops { DropsCall Tr.Conn.tells call.now stage.now self.old self.new }
     {
         self.leave_by(call, stage);
         self.let_go();
         self.abort_by(call, stage);
+        self.miss_by(call, stage);
     }
 
     /// The transfer of a call that is dropped at this stage is left.
@@ -44,6 +45,54 @@ impl<Tr: Network> Machine<Tr> {
         if aborts(call) && is_out(stage) {
             self.state.counts.abort();
         }
+    }
+}
+
+impl<Tr: Network> Machine<Tr> {
+    /// The reply of a command whose line was begun is due from now on.
+    fn miss_by(&mut self, call: &Call, stage: &Stage)
+        ensures { self.new ≡ record self.old { state = missed_by call.now stage.now self.old.state } }
+    {
+        if is_unanswered(call, stage) {
+            self.state.miss(aborts(call) && awaits_abort(stage));
+        }
+    }
+}
+
+/// Whether a line of the call was begun whose reply hasn't come.
+fn is_unanswered(call: &Call, stage: &Stage) -> bool
+    ensures { result ≡ is_unanswered call.now stage.now }
+{
+    if aborts(call) {
+        return abort_unanswered(stage);
+    }
+    match stage {
+        Stage::Saying(line, _awaits) => line.is_none(),
+        Stage::Hearing(awaits) => says_at(call, awaits.turn),
+        _ => false,
+    }
+}
+
+/// Whether `ABOR` was begun.
+fn abort_unanswered(stage: &Stage) -> bool
+    ensures { result ≡ abort_unanswered stage.now }
+{
+    match stage {
+        Stage::Aborting(Aborting::Sending(line)) => line.is_none(),
+        Stage::Aborting(Aborting::Parting) => true,
+        _ => is_out(stage),
+    }
+}
+
+/// Whether the first reply of `ABOR`, which has gone out, hasn't come.
+fn awaits_abort(stage: &Stage) -> bool
+    ensures { result ≡ awaits_abort stage.now }
+{
+    match stage {
+        Stage::At(turn) => matches!(turn, Turn::Aborted),
+        Stage::Hearing(awaits) => matches!(awaits.turn, Turn::Aborted),
+        Stage::Aborting(aborting) => matches!(aborting, Aborting::Parting),
+        _ => false,
     }
 }
 

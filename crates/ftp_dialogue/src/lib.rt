@@ -13,6 +13,7 @@ mod aborting;
 pub mod answers;
 pub mod asks;
 mod carrying;
+mod catching_up;
 mod draining;
 mod dropping;
 mod fetching;

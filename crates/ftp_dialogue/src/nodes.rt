@@ -166,6 +166,10 @@ pub(crate) fn accept<E: Encoding>(
     match ending {
         Ending::Done => Accepted::Done(Answer::Unit),
         Ending::GivesReply => Accepted::Done(Answer::Reply(reply)),
+        Ending::TakesReply => {
+            state.answer(reply.status);
+            Accepted::Done(Answer::Reply(reply))
+        }
         Ending::Greets => greeted(alloc, encoding, reply, state),
         Ending::GivesPath => done(path_answer(alloc, encoding, reply)),
         Ending::GivesSecondLine => done(line_answer(alloc, encoding, &reply)),
@@ -336,6 +340,10 @@ pub(crate) fn conclude_fault(
         }
         Ending::Stops => {
             state.counts.abort();
+            Answer::Fault(fault)
+        }
+        Ending::TakesReply => {
+            state.answer_faulty(&fault);
             Answer::Fault(fault)
         }
         other => {

@@ -7,8 +7,10 @@ ghost use Rattle.std.specs.Prelude.{◌≡◌};
 ghost use Rattle.ftp_dialogue.specs.Dialogue.{rule_by};
 ghost use Rattle.ftp_dialogue.specs.Sound.{SoundCounts, cannot_open, is_live, is_owed, left_behind, next_number, no_transfers, one_aborted, one_drained, one_finished, one_more};
 ghost use Rattle.ftp_dialogue.specs.State.{IsFirst};
+ghost use Rattle.ftp_dialogue.specs.Unanswered.{after_faulty, answered_by, is_preliminary, missed, one_counted};
 
 use ftp_base::encoding::WelcomeMessage;
+use ftp_base::status::Status;
 use ftp_base::types::{ActivePeerCheck, FtpError, Mode};
 use ftp_control::control::ReplyRule;
 use std::marker::Model;
@@ -38,6 +40,13 @@ pub struct Settings {
     pub restart_offset: u64,
     /// Whether the caller's builder makes passive data connections, in the transport's place.
     pub stream_builder: bool,
+}
+
+/// Whether another reply follows one of this status.
+fn is_preliminary(status: Status) -> bool
+    ensures { result ≡ is_preliminary status }
+{
+    matches!(status.code(), 100..=199)
 }
 
 /// The rule of lenient replies, or of strict ones.
@@ -264,6 +273,10 @@ pub struct State {
     pub uploads: bool,
     /// What the server greeted with, once the greeting was taken.
     pub welcome: Option<WelcomeMessage>,
+    /// How many commands were dropped whose replies haven't been read.
+    pub unanswered: u64,
+    /// Whether one of them is `ABOR`, and 426 may come before its reply.
+    pub aborting: bool,
 }
 
 impl State {
@@ -287,6 +300,62 @@ impl State {
             counts: Counts::new(),
             uploads: false,
             welcome: None,
+            unanswered: 0,
+            aborting: false,
+        }
+    }
+
+    /// A command was dropped after its line was begun and before its reply was read; of `ABOR` 426 may come first.
+    pub fn miss(&mut self, aborting: bool)
+        ensures { self.new ≡ missed aborting self.old }
+    {
+        self.unanswered = self.unanswered.saturating_add(1);
+        if aborting {
+            self.aborting = true;
+        }
+    }
+
+    /// A reply of this status was read. Where replies are due to dropped commands it settles a transfer that was left, or
+    /// answers one of them; a preliminary reply (RFC 959, section 4.2.1) and the 426 of an abort count for none.
+    pub fn answer(&mut self, status: Status)
+        ensures { self.new ≡ answered_by status self.old }
+    {
+        if self.unanswered == 0 || is_preliminary(status) {
+            return;
+        }
+        if self.aborting && status.code() == Status::TransferAborted.code() {
+            self.aborting = false;
+        } else {
+            self.count();
+        }
+    }
+
+    /// A fault took the place of a reply: what can't be read as one counts as one.
+    pub fn answer_faulty(&mut self, fault: &FtpError)
+        ensures { self.new ≡ after_faulty fault.now self.old }
+    {
+        match fault {
+            FtpError::UnexpectedResponse(reply) => self.answer(reply.status),
+            FtpError::BadResponse => {
+                if self.unanswered > 0 {
+                    self.count();
+                }
+            }
+            _ => {}
+        }
+    }
+
+    /// A reply counts: a transfer that was left has come to its end by it, or it is that of a dropped command.
+    fn count(&mut self)
+        ensures { self.new ≡ one_counted self.old }
+    {
+        if let Owed::Left(_) = self.counts.owed() {
+            self.counts.drain();
+        } else if self.unanswered <= 1 {
+            self.unanswered = 0;
+            self.aborting = false;
+        } else {
+            self.unanswered -= 1;
         }
     }
 }

@@ -13,9 +13,9 @@ use std::marker::PhantomData;
 
 /// A call that gives an `A`.
 ///
-/// Dropped, it lets the lock go. The last reply of a transfer that was left, where it was waited for, stays for the next
-/// call. Once a line of the call itself went out its reply does, too, which the next call takes as its own: drop it only
-/// where the connection is given up. A whole file or listing that is dropped once its command was accepted leaves its
+/// Dropped, it lets the lock go. The last reply of a transfer that was left, where it was waited for, is read by the next
+/// call. Once a line of the call itself was begun its reply is, too, before that call says or hears anything of its own;
+/// a plain read takes it for its answer. A whole file or listing that is dropped once its command was accepted leaves its
 /// transfer.
 #[derive(Drop)]
 pub struct Dialogue<'r, R, Tr: TaskTransport, K: Drop, E: Encoding, B: Drop, A>

@@ -152,8 +152,8 @@ where
 /// A transfer is aborted.
 ///
 /// Dropped before `ABOR` has gone out whole, it leaves the transfer, and the unsent tail of `ABOR` goes out before any
-/// other byte; the server may answer both the transfer and `ABOR` then, and the second answer stays for the call after the
-/// next. Dropped later, the transfer is over, and what the server says of it stays for the next call.
+/// other byte; dropped later, the transfer is over. Either way the next call reads what the server says of both first: one
+/// reply of the transfer where it was left, and one of `ABOR`, before which a 426 may come.
 #[derive(Drop)]
 pub struct Abort<'r, R, Tr: TaskTransport, K: Drop, E: Encoding, B: Drop>
 where

@@ -7,7 +7,10 @@
 //!
 //! A state that waits may be dropped at any time, which cancels it and lets the lock go. What was read of a reply is kept,
 //! the unsent tail of a line goes out before any other byte, and a transfer that the state held is left: its last reply is
-//! read before the next command. The reply to a command that went out stays for the next call.
+//! read before the next command, and so is the reply to a command that was begun. So the next call gets its own reply, of a
+//! server that gives each command the replies of RFC 959; but for `finish` and `abort`, which read the first reply that
+//! comes, where a command was dropped beside their transfer. A dropped `transfer_type` or `REST` may have changed the server,
+//! while the client's own setting stays.
 //!
 //! A poll that waits has registered its task for what it waits for, or asks to be polled again at once: no wake-up is
 //! lost. A deadline is waited for by a timer of the transport's, where it was made with one, as by

@@ -232,8 +232,8 @@ where
 
 /// A call that opens a transfer.
 ///
-/// Dropped before it has its answer it opens none; a reply to a command that went out stays for the next call, as that of
-/// a `Dialogue` does. Where its data command was accepted already, and the peer is waited for, the transfer is left.
+/// Dropped before it has its answer it opens none; the reply to a command that was begun is read by the next call, as that
+/// of a `Dialogue` is. Where its data command was accepted already, and the peer is waited for, the transfer is left.
 #[derive(Drop)]
 pub struct OpenTransfer<'r, R, Tr: TaskTransport, K: Drop, E: Encoding, B: Drop>
 where

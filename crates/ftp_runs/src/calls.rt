@@ -35,7 +35,8 @@ where
 {
     /// Makes these calls, one after another, and returns their answers in order. After a call in which the session
     /// failed each is answered by `SessionFailed`. Whether a transfer was left that was handed out before is looked at
-    /// once, before the first call.
+    /// once, before the first call. A list is for a session in step: replies that are due to commands that were dropped are
+    /// read by the session's own calls alone.
     ///
     /// # Errors
     /// `OutOfMemory` where there is no memory for the answers, and nothing changes.

@@ -50,6 +50,9 @@ impl<K: Drop, E: Encoding, B: PassiveStreamBuilder<MemoryConn>> RunEvents
     /// a `Feed` after the end change nothing. A call under way at the end is dropped, as by `Cancel`. Whether a
     /// transfer was left that was handed out before is looked at once, before the first event.
     ///
+    /// A list is for a session in step, and a command that was begun is dropped at the list's end alone: its reply isn't
+    /// counted, as it is where a client's call is dropped, and would be taken for the next call's.
+    ///
     /// A call that brings a transfer to its end takes it as it begins: dropped, it leaves it. `Leave` leaves the
     /// transfer that is held: before a call under way that wasn't polled, and behind one that was.
     ///

@@ -12,7 +12,11 @@ use Rattle.ftp_control.specs.declared.control.outcome.Outcome.TheVariants.{Whole
 use Rattle.ftp_control.specs.Grammar.{outcome, left_by}
 use Rattle.ftp_control.specs.Answer.{is_among}
 use Rattle.ftp_transport.specs.declared.room.Room.TheVariants.{Any}
-use Rattle.ftp_calls.specs.Exchanges.{drains_first, finishes, is_local, negotiates, of_transfer}
+use Rattle.ftp_calls.specs.Exchanges.{drains, drains_first, finishes, is_local, is_read, negotiates, of_transfer}
+use Rattle.ftp_dialogue.specs.CatchingUp.{InStepIf, is_behind, is_late, is_plain_read, opens_beside}
+use Rattle.ftp_dialogue.specs.declared.state.Owed.{Owed}
+use Rattle.ftp_dialogue.specs.declared.state.Owed.TheVariants as owed
+use Rattle.ftp_dialogue.proofs.CatchingUpLemmas.{step_map}
 use Rattle.ftp_calls.specs.declared.call.Call.{Call}
 use Rattle.ftp_calls.specs.declared.call.Call.TheVariants.{Drain}
 use Rattle.ftp_calls.specs.declared.call.Answer.{Answer}
@@ -27,16 +31,16 @@ use Rattle.ftp_dialogue.specs.declared.state.State.{State}
 use Rattle.ftp_dialogue.specs.Coding.{Coding}
 use Rattle.ftp_dialogue.specs.Deals.{outcomes_of}
 use Rattle.ftp_dialogue.specs.Dialogue.{Expected, Tree, Say, Hear, Look, Ask, Build, Move, Leaf, concluded, dialogue, expecting, later}
-use Rattle.ftp_dialogue.specs.Link.{Link}
+use Rattle.ftp_dialogue.specs.Link.{Link, unasked}
 use Rattle.ftp_dialogue.specs.Play.{Refusal, Taken, Lacking, Failing, heard_then, is_unit, play, refused_if_failed, taken}
-use Rattle.ftp_dialogue.specs.Promises.{Aborts, Completes, DrainsIf, IsPlayed, IsRefused, IsSilent, IsSuccess, IsWithheld, LeavesIf, MakesAfter, PlaysAlone, Refuses, Wired, begun_by, due_of, lacks_of, refusal_of, standing}
+use Rattle.ftp_dialogue.specs.Promises.{Aborts, Completes, DrainsIf, IsPlayed, IsRefused, IsSilent, IsSuccess, IsWithheld, LeavesIf, MakesAfter, Plays, PlaysAlone, Refuses, Wired, begun_by, due_of, lacks_of, refusal_of, standing}
 use Rattle.ftp_dialogue.specs.Sound.{none_left}
 use Rattle.ftp_dialogue.specs.State.{SessionValue, LetsGo}
 use Rattle.ftp_dialogue.proofs.Hearing.{play-Hear}
 use Rattle.ftp_dialogue.proofs.Moving.{play-Leaf, play-Refused, play-Say}
 use Rattle.ftp_dialogue.proofs.TransitionsLemmas.{begun_plain}
 use Rattle.ftp_dialogue.proofs.Wired.{wired}
-use Rattle.ftp_session.specs.Commands.{Converses, FollowsIf, HasFailedBefore, MakesCommand, MakesTree, OnWire, PlaysCommand, SucceedsOnWire, is_reply_due, line_sent}
+use Rattle.ftp_session.specs.Commands.{Converses, FollowsIf, HasFailedBefore, MakesCommand, MakesTree, OnWire, PlaysBy, SucceedsOnWire, is_reply_due, line_sent}
 use Rattle.ftp_session.specs.Handed.{PlaysSeen, as_seen}
 use Rattle.ftp_session.specs.Trees.{drain_reply, drain_tree}
 
@@ -50,7 +54,7 @@ StopsAtFaults other = Unit {0}
 -- a call is a command: it goes over the control connection, after the last reply of a transfer that was left, and neither
 -- opens a data connection nor moves or ends a transfer
 abbrev pub IsOneCommand : Call → Type 0
-IsOneCommand call = (negotiates call ≡ false) × (is_local call ≡ false) × (of_transfer call ≡ false) × (finishes call ≡ false) × (drains_first call ≡ true)
+IsOneCommand call = (negotiates call ≡ false) × (is_local call ≡ false) × (of_transfer call ≡ false) × (finishes call ≡ false) × (drains_first call ≡ true) × (drains call ≡ false)
 
 -- and its dialogue is this tree
 pub record IsCommand (coding : Coding) (call : Call) (tree : State → Tree) : Type 0 where
@@ -219,19 +223,49 @@ due_is call v follows =
     turned true = refl
     turned false = refl
 
-pub plays_command : (link : Link) (coding : Coding) (call : Call) (tree : State → Tree) (mark after : Option End) (old new : SessionValue) (answer : Answer) → IsCommand coding call tree → PlaysSeen link coding call mark after old new answer → PlaysCommand link tree mark after old new answer
-plays_command link coding call tree mark after old new answer is seen =
-    let v = as_seen after old in
-    let P : Bool → Type 0 = λ b. DrainsIf b (PlaysAlone link coding) call v new answer in
-    record { looks = seen.looks; plays = go v (is_reply_due v) refl (subst P (due_is call v is.sort.4) seen.plays.makes) }
-  where
-    goes : (b : Bool) (first : Answer) (middle : SessionValue) → MakesAfter b first (PlaysAlone link coding call) middle new answer → MakesAfter b first (MakesCommand link tree) middle new answer
-    goes true first middle alone = makes_command link coding call tree middle new answer is alone
-    goes false first middle stops = stops
+-- the replies of dropped commands come before it, unless the session has failed
+opens_none_beside : (call : Call) (o : Owed) → negotiates call ≡ false → opens_beside call o ≡ false
+opens_none_beside call owed.Nothing none = refl
+opens_none_beside call (owed.Live number) none = none
+opens_none_beside call (owed.Left number) none = refl
 
-    go : (v : SessionValue) (b : Bool) → is_reply_due v ≡ b → DrainsIf b (PlaysAlone link coding) call v new answer → FollowsIf b link tree v new answer
-    go v true due drains = record { middle = drains.middle; first = drains.first; drains = drains_alone link coding v drains.middle drains.first due drains.drains; then_makes = goes (is_unit drains.first) drains.first drains.middle drains.then_makes }
-    go v false due alone = makes_command link coding call tree v new answer is alone
+behind_is : (call : Call) (v : SessionValue) → IsOneCommand call → is_behind call v ≡ is_late v
+behind_is call v sort =
+    let F : Bool → Bool → Bool = λ d o. is_late v && (d || drains call) && not o in
+    ap (λ d. F d (opens_beside call v.state.counts.owed)) sort.4 ∙ ap (λ o. F true o) (opens_none_beside call v.state.counts.owed sort.0) ∙ all (is_late v) (drains call)
+  where
+    all : (b d : Bool) → b && (true || d) && not false ≡ b
+    all true d = refl
+    all false d = refl
+
+plain_is : (call : Call) (plain : Bool) → is_read call ≡ plain → drains call ≡ false → is_plain_read call ≡ plain
+plain_is call plain read none = ap (λ d. is_read call && not d) none ∙ all (is_read call) ∙ read
+  where
+    all : (b : Bool) → b && true ≡ b
+    all true = refl
+    all false = refl
+
+pub plays_command : (link : Link) (coding : Coding) (call : Call) (plain : Bool) (tree : State → Tree) (mark after : Option End) (old new : SessionValue) (answer : Answer) → IsCommand coding call tree → is_read call ≡ plain → PlaysSeen link coding call mark after old new answer → PlaysBy plain link tree mark after old new answer
+plays_command link coding call plain tree mark after old new answer is read seen =
+    let v = as_seen after old in
+    let M : SessionValue → SessionValue → Answer → Type 0 = λ v w a. FollowsIf (is_reply_due v) link tree v w a in
+    let B : Bool → Type 0 = λ b. InStepIf b (unasked link) (is_plain_read call) (drains call) (Plays link coding call) v new answer in
+    let P : Bool → Type 0 = λ p. InStepIf (is_late v) (unasked link) p (drains call) (Plays link coding call) v new answer in
+    let D : Bool → Type 0 = λ d. InStepIf (is_late v) (unasked link) plain d (Plays link coding call) v new answer in
+    record { looks = seen.looks; plays = step_map (is_late v) (unasked link) plain false (Plays link coding call) M v new answer follows (subst D is.sort.5 (subst P (plain_is call plain read is.sort.5) (subst B (behind_is call v is.sort) seen.plays.plays))) }
+  where
+    goes : (b : Bool) (first : Answer) (middle w : SessionValue) (a : Answer) → MakesAfter b first (PlaysAlone link coding call) middle w a → MakesAfter b first (MakesCommand link tree) middle w a
+    goes true first middle w a alone = makes_command link coding call tree middle w a is alone
+    goes false first middle w a stops = stops
+
+    go : (v w : SessionValue) (a : Answer) (b : Bool) → is_reply_due v ≡ b → DrainsIf b (PlaysAlone link coding) call v w a → FollowsIf b link tree v w a
+    go v w a true due drains = record { middle = drains.middle; first = drains.first; drains = drains_alone link coding v drains.middle drains.first due drains.drains; then_makes = goes (is_unit drains.first) drains.first drains.middle w a drains.then_makes }
+    go v w a false due alone = makes_command link coding call tree v w a is alone
+
+    follows : (v w : SessionValue) (a : Answer) → Plays link coding call v w a → FollowsIf (is_reply_due v) link tree v w a
+    follows v w a plays =
+        let P : Bool → Type 0 = λ b. DrainsIf b (PlaysAlone link coding) call v w a in
+        go v w a (is_reply_due v) refl (subst P (due_is call v is.sort.4) plays.makes)
 
 -- The other way: a method's clause says all that its call's says
 
@@ -274,19 +308,27 @@ alone_as link coding call tree old new answer why abroad goes_on begins same mak
     wired_by success (inr (inl played)) = ends success played.last played.lets_go played.plays
     wired_by success (inr (inr withheld)) = absurd (fault_is_none fault.OutOfMemory success withheld.is)
 
-pub plays_seen : (link : Link) (coding : Coding) (call : Call) (tree : State → Tree) (mark after : Option End) (old new : SessionValue) (answer : Answer) → IsCommand coding call tree → PlaysCommand link tree mark after old new answer → PlaysSeen link coding call mark after old new answer
-plays_seen link coding call tree mark after old new answer is plays =
+pub plays_seen : (link : Link) (coding : Coding) (call : Call) (plain : Bool) (tree : State → Tree) (mark after : Option End) (old new : SessionValue) (answer : Answer) → IsCommand coding call tree → is_read call ≡ plain → PlaysBy plain link tree mark after old new answer → PlaysSeen link coding call mark after old new answer
+plays_seen link coding call plain tree mark after old new answer is read plays =
     let v = as_seen after old in
-    let P : Bool → Type 0 = λ b. DrainsIf b (PlaysAlone link coding) call v new answer in
-    record { looks = plays.looks; plays = record { makes = subst P (sym (due_is call v is.sort.4)) (go v (is_reply_due v) refl plays.plays) } }
+    let M : SessionValue → SessionValue → Answer → Type 0 = λ v w a. FollowsIf (is_reply_due v) link tree v w a in
+    let B : Bool → Type 0 = λ b. InStepIf b (unasked link) (is_plain_read call) (drains call) (Plays link coding call) v new answer in
+    let P : Bool → Type 0 = λ p. InStepIf (is_late v) (unasked link) p (drains call) (Plays link coding call) v new answer in
+    let D : Bool → Type 0 = λ d. InStepIf (is_late v) (unasked link) plain d (Plays link coding call) v new answer in
+    record { looks = plays.looks; plays = record { plays = subst B (sym (behind_is call v is.sort)) (subst P (sym (plain_is call plain read is.sort.5)) (subst D (sym is.sort.5) (step_map (is_late v) (unasked link) plain false M (Plays link coding call) v new answer plays_as plays.plays))) } }
   where
-    alone : (v : SessionValue) → MakesCommand link tree v new answer → PlaysAlone link coding call v new answer
-    alone v command = alone_as link coding call tree v new answer (refusal_is call v is.sort.1 is.sort.2) is.sort.1 is.sort.3 (begun_plain call v is.sort.0 is.sort.3) (is.same v.state) command.makes
+    alone : (v w : SessionValue) (a : Answer) → MakesCommand link tree v w a → PlaysAlone link coding call v w a
+    alone v w a command = alone_as link coding call tree v w a (refusal_is call v is.sort.1 is.sort.2) is.sort.1 is.sort.3 (begun_plain call v is.sort.0 is.sort.3) (is.same v.state) command.makes
 
-    goes : (b : Bool) (first : Answer) (middle : SessionValue) → MakesAfter b first (MakesCommand link tree) middle new answer → MakesAfter b first (PlaysAlone link coding call) middle new answer
-    goes true first middle command = alone middle command
-    goes false first middle stops = stops
+    goes : (b : Bool) (first : Answer) (middle w : SessionValue) (a : Answer) → MakesAfter b first (MakesCommand link tree) middle w a → MakesAfter b first (PlaysAlone link coding call) middle w a
+    goes true first middle w a command = alone middle w a command
+    goes false first middle w a stops = stops
 
-    go : (v : SessionValue) (b : Bool) → is_reply_due v ≡ b → FollowsIf b link tree v new answer → DrainsIf b (PlaysAlone link coding) call v new answer
-    go v true due follows = record { middle = follows.middle; first = follows.first; drains = alone_as link coding Drain drain_tree v follows.middle follows.first (drain_taken v due) refl refl refl (drain_is coding v.state) follows.drains; then_makes = goes (is_unit follows.first) follows.first follows.middle follows.then_makes }
-    go v false due command = alone v command
+    go : (v w : SessionValue) (a : Answer) (b : Bool) → is_reply_due v ≡ b → FollowsIf b link tree v w a → DrainsIf b (PlaysAlone link coding) call v w a
+    go v w a true due follows = record { middle = follows.middle; first = follows.first; drains = alone_as link coding Drain drain_tree v follows.middle follows.first (drain_taken v due) refl refl refl (drain_is coding v.state) follows.drains; then_makes = goes (is_unit follows.first) follows.first follows.middle w a follows.then_makes }
+    go v w a false due command = alone v w a command
+
+    plays_as : (v w : SessionValue) (a : Answer) → FollowsIf (is_reply_due v) link tree v w a → Plays link coding call v w a
+    plays_as v w a follows =
+        let P : Bool → Type 0 = λ b. DrainsIf b (PlaysAlone link coding) call v w a in
+        record { makes = subst P (sym (due_is call v is.sort.4)) (go v w a (is_reply_due v) refl follows) }

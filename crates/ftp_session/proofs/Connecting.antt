@@ -1,8 +1,12 @@
 -- Lemmas on how a session comes to its connection.
-use Rattle.std.proofs.Common.{◌≡◌, List, [], ◌∷◌, ◌++◌, refl, sym, ap, subst, ◌∙◌, append_assoc}
+use Rattle.std.proofs.lemmas.Bool.{eqb-true}
+use Rattle.std.specs.Duration.{as_nanos}
+use Rattle.std.specs.declared.time.Duration.{Duration}
+use Rattle.std.specs.declared.net.socket_addr.SocketAddr.{SocketAddr}
+use Rattle.std.proofs.Common.{◌≡◌, ◌==◌, ℕ, Bool, true, false, Some, take, List, [], ◌∷◌, ◌++◌, refl, sym, ap, subst, ◌∙◌, append_assoc}
 use Rattle.ftp_base.specs.declared.types.fault.ConnectionError.{ConnectionError}
 use Rattle.ftp_base.specs.declared.types.fault.FtpError.TheVariants.{ConnectionError as Connection}
-use Rattle.ftp_transport.specs.Asking.{requests_of, AreRefused, RefusedInTurn, ConnectsInTurn}
+use Rattle.ftp_transport.specs.Asking.{connects_to, requests_of, AreRefused, RefusedInTurn, ConnectsInTurn}
 use Rattle.ftp_transport.specs.Told.{Told}
 use Rattle.ftp_transport.specs.declared.room.Room.{Room}
 use Rattle.ftp_transport.specs.declared.request.Asked.{Asked}
@@ -18,7 +22,7 @@ use Rattle.ftp_dialogue.specs.declared.model.Standing.{Standing}
 use Rattle.ftp_dialogue.specs.Coding.{Coding}
 use Rattle.ftp_dialogue.specs.Deals.{dealt}
 use Rattle.ftp_dialogue.specs.declared.model.Dealings.{Dealings}
-use Rattle.ftp_session.specs.Connecting.{connecting, dealt_in_turn, if_connected, outcomes_in, AsksAll, IsConnected, NoneConnects}
+use Rattle.ftp_session.specs.Connecting.{connecting, connects_within, dealt_in_turn, if_connected, outcomes_in, AsksAll, IsConnected, NoneConnects}
 use Rattle.ftp_dialogue.specs.Dialogue.{Tree, Leaf, dialogue}
 use Rattle.ftp_dialogue.specs.Link.{Link}
 use Rattle.ftp_dialogue.specs.Play.{play}
@@ -90,3 +94,14 @@ module _ (link : Link) (coding : Coding) (refuses : List Supply → ConnectionEr
 
   pub none_connects : (last : ConnectionError) → (link.tells → RefusedInTurn refuses requests [] fault last ready ready' asked asked') → NoneConnects link coding refuses requests fault ready asked (Connection last)
   none_connects last in_turn = record { last = last; is = refl; unused = ready'; asked_by = asked'; in_turn = in_turn; asks = λ h. asks_none last (in_turn h) }
+
+-- what is asked within a time: nothing where there is none
+pub within_none : (limit : Duration) (address : SocketAddr) (count : ℕ) → count ≡ 0 → as_nanos limit ≡ 0 → connects_to (Some limit) (take count (address ∷ [])) ≡ connects_within limit address
+within_none limit address count none zero = rw (none, zero) refl
+
+pub within_some : (limit : Duration) (address : SocketAddr) (count : ℕ) → count ≡ 1 → (as_nanos limit ≡ 0 → ⊥) → connects_to (Some limit) (take count (address ∷ [])) ≡ connects_within limit address
+within_some limit address count one some = rw one (go (as_nanos limit == 0) refl)
+  where
+    go : (b : Bool) → (as_nanos limit == 0) ≡ b → connects_to (Some limit) (address ∷ []) ≡ connects_within limit address
+    go true is = absurd (some (eqb-true (as_nanos limit) 0 is))
+    go false is = rw is refl

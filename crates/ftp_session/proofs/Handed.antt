@@ -17,11 +17,16 @@ use Rattle.ftp_session.specs.Polled.{HandsOver, Strays}
 use Rattle.ftp_session.specs.Handed.{BeginsToSettle, BeginsToSettleIf, BeginsToSettleUnless, BringsToEnd, BringsToEndIf, HandsConnection, TakesBack, TakesBackIf, LooksIf, ReadsSeen, OpensAs, OpensEither, OpensFrom, Opens, OpensReplied, PlaysSeen, Settles, SettlesIf, Strands, SettlesUnless, as_seen, found, is_out, left_if, opens, watches, with_data, with_reply, without_reply}
 use Rattle.ftp_dialogue.specs.Link.{Link}
 use Rattle.ftp_dialogue.specs.Dialogue.{Expected}
-use Rattle.ftp_dialogue.specs.Promises.{GivesFault, IsFault, Plays, PlaysAlone}
-use Rattle.ftp_dialogue.specs.Reading.{PollsRead}
-use Rattle.ftp_dialogue.specs.Sound.{is_live, is_owed, next_number}
+use Rattle.ftp_dialogue.specs.Promises.{GivesFault, IsFault, PlaysAlone}
+use Rattle.ftp_dialogue.specs.CatchingUp.{PlaysInStep}
+use Rattle.ftp_dialogue.specs.Reading.{PollsRead, drain_told}
+use Rattle.ftp_dialogue.specs.Sound.{is_live, is_owed, left_of, next_number, none_left}
+use Rattle.ftp_dialogue.specs.declared.state.Owed.{Owed}
+use Rattle.ftp_dialogue.specs.declared.state.Owed.TheVariants as owed
+use Rattle.ftp_session.specs.Calls.{unit_answer}
+use Rattle.ftp_base.specs.declared.types.fault.FtpError.TheVariants.{SessionFailed}
 use Rattle.ftp_dialogue.specs.Steps.Moving.{withheld}
-use Rattle.ftp_dialogue.proofs.TransitionsLemmas.{withheld_plays}
+use Rattle.ftp_dialogue.proofs.CatchingUpLemmas.{withheld_in_step}
 use Rattle.ftp_dialogue.specs.State.{SessionValue}
 use Rattle.ftp_session.proofs.OpeningAnswers.{opening_answers}
 
@@ -32,9 +37,9 @@ unmarked mark after v none looks =
     subst P none looks
 
 -- a call after the look
-pub seen_plays : (link : Link) (coding : Coding) (call : Call) (mark after : Option End) (old seen new : SessionValue) (answer : Answer) → LooksIf (watches mark old) mark after → seen ≡ as_seen after old → Plays link coding call seen new answer → PlaysSeen link coding call mark after old new answer
+pub seen_plays : (link : Link) (coding : Coding) (call : Call) (mark after : Option End) (old seen new : SessionValue) (answer : Answer) → LooksIf (watches mark old) mark after → seen ≡ as_seen after old → PlaysInStep link coding call seen new answer → PlaysSeen link coding call mark after old new answer
 seen_plays link coding call mark after old seen new answer looks is plays =
-    let P : SessionValue → Type 0 = λ v. Plays link coding call v new answer in
+    let P : SessionValue → Type 0 = λ v. PlaysInStep link coding call v new answer in
     record { looks = looks; plays = subst P is plays }
 
 -- a polled read after the look
@@ -62,6 +67,14 @@ copied_plays link coding call copy made mark after old new answer is same plays 
     let Q : Call → Type 0 = λ c. PlaysSeen link coding c mark after old new answer in
     subst Q (subst P is same) plays
 
+-- what an opening call does after the look, whose arguments were copied
+pub opens_by : (link : Link) (coding : Coding) (call : Result Call AllocError) (copy made : Call) (replies : Bool) (direction : Direction) (mark between after former kept : Option End) (old seen new : SessionValue) (result : Result (Option Response × TransferValue) FtpError) → call ≡ Ok copy → IfOk call (λ c. c ≡ made) → LooksIf (watches mark old) mark between → seen ≡ as_seen between old → OpensEither link coding copy replies direction between after former kept seen new result → OpensAs link coding made replies direction mark after former kept old new result
+opens_by link coding call copy made replies direction mark between after former kept old seen new result is same looks sees opens =
+    let P : Result Call AllocError → Type 0 = λ r. IfOk r (λ c. c ≡ made) in
+    let Q : Call → Type 0 = λ c. OpensEither link coding c replies direction between after former kept (as_seen between old) new result in
+    let V : SessionValue → Type 0 = λ v. OpensEither link coding copy replies direction between after former kept v new result in
+    record { between = between; looks = looks; goes_on = subst Q (subst P is same) (subst V sees opens) }
+
 -- a transfer that was taken back is brought to its end
 pub taken_back : (link : Link) (coding : Coding) (call : Call) (transfer : TransferValue) (mark after : Option End) (old middle new : SessionValue) (answer : Answer) → TakesBack transfer mark after old middle (Ok tt) → PlaysAlone link coding call middle new answer → BringsToEnd link coding call transfer mark after old new answer
 taken_back link coding call transfer mark after old middle new answer takes plays =
@@ -87,7 +100,7 @@ takes_out transfer mark old middle number out numbers is out_now taken =
 
 -- what follows once a receipt was looked at
 abbrev pub AfterLook : Link → Coding → SessionValue → SessionValue → Answer → Result Bool FtpError → Type 0
-AfterLook link coding middle new answer (Ok true) = PlaysAlone link coding Drain middle new answer
+AfterLook link coding middle new answer (Ok true) = PlaysInStep link coding Drain middle new answer
 AfterLook link coding middle new answer (Ok false) = (answer ≡ Done) × (new ≡ middle)
 AfterLook link coding middle new answer (Err fault) = (answer ≡ Fault fault) × (new ≡ middle)
 
@@ -100,7 +113,7 @@ settles_by link coding receipt old middle new answer begun begins after = unless
 
     owing : (b : Bool) → BeginsToSettleIf b old middle begun → SettlesIf b link coding old new answer
     owing true begins =
-        let Q : SessionValue → Type 0 = λ v. PlaysAlone link coding Drain v new answer in
+        let Q : SessionValue → Type 0 = λ v. PlaysInStep link coding Drain v new answer in
         subst Q begins.1 (subst After begins.0 after)
     owing false begins =
         let then = subst After begins.0 after in
@@ -119,6 +132,28 @@ begins_owed receipt old middle number failed owed numbers fails going is owed_no
     let R : Bool → Type 0 = λ b. BeginsToSettleUnless b receipt old middle (Ok true) in
     let held : is_owed receipt.number old.state.counts.owed ≡ true = ap (λ n. is_owed n old.state.counts.owed) (sym numbers) ∙ sym is ∙ owed_now in
     subst R (sym (sym fails ∙ going)) (subst P (sym held) (refl, left))
+
+-- then its transfer is left
+left_owed : (number : ℕ) (o : Owed) → is_owed number o ≡ true → none_left (left_of o) ≡ false
+left_owed number owed.Nothing is = let clash : false ≡ true = is in cc
+left_owed number (owed.Live other) is = refl
+left_owed number (owed.Left other) is = refl
+
+pub begins_left : (receipt : End) (old middle : SessionValue) → BeginsToSettle receipt old middle (Ok true) → none_left middle.state.counts.owed ≡ false
+begins_left receipt old middle begins = unless old.channel.failed begins
+  where
+    owing : (b : Bool) → is_owed receipt.number old.state.counts.owed ≡ b → BeginsToSettleIf b old middle (Ok true) → none_left middle.state.counts.owed ≡ false
+    owing true is begins = ap (λ v. none_left v.state.counts.owed) begins.1 ∙ left_owed receipt.number old.state.counts.owed is
+    owing false is begins = let clash : Ok true ≡ Ok false = begins.0 in cc
+
+    unless : (b : Bool) → BeginsToSettleUnless b receipt old middle (Ok true) → none_left middle.state.counts.owed ≡ false
+    unless true begins = let clash : Ok true ≡ Err SessionFailed = begins.0 in cc
+    unless false begins = owing (is_owed receipt.number old.state.counts.owed) refl begins
+
+-- a settled transfer gives nothing
+pub drain_answer_is : (result : Result (Unit {0}) FtpError) → unit_answer result ≡ drain_told result
+drain_answer_is (Ok done) = refl
+drain_answer_is (Err fault) = refl
 
 -- what an opening call returns, without its reply and with it
 pub opens_plain : (link : Link) (coding : Coding) (call : Call) (direction : Direction) (mark after former kept : Option End) (old new : SessionValue) (result : Result (Option Response × TransferValue) FtpError) → OpensAs link coding call false direction mark after former kept old new result → Opens link coding call direction mark after former kept old new (without_reply result)
@@ -151,12 +186,12 @@ opens_seen link coding call copy made replies direction mark between after forme
 -- an opening call that isn't made, since memory ran out
 pub opens_withheld : (link : Link) (coding : Coding) (call : Call) (replies : Bool) (direction : Direction) (mark former : Option End) (v : SessionValue) → HandsConnection replies call → OpensEither link coding call replies direction mark mark former former v v (Err (withheld v))
 opens_withheld link coding call replies direction mark former v hands =
-    (refl, refl, record { answer = Fault (withheld v); given = v; plays = withheld_plays link coding call v hands.sort.1 hands.sort.2; ends = inl (refl, refl) })
+    (refl, refl, record { answer = Fault (withheld v); given = v; plays = withheld_in_step link coding call v hands.sort.1 hands.sort.2; ends = inl (refl, refl) })
 
 -- what an opening call returns, by what was handed over of its answer
-pub hands_opens : (link : Link) (coding : Coding) (call : Call) (replies : Bool) (direction : Direction) (end : End) (mark after former kept : Option End) (old given new : SessionValue) (answer : Answer) (result : Result (Option Response × TransferValue) FtpError) → HandsConnection replies call → end.number ≡ next_number old.state.counts → Plays link coding call old given answer → HandsOver replies direction end answer mark after former kept given new result → OpensEither link coding call replies direction mark after former kept old new result
+pub hands_opens : (link : Link) (coding : Coding) (call : Call) (replies : Bool) (direction : Direction) (end : End) (mark after former kept : Option End) (old given new : SessionValue) (answer : Answer) (result : Result (Option Response × TransferValue) FtpError) → HandsConnection replies call → end.number ≡ next_number old.state.counts → PlaysInStep link coding call old given answer → HandsOver replies direction end answer mark after former kept given new result → OpensEither link coding call replies direction mark after former kept old new result
 hands_opens link coding call replies direction end mark after former kept old given new answer (Ok opened) connection numbers plays hands =
-    let P : Answer → Type 0 = λ a. Plays link coding call old given a in
+    let P : Answer → Type 0 = λ a. PlaysInStep link coding call old given a in
     (hands.3, hands.1, record { given = given; plays = subst P hands.0 plays; hands = hands.4 })
 hands_opens link coding call replies direction end mark after former kept old given new answer (Err fault) connection numbers plays hands =
     (hands.0, hands.1, record { answer = answer; given = given; plays = plays; ends = ends hands.2 })

@@ -11,7 +11,7 @@ use Rattle.ftp_base.specs.declared.types.mode.Mode.TheVariants as mode
 use Rattle.ftp_base.specs.declared.types.reply.Response.{Response}
 use Rattle.ftp_answers.specs.Addresses.{passive_address_of, extended_port_of}
 use Rattle.ftp_answers.specs.declared.addresses.NoAddress.{NoAddress}
-use Rattle.ftp_calls.specs.Exchanges.{drains_first, finishes, restarts, row_of}
+use Rattle.ftp_calls.specs.Exchanges.{drains, drains_first, finishes, restarts, row_of}
 use Rattle.ftp_calls.specs.Kinds.{IsOpening}
 use Rattle.ftp_calls.specs.declared.call.Answer.{Answer}
 use Rattle.ftp_calls.specs.declared.call.Answer.TheVariants.{Fault}
@@ -25,7 +25,9 @@ use Rattle.ftp_transport.specs.declared.request.RequestOutcome.TheVariants.{Done
 use Rattle.ftp_transport.specs.declared.request.Request.TheVariants.{Connect}
 use Rattle.ftp_dialogue.specs.Coding.{Coding}
 use Rattle.ftp_dialogue.specs.Dialogue.{Tree, Say, Hear, Look, Ask, Build, Move, Leaf, accepting, admitting, agreeing, at_port, concluded, connecting_to, connecting_to_peer, dialogue, doing, drain_answer, from_turn, last_turn, later, lets_in, negotiating, negotiating_unless, on_address, on_built, on_connection, opened_from, opening, parting, restart_turn, strangers, to_address, to_port, with_left}
-use Rattle.ftp_dialogue.specs.Link.{Link}
+use Rattle.ftp_dialogue.specs.CatchingUp.{InStepIf, MakesThen, PlaysInStep, is_behind, is_plain_read}
+use Rattle.ftp_dialogue.specs.Link.{Link, unasked}
+use Rattle.ftp_dialogue.proofs.Sorts.{opens_drains_none}
 use Rattle.ftp_dialogue.specs.Play.{Refusal, is_unit, refused_if_failed}
 use Rattle.ftp_dialogue.specs.Promises.{Aborts, Completes, DrainsIf, IsFault, IsOf, IsPlayed, IsRefused, IsWithheld, MakesAfter, Plays, PlaysAlone, Refuses, answer_of, begun_by}
 use Rattle.ftp_dialogue.specs.Sound.{cannot_open}
@@ -247,8 +249,8 @@ drained_told link old new told makes = go makes.made
 
 -- what such a call answers
 module _ (Good : Answer → Type 0) (fails : (fault : FtpError) → Good (Fault fault)) (coding : Coding) (call : Call) (sort : IsOpening call) (follows : drains_first call ≡ true) (last_tells : (state : State) → Tells Good (last_turn coding call state)) where
-  pub call_tells : (link : Link) (old new : SessionValue) (told : Answer) → Plays link coding call old new told → Good told
-  call_tells link old new told plays =
+  made_tells : (link : Link) (old new : SessionValue) (told : Answer) → Plays link coding call old new told → Good told
+  made_tells link old new told plays =
       let P : Bool → Type 0 = λ b. DrainsIf b (PlaysAlone link coding) call old new told in
       go old (is_reply_due old) refl (subst P (due_is call old follows) plays.makes)
     where
@@ -269,3 +271,18 @@ module _ (Good : Answer → Type 0) (fails : (fault : FtpError) → Good (Fault 
       go : (v : SessionValue) (b : Bool) → is_reply_due v ≡ b → DrainsIf b (PlaysAlone link coding) call v new told → Good told
       go v true due drains = goes (is_unit drains.first) drains.first drains.middle refl (drained_told link v drains.middle drains.first (drains_alone link coding v drains.middle drains.first due drains.drains)) drains.then_makes
       go v false due plays = alone v plays
+
+  pub call_tells : (link : Link) (old new : SessionValue) (told : Answer) → PlaysInStep link coding call old new told → Good told
+  call_tells link old new told plays = step (is_behind call old) plays.plays
+    where
+      F : Answer → Type 0
+      F a = Good a
+
+      then : (fault : Option FtpError) (ends : Bool) (middle : SessionValue) → drains call ≡ ends → MakesThen fault ends (Plays link coding call) middle new told → Good told
+      then (Some fault) ends middle is stops = subst F (sym stops.0) (fails fault)
+      then None true middle is stops = let clash : true ≡ false = sym is ∙ opens_drains_none call sort.0 in cc
+      then None false middle is plays = made_tells link middle new told plays
+
+      step : (b : Bool) → InStepIf b (unasked link) (is_plain_read call) (drains call) (Plays link coding call) old new told → Good told
+      step false plays = made_tells link old new told plays
+      step true first = then first.fault (drains call) first.middle refl first.then_makes

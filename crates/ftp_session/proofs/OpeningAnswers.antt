@@ -16,7 +16,8 @@ use Rattle.ftp_calls.specs.declared.exchange.Turn.TheVariants.{First, Second}
 use Rattle.ftp_dialogue.specs.Coding.{Coding}
 use Rattle.ftp_dialogue.specs.Dialogue.{Tree, Leaf, awaiting, concluded, doing, expected_of, last_turn, opened_answer, saying, with_transfer}
 use Rattle.ftp_dialogue.specs.Link.{Link}
-use Rattle.ftp_dialogue.specs.Promises.{IsFault, Plays}
+use Rattle.ftp_dialogue.specs.Promises.{IsFault}
+use Rattle.ftp_dialogue.specs.CatchingUp.{PlaysInStep}
 use Rattle.ftp_dialogue.specs.State.{SessionValue}
 use Rattle.ftp_dialogue.specs.declared.state.State.{State}
 use Rattle.ftp_session.specs.Handed.{HandsConnection, OpensRow, opens}
@@ -64,6 +65,6 @@ row_follows replies (Sets setting) is = absurd is
 row_follows replies (Moves movement) is = absurd is
 
 -- what such a call answers
-pub opening_answers : (link : Link) (replies : Bool) (coding : Coding) (call : Call) (old new : SessionValue) (answer : Answer) → HandsConnection replies call → Plays link coding call old new answer → IsOpened replies answer
+pub opening_answers : (link : Link) (replies : Bool) (coding : Coding) (call : Call) (old new : SessionValue) (answer : Answer) → HandsConnection replies call → PlaysInStep link coding call old new answer → IsOpened replies answer
 opening_answers link replies coding call old new answer hands plays =
     call_tells (IsOpened replies) (fails replies) coding call hands.sort (row_follows replies (row_of call First) hands.first) (last_tells replies coding call hands.last) link old new answer plays

@@ -13,7 +13,8 @@ use Rattle.ftp_dialogue.specs.declared.model.Standing.{Standing}
 use Rattle.ftp_dialogue.specs.declared.state.State.{State}
 use Rattle.ftp_dialogue.specs.Deals.{Deal, outcomes_of}
 use Rattle.ftp_dialogue.specs.Dialogue.{Expected, Tree, Say, Hear, Leaf}
-use Rattle.ftp_dialogue.specs.Link.{Link}
+use Rattle.ftp_dialogue.specs.CatchingUp.{InStepIf, is_late}
+use Rattle.ftp_dialogue.specs.Link.{Link, unasked}
 use Rattle.ftp_dialogue.specs.Play.{is_unit, taken}
 use Rattle.ftp_dialogue.specs.Promises.{Aborts, Completes, Goes, IsFault, IsSilent, IsSuccess, IsWithheld, MakesAfter, standing}
 use Rattle.ftp_dialogue.specs.Resuming.{Resumes, modes_of}
@@ -92,7 +93,14 @@ abbrev pub FollowsIf : Bool → Link → (State → Tree) → SessionValue → S
 FollowsIf true link tree old new answer = FollowsReply link tree old new answer
 FollowsIf false link tree old new answer = MakesCommand link tree old new answer
 
--- a session looks once whether its transfer was left, and makes a command as the look has it
-pub record PlaysCommand (link : Link) (tree : State → Tree) (mark after : Option End) (old new : SessionValue) (answer : Answer) : Type 0 where
+-- a session looks once whether its transfer was left, and makes a command as the look has it, after the replies that are due
+-- to commands that were dropped; a plain read reads none of them first, and its own reply is one
+pub record PlaysBy (plain : Bool) (link : Link) (tree : State → Tree) (mark after : Option End) (old new : SessionValue) (answer : Answer) : Type 0 where
   pub looks : LooksIf (watches mark old) mark after
-  pub plays : FollowsIf (is_reply_due (as_seen after old)) link tree (as_seen after old) new answer
+  pub plays : InStepIf (is_late (as_seen after old)) (unasked link) plain false (λ v w a. FollowsIf (is_reply_due v) link tree v w a) (as_seen after old) new answer
+
+abbrev pub PlaysCommand : Link → (State → Tree) → Option End → Option End → SessionValue → SessionValue → Answer → Type 0
+PlaysCommand link tree mark after old new answer = PlaysBy false link tree mark after old new answer
+
+abbrev pub PlaysRead : Link → (State → Tree) → Option End → Option End → SessionValue → SessionValue → Answer → Type 0
+PlaysRead link tree mark after old new answer = PlaysBy true link tree mark after old new answer

@@ -22,7 +22,8 @@ use Rattle.ftp_transfer.specs.declared.direction.Direction.{Direction}
 use Rattle.ftp_dialogue.specs.Coding.{Coding}
 use Rattle.ftp_dialogue.specs.Dialogue.{Expected, with_left}
 use Rattle.ftp_dialogue.specs.Link.{Link}
-use Rattle.ftp_dialogue.specs.Promises.{IsFault, Plays, PlaysAlone}
+use Rattle.ftp_dialogue.specs.CatchingUp.{PlaysInStep}
+use Rattle.ftp_dialogue.specs.Promises.{IsFault, PlaysAlone}
 use Rattle.ftp_dialogue.specs.Reading.{PollsRead}
 use Rattle.ftp_dialogue.specs.Steps.Moving.{withheld}
 use Rattle.ftp_dialogue.specs.Sound.{is_live, is_owed, next_number}
@@ -65,7 +66,7 @@ as_seen mark v = left_if (watches mark v && found mark) v
 -- a session looks once, and makes a call as the look has it
 pub record PlaysSeen (link : Link) (coding : Coding) (call : Call) (mark after : Option End) (old new : SessionValue) (answer : Answer) : Type 0 where
   pub looks : LooksIf (watches mark old) mark after
-  pub plays : Plays link coding call (as_seen after old) new answer
+  pub plays : PlaysInStep link coding call (as_seen after old) new answer
 
 -- a session looks once, and polls a read of one reply as the look has it
 pub record ReadsSeen (link : Link) (coding : Coding) (codes : Expected) (mark after : Option End) (old new : SessionValue) (result : Poll (Result Response FtpError)) : Type 0 where
@@ -109,7 +110,7 @@ ComesTo replies answer (Err None) = (IsFault answer → ⊥) × (opens replies a
 -- a call opens a transfer, which is handed out
 pub record OpensFrom (link : Link) (coding : Coding) (call : Call) (direction : Direction) (old : SessionValue) (reply : Option Response) (transfer : TransferValue) (after : Option End) (new : SessionValue) : Type 0 where
   pub given : SessionValue
-  pub plays : Plays link coding call old given (opened_as reply)
+  pub plays : PlaysInStep link coding call old given (opened_as reply)
   pub hands : HandsOut direction given transfer after new
 
 -- no transfer is handed out: for this fault, and nothing changes; or for none, and the transfer that is live is left
@@ -140,7 +141,7 @@ pub record Strands (replies : Bool) (number : ℕ) (answer : Answer) (fault : Ft
 pub record FailsFrom (link : Link) (coding : Coding) (call : Call) (replies : Bool) (old : SessionValue) (fault : FtpError) (new : SessionValue) : Type 0 where
   pub answer : Answer
   pub given : SessionValue
-  pub plays : Plays link coding call old given answer
+  pub plays : PlaysInStep link coding call old given answer
   pub ends : ((answer ≡ Fault fault) × (new ≡ given)) ⊎ Strands replies (next_number old.state.counts) answer fault given new
 
 -- what an opening call returns after the look: a transfer, with its reply or without, and the mark of before is kept; or the
@@ -233,9 +234,10 @@ TakesBackIf false transfer mark after old new (Err fault) = PassesOver mark afte
 abbrev pub TakesBack : TransferValue → Option End → Option End → SessionValue → SessionValue → Result (Unit {0}) FtpError → Type 0
 TakesBack transfer mark after old new result = TakesBackIf (is_out transfer.end.number mark old) transfer mark after old new result
 
--- the last reply of a transfer that was left, by its receipt, is read; one that is no longer owed asks nothing
+-- the last reply of a transfer that was left, by its receipt, is read, and those that are due to commands that were dropped;
+-- one that is no longer owed asks nothing
 abbrev pub SettlesIf : Bool → Link → Coding → SessionValue → SessionValue → Answer → Type 0
-SettlesIf true link coding old new answer = PlaysAlone link coding Drain (left_if true old) new answer
+SettlesIf true link coding old new answer = PlaysInStep link coding Drain (left_if true old) new answer
 SettlesIf false link coding old new answer = (answer ≡ Done) × (new ≡ old)
 
 abbrev pub SettlesUnless : Bool → Link → Coding → End → SessionValue → SessionValue → Answer → Type 0

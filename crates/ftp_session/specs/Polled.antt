@@ -1,6 +1,6 @@
 -- A call that is polled: the look at its first poll, the last reply of a transfer that was left, and the call itself. RFC
 -- 959, sections 3.2 and 5.4.
-use Rattle.std.specs.Prelude.{◌≡◌, ◌⊎◌, ℕ, Bool, true, false, Option, Result, Ok, Err, is_none, not}
+use Rattle.std.specs.Prelude.{◌≡◌, ◌⊎◌, ℕ, Bool, true, false, Option, Some, None, Result, Ok, Err, is_none, not}
 use Rattle.futures.specs.declared.task.Poll.{Poll}
 use Rattle.futures.specs.declared.task.Poll.TheVariants.{Ready, Pending}
 use Rattle.ftp_base.specs.declared.types.reply.Response.{Response}
@@ -8,14 +8,16 @@ use Rattle.ftp_base.specs.declared.types.fault.FtpError.{FtpError}
 use Rattle.ftp_base.specs.declared.types.fault.FtpError.TheVariants.{ConnectionError}
 use Rattle.ftp_base.specs.declared.types.fault.ConnectionError.TheVariants.{AlreadyCompleted, NotOwed}
 use Rattle.ftp_calls.specs.declared.call.Answer.{Answer}
-use Rattle.ftp_calls.specs.declared.call.Answer.TheVariants.{Fault}
+use Rattle.ftp_calls.specs.declared.call.Answer.TheVariants.{Unit as Nothing, Fault}
 use Rattle.ftp_calls.specs.declared.call.Call.{Call}
 use Rattle.ftp_calls.specs.declared.call.Call.TheVariants.{Drain}
 use Rattle.ftp_calls.specs.declared.exchange.Turn.TheVariants.{First}
 use Rattle.ftp_transfer.specs.Mark.{End}
 use Rattle.ftp_dialogue.specs.Coding.{Coding}
 use Rattle.ftp_dialogue.specs.Dropping.{DropsCall}
-use Rattle.ftp_dialogue.specs.Link.{Link}
+use Rattle.ftp_calls.specs.Exchanges.{drains}
+use Rattle.ftp_dialogue.specs.CatchingUp.{CatchesUp, is_behind, is_plain_read}
+use Rattle.ftp_dialogue.specs.Link.{Link, unasked}
 use Rattle.ftp_dialogue.specs.Play.{is_unit}
 use Rattle.ftp_dialogue.specs.Promises.{IsFault, due_of}
 use Rattle.ftp_dialogue.specs.Sound.{is_live}
@@ -69,12 +71,37 @@ PollsNextIf false link may_wait coding call stage stage' old new result = Starts
 pub record PollsNext (link : Link) (may_wait : Type 0) (coding : Coding) (call : Call) (stage stage' : Stage) (old new : SessionValue) (result : Poll Answer) : Type 0 where
   pub polls : PollsNextIf (due_of call old) link may_wait coding call stage stage' old new result
 
+-- replies that are due to commands that were dropped come first: while one is waited for the call waits, too; a fault of one
+-- is the answer; once none is due the call is polled, but for a read of the last reply of a transfer that was left, which is
+-- among them
+abbrev pub EndsOrPolls : Bool → Link → Type 0 → Coding → Call → Stage → Stage → SessionValue → SessionValue → Poll Answer → Type 0
+EndsOrPolls true link may_wait coding call stage stage' middle new result = (result ≡ Ready Nothing) × (new ≡ middle)
+EndsOrPolls false link may_wait coding call stage stage' middle new result = PollsNext link may_wait coding call stage stage' middle new result
+
+abbrev pub ThenPolls : Link → Type 0 → Coding → Call → Stage → Stage → Poll (Option FtpError) → SessionValue → SessionValue → Poll Answer → Type 0
+ThenPolls link may_wait coding call stage stage' (Ready None) middle new result = EndsOrPolls (drains call) link may_wait coding call stage stage' middle new result
+ThenPolls link may_wait coding call stage stage' (Ready (Some fault)) middle new result = (result ≡ Ready (Fault fault)) × (new ≡ middle)
+ThenPolls link may_wait coding call stage stage' Pending middle new result = (result ≡ Pending) × (new ≡ middle) × (stage' ≡ stage)
+
+pub record CatchesUpThenPolls (link : Link) (may_wait : Type 0) (coding : Coding) (call : Call) (stage stage' : Stage) (old new : SessionValue) (result : Poll Answer) : Type 0 where
+  pub middle : SessionValue
+  pub caught : Poll (Option FtpError)
+  pub catches_up : CatchesUp (unasked link) (is_plain_read call) old middle caught
+  pub then_polls : ThenPolls link may_wait coding call stage stage' caught middle new result
+
+abbrev pub PollsInStepIf : Bool → Link → Type 0 → Coding → Call → Stage → Stage → SessionValue → SessionValue → Poll Answer → Type 0
+PollsInStepIf true link may_wait coding call stage stage' old new result = CatchesUpThenPolls link may_wait coding call stage stage' old new result
+PollsInStepIf false link may_wait coding call stage stage' old new result = PollsNext link may_wait coding call stage stage' old new result
+
+pub record PollsInStep (link : Link) (may_wait : Type 0) (coding : Coding) (call : Call) (stage stage' : Stage) (old new : SessionValue) (result : Poll Answer) : Type 0 where
+  pub polls : PollsInStepIf (is_behind call old) link may_wait coding call stage stage' old new result
+
 -- a poll of a call that has no answer yet
 pub record PollsSeen (link : Link) (may_wait : Type 0) (coding : Coding) (p q : UnderWay) (mark after : Option End) (old new : SessionValue) (result : Poll Answer) : Type 0 where
   pub seen : SessionValue
   pub stage : Stage
   pub looks : LooksFirst p.looks mark after old seen
-  pub polls : PollsNext link may_wait coding p.call p.stage stage seen new result
+  pub polls : PollsInStep link may_wait coding p.call p.stage stage seen new result
   pub next : q ≡ after_poll result stage p
 
 -- a call that has its answer gives none a second time, and nothing happens

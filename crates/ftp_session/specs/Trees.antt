@@ -19,6 +19,7 @@ use Rattle.ftp_calls.specs.declared.call.Answer.{Answer}
 use Rattle.ftp_calls.specs.declared.call.Answer.TheVariants.{Unit, Reply, Fault}
 use Rattle.ftp_dialogue.specs.declared.state.State.{State}
 use Rattle.ftp_dialogue.specs.Coding.{Coding}
+use Rattle.ftp_dialogue.specs.Unanswered.{after_faulty, answered_by}
 use Rattle.ftp_dialogue.specs.Dialogue.{Tree, Say, Hear, Leaf, armed, drain_answer, expected_of, expecting, features_answer, line_answer, path_answer, size_answer, time_answer, wants_memory, with_drained}
 
 -- an accepted reply gives this answer, a fault is the answer; the state stays
@@ -117,6 +118,10 @@ resume_tree offset state = Leaf Unit (armed offset state)
 
 -- The caller's lines and reads
 
--- one reply of these statuses; nothing is sent
+-- one reply of these statuses, which is that of a command that was dropped where one is due; nothing is sent
+abbrev pub taken_reply : State → Result Response FtpError → Tree
+taken_reply state (Ok reply) = Leaf (Reply reply) (answered_by reply.status state)
+taken_reply state (Err fault) = Leaf (Fault fault) (after_faulty fault state)
+
 abbrev pub read_tree : List Status → State → Tree
-read_tree statuses state = Hear (expecting statuses) (whole_reply state)
+read_tree statuses state = Hear (expecting statuses) (taken_reply state)

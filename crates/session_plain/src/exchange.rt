@@ -15,9 +15,7 @@ use crate::aborting::aborted;
 use crate::addresses::{to_address, to_port};
 use crate::carrying::carrying;
 use crate::fetching::performs;
-use crate::finishing::{
-    after_fault, answer_to_fault, drained, finish_answer, finished, wants_memory,
-};
+use crate::finishing::{after_fault, answer_to_fault, answered, drained, finish_answer, finished};
 use crate::hearing::{Heard, hear_reply};
 use crate::opening::{opened_answer, opens};
 use crate::settings::{armed, set_to};
@@ -228,9 +226,10 @@ fn concluded<E: Encoding>(
     match heard {
         Ok(reply) => accepted(alloc, encoding, ending, reply, standing),
         Err(fault) => {
-            let lacks = wants_memory(&fault);
+            let here = after_fault(&ending, &fault, standing);
             let answer = answer_to_fault(&ending, fault);
-            Ok(done(answer, after_fault(ending, lacks, standing)))
+            drop(ending);
+            Ok(done(answer, here))
         }
     }
 }
@@ -252,6 +251,10 @@ fn accepted<E: Encoding>(
     match ending {
         Ending::Done => Ok(done(Answer::Unit, standing)),
         Ending::GivesReply => Ok(done(Answer::Reply(reply), standing)),
+        Ending::TakesReply => {
+            let here = answered(reply.status, standing);
+            Ok(done(Answer::Reply(reply), here))
+        }
         Ending::Greets => match greeting_of(alloc, encoding, reply.body) {
             Ok(welcome) => Ok(done(Answer::Unit, greeted(welcome, standing))),
             Err(AllocError) => {

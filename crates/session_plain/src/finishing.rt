@@ -4,7 +4,7 @@ ghost use Rattle.std.specs.Prelude.{◌≡◌, IfOk, if◌then◌else◌};
 ghost use Rattle.ftp_calls.specs.Exchanges.{finishes};
 ghost use Rattle.ftp_dialogue.specs.Coding.{coding_of};
 ghost use Rattle.ftp_dialogue.specs.Dialogue.{after_fault_of, answer_to_fault, closing, drain_answer, finish_answer, finish_fault, told_of_close, wants_memory, with_drained, with_finished, with_left};
-ghost use Rattle.ftp_base.specs.declared.types.fault.FtpError.{FtpError as Faults};
+ghost use Rattle.ftp_dialogue.specs.Unanswered.{answered_by};
 ghost use Rattle.ftp_dialogue.specs.Play.{leaving, play};
 
 use crate::aborting::aborted;
@@ -12,6 +12,7 @@ use crate::asking::no_dealings;
 use crate::carrying::{Carried, moved_by, parted};
 use crate::turns::from_turn;
 use ftp_base::encoding::Encoding;
+use ftp_base::status::Status;
 use ftp_base::types::{ConnectionError, FtpError};
 use ftp_calls::exchange::{Ending, Movement, Turn, finishes};
 use ftp_session::model::{DealOutcome, Played, Standing, Wait};
@@ -110,20 +111,40 @@ pub(crate) fn wants_memory(fault: &FtpError) -> bool
     matches!(fault, FtpError::OutOfMemory)
 }
 
-/// What a fault in place of a reply leaves, by whether memory ran out.
-pub(crate) fn after_fault(ending: Ending, lacks: bool, standing: Standing) -> Standing
-    ensures { (fault : Faults) → lacks ≡ wants_memory fault →
-        result ≡ record standing { state = after_fault_of ending fault standing.state } }
+/// What a fault in place of a reply leaves.
+pub(crate) fn after_fault(ending: &Ending, fault: &FtpError, mut standing: Standing) -> Standing
+    ensures { result ≡ record standing { state = after_fault_of ending.now fault.now standing.state } }
 {
     match ending {
-        Ending::Finishes(_) => { if lacks { standing } else { finished(standing) } }
-        Ending::Drains => { if lacks { standing } else { drained(standing) } }
+        Ending::Finishes(_) => {
+            if wants_memory(fault) {
+                standing
+            } else {
+                finished(standing)
+            }
+        }
+        Ending::Drains => {
+            if wants_memory(fault) {
+                standing
+            } else {
+                drained(standing)
+            }
+        }
         Ending::Stops => aborted(standing),
-        other => {
-            drop(other);
+        Ending::TakesReply => {
+            standing.state.answer_faulty(fault);
             standing
         }
+        _ => standing,
     }
+}
+
+/// A reply of this status is that of a command that was dropped, where one is due.
+pub(crate) fn answered(status: Status, mut standing: Standing) -> Standing
+    ensures { result ≡ record standing { state = answered_by status standing.state } }
+{
+    standing.state.answer(status);
+    standing
 }
 
 /// The transfer has come to its end.

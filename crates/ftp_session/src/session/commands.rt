@@ -14,7 +14,7 @@ ghost use Rattle.ftp_calls.specs.Exchanges.{own_row, says};
 ghost use Rattle.ftp_session.specs.Calls.{reply_answer, unit_answer};
 ghost use Rattle.ftp_dialogue.specs.Coding.{chosen};
 ghost use Rattle.ftp_dialogue.specs.Link.{blocking};
-ghost use Rattle.ftp_session.specs.Commands.{PlaysCommand};
+ghost use Rattle.ftp_session.specs.Commands.{PlaysCommand, PlaysRead};
 ghost use Rattle.ftp_session.specs.Handed.{PlaysSeen};
 ghost use Rattle.ftp_session.specs.Trees.{login_tree, read_tree, rename_tree, reply_tree, resume_tree, type_tree, unit_tree};
 ghost use Rattle.ftp_dialogue.specs.Promises.{PlaysAlone};
@@ -284,12 +284,12 @@ where
         self.perform_for_reply(alloc, custom_call(alloc, line, expected))
     }
 
-    /// Reads one reply of this status. Nothing is said.
+    /// Reads one reply of this status: that of a command that was dropped, where one is due. Nothing is said.
     ///
     /// # Errors
     /// Those of a read of one reply.
     pub fn read_response(&mut self, alloc: Global, expected: Status) -> FtpResult<Response>
-        ensures plays { PlaysCommand (blocking Tr.Conn.Conn) (read_tree (expected ∷ []))
+        ensures plays { PlaysRead (blocking Tr.Conn.Conn) (read_tree (expected ∷ []))
             self.old.mark self.new.mark self.old.machine self.new.machine (reply_answer result) }
         ensures encoding { self.new.encoding ≡ self.old.encoding }
         ensures builder { self.new.builder ≡ self.old.builder }
@@ -298,12 +298,13 @@ where
         self.perform_for_reply(alloc, Ok(Call::ReadResponse(expected)))
     }
 
-    /// Reads one reply whose status is among the expected. Nothing is said.
+    /// Reads one reply whose status is among the expected: that of a command that was dropped, where one is due. Nothing is
+    /// said.
     ///
     /// # Errors
     /// Those of a read of one reply.
     pub fn read_response_in(&mut self, alloc: Global, expected: &[Status]) -> FtpResult<Response>
-        ensures plays { PlaysCommand (blocking Tr.Conn.Conn) (read_tree expected.now)
+        ensures plays { PlaysRead (blocking Tr.Conn.Conn) (read_tree expected.now)
             self.old.mark self.new.mark self.old.machine self.new.machine (reply_answer result) }
         ensures encoding { self.new.encoding ≡ self.old.encoding }
         ensures builder { self.new.builder ≡ self.old.builder }
@@ -337,7 +338,8 @@ where
             call.now self.old.mark self.new.mark self.old.machine self.new.machine result }
     {
         look(&mut self.machine, &mut self.mark);
-        self.machine.call(&Nothing, alloc, &self.encoding, call)
+        self.machine
+            .call_in_step(&Nothing, alloc, &self.encoding, call)
     }
 
     /// Makes a call that gives nothing, whose arguments were copied. Where memory ran out for them nothing happens.

@@ -75,7 +75,8 @@ where
         }
     }
 
-    /// Reads the last reply of a transfer that was left (226, 250), by its receipt. A reply of another status ends the
+    /// Reads the last reply of a transfer that was left (226, 250), by its receipt, and those that are due to commands that
+    /// were dropped. A reply of another status ends the
     /// transfer as well. One whose last reply was read before is over, and nothing is read.
     ///
     /// # Errors
@@ -96,10 +97,7 @@ where
         if !owed {
             return Ok(());
         }
-        ended(
-            self.machine
-                .call_alone(&Nothing, alloc, &self.encoding, &Call::Drain),
-        )
+        self.machine.settle(alloc, &self.encoding)
     }
 }
 

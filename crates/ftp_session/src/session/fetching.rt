@@ -19,7 +19,7 @@ ghost use Rattle.ftp_session.specs.Handed.{PlaysSeen};
 
 use super::client::Session;
 use super::looking::look;
-use super::making::make;
+use super::making::make_in_step;
 use super::polling::DropsCalls;
 use super::{Answer, Call};
 use ftp_base::encoding::Encoding;
@@ -120,7 +120,7 @@ where
         look(&mut self.machine, &mut self.mark);
         match call {
             Ok(call) => {
-                let answer = make(
+                let answer = make_in_step(
                     &mut self.machine,
                     alloc,
                     rt,

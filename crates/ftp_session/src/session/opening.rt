@@ -13,7 +13,7 @@ ghost use Rattle.ftp_transfer.specs.declared.direction.Direction.TheVariants as 
 use super::client::Session;
 use super::handing::HandsTransfers;
 use super::looking::look;
-use super::making::make;
+use super::making::make_in_step;
 use super::polling::DropsCalls;
 use super::{Answer, Call};
 use ftp_base::encoding::Encoding;
@@ -183,7 +183,7 @@ where
             Ok(mark) => mark,
             Err(fault) => return Err(fault),
         };
-        let answer = make(
+        let answer = make_in_step(
             &mut self.machine,
             alloc,
             rt,

@@ -13,14 +13,14 @@ ghost use Rattle.ftp_dialogue.specs.Steps.Moving.{withheld};
 ghost use Rattle.ftp_dialogue.specs.Steps.Polls.{StageIn, StartsTo};
 ghost use Rattle.ftp_dialogue.specs.Steps.Stages.{StageOf};
 ghost use Rattle.ftp_calls.specs.Exchanges.{is_local};
-ghost use Rattle.ftp_session.specs.Polled.{Drops, LooksFirst, PollsCall, PollsNext};
+ghost use Rattle.ftp_session.specs.Polled.{Drops, LooksFirst, PollsCall, PollsInStep, PollsNext};
 
 use super::client::Session;
 use super::looking::look;
 use super::{Answer, Call};
 use ftp_base::encoding::Encoding;
 use ftp_base::types::{ConnectionError, FtpError};
-use ftp_calls::exchange::{Turn, is_local};
+use ftp_calls::exchange::{Turn, drains, is_local};
 use ftp_dialogue::asks::InTask;
 use ftp_dialogue::machine::Machine;
 use ftp_dialogue::stage::Stage;
@@ -136,8 +136,8 @@ impl<
 where
     Tr::Conn: PollConn<W>,
 {
-    /// Polls a call. The first poll looks at the mark; the last reply of a transfer that was left is polled before the
-    /// call. A call that waits may be polled again, or dropped by `drop_call`; between its polls no other call may be made.
+    /// Polls a call. The first poll looks at the mark; replies that are due to commands that were dropped are polled before
+    /// the call, and the last reply of a transfer that was left. A call that waits may be polled again, or dropped by `drop_call`; between its polls no other call may be made.
     ///
     /// The answer is that of the call; `AlreadyCompleted` of a call that has its answer, and nothing happens.
     fn poll_call(
@@ -160,7 +160,7 @@ where
         }
         look_first(&mut self.machine, &mut self.mark, polled.looks);
         polled.looks = false;
-        match poll_next(
+        match poll_in_step(
             &mut self.machine,
             alloc,
             rt,
@@ -182,7 +182,7 @@ where
 
 impl<Tr: Network, K: Drop, E: Encoding, B: Drop> DropsCalls for Session<Tr, K, E, B> {
     /// Drops a call that waits. Nothing is sent or read: the unsent tail of a line goes out before any other byte, and
-    /// what came of a reply is kept. A transfer that the call was to bring to its end is left, but for an abort whose
+    /// what came of a reply is kept. The reply of a command whose line was begun is due, and read before a later call. A transfer that the call was to bring to its end is left, but for an abort whose
     /// `ABOR` has gone out whole; that of a whole file or listing is left, too. A call that has its answer leaves nothing.
     fn drop_call(&mut self, polled: &PolledCall)
         ensures drops { Drops Tr.Conn.tells polled.now self.old.machine self.new.machine }
@@ -226,6 +226,40 @@ fn look_first<Tr: Network>(machine: &mut Machine<Tr>, mark: &mut Option<SessionE
     if looks {
         look(machine, mark);
     }
+}
+
+/// Polls a call, after the replies that are due to commands that were dropped, where it reads them first.
+fn poll_in_step<Tr: Network, R, W, E: Encoding, B: PassiveStreamBuilder<Tr::Conn>>(
+    machine: &mut Machine<Tr>,
+    alloc: Global,
+    rt: &R,
+    builder: &Option<B>,
+    encoding: &E,
+    call: &Call,
+    stage: &mut Stage,
+    w: &mut W,
+) -> Poll<Answer>
+where
+    Tr: PollTransport<R, W>,
+    Tr::Conn: PollConn<W>,
+    requires stage { StageIn (Some call.now) stage.old }
+    requires channel { is_local call.now ≡ false }
+    ensures stage { result ≡ poll.Pending → StageIn (Some call.now) stage.new }
+    ensures polls { PollsInStep (asking (built_by B.answers builder.now) (Tr.PollTransport.may_wait ⊎ Tr.Conn.PollConn.may_wait) (polling Tr.Conn.PollConn)) Tr.Conn.PollConn.may_wait (coding_of E.decoded E.encoded encoding.now) call.now stage.old
+        stage.new machine.old machine.new result }
+{
+    if machine.is_behind(call) {
+        match machine.poll_catch_up(alloc, call, w) {
+            Poll::Pending => return Poll::Pending,
+            Poll::Ready(Some(fault)) => return Poll::Ready(Answer::Fault(fault)),
+            Poll::Ready(None) => {
+                if drains(call) {
+                    return Poll::Ready(Answer::Unit);
+                }
+            }
+        }
+    }
+    poll_next(machine, alloc, rt, builder, encoding, call, stage, w)
 }
 
 /// Polls a call, after the last reply of a transfer that was left, where one is due.

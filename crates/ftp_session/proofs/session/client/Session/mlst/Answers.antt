@@ -1,4 +1,4 @@
-use Rattle.std.proofs.Common.{option_map, refl}
+use Rattle.std.proofs.Common.{option_map, refl, false}
 use Rattle.ftp_calls.specs.declared.call.Call.TheVariants.{Mlst}
 use Rattle.ftp_dialogue.specs.Coding.{chosen}
 use Rattle.ftp_session.proofs.Commands.{plays_command}
@@ -9,9 +9,9 @@ use Rattle.ftp_session.proofs.session.client.Session.mlst.Goals as goal
 pub returns-in-Ok-clause-plays : goal.returns-in-Ok-clause-plays
 returns-in-Ok-clause-plays g c =
     let coding = chosen g.E.Encoding.decoded g.E.Encoding.encoded c.args.self.now.encoding.0 in
-    rw c.text.ensures (plays_command _ coding (Mlst (option_map (λ text. text.now) c.args.path)) _ _ _ _ _ _ (mlst_is coding (option_map (λ text. text.now) c.args.path)) (copied_plays _ _ c.mlst_call.result c.in-Ok.call (Mlst (option_map (λ text. text.now) c.args.path)) _ _ _ _ _ c.in-Ok.is c.mlst_call.ensures.call c.call-answer.ensures.plays))
+    rw c.text.ensures (plays_command _ coding (Mlst (option_map (λ text. text.now) c.args.path)) false _ _ _ _ _ _ (mlst_is coding (option_map (λ text. text.now) c.args.path)) refl (copied_plays _ _ c.mlst_call.result c.in-Ok.call (Mlst (option_map (λ text. text.now) c.args.path)) _ _ _ _ _ c.in-Ok.is c.mlst_call.ensures.call c.call-answer.ensures.plays))
 
 pub returns-in-Err-clause-plays : goal.returns-in-Err-clause-plays
 returns-in-Err-clause-plays g c =
     let coding = chosen g.E.Encoding.decoded g.E.Encoding.encoded c.args.self.now.encoding.0 in
-    plays_command _ coding (Mlst (option_map (λ text. text.now) c.args.path)) _ _ _ _ _ _ (mlst_is coding (option_map (λ text. text.now) c.args.path)) (c.withheld_call.ensures.plays (Mlst (option_map (λ text. text.now) c.args.path)) (refl, refl, refl))
+    plays_command _ coding (Mlst (option_map (λ text. text.now) c.args.path)) false _ _ _ _ _ _ (mlst_is coding (option_map (λ text. text.now) c.args.path)) refl (c.withheld_call.ensures.plays (Mlst (option_map (λ text. text.now) c.args.path)) (refl, refl, refl))

@@ -1,4 +1,3 @@
-use Rattle.ftp_dialogue.proofs.DrainingLemmas.{drained_plays}
 use Rattle.ftp_session.proofs.Handed.{hands_opens, opens_withheld}
 use Rattle.ftp_session.proofs.session.client.Session.open_call.Goals as goal
 
@@ -8,4 +7,4 @@ returns-in-Err-clause-opens g c =
 
 pub returns-clause-opens : goal.returns-clause-opens
 returns-clause-opens g c =
-    hands_opens _ _ c.args.call.now c.args.replies c.args.direction c.in-Ok.mark _ _ _ _ _ _ _ _ c.hand_over.result c.requires (rw c.in-Ok.is at c.new_mark.ensures.number) (drained_plays _ _ _ _ _ _ c.make-answer.ensures.made) c.hand_over.ensures.hands
+    hands_opens _ _ c.args.call.now c.args.replies c.args.direction c.in-Ok.mark _ _ _ _ _ _ _ _ c.hand_over.result c.requires (rw c.in-Ok.is at c.new_mark.ensures.number) c.make_in_step-answer.ensures.made c.hand_over.ensures.hands

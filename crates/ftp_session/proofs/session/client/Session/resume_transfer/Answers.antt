@@ -1,4 +1,4 @@
-use Rattle.std.proofs.Common.{refl}
+use Rattle.std.proofs.Common.{refl, false}
 use Rattle.ftp_calls.specs.declared.call.Call.TheVariants.{ResumeTransfer}
 use Rattle.ftp_dialogue.specs.Coding.{chosen}
 use Rattle.ftp_session.proofs.Commands.{plays_command}
@@ -8,4 +8,4 @@ use Rattle.ftp_session.proofs.session.client.Session.resume_transfer.Goals as go
 pub returns-clause-plays : goal.returns-clause-plays
 returns-clause-plays g c =
     let coding = chosen g.E.Encoding.decoded g.E.Encoding.encoded c.args.self.now.encoding.0 in
-    plays_command _ coding (ResumeTransfer c.args.offset) _ _ _ _ _ _ (resume_is coding c.args.offset) (c.perform.ensures.plays (ResumeTransfer c.args.offset) (refl, refl, refl) refl)
+    plays_command _ coding (ResumeTransfer c.args.offset) false _ _ _ _ _ _ (resume_is coding c.args.offset) refl (c.perform.ensures.plays (ResumeTransfer c.args.offset) (refl, refl, refl) refl)

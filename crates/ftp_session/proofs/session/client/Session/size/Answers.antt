@@ -1,4 +1,4 @@
-use Rattle.std.proofs.Common.{refl}
+use Rattle.std.proofs.Common.{refl, false}
 use Rattle.ftp_calls.specs.declared.call.Call.TheVariants.{Size}
 use Rattle.ftp_dialogue.specs.Coding.{chosen}
 use Rattle.ftp_session.proofs.Commands.{plays_command}
@@ -9,9 +9,9 @@ use Rattle.ftp_session.proofs.session.client.Session.size.Goals as goal
 pub returns-in-Ok-clause-plays : goal.returns-in-Ok-clause-plays
 returns-in-Ok-clause-plays g c =
     let coding = chosen g.E.Encoding.decoded g.E.Encoding.encoded c.args.self.now.encoding.0 in
-    rw c.size.ensures (plays_command _ coding (Size c.args.path.now) _ _ _ _ _ _ (size_is coding c.args.path.now) (copied_plays _ _ c.size_call.result c.in-Ok.call (Size c.args.path.now) _ _ _ _ _ c.in-Ok.is c.size_call.ensures.call c.call-answer.ensures.plays))
+    rw c.size.ensures (plays_command _ coding (Size c.args.path.now) false _ _ _ _ _ _ (size_is coding c.args.path.now) refl (copied_plays _ _ c.size_call.result c.in-Ok.call (Size c.args.path.now) _ _ _ _ _ c.in-Ok.is c.size_call.ensures.call c.call-answer.ensures.plays))
 
 pub returns-in-Err-clause-plays : goal.returns-in-Err-clause-plays
 returns-in-Err-clause-plays g c =
     let coding = chosen g.E.Encoding.decoded g.E.Encoding.encoded c.args.self.now.encoding.0 in
-    plays_command _ coding (Size c.args.path.now) _ _ _ _ _ _ (size_is coding c.args.path.now) (c.withheld_call.ensures.plays (Size c.args.path.now) (refl, refl, refl))
+    plays_command _ coding (Size c.args.path.now) false _ _ _ _ _ _ (size_is coding c.args.path.now) refl (c.withheld_call.ensures.plays (Size c.args.path.now) (refl, refl, refl))

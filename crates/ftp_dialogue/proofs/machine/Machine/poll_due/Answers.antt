@@ -1,0 +1,21 @@
+use Rattle.std.proofs.Common.{◌∙◌, ◌-◌, ap, sym, arith}
+use Rattle.ftp_dialogue.proofs.CatchingUpLemmas.{reads_fault, reads_more, reads_no_more, reads_none, reads_waits}
+use Rattle.ftp_dialogue.proofs.machine.Machine.poll_due.Goals as goal
+
+pub due-init : goal.due-init
+due-init g c = λ new result reads. reads
+
+pub returns-then-self-eq0-clause-reads : goal.returns-then-self-eq0-clause-reads
+returns-then-self-eq0-clause-reads g c = c.due.invariant _ _ (reads_none _ c.due.left c.due.self (omega (arith, c.due-test.true)) (ap (λ v. v.state.unanswered) (sym c.self.view_is) ∙ c.if-self-eq0.true))
+
+pub returns-in-Some-clause-reads : goal.returns-in-Some-clause-reads
+returns-in-Some-clause-reads g c = c.due.invariant _ _ (reads_fault _ c.due.left (c.due.left - 1) c.due.self c.poll_read_alone.new.self c.poll_read_alone.result (omega (arith, c.due-test.true)) (omega (arith, c.due-test.true)) (λ none. c.if-self-eq0.false (ap (λ v. v.state.unanswered) c.self.view_is ∙ none)) c.poll_read_alone.ensures.reads c.in-Ready.heard c.in-Some.fault c.in-Ready.is (sym c.in-Some.is ∙ c.fault_told.ensures))
+
+pub returns-in-Pending-clause-reads : goal.returns-in-Pending-clause-reads
+returns-in-Pending-clause-reads g c = c.due.invariant _ _ (reads_waits _ c.due.left (c.due.left - 1) c.due.self c.poll_read_alone.new.self c.poll_read_alone.result (omega (arith, c.due-test.true)) (omega (arith, c.due-test.true)) (λ none. c.if-self-eq0.false (ap (λ v. v.state.unanswered) c.self.view_is ∙ none)) c.poll_read_alone.ensures.reads c.in-Pending.is)
+
+pub due-preserved : goal.due-preserved
+due-preserved g c = λ new result then. c.due.invariant new result (reads_more _ c.due.left (c.due.left - 1) c.due.self c.poll_read_alone.new.self c.poll_read_alone.result (omega (arith, c.due-test.true)) (omega (arith, c.due-test.true)) (λ none. c.if-self-eq0.false (ap (λ v. v.state.unanswered) c.self.view_is ∙ none)) c.poll_read_alone.ensures.reads c.in-Ready.heard new result c.in-Ready.is (sym c.in_default.is ∙ c.fault_told.ensures) then)
+
+pub returns-clause-reads : goal.returns-clause-reads
+returns-clause-reads g c = c.due.invariant _ _ (reads_no_more _ c.due.left c.due.self c.due-test.false)

@@ -1,0 +1,120 @@
+-- Replies that are due to commands that were dropped are read before a call says or hears anything of its own: RFC 959,
+-- sections 4.2 and 5.4.
+use Rattle.std.specs.Prelude.{◌≡◌, ◌⊎◌, ◌&&◌, ◌||◌, ◌==◌, not, ℕ, zero, suc, Bool, true, false, [], Option, Some, None, Result, Ok, Err, if◌then◌else◌}
+use Rattle.futures.specs.declared.task.Poll.{Poll}
+use Rattle.futures.specs.declared.task.Poll.TheVariants.{Ready, Pending}
+use Rattle.ftp_base.specs.declared.types.reply.Response.{Response}
+use Rattle.ftp_base.specs.declared.types.fault.FtpError.{FtpError}
+use Rattle.ftp_base.specs.declared.types.fault.FtpError.TheVariants.{UnexpectedResponse, BadResponse}
+use Rattle.ftp_calls.specs.Exchanges.{drains, drains_first, is_read, negotiates}
+use Rattle.ftp_calls.specs.declared.call.Answer.{Answer}
+use Rattle.ftp_calls.specs.declared.call.Answer.TheVariants.{Unit as Nothing, Fault}
+use Rattle.ftp_calls.specs.declared.call.Call.{Call}
+use Rattle.ftp_dialogue.specs.Coding.{Coding}
+use Rattle.ftp_dialogue.specs.Dialogue.{Tree, Say, Leaf, expecting}
+use Rattle.ftp_dialogue.specs.Link.{Link, unasked}
+use Rattle.ftp_dialogue.specs.Promises.{Aborts, Completes, Leads, Plays}
+use Rattle.ftp_dialogue.specs.Reading.{ReadsAlone}
+use Rattle.ftp_dialogue.specs.State.{SessionValue}
+use Rattle.ftp_dialogue.specs.Unanswered.{most_commands}
+use Rattle.ftp_dialogue.specs.declared.state.Owed.{Owed}
+use Rattle.ftp_dialogue.specs.declared.state.Owed.TheVariants as owed
+use Rattle.ftp_dialogue.specs.declared.state.State.{State}
+
+-- beside a live transfer no other is opened, and a call that would says so at once
+abbrev pub opens_beside : Call → Owed → Bool
+opens_beside call owed.Nothing = false
+opens_beside call (owed.Live number) = negotiates call
+opens_beside call (owed.Left number) = false
+
+-- replies are due to commands that were dropped, in a session that goes on
+abbrev pub is_late : SessionValue → Bool
+is_late v = not (v.channel.failed || (v.state.unanswered == 0))
+
+-- and a call reads them first: one that goes over the control connection, but for those that bring a transfer to its end
+abbrev pub is_behind : Call → SessionValue → Bool
+is_behind call v = is_late v && (drains_first call || drains call) && not (opens_beside call v.state.counts.owed)
+
+-- a plain read reads none of them first: its own reply is one
+abbrev pub is_plain_read : Call → Bool
+is_plain_read call = is_read call && not (drains call)
+
+-- the unsent tail of the line that was begun last goes out
+abbrev pub flushing : State → Tree
+flushing state = Say (Ok []) (Leaf Nothing state)
+
+abbrev pub Flushes : Link → SessionValue → SessionValue → Poll (Option FtpError) → Type 0
+Flushes link old new (Ready None) = Completes link (flushing old.state) Nothing old new
+Flushes link old new (Ready (Some fault)) = Completes link (flushing old.state) (Fault fault) old new ⊎ Aborts link false (flushing old.state) (Fault fault) old new
+Flushes link old new Pending = Leads link (flushing old.state) (flushing old.state) old new
+
+-- a line went out, or is waited for, or this is why it can't
+abbrev pub told_of_line : Poll (Result (Unit {0}) FtpError) → Poll (Option FtpError)
+told_of_line (Ready (Ok done)) = Ready None
+told_of_line (Ready (Err fault)) = Ready (Some fault)
+told_of_line Pending = Pending
+
+-- a reply of any status is passed over, and a fault in its place is told
+abbrev pub fault_told : Result Response FtpError → Option FtpError
+fault_told (Ok reply) = None
+fault_told (Err (UnexpectedResponse reply)) = None
+fault_told (Err fault) = Some fault
+
+-- what comes after a part that was done, was waited for, or gave a fault
+abbrev pub After : (SessionValue → SessionValue → Poll (Option FtpError) → Type 0) → Poll (Option FtpError) → SessionValue → SessionValue → Poll (Option FtpError) → Type 0
+After Next (Ready None) middle new result = Next middle new result
+After Next (Ready (Some fault)) middle new result = (result ≡ Ready (Some fault)) × (new ≡ middle)
+After Next Pending middle new result = (result ≡ Pending) × (new ≡ middle)
+
+abbrev pub told_by : Poll (Result Response FtpError) → Poll (Option FtpError)
+told_by (Ready heard) = Ready (fault_told heard)
+told_by Pending = Pending
+
+-- one reply is read, and then the next
+pub record ReadsOne (link : Link) (Next : SessionValue → SessionValue → Poll (Option FtpError) → Type 0) (old new : SessionValue) (result : Poll (Option FtpError)) : Type 0 where
+  pub middle : SessionValue
+  pub heard : Poll (Result Response FtpError)
+  pub reads : ReadsAlone link (expecting []) old middle heard
+  pub then_reads : After Next (told_by heard) middle new result
+
+abbrev pub ReadsIf : Bool → Link → (SessionValue → SessionValue → Poll (Option FtpError) → Type 0) → SessionValue → SessionValue → Poll (Option FtpError) → Type 0
+ReadsIf true link Next old new result = (result ≡ Ready None) × (new ≡ old)
+ReadsIf false link Next old new result = ReadsOne link Next old new result
+
+-- as long as some are due; a server that sends more than so many in their place says nothing that can be read
+unfoldable pub ReadsDue : ℕ → Link → SessionValue → SessionValue → Poll (Option FtpError) → Type 0
+ReadsDue zero link old new result = (result ≡ Ready (Some BadResponse)) × (new ≡ old)
+ReadsDue (suc left) link old new result = ReadsIf (old.state.unanswered == 0) link (λ v w r. ReadsDue left link v w r) old new result
+
+-- none is read before a plain read
+abbrev pub ReadsUnless : Bool → Link → SessionValue → SessionValue → Poll (Option FtpError) → Type 0
+ReadsUnless true link old new result = (result ≡ Ready None) × (new ≡ old)
+ReadsUnless false link old new result = ReadsDue most_commands link old new result
+
+-- the tail goes out, and then the replies are read
+pub record CatchesUp (link : Link) (plain : Bool) (old new : SessionValue) (result : Poll (Option FtpError)) : Type 0 where
+  pub flushed : SessionValue
+  pub flush : Poll (Option FtpError)
+  pub flushes : Flushes link old flushed flush
+  pub then_reads : After (ReadsUnless plain link) flush flushed new result
+
+-- then the call is made, but for a read of the last reply of a transfer that was left, which is among them; a fault is the
+-- answer
+abbrev pub MakesThen : Option FtpError → Bool → (SessionValue → SessionValue → Answer → Type 0) → SessionValue → SessionValue → Answer → Type 0
+MakesThen (Some fault) ends Makes middle new answer = (answer ≡ Fault fault) × (new ≡ middle)
+MakesThen None true Makes middle new answer = (answer ≡ Nothing) × (new ≡ middle)
+MakesThen None false Makes middle new answer = Makes middle new answer
+
+pub record CatchesUpFirst (link : Link) (plain ends : Bool) (Makes : SessionValue → SessionValue → Answer → Type 0) (old new : SessionValue) (answer : Answer) : Type 0 where
+  pub middle : SessionValue
+  pub fault : Option FtpError
+  pub catches_up : CatchesUp link plain old middle (Ready fault)
+  pub then_makes : MakesThen fault ends Makes middle new answer
+
+abbrev pub InStepIf : Bool → Link → Bool → Bool → (SessionValue → SessionValue → Answer → Type 0) → SessionValue → SessionValue → Answer → Type 0
+InStepIf true link plain ends Makes old new answer = CatchesUpFirst link plain ends Makes old new answer
+InStepIf false link plain ends Makes old new answer = Makes old new answer
+
+-- a call in step: after the replies that are due
+pub record PlaysInStep (link : Link) (coding : Coding) (call : Call) (old new : SessionValue) (answer : Answer) : Type 0 where
+  pub plays : InStepIf (is_behind call old) (unasked link) (is_plain_read call) (drains call) (Plays link coding call) old new answer

@@ -1,0 +1,176 @@
+//! Replies that are due to commands that were dropped (RFC 959, sections 4.2 and 5.4).
+//!
+//! A server answers its commands in their order, so that such replies come before those of a later call. They are read
+//! before that says or hears anything of its own, after the unsent tail of the line that was begun last, without which the
+//! server would answer nothing. Each is counted as it is read, so a read of them that waits may be dropped, and goes on
+//! with the next call.
+
+ghost use Rattle.std.specs.Prelude.{◌≡◌, true, false};
+ghost use Rattle.futures.specs.declared.task.Poll.TheVariants as poll;
+ghost use Rattle.ftp_calls.specs.Exchanges.{drains, is_local, negotiates, of_transfer};
+ghost use Rattle.ftp_dialogue.specs.CatchingUp.{CatchesUp, Flushes, InStepIf, ReadsDue, fault_told, is_behind, is_plain_read, told_of_line};
+ghost use Rattle.ftp_dialogue.specs.Coding.{coding_of};
+ghost use Rattle.ftp_dialogue.specs.Link.{asking, blocking, polling};
+ghost use Rattle.ftp_dialogue.specs.Reading.{drain_told};
+ghost use Rattle.ftp_dialogue.specs.Sound.{none_left};
+ghost use Rattle.ftp_dialogue.specs.Steps.Moving.{MadeDrained};
+ghost use Rattle.ftp_dialogue.specs.Steps.Stages.{MayAnswer};
+ghost use Rattle.ftp_dialogue.specs.Unanswered.{most_commands};
+
+use super::asks::{Asks, Nothing};
+use super::draining::drained;
+use super::machine::Machine;
+use super::{Answer, Call, Owed};
+use ftp_base::encoding::Encoding;
+use ftp_base::types::{FtpError, FtpResult, Response};
+use ftp_calls::exchange::{drains, drains_first, is_read, negotiates};
+use ftp_transport::{Conn, Network, NeverWaits, PollConn};
+use futures::task::Poll;
+use std::alloc::Global;
+
+impl<Tr: Network> Machine<Tr> {
+    /// Whether replies are due to commands that were dropped, which a call reads first. That is so of each that goes over the
+    /// control connection, but of those that bring a transfer to its end, and of those that would open one beside a live one.
+    pub fn is_behind(&self, call: &Call) -> bool
+        ensures { result ≡ is_behind call.now self.now }
+    {
+        if self.channel.failed() || self.state.unanswered == 0 {
+            return false;
+        }
+        let opens_beside = matches!(self.state.counts.owed(), Owed::Live(_)) && negotiates(call);
+        (drains_first(call) || drains(call)) && !opens_beside
+    }
+
+    /// Polls the replies that are due to commands that were dropped, after the unsent tail of a line; before a plain read
+    /// that tail alone. One that waits may be dropped, and polled again. A fault in place of a reply is given, and counted
+    /// where it is one that can't be read.
+    pub fn poll_catch_up<W>(
+        &mut self,
+        alloc: Global,
+        call: &Call,
+        w: &mut W,
+    ) -> Poll<Option<FtpError>>
+    where
+        Tr::Conn: PollConn<W>,
+        requires going { self.old.channel.failed ≡ false }
+        ensures waits { result ≡ poll.Pending → Tr.Conn.may_wait }
+        ensures catches_up { CatchesUp (polling Tr.Conn.PollConn) (is_plain_read call.now) self.old self.new result }
+    {
+        match self.poll_flush(w) {
+            Poll::Ready(None) => {}
+            other => return other,
+        }
+        if is_read(call) && !drains(call) {
+            return Poll::Ready(None);
+        }
+        self.poll_due(alloc, w)
+    }
+
+    /// Makes a call in step: after the replies that are due to commands that were dropped, where it reads them first. A fault
+    /// of such a read is the answer, and the call isn't made; else the answer is that of `call`.
+    pub fn call_in_step<E: Encoding, A: Asks<Tr, NeverWaits>>(
+        &mut self,
+        asker: &A,
+        alloc: Global,
+        encoding: &E,
+        call: &Call,
+    ) -> Answer
+    where
+        Tr::Conn: Conn,
+        requires may { negotiates call.now ≡ true → A.may_ask }
+        requires channel { is_local call.now ≡ false }
+        requires blocks { A.may_wait → ⊥ }
+        requires unheld { of_transfer call.now ≡ false }
+        ensures answers { MayAnswer call.now result }
+        ensures made { InStepIf (is_behind call.now self.old) (blocking Tr.Conn.Conn) (is_plain_read call.now) (drains call.now)
+            (MadeDrained (asking (A.builds asker.now) A.may_wait (blocking Tr.Conn.Conn)) (coding_of E.decoded E.encoded encoding.now) call.now)
+            self.old self.new result }
+    {
+        if self.is_behind(call) {
+            match self.poll_catch_up(alloc, call, &mut NeverWaits) {
+                Poll::Ready(None) => {}
+                Poll::Ready(Some(fault)) => return Answer::Fault(fault),
+                Poll::Pending => unreachable!(),
+            }
+        }
+        self.call(asker, alloc, encoding, call)
+    }
+
+    /// Reads the last reply of a transfer that was left, and those that are due to commands that were dropped: where some are,
+    /// it is among them.
+    pub fn settle<E: Encoding>(&mut self, alloc: Global, encoding: &E) -> FtpResult<()>
+    where
+        Tr::Conn: Conn,
+        requires left { none_left self.old.state.counts.owed ≡ false }
+        ensures made { InStepIf (is_behind Call.Drain self.old) (blocking Tr.Conn.Conn) false true
+            (MadeDrained (blocking Tr.Conn.Conn) (coding_of E.decoded E.encoded encoding.now) Call.Drain)
+            self.old self.new (drain_told result) }
+    {
+        if self.is_behind(&Call::Drain) {
+            return match self.poll_catch_up(alloc, &Call::Drain, &mut NeverWaits) {
+                Poll::Ready(None) => Ok(()),
+                Poll::Ready(Some(fault)) => Err(fault),
+                Poll::Pending => unreachable!(),
+            };
+        }
+        drained(self.call_alone(&Nothing, alloc, encoding, &Call::Drain))
+    }
+
+    /// The unsent tail of the line that was begun last goes out.
+    fn poll_flush<W>(&mut self, w: &mut W) -> Poll<Option<FtpError>>
+    where
+        Tr::Conn: PollConn<W>,
+        requires going { self.old.channel.failed ≡ false }
+        ensures waits { result ≡ poll.Pending → Tr.Conn.may_wait }
+        ensures flushes { Flushes (polling Tr.Conn.PollConn) self.old self.new result }
+    {
+        told_of_line(self.channel.poll_perform(&mut None, w))
+    }
+
+    /// Reads one reply after another, as long as some are due.
+    fn poll_due<W>(&mut self, alloc: Global, w: &mut W) -> Poll<Option<FtpError>>
+    where
+        Tr::Conn: PollConn<W>,
+        ensures waits { result ≡ poll.Pending → Tr.Conn.may_wait }
+        ensures reads { ReadsDue most_commands (polling Tr.Conn.PollConn) self.old self.new result }
+    {
+        let mut left = u64::MAX;
+        'due: while left > 0 {
+            if self.state.unanswered == 0 {
+                return Poll::Ready(None);
+            }
+            match self.poll_read_alone(alloc, &[], w) {
+                Poll::Ready(heard) => {
+                    if let Some(fault) = fault_told(heard) {
+                        return Poll::Ready(Some(fault));
+                    }
+                }
+                Poll::Pending => return Poll::Pending,
+            }
+            left -= 1;
+        }
+        Poll::Ready(Some(FtpError::BadResponse))
+    }
+}
+
+/// A line went out, or is waited for, or this is why it can't.
+fn told_of_line(performed: Poll<FtpResult<()>>) -> Poll<Option<FtpError>>
+    ensures { result ≡ told_of_line performed }
+{
+    match performed {
+        Poll::Ready(Ok(())) => Poll::Ready(None),
+        Poll::Ready(Err(fault)) => Poll::Ready(Some(fault)),
+        Poll::Pending => Poll::Pending,
+    }
+}
+
+/// A reply of any status is passed over, and a fault in its place is told.
+fn fault_told(heard: FtpResult<Response>) -> Option<FtpError>
+    ensures { result ≡ fault_told heard }
+{
+    match heard {
+        Ok(_reply) => None,
+        Err(FtpError::UnexpectedResponse(_reply)) => None,
+        Err(fault) => Some(fault),
+    }
+}
