@@ -16,16 +16,16 @@ use Rattle.ftp_calls.specs.declared.exchange.Row.{Row}
 use Rattle.ftp_calls.specs.declared.exchange.Row.TheVariants.{Exchanges, Arms, Sets, Moves}
 use Rattle.ftp_calls.specs.declared.exchange.Turn.TheVariants.{First}
 use Rattle.ftp_calls.specs.declared.call.Call.{Call}
-use Rattle.ftp_dialogue.specs.CatchingUp.{After, CatchesUp, Flushes, InStepIf, MakesThen, ReadsDue, ReadsIf, PlaysInStep, fault_told, flushing, is_behind, is_late, is_plain_read, opens_beside, told_by, told_of_line}
+use Rattle.ftp_dialogue.specs.CatchingUp.{After, CatchesUp, Flushes, InStepIf, MakesThen, PollsReadIf, PollsReadInStep, ReadsDue, ReadsIf, PlaysInStep, TellsFault, ThenReads, fault_told, flushing, is_behind, is_late, is_plain_read, opens_beside, told_by, told_of_line}
 use Rattle.ftp_dialogue.specs.Coding.{Coding}
 use Rattle.ftp_dialogue.specs.Deals.{Net}
-use Rattle.ftp_dialogue.specs.Dialogue.{Tree, Say, Leaf, expecting}
+use Rattle.ftp_dialogue.specs.Dialogue.{Expected, Tree, Say, Leaf, expecting}
 use Rattle.ftp_calls.specs.declared.call.Call.TheVariants.{Drain}
 use Rattle.ftp_dialogue.specs.Play.{Refusal, Taken, Lacking, Failing, refused_if_failed}
 use Rattle.ftp_dialogue.specs.Sound.{none_left}
 use Rattle.ftp_dialogue.specs.Link.{Link, unasked}
 use Rattle.ftp_dialogue.specs.Promises.{Aborts, Completes, Leads, Plays, refusal_of}
-use Rattle.ftp_dialogue.specs.Reading.{ReadsAlone}
+use Rattle.ftp_dialogue.specs.Reading.{PollsRead, ReadsAlone}
 use Rattle.ftp_dialogue.specs.State.{SessionValue}
 use Rattle.ftp_dialogue.specs.declared.state.State.{State}
 use Rattle.ftp_dialogue.specs.declared.stage.Step.TheVariants.{Next, Done}
@@ -65,6 +65,12 @@ module _ (link : Link) (state : State) (net : Net) (a b : Channel) (line : Optio
   flush_said (Ready (Ok done)) says = gone (steps (Ready (Ok done)) says)
   flush_said (Ready (Err fault)) says = failed fault (steps (Ready (Err fault)) says)
   flush_said Pending says = waits (no_line (line_taken link state net a b None line Pending says).whole) (steps Pending says).0
+
+  -- it fails the session only where a fault is told
+  pub flush_fails : (answer : Poll (Result (Unit {0}) FtpError)) → SaysLine link.tells link.writes a b None line answer → b.failed ≡ true → (a.failed ≡ true) ⊎ TellsFault (told_of_line answer)
+  flush_fails (Ready (Ok done)) says f = inl (sym (steps (Ready (Ok done)) says).failed ∙ f)
+  flush_fails (Ready (Err fault)) says f = inr tt
+  flush_fails Pending says f = inl (sym (steps Pending says).0.failed ∙ f)
 
 -- One reply after another
 
@@ -172,6 +178,19 @@ module _ (link : Link) (plain ends : Bool) (Makes : SessionValue → SessionValu
   step_goes_on result behind catches is more makes =
       let E : Bool → Type 0 = λ e. MakesThen None e Makes middle new answer in
       first None result behind catches is (subst E (sym more) makes)
+
+-- a polled read, after the unsent tail
+module _ (link : Link) (coding : Coding) (codes : Expected) (old middle new : SessionValue) (flush : Poll (Option FtpError)) (result : Poll (Result Response FtpError)) where
+  pub reads_unflushed : is_late old ≡ false → PollsRead link coding codes old new result → PollsReadInStep link coding codes old new result
+  reads_unflushed none reads =
+      let P : Bool → Type 0 = λ b. PollsReadIf b link coding codes old new result in
+      record { reads = subst P (sym none) reads }
+
+  pub reads_flushed : (told : Poll (Option FtpError)) → is_late old ≡ true → Flushes link old middle flush → flush ≡ told → ThenReads told link coding codes middle new result → PollsReadInStep link coding codes old new result
+  reads_flushed told late flushes is then =
+      let P : Bool → Type 0 = λ b. PollsReadIf b link coding codes old new result in
+      let T : Poll (Option FtpError) → Type 0 = λ f. ThenReads f link coding codes middle new result in
+      record { reads = subst P (sym late) (record { flushed = middle; flush = flush; flushes = flushes; then_reads = subst T (sym is) then }) }
 
 -- a call of no transfer is no read of a last reply
 row_undrained : (row : Row) → moving_row row ≡ false → draining_row row ≡ false

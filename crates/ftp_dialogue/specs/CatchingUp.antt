@@ -11,10 +11,10 @@ use Rattle.ftp_calls.specs.declared.call.Answer.{Answer}
 use Rattle.ftp_calls.specs.declared.call.Answer.TheVariants.{Unit as Nothing, Fault}
 use Rattle.ftp_calls.specs.declared.call.Call.{Call}
 use Rattle.ftp_dialogue.specs.Coding.{Coding}
-use Rattle.ftp_dialogue.specs.Dialogue.{Tree, Say, Leaf, expecting}
+use Rattle.ftp_dialogue.specs.Dialogue.{Expected, Tree, Say, Leaf, expecting}
 use Rattle.ftp_dialogue.specs.Link.{Link, unasked}
 use Rattle.ftp_dialogue.specs.Promises.{Aborts, Completes, Leads, Plays}
-use Rattle.ftp_dialogue.specs.Reading.{ReadsAlone}
+use Rattle.ftp_dialogue.specs.Reading.{PollsRead, ReadsAlone}
 use Rattle.ftp_dialogue.specs.State.{SessionValue}
 use Rattle.ftp_dialogue.specs.Unanswered.{most_commands}
 use Rattle.ftp_dialogue.specs.declared.state.Owed.{Owed}
@@ -53,6 +53,12 @@ abbrev pub told_of_line : Poll (Result (Unit {0}) FtpError) → Poll (Option Ftp
 told_of_line (Ready (Ok done)) = Ready None
 told_of_line (Ready (Err fault)) = Ready (Some fault)
 told_of_line Pending = Pending
+
+-- a fault is told
+abbrev pub TellsFault : Poll (Option FtpError) → Type 0
+TellsFault (Ready None) = ⊥
+TellsFault (Ready (Some fault)) = Unit {0}
+TellsFault Pending = ⊥
 
 -- a reply of any status is passed over, and a fault in its place is told
 abbrev pub fault_told : Result Response FtpError → Option FtpError
@@ -118,3 +124,22 @@ InStepIf false link plain ends Makes old new answer = Makes old new answer
 -- a call in step: after the replies that are due
 pub record PlaysInStep (link : Link) (coding : Coding) (call : Call) (old new : SessionValue) (answer : Answer) : Type 0 where
   pub plays : InStepIf (is_behind call old) (unasked link) (is_plain_read call) (drains call) (Plays link coding call) old new answer
+
+-- a polled read of one reply: where replies are due the unsent tail goes out first
+abbrev pub ThenReads : Poll (Option FtpError) → Link → Coding → Expected → SessionValue → SessionValue → Poll (Result Response FtpError) → Type 0
+ThenReads (Ready None) link coding codes middle new result = PollsRead link coding codes middle new result
+ThenReads (Ready (Some fault)) link coding codes middle new result = (result ≡ Ready (Err fault)) × (new ≡ middle)
+ThenReads Pending link coding codes middle new result = (result ≡ Pending) × (new ≡ middle)
+
+pub record FlushesThenReads (link : Link) (coding : Coding) (codes : Expected) (old new : SessionValue) (result : Poll (Result Response FtpError)) : Type 0 where
+  pub flushed : SessionValue
+  pub flush : Poll (Option FtpError)
+  pub flushes : Flushes link old flushed flush
+  pub then_reads : ThenReads flush link coding codes flushed new result
+
+abbrev pub PollsReadIf : Bool → Link → Coding → Expected → SessionValue → SessionValue → Poll (Result Response FtpError) → Type 0
+PollsReadIf true link coding codes old new result = FlushesThenReads link coding codes old new result
+PollsReadIf false link coding codes old new result = PollsRead link coding codes old new result
+
+pub record PollsReadInStep (link : Link) (coding : Coding) (codes : Expected) (old new : SessionValue) (result : Poll (Result Response FtpError)) : Type 0 where
+  pub reads : PollsReadIf (is_late old) link coding codes old new result

@@ -5,12 +5,14 @@
 //! server would answer nothing. Each is counted as it is read, so a read of them that waits may be dropped, and goes on
 //! with the next call.
 
-ghost use Rattle.std.specs.Prelude.{◌≡◌, true, false};
+ghost use Rattle.std.specs.Prelude.{◌≡◌, ◌⊎◌, true, false};
 ghost use Rattle.futures.specs.declared.task.Poll.TheVariants as poll;
 ghost use Rattle.ftp_calls.specs.Exchanges.{drains, is_local, negotiates, of_transfer};
-ghost use Rattle.ftp_dialogue.specs.CatchingUp.{CatchesUp, Flushes, InStepIf, ReadsDue, fault_told, is_behind, is_plain_read, told_of_line};
+ghost use Rattle.ftp_dialogue.specs.CatchingUp.{CatchesUp, Flushes, InStepIf, PollsReadInStep, ReadsDue, TellsFault, fault_told, is_behind, is_late, is_plain_read, told_of_line};
 ghost use Rattle.ftp_dialogue.specs.Coding.{coding_of};
+ghost use Rattle.ftp_dialogue.specs.Dialogue.{expecting};
 ghost use Rattle.ftp_dialogue.specs.Link.{asking, blocking, polling};
+ghost use Rattle.ftp_dialogue.specs.Promises.{GivesFault};
 ghost use Rattle.ftp_dialogue.specs.Reading.{drain_told};
 ghost use Rattle.ftp_dialogue.specs.Sound.{none_left};
 ghost use Rattle.ftp_dialogue.specs.Steps.Moving.{MadeDrained};
@@ -22,6 +24,7 @@ use super::draining::drained;
 use super::machine::Machine;
 use super::{Answer, Call, Owed};
 use ftp_base::encoding::Encoding;
+use ftp_base::status::Status;
 use ftp_base::types::{FtpError, FtpResult, Response};
 use ftp_calls::exchange::{drains, drains_first, is_read, negotiates};
 use ftp_transport::{Conn, Network, NeverWaits, PollConn};
@@ -116,12 +119,52 @@ impl<Tr: Network> Machine<Tr> {
         drained(self.call_alone(&Nothing, alloc, encoding, &Call::Drain))
     }
 
+    /// Polls a read of one reply whose status is among the expected. Where replies are due to commands that were dropped the
+    /// unsent tail of a line goes out first, and the reply is one of them. The last reply of a transfer that was left is polled
+    /// before it: while that hasn't come whole the read waits, and what came of it is kept; a fault of its read is the answer;
+    /// once it is over the read itself is polled at once. A read that waits may be dropped and polled again.
+    ///
+    /// The answer is that of a read of one reply; `SessionFailed` on a session that has failed, and nothing changes.
+    pub fn poll_read<W, E: Encoding>(
+        &mut self,
+        alloc: Global,
+        encoding: &E,
+        expected: &[Status],
+        w: &mut W,
+    ) -> Poll<FtpResult<Response>>
+    where
+        Tr::Conn: PollConn<W>,
+        ensures waits { result ≡ poll.Pending → Tr.Conn.may_wait }
+        ensures fails { self.new.channel.failed ≡ true →
+            (self.old.channel.failed ≡ true) ⊎ GivesFault result }
+        ensures reads { PollsReadInStep (polling Tr.Conn.PollConn) (coding_of E.decoded E.encoded encoding.now) (expecting expected.now)
+            self.old self.new result }
+    {
+        if self.is_late() {
+            match self.poll_flush(w) {
+                Poll::Ready(None) => {}
+                Poll::Ready(Some(fault)) => return Poll::Ready(Err(fault)),
+                Poll::Pending => return Poll::Pending,
+            }
+        }
+        self.poll_read_drained(alloc, encoding, expected, w)
+    }
+
+    /// Whether replies are due to commands that were dropped, in a session that goes on.
+    fn is_late(&self) -> bool
+        ensures { result ≡ is_late self.now }
+    {
+        !self.channel.failed() && self.state.unanswered > 0
+    }
+
     /// The unsent tail of the line that was begun last goes out.
     fn poll_flush<W>(&mut self, w: &mut W) -> Poll<Option<FtpError>>
     where
         Tr::Conn: PollConn<W>,
         requires going { self.old.channel.failed ≡ false }
         ensures waits { result ≡ poll.Pending → Tr.Conn.may_wait }
+        ensures fails { self.new.channel.failed ≡ true →
+            (self.old.channel.failed ≡ true) ⊎ TellsFault result }
         ensures flushes { Flushes (polling Tr.Conn.PollConn) self.old self.new result }
     {
         told_of_line(self.channel.poll_perform(&mut None, w))

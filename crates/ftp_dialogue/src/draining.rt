@@ -71,7 +71,7 @@ impl<Tr: Network> Machine<Tr> {
     /// be dropped and polled again.
     ///
     /// The answer is that of a read of one reply; `SessionFailed` on a session that has failed, and nothing changes.
-    pub fn poll_read<W, E: Encoding>(
+    pub(super) fn poll_read_drained<W, E: Encoding>(
         &mut self,
         alloc: Global,
         encoding: &E,

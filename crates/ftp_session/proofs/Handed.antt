@@ -18,8 +18,8 @@ use Rattle.ftp_session.specs.Handed.{BeginsToSettle, BeginsToSettleIf, BeginsToS
 use Rattle.ftp_dialogue.specs.Link.{Link}
 use Rattle.ftp_dialogue.specs.Dialogue.{Expected}
 use Rattle.ftp_dialogue.specs.Promises.{GivesFault, IsFault, PlaysAlone}
-use Rattle.ftp_dialogue.specs.CatchingUp.{PlaysInStep}
-use Rattle.ftp_dialogue.specs.Reading.{PollsRead, drain_told}
+use Rattle.ftp_dialogue.specs.CatchingUp.{PlaysInStep, PollsReadInStep}
+use Rattle.ftp_dialogue.specs.Reading.{drain_told}
 use Rattle.ftp_dialogue.specs.Sound.{is_live, is_owed, left_of, next_number, none_left}
 use Rattle.ftp_dialogue.specs.declared.state.Owed.{Owed}
 use Rattle.ftp_dialogue.specs.declared.state.Owed.TheVariants as owed
@@ -43,9 +43,9 @@ seen_plays link coding call mark after old seen new answer looks is plays =
     record { looks = looks; plays = subst P is plays }
 
 -- a polled read after the look
-pub seen_reads : (link : Link) (coding : Coding) (codes : Expected) (mark after : Option End) (old seen new : SessionValue) (result : Poll (Result Response FtpError)) → LooksIf (watches mark old) mark after → seen ≡ as_seen after old → PollsRead link coding codes seen new result → ReadsSeen link coding codes mark after old new result
+pub seen_reads : (link : Link) (coding : Coding) (codes : Expected) (mark after : Option End) (old seen new : SessionValue) (result : Poll (Result Response FtpError)) → LooksIf (watches mark old) mark after → seen ≡ as_seen after old → PollsReadInStep link coding codes seen new result → ReadsSeen link coding codes mark after old new result
 seen_reads link coding codes mark after old seen new result looks is reads =
-    let P : SessionValue → Type 0 = λ v. PollsRead link coding codes v new result in
+    let P : SessionValue → Type 0 = λ v. PollsReadInStep link coding codes v new result in
     record { looks = looks; reads = subst P is reads }
 
 -- a look fails no session

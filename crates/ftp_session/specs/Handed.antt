@@ -22,9 +22,8 @@ use Rattle.ftp_transfer.specs.declared.direction.Direction.{Direction}
 use Rattle.ftp_dialogue.specs.Coding.{Coding}
 use Rattle.ftp_dialogue.specs.Dialogue.{Expected, with_left}
 use Rattle.ftp_dialogue.specs.Link.{Link}
-use Rattle.ftp_dialogue.specs.CatchingUp.{PlaysInStep}
+use Rattle.ftp_dialogue.specs.CatchingUp.{PlaysInStep, PollsReadInStep}
 use Rattle.ftp_dialogue.specs.Promises.{IsFault, PlaysAlone}
-use Rattle.ftp_dialogue.specs.Reading.{PollsRead}
 use Rattle.ftp_dialogue.specs.Steps.Moving.{withheld}
 use Rattle.ftp_dialogue.specs.Sound.{is_live, is_owed, next_number}
 use Rattle.ftp_dialogue.specs.State.{SessionValue}
@@ -71,7 +70,7 @@ pub record PlaysSeen (link : Link) (coding : Coding) (call : Call) (mark after :
 -- a session looks once, and polls a read of one reply as the look has it
 pub record ReadsSeen (link : Link) (coding : Coding) (codes : Expected) (mark after : Option End) (old new : SessionValue) (result : Poll (Result Response FtpError)) : Type 0 where
   pub looks : LooksIf (watches mark old) mark after
-  pub reads : PollsRead link coding codes (as_seen after old) new result
+  pub reads : PollsReadInStep link coding codes (as_seen after old) new result
 
 -- The opening
 

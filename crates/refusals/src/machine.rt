@@ -1,21 +1,25 @@
 //! Calls of the machine that plays every dialogue.
 
 ghost use Rattle.std.specs.Prelude.{◌≡◌, true, false};
-ghost use Rattle.ftp_calls.specs.Exchanges.{is_local, negotiates, of_transfer};
+ghost use Rattle.futures.specs.declared.task.Poll.TheVariants as poll;
+ghost use Rattle.ftp_calls.specs.Exchanges.{drains, is_local, negotiates, of_transfer};
+ghost use Rattle.ftp_dialogue.specs.CatchingUp.{CatchesUp, InStepIf, is_behind, is_plain_read};
 ghost use Rattle.ftp_dialogue.specs.Coding.{coding_of};
 ghost use Rattle.ftp_dialogue.specs.Dropping.{DropsCall};
-ghost use Rattle.ftp_dialogue.specs.Link.{asking, blocking};
+ghost use Rattle.ftp_dialogue.specs.Link.{asking, blocking, polling};
 ghost use Rattle.ftp_dialogue.specs.Play.{Lacking};
 ghost use Rattle.ftp_dialogue.specs.Promises.{refusal_of};
 ghost use Rattle.ftp_dialogue.specs.Steps.Moving.{Made, MadeDrained};
 ghost use Rattle.ftp_dialogue.specs.Steps.Stages.{MayAnswer};
 
 use ftp_base::encoding::Encoding;
+use ftp_base::types::FtpError;
 use ftp_dialogue::asks::Asks;
 use ftp_dialogue::machine::Machine;
 use ftp_dialogue::stage::Stage;
 use ftp_dialogue::{Answer, Call};
-use ftp_transport::{Conn, Network, NeverWaits};
+use ftp_transport::{Conn, Network, NeverWaits, PollConn};
+use futures::task::Poll;
 use std::alloc::Global;
 
 /// `Machine::call`.
@@ -56,6 +60,44 @@ where
         machine.old machine.new result }
 {
     machine.call_alone(asker, alloc, encoding, call)
+}
+
+/// `Machine::call_in_step`.
+pub fn call_in_step<Tr: Network, E: Encoding, A: Asks<Tr, NeverWaits>>(
+    machine: &mut Machine<Tr>,
+    asker: &A,
+    alloc: Global,
+    encoding: &E,
+    call: &Call,
+) -> Answer
+where
+    Tr::Conn: Conn,
+    requires may { negotiates call.now ≡ true → A.may_ask }
+    requires channel { is_local call.now ≡ false }
+    requires blocks { A.may_wait → ⊥ }
+    requires unheld { of_transfer call.now ≡ false }
+    ensures answers { MayAnswer call.now result }
+    ensures made { InStepIf (is_behind call.now machine.old) (blocking Tr.Conn.Conn) (is_plain_read call.now) (drains call.now)
+        (MadeDrained (asking (A.builds asker.now) A.may_wait (blocking Tr.Conn.Conn)) (coding_of E.decoded E.encoded encoding.now) call.now)
+        machine.old machine.new result }
+{
+    machine.call_in_step(asker, alloc, encoding, call)
+}
+
+/// `Machine::poll_catch_up`.
+pub fn poll_catch_up<Tr: Network, W>(
+    machine: &mut Machine<Tr>,
+    alloc: Global,
+    call: &Call,
+    w: &mut W,
+) -> Poll<Option<FtpError>>
+where
+    Tr::Conn: PollConn<W>,
+    requires going { machine.old.channel.failed ≡ false }
+    ensures waits { result ≡ poll.Pending → Tr.Conn.may_wait }
+    ensures catches_up { CatchesUp (polling Tr.Conn.PollConn) (is_plain_read call.now) machine.old machine.new result }
+{
+    machine.poll_catch_up(alloc, call, w)
 }
 
 /// `Machine::drop_call`.

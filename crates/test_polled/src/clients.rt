@@ -29,14 +29,16 @@ fn a_state_that_waits_sends_its_line_and_lets_the_reply_come(rt: HostRuntime) ->
 }
 
 #[test]
-fn a_state_that_is_dropped_lets_the_lock_go(rt: HostRuntime) -> Result<(), Fail> {
+fn a_state_that_is_dropped_lets_the_lock_go_and_its_reply_is_not_the_next_ones(
+    rt: HostRuntime,
+) -> Result<(), Fail> {
     let mut scene = greeted(&rt)?;
     let mut first = scene.client.noop(&rt);
     let mut second = scene.client.noop(&rt);
     let first_waits = waits(&rt, &mut scene.runtime, &mut first);
     let second_waits = waits(&rt, &mut scene.runtime, &mut second);
     drop(first);
-    let replied = send(&mut scene.server, b"200 ok\r\n");
+    let replied = send(&mut scene.server, b"550 no\r\n200 ok\r\n");
     let answered = done(&rt, &mut scene.runtime, second);
     drop(scene);
     assert_eq!(rt; (first_waits, second_waits, replied), (true, true, true));

@@ -10,6 +10,8 @@ mod connects;
 #[cfg(test)]
 mod counted;
 #[cfg(test)]
+mod dropping;
+#[cfg(test)]
 mod requests;
 #[cfg(test)]
 mod scene;

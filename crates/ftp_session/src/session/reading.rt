@@ -21,7 +21,8 @@ use futures::task::Poll;
 use std::alloc::Global;
 
 impl<Tr: Network, K: Drop, E: Encoding, B: Drop> Session<Tr, K, E, B> {
-    /// Polls a read of one reply whose status is among the expected. Whether a transfer was left is looked at first; the
+    /// Polls a read of one reply whose status is among the expected: that of a command that was dropped, where one is due;
+    /// the unsent tail of a line goes out first then. Whether a transfer was left is looked at first; the
     /// last reply of one that was is polled before the read: while it is waited for the read waits, too, and once it is
     /// over the read is polled at once. What came of a reply that waits is kept, and a read that was dropped resumes
     /// where it stopped.

@@ -1,0 +1,8 @@
+use Rattle.std.proofs.Common.{rules}
+use Rattle.refusals.proofs.machine.poll_catch_up.Goals as goal
+
+pub returns-clause-waits : goal.returns-clause-waits
+returns-clause-waits g c = search rules
+
+pub returns-clause-catches_up : goal.returns-clause-catches_up
+returns-clause-catches_up g c = search rules
