@@ -1,35 +1,14 @@
-//! Connections over memory, a list of addresses, and a task that waits.
+//! A list of addresses, and a task that waits.
 
-ghost use Rattle.std.specs.Prelude.{◌≡◌, ◌≤◌, ◌<◌, IfErr, Ok, Err, drop, length};
-ghost use Rattle.std.specs.declared.io.ErrorKind.TheVariants as kinds;
+ghost use Rattle.std.specs.Prelude.{◌≡◌, ◌≤◌, ◌<◌, Ok, Err, drop, length};
 ghost use Rattle.futures.specs.Task.{IsArmed, Keeps};
 ghost use Rattle.futures.specs.declared.task.Poll.TheVariants as poll;
 ghost use Rattle.ftp_transport.specs.Asking.{TriesInTurn, connects_to};
-ghost use Rattle.ftp_transport.specs.Told.{WriteTells, WritesSome, begun};
 
-use ftp_transport::{Connected, MemoryConn, PollConn, PollTransport, Tells, Tried, Waiting};
+use ftp_transport::{Connected, PollTransport, Tried, Waiting};
 use futures::task::{Context, Poll};
-use std::io::ErrorKind;
 use std::net::SocketAddr;
 use std::time::Duration;
-
-/// `MemoryConn::begin`.
-pub fn begin(conn: &mut MemoryConn)
-    ensures { (Unit {0}) → conn.new ≡ begun conn.old }
-{
-    conn.begin();
-}
-
-/// `MemoryConn::poll_write`.
-pub fn poll_write(conn: &mut MemoryConn, w: &mut (), bytes: &[u8]) -> Result<Poll<usize>, ErrorKind>
-    requires { 0 < length bytes.now }
-    ensures bound { WritesSome result (length bytes.now) }
-    ensures waits { result ≡ Ok poll.Pending → (Unit {0}) }
-    ensures fault { (Unit {0}) → IfErr result (λ kind. kind ≡ kinds.OutOfMemory) }
-    ensures told { (Unit {0}) → WriteTells result bytes.now conn.old conn.new }
-{
-    conn.poll_write(w, bytes)
-}
 
 /// `ftp_transport::poll_connect_in_turn`.
 pub fn poll_connect_in_turn<Tr, R, W>(

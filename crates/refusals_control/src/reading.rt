@@ -3,14 +3,14 @@
 ghost use Rattle.std.specs.Prelude.{◌≡◌, ◌≢◌, Err, IfOk, [], true, false};
 ghost use Rattle.futures.specs.declared.task.Poll.TheVariants as poll;
 ghost use Rattle.ftp_transport.specs.Told.{EndsAsTold};
-ghost use Rattle.ftp_control.specs.Answer.{AnswersRead, expected_reply, form_of};
+ghost use Rattle.ftp_control.specs.Answer.{AnswersRead, form_of};
 ghost use Rattle.ftp_control.specs.Grammar.{outcome, whole_lines};
 ghost use Rattle.ftp_control.specs.LineAnswer.{AnswersLine};
 
 use ftp_base::status::Status;
 use ftp_base::types::{Bytes, FtpError, FtpResult, Response};
 use ftp_control::control::{ControlChannel, Outcome, ReplyForm, ReplyRule};
-use ftp_control::{control, plain};
+use ftp_control::plain;
 use ftp_transport::{Conn, PollConn, Tells};
 use futures::task::Poll;
 use std::alloc::{AllocError, Global};
@@ -69,13 +69,6 @@ where
         AnswersLine C.Tells.tells C.read_faults channel.old channel.new result }
 {
     channel.poll_read_line(alloc, w)
-}
-
-/// `control::expected_reply`.
-pub fn expected_reply(expected: &[Status], reply: Response) -> FtpResult<Response>
-    ensures { result ≡ expected_reply expected.now reply }
-{
-    control::expected_reply(expected, reply)
 }
 
 /// `plain::outcome`.
