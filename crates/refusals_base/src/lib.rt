@@ -9,7 +9,5 @@
 mod answers;
 mod calls;
 mod commands;
-mod features;
 mod listings;
 mod uploads;
-mod values;

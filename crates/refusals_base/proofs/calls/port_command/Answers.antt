@@ -1,5 +1,0 @@
-use Rattle.std.proofs.Common.{rules}
-use Rattle.refusals_base.proofs.calls.port_command.Goals as goal
-
-pub returns : goal.returns
-returns c = search rules
