@@ -15,6 +15,7 @@ mod connecting;
 mod control_socket;
 mod files;
 mod questions;
+mod reading;
 mod settings;
 mod transfer_stream;
 mod transfers;

@@ -162,6 +162,18 @@ where
         self.session.lock(rt).settle(rt.alloc(), left)
     }
 
+    /// Brings a transfer to its end, as its own `finish` does: on the control connection of the client that opened it.
+    ///
+    /// # Errors
+    /// Those of `TransferStream::finish`.
+    pub fn finish<R: Wait + AllocGlobal>(
+        &self,
+        rt: &R,
+        stream: TransferStream<Tr, K, E, B>,
+    ) -> FtpResult<()> {
+        stream.finish(rt)
+    }
+
     /// Aborts a transfer, as its own `abort` does: `ABOR` goes out on the control connection of the client that opened it.
     ///
     /// # Errors
