@@ -14,6 +14,7 @@ mod commands;
 mod connecting;
 mod control_socket;
 mod files;
+mod lines;
 mod questions;
 mod reading;
 mod settings;

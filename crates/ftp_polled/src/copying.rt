@@ -82,7 +82,7 @@ impl Buffers {
 }
 
 /// The first bytes, as far as there are so many.
-fn front(bytes: &[u8], count: usize) -> &[u8] {
+pub(crate) fn front(bytes: &[u8], count: usize) -> &[u8] {
     if count < bytes.len() {
         &bytes[..count]
     } else {

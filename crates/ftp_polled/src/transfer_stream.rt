@@ -3,7 +3,7 @@
 //! A transfer needs no lock to be read, written, left or dropped, so it goes on while another task holds its client.
 //! Only its end takes the lock, since that reads a reply.
 
-ghost use Rattle.std.specs.Prelude.{◌≡◌, Ok};
+ghost use Rattle.std.specs.Prelude.{◌≡◌, ⊤, Ok};
 ghost use Rattle.futures.specs.Task.{IsArmed, Keeps};
 ghost use Rattle.futures.specs.declared.task.Poll.TheVariants as poll;
 
@@ -16,7 +16,9 @@ use ftp_transfer::mark::Left;
 use ftp_transfer::{Direction, Transfer};
 use ftp_transport::{PollConn, TaskConn, TaskTransport};
 use futures::task::{Context, Poll};
+use std::io;
 use std::io::ErrorKind;
+use tokio::io::AsyncRead;
 
 /// A transfer of a polled client, and the client's session. Dropped, it is left: its data connection is closed, and the
 /// client's next command reads its last reply first.
@@ -134,5 +136,28 @@ where
         ensures kept { Keeps cx.old cx.new }
     {
         self.transfer.poll_write_in(cx, bytes)
+    }
+}
+
+// So that what reads from `tokio`'s readers reads from a transfer, as `get_lines_from_stream` does. What a connection gives
+// no clause says.
+impl<Tr: TaskTransport, K: Drop, E: Encoding, B: Drop> AsyncRead for TransferStream<Tr, K, E, B>
+where
+    Tr::Conn: PollConn<()> + TaskConn,
+{
+    ghost reads = { λ _ _ _. ⊤ };
+
+    ghost is_at_end = { λ _. ⊤ };
+
+    ghost reads_nothing = { λ _. tt };
+
+    ghost reads_in_order = { λ _ _ _ _ _ _ _. tt };
+
+    fn poll_read(&mut self, cx: &mut Context<'_>, buf: &mut [u8]) -> Poll<io::Result<usize>> {
+        match self.transfer.poll_read_in(cx, buf) {
+            Ok(Poll::Ready(count)) => Poll::Ready(Ok(count)),
+            Ok(Poll::Pending) => Poll::Pending,
+            Err(kind) => Poll::Ready(Err(kind.into())),
+        }
     }
 }
