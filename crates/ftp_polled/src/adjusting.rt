@@ -161,4 +161,13 @@ where
     ) -> Adjust<'r, R, Tr, K, E, B> {
         self.set(rt, Adjustment::Builder(builder))
     }
+
+    /// The same, by the blocking client's name.
+    pub fn set_passive_stream_builder<'r, R>(
+        &self,
+        rt: &'r R,
+        builder: B,
+    ) -> Adjust<'r, R, Tr, K, E, B> {
+        self.passive_stream_builder(rt, builder)
+    }
 }

@@ -42,6 +42,7 @@ mod transfer_stream;
 mod transfers;
 mod upload;
 mod waiting;
+mod welcome;
 
 pub use adjusting::Adjust;
 pub use client::ImplAsyncFtpStream;
@@ -57,3 +58,4 @@ pub use stream_lines::StreamLines;
 pub use tls::{AsyncNoTlsStream, AsyncTlsConnector, AsyncTlsStream};
 pub use transfer_stream::TransferStream;
 pub use upload::Upload;
+pub use welcome::Welcome;
