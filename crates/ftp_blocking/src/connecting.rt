@@ -5,7 +5,7 @@ use ftp_base::encoding::Encoding;
 use ftp_base::types::FtpResult;
 use ftp_session::session::Session;
 use ftp_transport::{TcpConn, TcpTransport};
-use std::net::{Net, SocketAddr, TcpListener, TcpStream};
+use std::net::{Net, SocketAddr, TcpListener, TcpStream, ToSocketAddrs};
 use std::time::{Clock, Duration};
 
 impl<K: Drop, E: Encoding, B: Drop> ImplFtpStream<TcpTransport, K, E, B> {
@@ -22,6 +22,19 @@ impl<K: Drop, E: Encoding, B: Drop> ImplFtpStream<TcpTransport, K, E, B> {
         let alloc = rt.alloc();
         let session = Session::connect(alloc, rt, TcpTransport, addresses)?;
         ImplFtpStream::new(alloc, session)
+    }
+
+    /// The same of an address as text, as `192.0.2.7:21`, `[2001:db8::7]:21` or `ftp.example.org:21`: a host and a port,
+    /// which is 21 of most servers (RFC 959, section 5.2). A name is looked up first, and its addresses are tried in turn.
+    ///
+    /// # Errors
+    /// Those of `connect`; before them the fault of the look-up, or `Io(InvalidInput)` where the text is no address.
+    pub fn connect_to<R>(rt: &R, address: &str) -> FtpResult<Self>
+    where
+        R: Net<Listener = TcpListener, Stream = TcpStream> + Clock + AllocGlobal,
+    {
+        let addresses: Vec<SocketAddr> = address.to_socket_addrs(rt)?.collect(rt.alloc())?;
+        ImplFtpStream::connect(rt, &addresses)
     }
 
     /// The same, where replies are read leniently from the greeting on: for servers that end a reply of several lines

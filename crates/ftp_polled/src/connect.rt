@@ -17,7 +17,7 @@ use futures::Future;
 use futures::task::{Context, Poll};
 use std::alloc::{AllocError, Global};
 use std::mem;
-use std::net::SocketAddr;
+use std::net::{Net, SocketAddr, ToSocketAddrs};
 use std::time::Duration;
 
 /// A client connects: its addresses are tried in turn, and the greeting (220) is read on the first that connects.
@@ -232,6 +232,30 @@ where
             ConnectionError::NoAddress,
             false,
         )
+    }
+
+    /// The same of an address as text, as `192.0.2.7:21`, `[2001:db8::7]:21` or `ftp.example.org:21`: a host and a port,
+    /// which is 21 of most servers (RFC 959, section 5.2). A name is looked up by this call itself, for which its thread
+    /// waits; the state tries its addresses in turn.
+    ///
+    /// # Errors
+    /// Those of `connect`; before them the fault of the look-up, or `Io(InvalidInput)` where the text is no address.
+    pub fn connect_to<'r, R: Net + AllocGlobal>(
+        rt: &'r R,
+        transport: Tr,
+        address: &str,
+    ) -> Connect<'r, R, Tr, K, E, B> {
+        let found = match address.to_socket_addrs(rt) {
+            Ok(found) => found,
+            Err(error) => {
+                let fault = ConnectionError::Io(error.kind());
+                return Connect::new(rt, transport, &[], None, fault, false);
+            }
+        };
+        let addresses: Result<Vec<SocketAddr>, AllocError> = found.collect(rt.alloc());
+        let mut connect = ImplAsyncFtpStream::connect(rt, transport, &[]);
+        connect.addresses = addresses.ok();
+        connect
     }
 
     /// The same, where replies are read leniently from the greeting on: for servers that end a reply of several lines
