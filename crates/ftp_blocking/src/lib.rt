@@ -13,6 +13,7 @@
 mod commands;
 mod connecting;
 mod control_socket;
+mod file_lists;
 mod files;
 mod lines;
 mod questions;
