@@ -13,14 +13,21 @@ pub mod sync_ftp;
 pub use ftp_answers as answers;
 pub use ftp_base::encoding::{Encoding, Utf8Encoding};
 pub use ftp_base::status::Status;
-pub use ftp_base::types::{ActivePeerCheck, FtpError, FtpResult, Mode, ReplyTooLarge};
+pub use ftp_base::types::{
+    ActivePeerCheck, ConnectionError, FileType, FormatControl, FtpError, FtpResult, Mode,
+    ReplyTooLarge, Response,
+};
 pub use ftp_base::{ascii, command, encoding, laws, status, types};
 pub use ftp_calls::call;
 pub use ftp_control::control;
 pub use ftp_list as list;
+/// What kind of entry a file of a listing is, which `list` calls a `FileType`; the other `FileType` is that of `TYPE`.
+pub use ftp_list::{File, FileType as EntryKind, ListParser};
 pub use ftp_session::session::DownloadReader;
 pub use ftp_transfer::mark;
 pub use ftp_transport as transport;
-pub use ftp_transport::PassiveStreamBuilder;
-pub use polled_ftp::{AsyncFtpStream, ImplAsyncFtpStream};
-pub use sync_ftp::{ControlSocket, FtpStream, ImplFtpStream, TransferStream};
+pub use ftp_transport::{PassiveStreamBuilder, TcpTransport};
+pub use polled_ftp::{AsyncFtpStream, AsyncFtpTransferStream, ImplAsyncFtpStream};
+pub use sync_ftp::{
+    ControlSocket, FtpStream, FtpTransferStream, ImplFtpStream, Transfer, TransferStream,
+};

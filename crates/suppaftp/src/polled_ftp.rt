@@ -6,9 +6,13 @@
 pub use ftp_polled::{
     Abort, Adjust, AsyncNoTlsStream, AsyncTlsConnector, AsyncTlsStream, Connect, ControlSocket,
     Dialogue, Failed, Finish, ImplAsyncFtpStream, Lines, Lock, OpenTransfer, OpenWithReply,
-    Outcome, ReadReply, RetrReader, Retrieve, Settle, TransferStream, Upload,
+    Outcome, ReadReply, RetrReader, Retrieve, Settle, StreamLines, TransferStream, Upload, Welcome,
 };
 pub use ftp_tokio::{TokioConn, TokioListener, TokioTransport};
+pub use ftp_transport::PassiveStreamBuilder;
 
 /// The polled client over tokio's sockets, without TLS: the one that most programs name.
 pub type AsyncFtpStream = ImplAsyncFtpStream<TokioTransport>;
+
+/// A transfer of an [`AsyncFtpStream`].
+pub type AsyncFtpTransferStream = TransferStream<TokioTransport>;

@@ -3,3 +3,8 @@
 pub use ftp_blocking::{
     ControlSocket, Direction, FtpStream, ImplFtpStream, Transfer, TransferStream,
 };
+pub use ftp_transport::PassiveStreamBuilder;
+use ftp_transport::TcpTransport;
+
+/// A transfer of an [`FtpStream`].
+pub type FtpTransferStream = TransferStream<TcpTransport>;
