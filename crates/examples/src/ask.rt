@@ -1,19 +1,17 @@
 //! A session with a server.
 
-use std::net::{Net, SocketAddr, TcpListener, TcpStream, ToSocketAddrs};
+use std::net::{Net, TcpListener, TcpStream};
 use std::process::ExitCode;
 use std::sync::Wait;
 use std::time::Clock;
-use suppaftp::types::Response;
-use suppaftp::{FtpError, FtpResult, FtpStream, Status};
+use suppaftp::{FtpError, FtpResult, FtpStream, Response, Status};
 
 /// Logs in, changes to a directory, and asks the server what it is.
 pub fn ask<R>(rt: &R, address: &str) -> FtpResult<Response>
 where
     R: Net<Listener = TcpListener, Stream = TcpStream> + Clock + Wait + AllocGlobal,
 {
-    let addresses: Vec<SocketAddr> = address.to_socket_addrs(rt)?.collect(rt.alloc())?;
-    let client = FtpStream::connect(rt, &addresses)?;
+    let client = FtpStream::connect_to(rt, address)?;
     client.login(rt, "anonymous", "guest@example.org")?;
     client.cwd(rt, "pub")?;
     let reply = client.custom_command(rt, "SYST", &[Status::Name])?;
@@ -26,8 +24,7 @@ pub fn describe<R>(rt: &R, address: &str, name: &str) -> FtpResult<String>
 where
     R: Net<Listener = TcpListener, Stream = TcpStream> + Clock + Wait + AllocGlobal,
 {
-    let addresses: Vec<SocketAddr> = address.to_socket_addrs(rt)?.collect(rt.alloc())?;
-    let client = FtpStream::connect(rt, &addresses)?;
+    let client = FtpStream::connect_to(rt, address)?;
     client.login(rt, "anonymous", "guest@example.org")?;
     let directory = client.pwd(rt)?;
     let size = client.size(rt, name)?;

@@ -1,27 +1,26 @@
-//! The lines of a directory.
+//! The files of a directory.
 
 use std::io;
-use std::net::{Net, SocketAddr, TcpListener, TcpStream, ToSocketAddrs};
+use std::net::{Net, TcpListener, TcpStream};
 use std::process::ExitCode;
 use std::sync::Wait;
 use std::time::Clock;
-use suppaftp::{FtpResult, FtpStream};
+use suppaftp::{File, FtpResult, FtpStream};
 
-/// Logs in, and lists a directory, a line each of its entries.
-pub fn listed<R>(rt: &R, address: &str, directory: &str) -> FtpResult<Vec<String>>
+/// Logs in, and lists the files of a directory.
+pub fn listed<R>(rt: &R, address: &str, directory: &str) -> FtpResult<Vec<File>>
 where
     R: Net<Listener = TcpListener, Stream = TcpStream> + Clock + Wait + AllocGlobal,
 {
-    let addresses: Vec<SocketAddr> = address.to_socket_addrs(rt)?.collect(rt.alloc())?;
-    let client = FtpStream::connect(rt, &addresses)?;
+    let client = FtpStream::connect_to(rt, address)?;
     client.login(rt, "anonymous", "guest@example.org")?;
-    let lines = client.list(rt, Some(directory))?;
+    let files = client.list_files(rt, Some(directory))?;
     client.quit(rt)?;
-    Ok(lines)
+    Ok(files)
 }
 
-/// Prints the lines of a directory, or why they can't be had.
-pub fn print_lines<R>(rt: &R, address: &str, directory: &str) -> ExitCode
+/// Prints the name and the size of each file of a directory, or why they can't be had.
+pub fn print_files<R>(rt: &R, address: &str, directory: &str) -> ExitCode
 where
     R: Net<Listener = TcpListener, Stream = TcpStream>
         + Clock
@@ -31,7 +30,7 @@ where
         + Eprint,
 {
     match listed(rt, address, directory) {
-        Ok(lines) => match print_all(rt, &lines) {
+        Ok(files) => match print_all(rt, &files) {
             Ok(()) => ExitCode::SUCCESS,
             Err(_fault) => ExitCode::from(1),
         },
@@ -42,9 +41,9 @@ where
     }
 }
 
-fn print_all<R: Print>(rt: &R, lines: &[String]) -> io::Result<()> {
-    for line in lines {
-        println!(rt; "{line}")?;
+fn print_all<R: Print>(rt: &R, files: &[File]) -> io::Result<()> {
+    for file in files {
+        println!(rt; "{} {}", file.name(), file.size())?;
     }
     Ok(())
 }

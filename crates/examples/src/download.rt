@@ -1,20 +1,18 @@
 //! A file that is downloaded.
 
 use std::io::Read;
-use std::net::{Net, SocketAddr, TcpListener, TcpStream, ToSocketAddrs};
+use std::net::{Net, TcpListener, TcpStream};
 use std::process::ExitCode;
 use std::sync::Wait;
 use std::time::Clock;
-use suppaftp::types::FileType;
-use suppaftp::{FtpError, FtpResult, FtpStream};
+use suppaftp::{FileType, FtpError, FtpResult, FtpStream};
 
 /// Logs in, and downloads a file, whole and as it is.
 pub fn download<R>(rt: &R, address: &str, name: &str) -> FtpResult<Vec<u8>>
 where
     R: Net<Listener = TcpListener, Stream = TcpStream> + Clock + Wait + AllocGlobal,
 {
-    let addresses: Vec<SocketAddr> = address.to_socket_addrs(rt)?.collect(rt.alloc())?;
-    let client = FtpStream::connect(rt, &addresses)?;
+    let client = FtpStream::connect_to(rt, address)?;
     client.login(rt, "anonymous", "guest@example.org")?;
     client.transfer_type(rt, FileType::Binary)?;
     let mut transfer = client.retr_as_stream(rt, name)?;

@@ -4,7 +4,7 @@ use jiff::Timestamp;
 use std::io;
 use std::process::ExitCode;
 use std::time::Clock;
-use suppaftp::list::ListParser;
+use suppaftp::ListParser;
 
 /// Prints the name and the size of the entry that a line in the POSIX form tells of. A line that names no year is of
 /// the last twelve months, so the parser is told the present moment.

@@ -28,7 +28,7 @@ fn main(rt: HostRuntime) -> ExitCode {
             words[1].as_str(),
             words[2].as_str(),
         ),
-        Ok(words) if words.len() == 3 && words[0].as_str() == "list" => directory::print_lines(
+        Ok(words) if words.len() == 3 && words[0].as_str() == "list" => directory::print_files(
             &rt,
             words[1].as_str(),
             words[2].as_str(),

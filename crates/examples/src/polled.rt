@@ -1,7 +1,7 @@
 //! A session with a server, whose calls are futures.
 
 use std::io;
-use std::net::{Net, SocketAddr, TcpListener, TcpStream, ToSocketAddrs};
+use std::net::{Net, TcpListener, TcpStream};
 use std::process::ExitCode;
 use std::random::RandomSource;
 use std::sync::Wait;
@@ -15,10 +15,9 @@ pub fn list<R>(rt: &R, address: &str) -> FtpResult<Vec<String>>
 where
     R: Net<Listener = TcpListener, Stream = TcpStream> + Clock + Wait + RandomSource + AllocGlobal,
 {
-    let addresses: Vec<SocketAddr> = address.to_socket_addrs(rt)?.collect(rt.alloc())?;
     let mut runtime = LocalRuntime::new(rt)?;
     let transport = TokioTransport::of_runtime(runtime.handle())?;
-    let client = runtime.block_on(rt, AsyncFtpStream::connect(rt, transport, &addresses))??;
+    let client = runtime.block_on(rt, AsyncFtpStream::connect_to(rt, transport, address))??;
     runtime.block_on(rt, client.login(rt, "anonymous", "guest@example.org"))??;
     let lines = runtime.block_on(rt, client.list(rt, None))??;
     runtime.block_on(rt, client.quit(rt))??;

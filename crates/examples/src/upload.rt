@@ -1,6 +1,6 @@
 //! A text that is uploaded.
 
-use std::net::{Net, SocketAddr, TcpListener, TcpStream, ToSocketAddrs};
+use std::net::{Net, TcpListener, TcpStream};
 use std::process::ExitCode;
 use std::sync::Wait;
 use std::time::Clock;
@@ -11,8 +11,7 @@ pub fn upload<R>(rt: &R, address: &str, name: &str, text: &str) -> FtpResult<u64
 where
     R: Net<Listener = TcpListener, Stream = TcpStream> + Clock + Wait + AllocGlobal,
 {
-    let addresses: Vec<SocketAddr> = address.to_socket_addrs(rt)?.collect(rt.alloc())?;
-    let client = FtpStream::connect(rt, &addresses)?;
+    let client = FtpStream::connect_to(rt, address)?;
     client.login(rt, "anonymous", "guest@example.org")?;
     let mut source = text.as_bytes();
     let count = client.put_file(rt, name, &mut source)?;
