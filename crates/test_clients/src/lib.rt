@@ -2,6 +2,8 @@
 #![tactic(auto)]
 
 #[cfg(test)]
+mod addresses;
+#[cfg(test)]
 mod asks;
 #[cfg(test)]
 mod channel;
@@ -13,6 +15,8 @@ mod data_sockets;
 mod failing;
 #[cfg(test)]
 mod greetings;
+#[cfg(test)]
+mod listings;
 #[cfg(test)]
 mod room;
 #[cfg(test)]

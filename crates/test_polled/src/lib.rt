@@ -18,6 +18,8 @@ mod scene;
 #[cfg(test)]
 mod settings;
 #[cfg(test)]
+mod surface;
+#[cfg(test)]
 mod threads;
 #[cfg(test)]
 mod traffic;

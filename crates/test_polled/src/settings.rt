@@ -225,7 +225,7 @@ where
     let mut runtime = running(rt)?;
     let connect = Building::connect(rt, transport(&runtime)?, &[address]);
     let client = runtime.block_on(rt, connect)??;
-    let setting = client.passive_stream_builder(rt, BuildsNone);
+    let setting = client.set_passive_stream_builder(rt, BuildsNone);
     let set = done(rt, &mut runtime, setting);
     let opening = client.retr_as_stream(rt, "a");
     drop(client);
