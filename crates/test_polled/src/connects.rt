@@ -65,6 +65,34 @@ fn who_listens_is_connected_to_within_the_limit(rt: HostRuntime) -> Result<(), F
     Ok(())
 }
 
+/// Connections to a listener that accepts none: as many as its queue holds, so that no other is answered.
+fn crowd<R: Net<Stream = TcpStream> + AllocGlobal>(
+    rt: &R,
+    address: SocketAddr,
+) -> io::Result<Vec<TcpStream>> {
+    let mut crowd = Vec::new(rt.alloc());
+    for _ in 0..5000 {
+        match TcpStream::connect_timeout(rt, &address, Duration::from_millis(100)) {
+            Ok(stream) => crowd.push(stream)?,
+            Err(_error) => break,
+        }
+    }
+    Ok(crowd)
+}
+
+#[test]
+fn a_connect_that_nobody_answers_ends_with_its_limit(rt: HostRuntime) -> Result<(), Fail> {
+    let (listener, address) = listening(&rt)?;
+    let crowd = crowd(&rt, address)?;
+    let mut runtime = running(&rt)?;
+    let came = connect(&rt, &mut runtime, address, Some(Duration::from_millis(200)))?;
+    drop(runtime);
+    drop(crowd);
+    drop(listener);
+    assert_eq!(rt; came, Err(ConnectionError::TimedOut));
+    Ok(())
+}
+
 /// A listener of this transport on the loopback address, and its address.
 fn listen<R: Net + Clock>(
     rt: &R,
