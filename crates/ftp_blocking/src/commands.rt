@@ -78,6 +78,17 @@ where
         self.session.lock(rt).noop(rt.alloc())
     }
 
+    /// Comes back into step with a server that has sent more replies than were read, as some do after `ABOR`: `NOOP`, and
+    /// replies are read until its own (200), at most eight; those before it are passed over. A 200 among them ends it
+    /// early (RFC 959, section 4.1.3).
+    ///
+    /// # Errors
+    /// Those of a command and its reply: `UnexpectedResponse` with a 421 that is read, or with the eighth other reply; the
+    /// session goes on. Beside a live transfer `DataConnectionAlreadyOpen`, and nothing is sent or read.
+    pub fn resync<R: Wait + AllocGlobal>(&self, rt: &R) -> FtpResult<()> {
+        self.session.lock(rt).resync(rt.alloc())
+    }
+
     /// Names the address that the server is to open data connections to: `EPRT` (200; RFC 2428, section 2).
     ///
     /// # Errors

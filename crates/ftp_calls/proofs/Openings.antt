@@ -5,7 +5,7 @@ use Rattle.ftp_calls.specs.declared.call.Call.{Call}
 use Rattle.ftp_calls.specs.declared.exchange.Ending.{Ending}
 use Rattle.ftp_calls.specs.declared.exchange.Ending.TheVariants.{Done, GivesReply, TakesReply, Greets, GivesPath, GivesSecondLine, GivesTime, GivesSize, GivesFeatures, SetsText, GoesOn, Continues, GivesAddress, GivesPort, Opens, Performs, Finishes, Drains, Stops}
 use Rattle.ftp_calls.specs.declared.exchange.Row.{Row}
-use Rattle.ftp_calls.specs.declared.exchange.Row.TheVariants.{Exchanges, Arms, Sets, Moves}
+use Rattle.ftp_calls.specs.declared.exchange.Row.TheVariants.{Exchanges, Arms, Resyncs, Sets, Moves}
 use Rattle.ftp_calls.specs.declared.exchange.Turn.TheVariants.{First, Second}
 use Rattle.ftp_calls.specs.Exchanges.{Own, Once, Twice, aborting_row, aborts, at_turn, draining_row, drains, gives_reply, is_draining, is_local, is_negotiating, is_opening, is_own, is_read, local_row, negotiates, only_reads, opens, own, own_row, reads, row_of}
 
@@ -75,6 +75,7 @@ ending_opens_none Stops is = refl
 row_opens_none : (r : Row) → opens r ≡ true → reads r ≡ false
 row_opens_none (Exchanges exchange) is = ap (λ b. b && is_none exchange.says) (ending_opens_none exchange.ending is)
 row_opens_none (Arms offset) is = refl
+row_opens_none Resyncs is = refl
 row_opens_none (Sets setting) is = refl
 row_opens_none (Moves movement) is = refl
 
@@ -92,6 +93,7 @@ alone false true false true own is = refl
 row_draining_reads : (r : Row) → is_own r ≡ true → draining_row r ≡ true → reads r ≡ true
 row_draining_reads (Exchanges e) own is = alone (is_negotiating e.ending) (is_draining e.ending) (gives_reply e.ending) (is_none e.says) own is
 row_draining_reads (Arms offset) own is = let clash : false ≡ true = is in cc
+row_draining_reads Resyncs own is = let clash : false ≡ true = is in cc
 row_draining_reads (Sets setting) own is = let clash : false ≡ true = is in cc
 row_draining_reads (Moves movement) own is = let clash : false ≡ true = is in cc
 

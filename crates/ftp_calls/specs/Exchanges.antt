@@ -9,7 +9,7 @@ use Rattle.ftp_base.specs.declared.types.file_type.FileType.TheVariants.{Ascii, 
 use Rattle.ftp_base.specs.declared.command.Command.{Command}
 use Rattle.ftp_base.specs.declared.command.Command.TheVariants as command
 use Rattle.ftp_calls.specs.declared.call.Call.{Call}
-use Rattle.ftp_calls.specs.declared.call.Call.TheVariants.{Greet, Login, Cwd, Cdup, Pwd, Noop, Eprt, Opts, Site, TransferType, Mkdir, Rmdir, Rm, Rename, Quit, Mlst, Mdtm, Size, Feat, CustomCommand, ReadResponse, ReadResponseIn, ResumeTransfer, RetrAsStream, PutWithStream, AppendWithStream, CustomDataCommand, Retr, List as Listing, Nlst, Mlsd, PutFile, AppendFile, Set, Read, Write, Finish, Abort, Leave, Drain}
+use Rattle.ftp_calls.specs.declared.call.Call.TheVariants.{Greet, Login, Cwd, Cdup, Pwd, Noop, Resync, Eprt, Opts, Site, TransferType, Mkdir, Rmdir, Rm, Rename, Quit, Mlst, Mdtm, Size, Feat, CustomCommand, ReadResponse, ReadResponseIn, ResumeTransfer, RetrAsStream, PutWithStream, AppendWithStream, CustomDataCommand, Retr, List as Listing, Nlst, Mlsd, PutFile, AppendFile, Set, Read, Write, Finish, Abort, Leave, Drain}
 use Rattle.ftp_calls.specs.declared.exchange.Turn.{Turn}
 use Rattle.ftp_calls.specs.declared.exchange.Turn.TheVariants.{First, Second, Passive, ExtendedPassive, Active, Restart, Closed, Aborted}
 use Rattle.ftp_calls.specs.declared.exchange.Codes.{Codes}
@@ -21,7 +21,7 @@ use Rattle.ftp_calls.specs.declared.exchange.Fetch.TheVariants.{Whole, Listed}
 use Rattle.ftp_calls.specs.declared.exchange.Task.{Task}
 use Rattle.ftp_calls.specs.declared.exchange.Task.TheVariants as task
 use Rattle.ftp_calls.specs.declared.exchange.Row.{Row}
-use Rattle.ftp_calls.specs.declared.exchange.Row.TheVariants.{Exchanges, Arms, Sets, Moves}
+use Rattle.ftp_calls.specs.declared.exchange.Row.TheVariants.{Exchanges, Arms, Resyncs, Sets, Moves}
 use Rattle.ftp_calls.specs.declared.exchange.Movement.TheVariants as movement
 use Rattle.ftp_calls.specs.Active.{port_command}
 
@@ -71,6 +71,7 @@ is_negotiating other = false
 abbrev pub is_own : Row → Bool
 is_own (Exchanges exchange) = not (is_negotiating exchange.ending) && (not (is_draining exchange.ending) || is_none exchange.says)
 is_own (Arms offset) = true
+is_own Resyncs = true
 is_own (Sets setting) = true
 is_own (Moves movement) = true
 
@@ -87,6 +88,7 @@ own (Cwd directory) = Once (says (command.Cwd directory) (Either CommandOk Reque
 own Cdup = Once (says command.Cdup (Either CommandOk RequestedFileActionOk) Done) refl
 own Pwd = Once (says command.Pwd (One PathCreated) GivesPath) refl
 own Noop = Once (says command.Noop (One CommandOk) Done) refl
+own Resync = Once Resyncs refl
 own (Eprt address) = Once (says (command.Eprt address) (One CommandOk) Done) refl
 own (Opts name value) = Once (says (command.Opts name value) (One CommandOk) Done) refl
 own (Site words) = Once (says (command.Site words) (One CommandOk) GivesReply) refl
@@ -214,13 +216,15 @@ gives_reply Stops = false
 abbrev pub ending_of : Row → Option Ending
 ending_of (Exchanges exchange) = Some exchange.ending
 ending_of (Arms offset) = None
+ending_of Resyncs = None
 ending_of (Sets setting) = None
 ending_of (Moves movement) = None
 
--- what a row says, if anything
+-- what a row's exchange says, if anything
 abbrev pub says_of : Row → Option Command
 says_of (Exchanges exchange) = exchange.says
 says_of (Arms offset) = None
+says_of Resyncs = None
 says_of (Sets setting) = None
 says_of (Moves movement) = None
 
@@ -232,6 +236,7 @@ says_at call turn = not (is_none (says_of (row_of call turn)))
 abbrev pub given_by : Row → Kind
 given_by (Exchanges exchange) = kind_of exchange.ending
 given_by (Arms offset) = Nothing
+given_by Resyncs = Nothing
 given_by (Sets setting) = Nothing
 given_by (Moves movement) = Movements
 
@@ -242,6 +247,7 @@ only_reads ending = gives_reply ending || is_draining ending
 abbrev pub reads : Row → Bool
 reads (Exchanges exchange) = only_reads exchange.ending && is_none exchange.says
 reads (Arms offset) = false
+reads Resyncs = false
 reads (Sets setting) = false
 reads (Moves movement) = false
 
@@ -257,6 +263,7 @@ is_opening other = false
 abbrev pub opens : Row → Bool
 opens (Exchanges exchange) = is_opening exchange.ending
 opens (Arms offset) = false
+opens Resyncs = false
 opens (Sets setting) = false
 opens (Moves movement) = false
 
@@ -295,6 +302,7 @@ next_turn call Aborted = Some Second
 abbrev pub local_row : Row → Bool
 local_row (Exchanges exchange) = false
 local_row (Arms offset) = false
+local_row Resyncs = false
 local_row (Sets setting) = true
 local_row (Moves movement) = true
 
@@ -310,6 +318,7 @@ is_finishing other = false
 abbrev pub finishing_row : Row → Bool
 finishing_row (Exchanges exchange) = is_finishing exchange.ending
 finishing_row (Arms offset) = false
+finishing_row Resyncs = false
 finishing_row (Sets setting) = false
 finishing_row (Moves movement) = false
 
@@ -324,16 +333,26 @@ is_aborting other = false
 abbrev pub aborting_row : Row → Bool
 aborting_row (Exchanges exchange) = is_aborting exchange.ending
 aborting_row (Arms offset) = false
+aborting_row Resyncs = false
 aborting_row (Sets setting) = false
 aborting_row (Moves movement) = false
 
 abbrev pub aborts : Call → Bool
 aborts call = aborting_row (row_of call First)
 
+-- a call reads replies until that of its own command
+abbrev pub resyncing_row : Row → Bool
+resyncing_row Resyncs = true
+resyncing_row other = false
+
+abbrev pub resyncs : Call → Bool
+resyncs call = resyncing_row (row_of call First)
+
 -- a call reads the last reply of a transfer that was left
 abbrev pub draining_row : Row → Bool
 draining_row (Exchanges exchange) = is_draining exchange.ending
 draining_row (Arms offset) = false
+draining_row Resyncs = false
 draining_row (Sets setting) = false
 draining_row (Moves movement) = false
 
@@ -344,6 +363,7 @@ drains call = draining_row (row_of call First)
 abbrev pub moving_row : Row → Bool
 moving_row (Exchanges exchange) = is_finishing exchange.ending || is_draining exchange.ending
 moving_row (Arms offset) = false
+moving_row Resyncs = false
 moving_row (Sets setting) = false
 moving_row (Moves movement) = true
 
@@ -362,6 +382,7 @@ follows_reply other = true
 abbrev pub drained_row : Row → Bool
 drained_row (Exchanges exchange) = follows_reply exchange.ending
 drained_row (Arms offset) = true
+drained_row Resyncs = true
 drained_row (Sets setting) = false
 drained_row (Moves movement) = false
 

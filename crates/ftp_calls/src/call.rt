@@ -57,6 +57,8 @@ pub enum Call {
     Pwd,
     /// `NOOP` (200).
     Noop,
+    /// `NOOP`, and replies are read until its own (200): at most eight.
+    Resync,
     /// `EPRT` (200).
     Eprt(SocketAddr),
     /// `OPTS`, with a value or without (200).
@@ -146,6 +148,7 @@ impl Call {
             Call::Cdup => Ok(Call::Cdup),
             Call::Pwd => Ok(Call::Pwd),
             Call::Noop => Ok(Call::Noop),
+            Call::Resync => Ok(Call::Resync),
             Call::Eprt(address) => Ok(Call::Eprt(*address)),
             Call::Opts(name, value) => Ok(Call::Opts(name.clone()?, value.clone()?)),
             Call::Site(words) => Ok(Call::Site(words.clone()?)),
@@ -206,6 +209,7 @@ pub(crate) fn own_row(call: &Call, first: bool) -> Result<Row, AllocError>
             Ok(says(Command::Pwd, codes, Ending::GivesPath))
         }
         Call::Noop => Ok(says(Command::Noop, ok(), Ending::Done)),
+        Call::Resync => Ok(Row::Resyncs),
         Call::Eprt(address) => Ok(says(Command::Eprt(*address), ok(), Ending::Done)),
         Call::Opts(name, value) => {
             let (name, value) = (name.clone()?, value.clone()?);

@@ -4,7 +4,7 @@
 //! All that the machine does with a call follows from its row.
 
 ghost use Rattle.std.specs.Prelude.{◌≡◌, IfErr, IfOk, false};
-ghost use Rattle.ftp_calls.specs.Exchanges.{aborting_row, aborts, drains, drains_first, finishes, is_local, is_read, negotiates, next_turn, of_transfer, restarted, restarts, row_of, says_at, uploads};
+ghost use Rattle.ftp_calls.specs.Exchanges.{aborting_row, aborts, drains, drains_first, finishes, is_local, is_read, negotiates, next_turn, of_transfer, restarted, restarts, resyncs, row_of, says_at, uploads};
 
 use crate::active::port_command;
 use crate::call::{Call, Setting, own_row};
@@ -129,6 +129,8 @@ pub enum Row {
     Exchanges(Exchange),
     /// Nothing is said or heard: the next transfer begins at this offset, in bytes, and the call is done.
     Arms(u64),
+    /// `NOOP`, and replies are read until its own; beside a live transfer nothing is said.
+    Resyncs,
     /// Nothing is said or heard: a setting changes.
     Sets(Setting),
     /// Nothing is said or heard: bytes go over the data connection.
@@ -259,7 +261,7 @@ fn says_own(call: &Call) -> bool
     !is_local(call)
         && !is_read(call)
         && !finishes(call)
-        && !matches!(call, Call::Greet | Call::ResumeTransfer(_))
+        && !matches!(call, Call::Greet | Call::ResumeTransfer(_) | Call::Resync)
 }
 
 /// Whether a call aborts a transfer.
@@ -267,6 +269,13 @@ pub fn aborts(call: &Call) -> bool
     ensures { result ≡ aborts call.now }
 {
     matches!(call, Call::Abort)
+}
+
+/// Whether a call reads replies until that of its own command.
+pub fn resyncs(call: &Call) -> bool
+    ensures { result ≡ resyncs call.now }
+{
+    matches!(call, Call::Resync)
 }
 
 /// Whether a call reads the last reply of a transfer that was left.

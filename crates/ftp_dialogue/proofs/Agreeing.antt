@@ -8,7 +8,7 @@ use Rattle.ftp_calls.specs.declared.exchange.Ending.TheVariants.{Done, GivesRepl
 use Rattle.ftp_dialogue.proofs.Sorts.{finishing_moves, aborts_finish}
 use Rattle.ftp_calls.specs.declared.exchange.Task.{Task}
 use Rattle.ftp_calls.specs.declared.exchange.Row.{Row}
-use Rattle.ftp_calls.specs.declared.exchange.Row.TheVariants.{Exchanges, Arms, Sets, Moves}
+use Rattle.ftp_calls.specs.declared.exchange.Row.TheVariants.{Exchanges, Arms, Resyncs, Sets, Moves}
 use Rattle.ftp_calls.specs.declared.exchange.Turn.{Turn}
 use Rattle.ftp_calls.specs.declared.exchange.Turn.TheVariants.{First, Second, Passive, ExtendedPassive, Active, Restart, Closed, Aborted}
 use Rattle.ftp_calls.specs.Exchanges.{Kind, ending_of, given_by, is_draining, is_negotiating, is_opening, is_own, kind_of, kind_of_task, negotiates, opens, own_row, row_of}
@@ -50,6 +50,7 @@ ending_agrees Stops rest own = refl
 row_own_agrees : (row : Row) → is_own row ≡ true → row_agrees (ending_of row) ≡ opens row
 row_own_agrees (Exchanges exchange) own = ending_agrees exchange.ending (not (is_draining exchange.ending) || is_none exchange.says) own
 row_own_agrees (Arms offset) own = refl
+row_own_agrees Resyncs own = refl
 row_own_agrees (Sets setting) own = refl
 row_own_agrees (Moves movement) own = refl
 
@@ -88,6 +89,7 @@ row_answers (Exchanges exchange) ending answer is answers =
     let P : Ending → Type 0 = λ e. AnswersKind (kind_of e) answer in
     subst P (sym same) answers
 row_answers (Arms offset) ending answer is answers = let clash : None ≡ Some ending = is in cc
+row_answers Resyncs ending answer is answers = let clash : None ≡ Some ending = is in cc
 row_answers (Sets setting) ending answer is answers = let clash : None ≡ Some ending = is in cc
 row_answers (Moves movement) ending answer is answers = let clash : None ≡ Some ending = is in cc
 
@@ -96,6 +98,7 @@ row_gives : (row : Row) (ending : Ending) → ending_of row ≡ Some ending → 
 unfolding some_ending
 row_gives (Exchanges exchange) ending is = ap (λ o. kind_of (some_ending ending o)) is
 row_gives (Arms offset) ending is = let clash : None ≡ Some ending = is in cc
+row_gives Resyncs ending is = let clash : None ≡ Some ending = is in cc
 row_gives (Sets setting) ending is = let clash : None ≡ Some ending = is in cc
 row_gives (Moves movement) ending is = let clash : None ≡ Some ending = is in cc
 

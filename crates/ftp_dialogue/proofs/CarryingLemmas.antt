@@ -15,12 +15,12 @@ use Rattle.ftp_calls.specs.declared.exchange.Exchange.{Exchange}
 use Rattle.ftp_calls.specs.declared.exchange.Movement.{Movement}
 use Rattle.ftp_calls.specs.declared.exchange.Movement.TheVariants as movement
 use Rattle.ftp_calls.specs.declared.exchange.Row.{Row}
-use Rattle.ftp_calls.specs.declared.exchange.Row.TheVariants.{Exchanges, Arms, Sets, Moves}
+use Rattle.ftp_calls.specs.declared.exchange.Row.TheVariants.{Exchanges, Arms, Resyncs, Sets, Moves}
 use Rattle.ftp_calls.specs.declared.exchange.Turn.TheVariants.{First, Second, Passive, ExtendedPassive, Active, Restart, Closed, Aborted}
 use Rattle.ftp_calls.specs.Exchanges.{drains, finishes, is_local, is_read, local_row, negotiates, of_transfer, only_reads, reads, row_of}
 use Rattle.ftp_dialogue.specs.declared.model.DealOutcome.{DealOutcome}
 use Rattle.ftp_dialogue.specs.declared.stage.Stage.{Stage}
-use Rattle.ftp_dialogue.specs.declared.stage.Stage.TheVariants.{At, Saying, Hearing, Arming, Agreeing, Closing, Aborting, Fetching}
+use Rattle.ftp_dialogue.specs.declared.stage.Stage.TheVariants.{At, Saying, Hearing, Arming, Resyncing, Agreeing, Closing, Aborting, Fetching}
 use Rattle.ftp_dialogue.specs.declared.stage.Step.TheVariants.{Next, Pending}
 use Rattle.ftp_dialogue.specs.declared.state.State.{State}
 use Rattle.ftp_dialogue.specs.Coding.{Coding}
@@ -112,6 +112,7 @@ may_go_on call (At Aborted) v undrained of going = going
 may_go_on call (Saying line a) v undrained of going = going
 may_go_on call (Hearing a) v undrained of going = going
 may_go_on call (Arming turn offset) v undrained of going = going
+may_go_on call (Resyncing turn seeks) v undrained of going = going
 may_go_on call (Agreeing way) v undrained of going = going
 may_go_on call Closing v undrained of going = going
 may_go_on call (Aborting abort) v undrained of going = going
@@ -150,6 +151,7 @@ local_resumes modes kept coding call state local =
     row : (r : Row) → local_row r ≡ true → Resumes modes kept (doing coding r state (later coding call First))
     row (Exchanges e) is = let clash : false ≡ true = is in cc
     row (Arms offset) is = let clash : false ≡ true = is in cc
+    row Resyncs is = let clash : false ≡ true = is in cc
     row (Sets setting) is = tt
     row (Moves (movement.Read most)) is = carries (most == 0) _ _
     row (Moves (movement.Write bytes)) is = carries (length bytes == 0) _ _
@@ -190,6 +192,7 @@ read_apart coding call state read =
         let two = both (only_reads e.ending) (is_none e.says) is in
         saying_none e (reply_ending e.ending two.0) e.says two.1
     row (Arms offset) is = tt
+    row Resyncs is = let clash : false ≡ true = is in cc
     row (Sets setting) is = let clash : false ≡ true = is in cc
     row (Moves moves) is = let clash : false ≡ true = is in cc
 
@@ -378,18 +381,21 @@ left_so tells outcome counts old view new is left beside tie =
 row_done : (link : Link) (coding : Coding) (r : Row) (later : State → Tree) (old new : SessionValue) (answer : Answer) → DoesRow r link.tells old new answer → Ends link (doing coding r old.state later) answer old new ⊎ Aborts link false (doing coding r old.state later) answer old new
 row_done link coding (Exchanges e) later old new answer does = absurd does
 row_done link coding (Arms offset) later old new answer does = absurd does
+row_done link coding Resyncs later old new answer does = absurd does
 row_done link coding (Sets setting) later old new answer does = set_ends link setting old new answer does
 row_done link coding (Moves moves) later old new answer does = carried_ends link moves old new answer does
 
 row_apart : (tells : Type 0) (r : Row) (old new : SessionValue) (answer : Answer) → DoesRow r tells old new answer → new.channel ≡ old.channel
 row_apart tells (Exchanges e) old new answer does = absurd does
 row_apart tells (Arms offset) old new answer does = absurd does
+row_apart tells Resyncs old new answer does = absurd does
 row_apart tells (Sets setting) old new answer does = sets_apart setting old new answer does
 row_apart tells (Moves moves) old new answer does = carries_apart tells moves old new answer does
 
 row_local : (tells : Type 0) (r : Row) (old new : SessionValue) (answer : Answer) → DoesRow r tells old new answer → local_row r ≡ true
 row_local tells (Exchanges e) old new answer does = absurd does
 row_local tells (Arms offset) old new answer does = absurd does
+row_local tells Resyncs old new answer does = absurd does
 row_local tells (Sets setting) old new answer does = refl
 row_local tells (Moves moves) old new answer does = refl
 
@@ -417,6 +423,7 @@ set_answer setting old new answer (inr lacks) = (let P : Answer → Type 0 = IsA
 pub row_answer : (tells : Type 0) (r : Row) (old new : SessionValue) (answer : Answer) → DoesRow r tells old new answer → IsApart answer
 row_answer tells (Exchanges e) old new answer does = absurd does
 row_answer tells (Arms offset) old new answer does = absurd does
+row_answer tells Resyncs old new answer does = absurd does
 row_answer tells (Sets setting) old new answer does = set_answer setting old new answer does
 row_answer tells (Moves moves) old new answer does = carried_answer tells moves old new answer does
 

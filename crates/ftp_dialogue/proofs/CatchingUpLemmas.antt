@@ -1,7 +1,7 @@
 -- Lemmas on replies that are due to commands that were dropped.
 use Rattle.std.specs.Prelude.{not}
 use Rattle.std.proofs.lemmas.Bool.{eqb-true}
-use Rattle.std.proofs.Common.{◌≡◌, ◌⊎◌, ◌≤◌, ◌&&◌, ◌||◌, ◌<◌, ◌+◌, ◌-◌, ◌==◌, ℕ, zero, suc, Bool, true, false, cond, Option, Some, None, List, [], Result, Ok, Err, inl, inr, refl, ap, sym, ◌∙◌, subst, arith}
+use Rattle.std.proofs.Common.{◌≡◌, ◌⊎◌, ◌≤◌, ◌&&◌, ◌||◌, ◌<◌, ◌+◌, ◌==◌, ℕ, zero, suc, Bool, true, false, cond, Option, Some, None, List, [], Result, Ok, Err, inl, inr, refl, ap, sym, ◌∙◌, subst, arith}
 use Rattle.futures.specs.declared.task.Poll.{Poll}
 use Rattle.futures.specs.declared.task.Poll.TheVariants.{Ready, Pending}
 use Rattle.ftp_base.specs.declared.types.reply.Response.{Response}
@@ -13,13 +13,13 @@ use Rattle.ftp_control.specs.Channel.{Channel}
 use Rattle.ftp_control.specs.Saying.{SaysLine, due}
 use Rattle.ftp_calls.specs.Exchanges.{draining_row, drains, drains_first, is_draining, is_finishing, is_local, moving_row, of_transfer, row_of}
 use Rattle.ftp_calls.specs.declared.exchange.Row.{Row}
-use Rattle.ftp_calls.specs.declared.exchange.Row.TheVariants.{Exchanges, Arms, Sets, Moves}
+use Rattle.ftp_calls.specs.declared.exchange.Row.TheVariants.{Exchanges, Arms, Resyncs, Sets, Moves}
 use Rattle.ftp_calls.specs.declared.exchange.Turn.TheVariants.{First}
 use Rattle.ftp_calls.specs.declared.call.Call.{Call}
-use Rattle.ftp_dialogue.specs.CatchingUp.{After, CatchesUp, Flushes, InStepIf, MakesThen, PollsReadIf, PollsReadInStep, ReadsDue, ReadsIf, PlaysInStep, TellsFault, ThenReads, fault_told, flushing, is_behind, is_late, is_plain_read, opens_beside, told_by, told_of_line}
+use Rattle.ftp_dialogue.specs.CatchingUp.{After, CatchesUp, Flushes, InStepIf, MakesThen, FlushesReadIf, PollsReadInStep, ReadsDue, ReadsIf, PlaysInStep, TellsFault, ReadsThen, fault_told, flushing, is_behind, is_late, is_plain_read, opens_beside, told_by, told_of_line}
 use Rattle.ftp_dialogue.specs.Coding.{Coding}
 use Rattle.ftp_dialogue.specs.Deals.{Net}
-use Rattle.ftp_dialogue.specs.Dialogue.{Expected, Tree, Say, Leaf, expecting}
+use Rattle.ftp_dialogue.specs.Dialogue.{Expected, Say, Leaf, expecting}
 use Rattle.ftp_calls.specs.declared.call.Call.TheVariants.{Drain}
 use Rattle.ftp_dialogue.specs.Play.{Refusal, Taken, Lacking, Failing, refused_if_failed}
 use Rattle.ftp_dialogue.specs.Sound.{none_left}
@@ -28,7 +28,6 @@ use Rattle.ftp_dialogue.specs.Promises.{Aborts, Completes, Leads, Plays, refusal
 use Rattle.ftp_dialogue.specs.Reading.{PollsRead, ReadsAlone}
 use Rattle.ftp_dialogue.specs.State.{SessionValue}
 use Rattle.ftp_dialogue.specs.declared.state.State.{State}
-use Rattle.ftp_dialogue.specs.declared.stage.Step.TheVariants.{Next, Done}
 use Rattle.ftp_dialogue.specs.Steps.Moving.{Advances, Ends, MadeDrained, Steps, after_line, step_of, withheld}
 use Rattle.ftp_dialogue.proofs.DrainingLemmas.{drained_plays}
 use Rattle.ftp_dialogue.proofs.TransitionsLemmas.{withheld_plays}
@@ -183,13 +182,13 @@ module _ (link : Link) (plain ends : Bool) (Makes : SessionValue → SessionValu
 module _ (link : Link) (coding : Coding) (codes : Expected) (old middle new : SessionValue) (flush : Poll (Option FtpError)) (result : Poll (Result Response FtpError)) where
   pub reads_unflushed : is_late old ≡ false → PollsRead link coding codes old new result → PollsReadInStep link coding codes old new result
   reads_unflushed none reads =
-      let P : Bool → Type 0 = λ b. PollsReadIf b link coding codes old new result in
+      let P : Bool → Type 0 = λ b. FlushesReadIf b link coding codes old new result in
       record { reads = subst P (sym none) reads }
 
-  pub reads_flushed : (told : Poll (Option FtpError)) → is_late old ≡ true → Flushes link old middle flush → flush ≡ told → ThenReads told link coding codes middle new result → PollsReadInStep link coding codes old new result
+  pub reads_flushed : (told : Poll (Option FtpError)) → is_late old ≡ true → Flushes link old middle flush → flush ≡ told → ReadsThen told link coding codes middle new result → PollsReadInStep link coding codes old new result
   reads_flushed told late flushes is then =
-      let P : Bool → Type 0 = λ b. PollsReadIf b link coding codes old new result in
-      let T : Poll (Option FtpError) → Type 0 = λ f. ThenReads f link coding codes middle new result in
+      let P : Bool → Type 0 = λ b. FlushesReadIf b link coding codes old new result in
+      let T : Poll (Option FtpError) → Type 0 = λ f. ReadsThen f link coding codes middle new result in
       record { reads = subst P (sym late) (record { flushed = middle; flush = flush; flushes = flushes; then_reads = subst T (sym is) then }) }
 
 -- a call of no transfer is no read of a last reply
@@ -200,6 +199,7 @@ row_undrained (Exchanges exchange) none = go (is_finishing exchange.ending) none
     go true none = let clash : true ≡ false = none in cc
     go false none = none
 row_undrained (Arms offset) none = refl
+row_undrained Resyncs none = refl
 row_undrained (Sets setting) none = refl
 row_undrained (Moves movement) none = refl
 

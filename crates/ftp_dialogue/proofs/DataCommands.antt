@@ -29,7 +29,7 @@ use Rattle.ftp_calls.specs.declared.exchange.Fetch.TheVariants.{Whole as WholeFi
 use Rattle.ftp_calls.specs.declared.exchange.Task.{Task}
 use Rattle.ftp_calls.specs.declared.exchange.Task.TheVariants as tasks
 use Rattle.ftp_calls.specs.declared.exchange.Row.{Row}
-use Rattle.ftp_calls.specs.declared.exchange.Row.TheVariants.{Exchanges, Arms, Sets, Moves}
+use Rattle.ftp_calls.specs.declared.exchange.Row.TheVariants.{Exchanges, Arms, Resyncs, Sets, Moves}
 use Rattle.ftp_calls.specs.declared.exchange.Movement.{Movement}
 use Rattle.ftp_calls.specs.declared.exchange.Movement.TheVariants as movement
 use Rattle.ftp_calls.specs.declared.exchange.Turn.{Turn}
@@ -202,6 +202,7 @@ module _ (peer : SocketAddr) (Sort : Request → Type 0) (state : State) (admits
     row_keeps : (row : Row) → opens row ≡ true → Keeps peer Sort (doing coding row state after)
     row_keeps (Exchanges exchange) is = saying_keeps coding exchange.says (awaiting coding (expected_of exchange.hears) exchange.ending state after) (ending_keeps exchange.ending is)
     row_keeps (Arms offset) is = let clash : false ≡ true = is in cc
+    row_keeps Resyncs is = let clash : false ≡ true = is in cc
     row_keeps (Sets setting) is = let clash : false ≡ true = is in cc
     row_keeps (Moves moves) is = let clash : false ≡ true = is in cc
 

@@ -7,7 +7,7 @@ use Rattle.ftp_calls.specs.declared.call.Call.TheVariants.{Drain}
 use Rattle.ftp_calls.specs.declared.exchange.Ending.{Ending}
 use Rattle.ftp_calls.specs.declared.exchange.Ending.TheVariants.{Done, GivesReply, TakesReply, Greets, GivesPath, GivesSecondLine, GivesTime, GivesSize, GivesFeatures, SetsText, GoesOn, Continues, GivesAddress, GivesPort, Opens, Performs, Finishes, Drains, Stops}
 use Rattle.ftp_calls.specs.declared.exchange.Row.{Row}
-use Rattle.ftp_calls.specs.declared.exchange.Row.TheVariants.{Exchanges, Arms, Sets, Moves}
+use Rattle.ftp_calls.specs.declared.exchange.Row.TheVariants.{Exchanges, Arms, Resyncs, Sets, Moves}
 use Rattle.ftp_calls.specs.declared.exchange.Turn.{Turn}
 use Rattle.ftp_calls.specs.declared.exchange.Turn.TheVariants.{First, Second, Passive, ExtendedPassive, Active, Restart, Closed, Aborted}
 use Rattle.ftp_calls.specs.Exchanges.{drained_row, drains_first, finishes, finishing_row, follows_reply, is_finishing, is_local, local_row, negotiates, given_by, row_of, Kind, Nothing, Replies, Texts, Times, Sizes, Lists, Connections, Movements, Listings}
@@ -35,6 +35,7 @@ local_first call local = go (row_of call First) local
     go : (row : Row) → local_row row ≡ true → drained_row row ≡ false
     go (Exchanges exchange) is = let clash : false ≡ true = is in cc
     go (Arms offset) is = let clash : false ≡ true = is in cc
+    go Resyncs is = let clash : false ≡ true = is in cc
     go (Sets setting) is = refl
     go (Moves movement) is = refl
 
@@ -81,6 +82,7 @@ finishes_first call is = go (row_of call First) is
     go : (row : Row) → finishing_row row ≡ true → drained_row row ≡ false
     go (Exchanges exchange) is = finishing_follows exchange.ending is
     go (Arms offset) is = let clash : false ≡ true = is in cc
+    go Resyncs is = let clash : false ≡ true = is in cc
     go (Sets setting) is = let clash : false ≡ true = is in cc
     go (Moves movement) is = let clash : false ≡ true = is in cc
 

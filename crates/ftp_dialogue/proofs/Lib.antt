@@ -17,6 +17,7 @@ pub mod Nexts
 pub mod Places
 pub mod Polls
 pub mod Reading
+pub mod ResyncLemmas
 pub mod Stages
 pub mod TransitionsLemmas
 pub mod UnsentLemmas

@@ -5,7 +5,7 @@ use Rattle.ftp_calls.specs.declared.call.Call.{Call}
 use Rattle.ftp_calls.specs.declared.exchange.Ending.{Ending}
 use Rattle.ftp_calls.specs.declared.exchange.Ending.TheVariants as ending
 use Rattle.ftp_calls.specs.declared.exchange.Row.{Row}
-use Rattle.ftp_calls.specs.declared.exchange.Row.TheVariants.{Exchanges, Arms, Sets, Moves}
+use Rattle.ftp_calls.specs.declared.exchange.Row.TheVariants.{Exchanges, Arms, Resyncs, Sets, Moves}
 use Rattle.ftp_calls.specs.declared.exchange.Turn.{Turn}
 use Rattle.ftp_calls.specs.declared.exchange.Turn.TheVariants.{First, Second, Passive, ExtendedPassive, Active, Restart, Closed, Aborted}
 use Rattle.ftp_calls.specs.Exchanges.{Nothing, Replies, ending_of, is_draining, kind_of, negotiates, next_turn, only_reads, reads, restarted, restarts, row_of}
@@ -48,6 +48,7 @@ row_unread (Exchanges e) how is unread =
     of_some None = false
     of_some (Some other) = only_reads other
 row_unread (Arms offset) how is unread = refl
+row_unread Resyncs how is unread = refl
 row_unread (Sets setting) how is unread = refl
 row_unread (Moves movement) how is unread = refl
 

@@ -5,12 +5,12 @@ use Rattle.ftp_calls.specs.declared.call.Call.{Call}
 use Rattle.ftp_calls.specs.declared.exchange.Ending.{Ending}
 use Rattle.ftp_calls.specs.declared.exchange.Ending.TheVariants.{Done, GivesReply, TakesReply, Greets, GivesPath, GivesSecondLine, GivesTime, GivesSize, GivesFeatures, SetsText, GoesOn, Continues, GivesAddress, GivesPort, Opens, Performs, Finishes, Drains, Stops}
 use Rattle.ftp_calls.specs.declared.exchange.Row.{Row}
-use Rattle.ftp_calls.specs.declared.exchange.Row.TheVariants.{Exchanges, Arms, Sets, Moves}
+use Rattle.ftp_calls.specs.declared.exchange.Row.TheVariants.{Exchanges, Arms, Resyncs, Sets, Moves}
 use Rattle.ftp_calls.specs.declared.exchange.Turn.{Turn}
 use Rattle.ftp_calls.specs.declared.exchange.Turn.TheVariants.{First, Second, Passive, ExtendedPassive, Active, Restart, Closed, Aborted}
 use Rattle.ftp_calls.specs.Exchanges.{draining_row, drains, finishes, finishing_row, is_draining, is_finishing, is_local, is_opening, is_read, local_row, moving_row, negotiates, of_transfer, only_reads, opens, reads, row_of, aborting_row, aborts, is_aborting}
 use Rattle.ftp_dialogue.specs.declared.stage.Stage.{Stage}
-use Rattle.ftp_dialogue.specs.declared.stage.Stage.TheVariants.{At, Saying, Hearing, Arming, Agreeing, Closing, Aborting, Fetching}
+use Rattle.ftp_dialogue.specs.declared.stage.Stage.TheVariants.{At, Saying, Hearing, Arming, Resyncing, Agreeing, Closing, Aborting, Fetching}
 use Rattle.ftp_dialogue.specs.declared.stage.Fetching.{Fetching as Fetched}
 use Rattle.ftp_dialogue.specs.declared.stage.Fetching.TheVariants.{Starting, Gathering, Sending as SendingData, Parting, Ending as LastReply}
 use Rattle.ftp_dialogue.specs.Steps.Stages.{FetchOf, StageOf, TurnOf}
@@ -106,66 +106,77 @@ opening_drains_none Stops is = refl
 row_finishes_unread : (r : Row) → finishing_row r ≡ true → reads r ≡ false
 row_finishes_unread (Exchanges e) is = ap (λ b. b && is_none e.says) (finishing_gives_none e.ending is)
 row_finishes_unread (Arms offset) is = refl
+row_finishes_unread Resyncs is = refl
 row_finishes_unread (Sets setting) is = refl
 row_finishes_unread (Moves movement) is = refl
 
 row_finishes_abroad : (r : Row) → finishing_row r ≡ true → local_row r ≡ false
 row_finishes_abroad (Exchanges e) is = refl
 row_finishes_abroad (Arms offset) is = refl
+row_finishes_abroad Resyncs is = refl
 row_finishes_abroad (Sets setting) is = let clash : false ≡ true = is in cc
 row_finishes_abroad (Moves movement) is = let clash : false ≡ true = is in cc
 
 row_finishes_opens : (r : Row) → finishing_row r ≡ true → opens r ≡ false
 row_finishes_opens (Exchanges e) is = finishing_opens_none e.ending is
 row_finishes_opens (Arms offset) is = refl
+row_finishes_opens Resyncs is = refl
 row_finishes_opens (Sets setting) is = refl
 row_finishes_opens (Moves movement) is = refl
 
 row_finishes_moves : (r : Row) → finishing_row r ≡ true → moving_row r ≡ true
 row_finishes_moves (Exchanges e) is = ap (λ b. b || is_draining e.ending) is
 row_finishes_moves (Arms offset) is = let clash : false ≡ true = is in cc
+row_finishes_moves Resyncs is = let clash : false ≡ true = is in cc
 row_finishes_moves (Sets setting) is = let clash : false ≡ true = is in cc
 row_finishes_moves (Moves movement) is = refl
 
 row_opens_abroad : (r : Row) → opens r ≡ true → local_row r ≡ false
 row_opens_abroad (Exchanges e) is = refl
 row_opens_abroad (Arms offset) is = refl
+row_opens_abroad Resyncs is = refl
 row_opens_abroad (Sets setting) is = let clash : false ≡ true = is in cc
 row_opens_abroad (Moves movement) is = let clash : false ≡ true = is in cc
 
 row_reads_abroad : (r : Row) → reads r ≡ true → local_row r ≡ false
 row_reads_abroad (Exchanges e) is = refl
 row_reads_abroad (Arms offset) is = refl
+row_reads_abroad Resyncs is = refl
 row_reads_abroad (Sets setting) is = let clash : false ≡ true = is in cc
 row_reads_abroad (Moves movement) is = let clash : false ≡ true = is in cc
 
 row_local_opens : (r : Row) → local_row r ≡ true → opens r ≡ false
 row_local_opens (Exchanges e) is = let clash : false ≡ true = is in cc
 row_local_opens (Arms offset) is = refl
+row_local_opens Resyncs is = refl
 row_local_opens (Sets setting) is = refl
 row_local_opens (Moves movement) is = refl
 
 row_local_finishes : (r : Row) → local_row r ≡ true → finishing_row r ≡ false
 row_local_finishes (Exchanges e) is = let clash : false ≡ true = is in cc
 row_local_finishes (Arms offset) is = refl
+row_local_finishes Resyncs is = refl
 row_local_finishes (Sets setting) is = refl
 row_local_finishes (Moves movement) is = refl
 
 row_opens_drains : (r : Row) → opens r ≡ true → draining_row r ≡ false
 row_opens_drains (Exchanges e) is = opening_drains_none e.ending is
 row_opens_drains (Arms offset) is = refl
+row_opens_drains Resyncs is = refl
 row_opens_drains (Sets setting) is = refl
 row_opens_drains (Moves movement) is = refl
 
 row_local_drains : (r : Row) → local_row r ≡ true → draining_row r ≡ false
 row_local_drains (Exchanges e) is = let clash : false ≡ true = is in cc
 row_local_drains (Arms offset) is = refl
+row_local_drains Resyncs is = refl
 row_local_drains (Sets setting) is = refl
 row_local_drains (Moves movement) is = refl
 
 row_unheld : (r : Row) → local_row r ≡ false → finishing_row r ≡ false → draining_row r ≡ false → moving_row r ≡ false
 row_unheld (Exchanges e) abroad ends drains = ap (λ b. b || is_draining e.ending) ends ∙ drains
 row_unheld (Arms offset) abroad ends drains = refl
+row_unheld Resyncs abroad ends drains = refl
 row_unheld (Sets setting) abroad ends drains = refl
 row_unheld (Moves movement) abroad ends drains = let clash : true ≡ false = abroad in cc
 
@@ -191,6 +202,7 @@ unheld_drains_none call unheld = go (row_of call First) unheld
     go : (r : Row) → moving_row r ≡ false → draining_row r ≡ false
     go (Exchanges e) none = either (is_finishing e.ending) (is_draining e.ending) none
     go (Arms offset) none = refl
+    go Resyncs none = refl
     go (Sets setting) none = refl
     go (Moves movement) none = refl
 
@@ -251,6 +263,7 @@ aborting_ends Drains is = let clash : false ≡ true = is in cc
 row_aborts_finish : (r : Row) → aborting_row r ≡ true → finishing_row r ≡ true
 row_aborts_finish (Exchanges exchange) is = aborting_ends exchange.ending is
 row_aborts_finish (Arms offset) is = let clash : false ≡ true = is in cc
+row_aborts_finish Resyncs is = let clash : false ≡ true = is in cc
 row_aborts_finish (Sets setting) is = let clash : false ≡ true = is in cc
 row_aborts_finish (Moves movement) is = let clash : false ≡ true = is in cc
 
@@ -281,6 +294,7 @@ stage_no_local call (At turn) of = turn_no_local call turn of
 stage_no_local call (Saying line a) of = turn_no_local call a.turn of.2
 stage_no_local call (Hearing a) of = turn_no_local call a.turn of.2
 stage_no_local call (Arming turn offset) of = turn_no_local call turn of.1
+stage_no_local call (Resyncing turn seeks) of = turn_no_local call turn of.1
 stage_no_local call (Agreeing way) of = opens_no_local call of.0
 stage_no_local call Closing of = finishing_no_local call of
 stage_no_local call (Aborting abort) of = finishing_no_local call (aborts_finish call of)

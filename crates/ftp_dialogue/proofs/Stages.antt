@@ -8,11 +8,12 @@ use Rattle.ftp_calls.specs.declared.exchange.Turn.{Turn}
 use Rattle.ftp_calls.specs.declared.exchange.Turn.TheVariants.{First, Second, Passive, ExtendedPassive, Active, Restart, Closed, Aborted}
 use Rattle.ftp_dialogue.specs.declared.stage.Awaits.{Awaits}
 use Rattle.ftp_dialogue.specs.declared.stage.Stage.{Stage}
-use Rattle.ftp_dialogue.specs.declared.stage.Stage.TheVariants.{At, Saying, Hearing, Arming, Agreeing, Closing, Aborting, Fetching}
+use Rattle.ftp_dialogue.specs.declared.stage.Stage.TheVariants.{At, Saying, Hearing, Arming, Resyncing, Agreeing, Closing, Aborting, Fetching}
 use Rattle.ftp_dialogue.specs.Coding.{Coding}
 use Rattle.ftp_calls.specs.declared.exchange.Exchange.{Exchange}
-use Rattle.ftp_calls.specs.declared.exchange.Row.TheVariants.{Exchanges, Arms}
-use Rattle.ftp_calls.specs.Exchanges.{ending_of, is_read, only_reads, reads, row_of}
+use Rattle.ftp_calls.specs.declared.exchange.Row.TheVariants.{Exchanges, Arms, Resyncs}
+use Rattle.ftp_dialogue.specs.declared.stage.Resyncing.TheVariants.{Wording}
+use Rattle.ftp_calls.specs.Exchanges.{ending_of, is_read, only_reads, reads, resyncing_row, row_of}
 use Rattle.ftp_calls.proofs.Openings.{read_opens_none}
 use Rattle.ftp_dialogue.proofs.Sorts.{finishing_no_read, aborts_finish}
 use Rattle.ftp_dialogue.specs.Dialogue.{expected_of, Tree, Say, saying, awaiting, doing, later}
@@ -85,6 +86,7 @@ unbegun (Some line) a some = refl
 pub node_begins : (coding : Coding) (call : Call) (turn : Turn) (e : Exchange) (stage : Stage) → row_of call turn ≡ Exchanges e → TurnOf call turn → NodeOf coding turn e stage → Begun coding call turn stage
 node_begins coding call turn e (At other) row read node = absurd node
 node_begins coding call turn e (Arming other offset) row read node = absurd node
+node_begins coding call turn e (Resyncing other seeks) row read node = absurd node
 node_begins coding call turn e (Agreeing agreeing) row read node = absurd node
 node_begins coding call turn e Closing row read node = absurd node
 node_begins coding call turn e (Aborting abort) row read node = absurd node
@@ -116,6 +118,26 @@ arming_begins coding call turn offset row read = record {
   stage_of = (row, read);
   begun = refl;
 }
+
+-- replies are sought, and that is all that is left
+pub resyncing_begins : (coding : Coding) (call : Call) (turn : Turn) → row_of call turn ≡ Resyncs → TurnOf call turn → Begun coding call turn (Resyncing turn Wording)
+resyncing_begins coding call turn row read = record {
+  same = λ state. ap (λ r. doing coding r state (later coding call turn)) (sym row);
+  fewer = one_fewer turn;
+  stage_of = (row, read);
+  begun = refl;
+}
+
+-- a call that seeks them is no plain read
+pub resync_unread : (call : Call) (turn : Turn) → row_of call turn ≡ Resyncs → TurnOf call turn → is_read call ≡ false
+resync_unread call First is of = ap reads is
+resync_unread call Second is of = of.0
+resync_unread call (Passive offset) is of = let clash : false ≡ true = ap resyncing_row is in cc
+resync_unread call (ExtendedPassive offset) is of = let clash : false ≡ true = ap resyncing_row is in cc
+resync_unread call (Active address offset) is of = let clash : false ≡ true = ap resyncing_row is in cc
+resync_unread call (Restart offset) is of = let clash : false ≡ true = ap resyncing_row is in cc
+resync_unread call (Closed close) is of = let clash : false ≡ true = ap resyncing_row is in cc
+resync_unread call Aborted is of = let clash : false ≡ true = ap resyncing_row is in cc
 
 -- Whether a dialogue has begun
 

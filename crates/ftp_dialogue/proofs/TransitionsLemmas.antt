@@ -23,13 +23,13 @@ use Rattle.ftp_calls.specs.declared.exchange.Turn.{Turn}
 use Rattle.ftp_calls.specs.declared.exchange.Turn.TheVariants.{First, Second, Passive, ExtendedPassive, Active, Restart, Closed, Aborted}
 use Rattle.ftp_dialogue.specs.declared.stage.Awaits.{Awaits}
 use Rattle.ftp_dialogue.specs.declared.stage.Stage.{Stage}
-use Rattle.ftp_dialogue.specs.declared.stage.Stage.TheVariants.{At, Saying, Hearing, Arming, Agreeing, Closing, Aborting, Fetching}
+use Rattle.ftp_dialogue.specs.declared.stage.Stage.TheVariants.{At, Saying, Hearing, Arming, Resyncing, Agreeing, Closing, Aborting, Fetching}
 use Rattle.ftp_dialogue.specs.declared.stage.Step.{Step}
 use Rattle.ftp_dialogue.specs.declared.stage.Step.TheVariants.{Next, Pending, Done}
 use Rattle.ftp_dialogue.specs.State.{SessionValue, LetsGo}
 use Rattle.ftp_dialogue.specs.Coding.{Coding}
 use Rattle.ftp_calls.specs.declared.exchange.Row.{Row}
-use Rattle.ftp_calls.specs.declared.exchange.Row.TheVariants.{Exchanges, Arms, Sets}
+use Rattle.ftp_calls.specs.declared.exchange.Row.TheVariants.{Exchanges, Arms, Resyncs, Sets}
 use Rattle.ftp_calls.specs.declared.exchange.Row.TheVariants as row
 use Rattle.ftp_calls.specs.Exchanges.{aborting_row, finishes, is_aborting, is_local, is_read, negotiates, of_transfer, row_of, says_of}
 use Rattle.ftp_dialogue.proofs.Sorts.{fetch_opens, read_finishes_none, aborts_finish, finishing_no_read}
@@ -37,8 +37,8 @@ use Rattle.ftp_dialogue.proofs.CarryingLemmas.{failing_refuses, plain_entered}
 use Rattle.ftp_dialogue.proofs.Faults.{told_failure, told_fails}
 use Rattle.ftp_dialogue.specs.Play.{Taken}
 use Rattle.ftp_calls.proofs.Openings.{read_opens_none}
-use Rattle.ftp_dialogue.proofs.Stages.{later_is_no_read}
-use Rattle.ftp_dialogue.specs.Dialogue.{Expected, expected_of, Tree, Say, Hear, Leaf, Move, carrying, moved_answer, saying, after_fault_of, answer_to_fault, armed, awaiting, concluded, doing, accepted, later, from_turn, opened_from, wants_memory, with_left, dialogue}
+use Rattle.ftp_dialogue.proofs.Stages.{later_is_no_read, resync_unread}
+use Rattle.ftp_dialogue.specs.Dialogue.{Expected, expected_of, most_passed_over, seeking, Tree, Say, Hear, Leaf, Move, carrying, moved_answer, saying, after_fault_of, answer_to_fault, armed, awaiting, concluded, doing, accepted, later, from_turn, opened_from, wants_memory, with_left, dialogue}
 use Rattle.ftp_dialogue.proofs.DrainingLemmas.{failed_undue, makes_undue}
 use Rattle.ftp_dialogue.specs.Promises.{DrainsIf, PlaysAlone, due_of, AbortsRead, FailsRead, IsFault, HasFault, Aborts, Fails, SaidOrTaken, Touched, Untouched, LacksMemory, Plays, GivesFault, Reads, Rests, begun_by, failed_from, lacking_at, refusal_of, state_at}
 use Rattle.ftp_control.specs.Channel.{untaken}
@@ -49,6 +49,10 @@ use Rattle.ftp_dialogue.specs.Steps.Moving.{Moves, Advances, Ends, Steps, PollSt
 use Rattle.ftp_dialogue.proofs.Moving.{advances_on, leads_on, leaf_ends, refused_line, lacks_memory_first, lacks_memory_at, stays_put, ends_on, aborts_on, said_or_taken_on, untouched, untouched_after}
 use Rattle.ftp_dialogue.proofs.NegotiationLemmas.{still_on, unchanged_still}
 use Rattle.ftp_dialogue.specs.Link.{Link}
+use Rattle.ftp_base.specs.Wire.{wire}
+use Rattle.ftp_base.specs.Command.{text_of}
+use Rattle.ftp_dialogue.specs.Sound.{some_live}
+use Rattle.ftp_base.specs.declared.command.Command.TheVariants.{Noop}
 
 -- An exchange begins
 
@@ -63,6 +67,7 @@ line_refused link coding (Some command) cause next v is =
 row_refused : (link : Link) (coding : Coding) (row : Row) (cause : Cause) (later : State → Tree) (v : SessionValue) → line_of coding (says_of row) ≡ Err cause → Ends link (doing coding row v.state later) (Fault (ConnectionError cause)) v v
 row_refused link coding (Exchanges e) cause later v is = line_refused link coding e.says cause (awaiting coding (expected_of e.hears) e.ending v.state later) v is
 row_refused link coding (Arms offset) cause later v is = let clash : Ok [] ≡ Err cause = is in cc
+row_refused link coding Resyncs cause later v is = let clash : Ok [] ≡ Err cause = is in cc
 row_refused link coding (Sets setting) cause later v is = let clash : Ok [] ≡ Err cause = is in cc
 row_refused link coding (row.Moves movement) cause later v is = let clash : Ok [] ≡ Err cause = is in cc
 
@@ -106,6 +111,10 @@ carrying_stays movement.Close state = refl
 row_stays : (coding : Coding) (row : Row) (next : State → Tree) (state : State) → (is_none (says_of row) && aborting_row row) ≡ false → state_at (doing coding row state next) OutOfMemory state ≡ state
 row_stays coding (Exchanges e) next state none = saying_stays coding e.says (expected_of e.hears) e.ending state next none
 row_stays coding (Arms offset) next state none = refl
+row_stays coding Resyncs next state none = elim (some_live state.counts.owed) as (λ b. state_at (cond b (Leaf (Fault DataConnectionAlreadyOpen) state) (Say (wire coding.encode (text_of Noop)) (seeking most_passed_over state))) OutOfMemory state ≡ state) [
+  | true ↦ refl
+  | false ↦ refl
+]
 row_stays coding (Sets setting) next state none = refl
 row_stays coding (row.Moves m) next state none = carrying_stays m state
 
@@ -399,6 +408,7 @@ read_is_quiet call (Aborting abort) stage_of read = let clash : true ≡ false =
 read_is_quiet call (Fetching fetching) stage_of read = let clash : true ≡ false = sym read ∙ read_opens_none call (fetch_opens call fetching stage_of) in cc
 read_is_quiet call (Saying line a) stage_of read = let clash : true ≡ false = sym read ∙ stage_of.1 in cc
 read_is_quiet call (Arming turn offset) stage_of read = later_none call turn (λ later. later_is_no_read call turn stage_of.1 later) read
+read_is_quiet call (Resyncing turn seeks) stage_of read = let clash : true ≡ false = sym read ∙ resync_unread call turn stage_of.0 stage_of.1 in cc
 read_is_quiet call (Agreeing way) stage_of read = let clash : true ≡ false = sym read ∙ read_opens_none call stage_of.0 in cc
 read_is_quiet call (Hearing a) stage_of read = go a.begun refl
   where
@@ -606,6 +616,7 @@ is_at_first (At turn) is = ap At (first_turn turn is)
 is_at_first (Saying line a) is = let clash : false ≡ true = is in cc
 is_at_first (Hearing a) is = let clash : false ≡ true = is in cc
 is_at_first (Arming turn offset) is = let clash : false ≡ true = is in cc
+is_at_first (Resyncing turn seeks) is = let clash : false ≡ true = is in cc
 is_at_first (Agreeing way) is = let clash : false ≡ true = is in cc
 is_at_first Closing is = let clash : false ≡ true = is in cc
 is_at_first (Aborting abort) is = let clash : false ≡ true = is in cc

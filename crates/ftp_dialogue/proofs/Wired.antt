@@ -30,7 +30,7 @@ use Rattle.ftp_dialogue.specs.declared.model.Played.TheVariants.{Done, Pending}
 use Rattle.ftp_dialogue.specs.State.{SessionValue, LetsGo}
 use Rattle.ftp_dialogue.specs.Coding.{Coding}
 use Rattle.ftp_calls.specs.declared.exchange.Row.{Row}
-use Rattle.ftp_calls.specs.declared.exchange.Row.TheVariants.{Exchanges, Arms, Sets, Moves}
+use Rattle.ftp_calls.specs.declared.exchange.Row.TheVariants.{Exchanges, Arms, Resyncs, Sets, Moves}
 use Rattle.ftp_calls.specs.Exchanges.{draining_row, drains, ending_of, finishes, is_draining, negotiates, row_of}
 use Rattle.ftp_dialogue.proofs.Faults.{told_undrained}
 use Rattle.ftp_calls.proofs.Openings.{drains_alike}
@@ -206,6 +206,7 @@ module _ (coding : Coding) (call : Call) (answer : Answer) (s t : Standing) (sta
   -- the second row
   last : (r : Row) (m : Standing) → row_agrees (ending_of r) ≡ false → draining_row r ≡ false → play Any (doing coding r state (λ x. Leaf Unit x)) m ≡ Done answer t → ExchangedIf true coding r m t
   last (Arms offset) m plain undrained' done = stays m Unit (armed offset state) done
+  last Resyncs m plain undrained' done = tt
   last (Sets setting) m plain undrained' done = stays m Unit (set_to setting state) done
   last (Moves moves) m plain undrained' done = carried moves m done
   last (Exchanges e) m plain undrained' done =
@@ -258,6 +259,7 @@ module _ (coding : Coding) (call : Call) (answer : Answer) (s t : Standing) (sta
   -- the first row
   by_row : (r : Row) → row_agrees (ending_of r) ≡ false → draining_row r ≡ false → play Any (doing coding r state (later coding call First)) s ≡ Done answer t → SucceedsBy coding r (row_of call Second) s t
   by_row (Arms offset) plain undrained' done = stays s Unit (armed offset state) done
+  by_row Resyncs plain undrained' done = tt
   by_row (Sets setting) plain undrained' done = stays s Unit (set_to setting state) done
   by_row (Moves moves) plain undrained' done = carried moves s done
   by_row (Exchanges e) plain undrained' done =
@@ -294,6 +296,7 @@ begun_succeeds coding call s t state rule =
 
     by_row : (r : Row) → SucceedsBy coding r (row_of call Second) (record s { state = state }) t → SucceedsBy coding r (row_of call Second) s t
     by_row (Arms offset) silent = silent
+    by_row Resyncs silent = silent
     by_row (Sets setting) silent = silent
     by_row (Moves moves) silent = silent
     by_row (Exchanges e) two = record {

@@ -1,12 +1,12 @@
 -- Replies that are due to commands that were dropped are read before a call says or hears anything of its own: RFC 959,
 -- sections 4.2 and 5.4.
-use Rattle.std.specs.Prelude.{◌≡◌, ◌⊎◌, ◌&&◌, ◌||◌, ◌==◌, not, ℕ, zero, suc, Bool, true, false, [], Option, Some, None, Result, Ok, Err, if◌then◌else◌}
+use Rattle.std.specs.Prelude.{◌≡◌, ◌⊎◌, ◌&&◌, ◌||◌, ◌==◌, not, ℕ, zero, suc, Bool, true, false, [], Option, Some, None, Result, Ok, Err}
 use Rattle.futures.specs.declared.task.Poll.{Poll}
 use Rattle.futures.specs.declared.task.Poll.TheVariants.{Ready, Pending}
 use Rattle.ftp_base.specs.declared.types.reply.Response.{Response}
 use Rattle.ftp_base.specs.declared.types.fault.FtpError.{FtpError}
 use Rattle.ftp_base.specs.declared.types.fault.FtpError.TheVariants.{UnexpectedResponse, BadResponse}
-use Rattle.ftp_calls.specs.Exchanges.{drains, drains_first, is_read, negotiates}
+use Rattle.ftp_calls.specs.Exchanges.{drains, drains_first, is_read, negotiates, resyncs}
 use Rattle.ftp_calls.specs.declared.call.Answer.{Answer}
 use Rattle.ftp_calls.specs.declared.call.Answer.TheVariants.{Unit as Nothing, Fault}
 use Rattle.ftp_calls.specs.declared.call.Call.{Call}
@@ -15,17 +15,15 @@ use Rattle.ftp_dialogue.specs.Dialogue.{Expected, Tree, Say, Leaf, expecting}
 use Rattle.ftp_dialogue.specs.Link.{Link, unasked}
 use Rattle.ftp_dialogue.specs.Promises.{Aborts, Completes, Leads, Plays}
 use Rattle.ftp_dialogue.specs.Reading.{PollsRead, ReadsAlone}
+use Rattle.ftp_dialogue.specs.Sound.{some_live}
 use Rattle.ftp_dialogue.specs.State.{SessionValue}
 use Rattle.ftp_dialogue.specs.Unanswered.{most_commands}
 use Rattle.ftp_dialogue.specs.declared.state.Owed.{Owed}
-use Rattle.ftp_dialogue.specs.declared.state.Owed.TheVariants as owed
 use Rattle.ftp_dialogue.specs.declared.state.State.{State}
 
--- beside a live transfer no other is opened, and a call that would says so at once
+-- beside a live transfer no other is opened and nothing is sought, and a call that would says so at once
 abbrev pub opens_beside : Call → Owed → Bool
-opens_beside call owed.Nothing = false
-opens_beside call (owed.Live number) = negotiates call
-opens_beside call (owed.Left number) = false
+opens_beside call owed = some_live owed && (negotiates call || resyncs call)
 
 -- replies are due to commands that were dropped, in a session that goes on
 abbrev pub is_late : SessionValue → Bool
@@ -93,16 +91,16 @@ ReadsDue zero link old new result = (result ≡ Ready (Some BadResponse)) × (ne
 ReadsDue (suc left) link old new result = ReadsIf (old.state.unanswered == 0) link (λ v w r. ReadsDue left link v w r) old new result
 
 -- none is read before a plain read
-abbrev pub ReadsUnless : Bool → Link → SessionValue → SessionValue → Poll (Option FtpError) → Type 0
-ReadsUnless true link old new result = (result ≡ Ready None) × (new ≡ old)
-ReadsUnless false link old new result = ReadsDue most_commands link old new result
+abbrev pub ReadsDueUnless : Bool → Link → SessionValue → SessionValue → Poll (Option FtpError) → Type 0
+ReadsDueUnless true link old new result = (result ≡ Ready None) × (new ≡ old)
+ReadsDueUnless false link old new result = ReadsDue most_commands link old new result
 
 -- the tail goes out, and then the replies are read
 pub record CatchesUp (link : Link) (plain : Bool) (old new : SessionValue) (result : Poll (Option FtpError)) : Type 0 where
   pub flushed : SessionValue
   pub flush : Poll (Option FtpError)
   pub flushes : Flushes link old flushed flush
-  pub then_reads : After (ReadsUnless plain link) flush flushed new result
+  pub then_reads : After (ReadsDueUnless plain link) flush flushed new result
 
 -- then the call is made, but for a read of the last reply of a transfer that was left, which is among them; a fault is the
 -- answer
@@ -126,20 +124,20 @@ pub record PlaysInStep (link : Link) (coding : Coding) (call : Call) (old new : 
   pub plays : InStepIf (is_behind call old) (unasked link) (is_plain_read call) (drains call) (Plays link coding call) old new answer
 
 -- a polled read of one reply: where replies are due the unsent tail goes out first
-abbrev pub ThenReads : Poll (Option FtpError) → Link → Coding → Expected → SessionValue → SessionValue → Poll (Result Response FtpError) → Type 0
-ThenReads (Ready None) link coding codes middle new result = PollsRead link coding codes middle new result
-ThenReads (Ready (Some fault)) link coding codes middle new result = (result ≡ Ready (Err fault)) × (new ≡ middle)
-ThenReads Pending link coding codes middle new result = (result ≡ Pending) × (new ≡ middle)
+abbrev pub ReadsThen : Poll (Option FtpError) → Link → Coding → Expected → SessionValue → SessionValue → Poll (Result Response FtpError) → Type 0
+ReadsThen (Ready None) link coding codes middle new result = PollsRead link coding codes middle new result
+ReadsThen (Ready (Some fault)) link coding codes middle new result = (result ≡ Ready (Err fault)) × (new ≡ middle)
+ReadsThen Pending link coding codes middle new result = (result ≡ Pending) × (new ≡ middle)
 
 pub record FlushesThenReads (link : Link) (coding : Coding) (codes : Expected) (old new : SessionValue) (result : Poll (Result Response FtpError)) : Type 0 where
   pub flushed : SessionValue
   pub flush : Poll (Option FtpError)
   pub flushes : Flushes link old flushed flush
-  pub then_reads : ThenReads flush link coding codes flushed new result
+  pub then_reads : ReadsThen flush link coding codes flushed new result
 
-abbrev pub PollsReadIf : Bool → Link → Coding → Expected → SessionValue → SessionValue → Poll (Result Response FtpError) → Type 0
-PollsReadIf true link coding codes old new result = FlushesThenReads link coding codes old new result
-PollsReadIf false link coding codes old new result = PollsRead link coding codes old new result
+abbrev pub FlushesReadIf : Bool → Link → Coding → Expected → SessionValue → SessionValue → Poll (Result Response FtpError) → Type 0
+FlushesReadIf true link coding codes old new result = FlushesThenReads link coding codes old new result
+FlushesReadIf false link coding codes old new result = PollsRead link coding codes old new result
 
 pub record PollsReadInStep (link : Link) (coding : Coding) (codes : Expected) (old new : SessionValue) (result : Poll (Result Response FtpError)) : Type 0 where
-  pub reads : PollsReadIf (is_late old) link coding codes old new result
+  pub reads : FlushesReadIf (is_late old) link coding codes old new result

@@ -7,7 +7,7 @@ use Rattle.std.specs.declared.io.ErrorKind.TheVariants.{WriteZero}
 use Rattle.std.specs.declared.net.socket_addr.SocketAddr.{SocketAddr}
 use Rattle.std.specs.declared.net.socket_addr.SocketAddr.TheVariants.{V4, V6}
 use Rattle.ftp_base.specs.declared.status.Status.{Status}
-use Rattle.ftp_base.specs.declared.status.Status.TheVariants.{System, TransferAborted, ClosingDataConnection, RequestedFileActionOk}
+use Rattle.ftp_base.specs.declared.status.Status.TheVariants.{System, TransferAborted, ClosingDataConnection, CommandOk, NotAvailable, RequestedFileActionOk}
 use Rattle.ftp_base.specs.Status.{code_of}
 use Rattle.ftp_base.specs.declared.types.reply.Response.{Response}
 use Rattle.ftp_base.specs.declared.types.fault.FtpError.{FtpError}
@@ -58,7 +58,7 @@ use Rattle.ftp_calls.specs.declared.exchange.Task.{Task}
 use Rattle.ftp_calls.specs.declared.exchange.Task.TheVariants as task
 use Rattle.ftp_calls.specs.declared.exchange.Exchange.{Exchange}
 use Rattle.ftp_calls.specs.declared.exchange.Row.{Row}
-use Rattle.ftp_calls.specs.declared.exchange.Row.TheVariants.{Exchanges, Arms, Sets, Moves}
+use Rattle.ftp_calls.specs.declared.exchange.Row.TheVariants.{Exchanges, Arms, Resyncs, Sets, Moves}
 use Rattle.ftp_dialogue.specs.Coding.{Coding}
 use Rattle.ftp_calls.specs.declared.exchange.Codes.{Codes}
 use Rattle.ftp_calls.specs.declared.exchange.Codes.TheVariants.{One, Either, Given, Features}
@@ -70,7 +70,7 @@ use Rattle.ftp_answers.specs.Addresses.{passive_address_of, extended_port_of}
 use Rattle.ftp_answers.specs.declared.addresses.NoAddress.{NoAddress}
 use Rattle.ftp_answers.specs.declared.addresses.NoAddress.TheVariants.{Absent, Unreadable}
 use Rattle.ftp_dialogue.specs.Unanswered.{after_faulty, answered_by}
-use Rattle.ftp_dialogue.specs.Sound.{cannot_open, left_behind, one_aborted, one_drained, one_finished, one_more}
+use Rattle.ftp_dialogue.specs.Sound.{cannot_open, some_live, left_behind, one_aborted, one_drained, one_finished, one_more}
 
 -- a reply that is awaited: its form, and the statuses that are accepted
 pub record Expected : Type 0 where
@@ -485,10 +485,41 @@ changed (setting.LenientReplies lenient) s = record s { reply_rule = rule_by len
 abbrev pub set_to : Setting → State → State
 set_to setting state = record state { settings = changed setting state.settings }
 
--- a row, and what comes after it: one exchange, a change of settings, or bytes on the data connection
+-- A server that sent more replies than a dialogue reads, as after an abort: RFC 959, sections 4.2 and 4.1.3 (NOOP)
+
+-- another reply than that to NOOP: the next one is read, unless the server closes the connection (421)
+abbrev pub closes : Response → Bool
+closes reply = code_of reply.status == code_of NotAvailable
+
+abbrev pub passing_over : Tree → State → Response → Tree
+passing_over next state reply = if closes reply then Leaf (Fault (UnexpectedResponse reply)) state else next
+
+-- the reply to NOOP was read, or another, or a fault in its place
+abbrev pub sought : (Response → Tree) → State → Result Response FtpError → Tree
+sought others state (Ok reply) = Leaf Unit state
+sought others state (Err (UnexpectedResponse reply)) = others reply
+sought others state (Err fault) = Leaf (Fault fault) state
+
+-- the reply to NOOP is read, before which so many others may come; one more is the answer
+unfoldable pub seeking : ℕ → State → Tree
+seeking zero state = Hear (expecting (CommandOk ∷ [])) (sought (λ reply. Leaf (Fault (UnexpectedResponse reply)) state) state)
+seeking (suc left) state = Hear (expecting (CommandOk ∷ [])) (sought (passing_over (seeking left state) state) state)
+
+abbrev pub most_passed_over : ℕ
+most_passed_over = 7
+
+-- NOOP is said, and its reply is read; beside a live transfer nothing is
+abbrev pub resyncing : Coding → State → Tree
+resyncing coding state =
+    if some_live state.counts.owed then Leaf (Fault DataConnectionAlreadyOpen) state
+    else saying coding (Some command.Noop) (seeking most_passed_over state)
+
+-- a row, and what comes after it: one exchange, a change of settings, replies until that to NOOP, or bytes on the data
+-- connection
 abbrev pub doing : Coding → Row → State → (State → Tree) → Tree
 doing coding (Exchanges exchange) state later = exchanging coding exchange state later
 doing coding (Arms offset) state later = Leaf Unit (armed offset state)
+doing coding Resyncs state later = resyncing coding state
 doing coding (Sets setting) state later = Leaf Unit (set_to setting state)
 doing coding (Moves movement) state later = carrying movement state
 

@@ -11,9 +11,11 @@ use Rattle.ftp_calls.specs.declared.exchange.Turn.TheVariants.{Aborted}
 use Rattle.ftp_dialogue.specs.declared.stage.Aborting.TheVariants.{Wording, Sending, Parting}
 use Rattle.ftp_dialogue.specs.declared.stage.Agreeing.{Agreeing}
 use Rattle.ftp_dialogue.specs.declared.stage.Agreeing.TheVariants.{Negotiating, Locating, Binding, Asking}
+use Rattle.ftp_dialogue.specs.declared.stage.Resyncing.{Resyncing as Resync}
+use Rattle.ftp_dialogue.specs.declared.stage.Resyncing.TheVariants as resync
 use Rattle.ftp_dialogue.specs.declared.stage.Asking.TheVariants.{PeerPort, Connection, Peer, Accepting}
 use Rattle.ftp_dialogue.specs.declared.stage.Stage.{Stage}
-use Rattle.ftp_dialogue.specs.declared.stage.Stage.TheVariants.{At, Saying, Hearing, Arming, Closing, Aborting, Fetching}
+use Rattle.ftp_dialogue.specs.declared.stage.Stage.TheVariants.{At, Saying, Hearing, Arming, Resyncing, Closing, Aborting, Fetching}
 use Rattle.ftp_dialogue.specs.declared.stage.Stage.TheVariants as stages
 use Rattle.ftp_dialogue.specs.declared.state.State.{State}
 
@@ -36,6 +38,7 @@ owes_last_reply (At turn) = false
 owes_last_reply (Saying line awaits) = false
 owes_last_reply (Hearing awaits) = false
 owes_last_reply (Arming turn offset) = false
+owes_last_reply (Resyncing turn seeks) = false
 owes_last_reply Closing = false
 owes_last_reply (Aborting aborting) = false
 
@@ -47,11 +50,19 @@ left_by call stage state = if owes_last_reply stage then with_abandoned state el
 abbrev pub aborted_by : Call → Stage → State → State
 aborted_by call stage state = if aborts call && is_out stage then with_aborted state else state
 
+-- NOOP was begun, and its reply is sought
+abbrev pub noop_unanswered : Resync → Bool
+noop_unanswered resync.Wording = false
+noop_unanswered (resync.Sending None) = true
+noop_unanswered (resync.Sending (Some line)) = false
+noop_unanswered (resync.Seeking left) = true
+
 -- a line of the call was begun, and its reply hasn't come
 abbrev pub line_unanswered : Call → Stage → Bool
 line_unanswered call (Saying None awaits) = true
 line_unanswered call (Saying (Some line) awaits) = false
 line_unanswered call (Hearing awaits) = says_at call awaits.turn
+line_unanswered call (Resyncing turn seeks) = noop_unanswered seeks
 line_unanswered call other = false
 
 -- ABOR was begun

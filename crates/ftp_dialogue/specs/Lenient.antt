@@ -9,7 +9,7 @@ use Rattle.ftp_control.specs.declared.control.outcome.Outcome.TheVariants.{Waits
 use Rattle.ftp_control.specs.Grammar.{outcome}
 use Rattle.ftp_calls.specs.declared.call.Call.{Call}
 use Rattle.ftp_calls.specs.declared.exchange.Row.{Row}
-use Rattle.ftp_calls.specs.declared.exchange.Row.TheVariants.{Exchanges, Arms, Sets, Moves}
+use Rattle.ftp_calls.specs.declared.exchange.Row.TheVariants.{Exchanges, Arms, Resyncs, Sets, Moves}
 use Rattle.ftp_calls.specs.declared.exchange.Turn.TheVariants.{First}
 use Rattle.ftp_calls.specs.Exchanges.{row_of, finishes, negotiates}
 use Rattle.ftp_dialogue.specs.Dialogue.{expected_of}
@@ -23,6 +23,7 @@ SaysNothingYet Lenient form kept = outcome Lenient form kept false ≡ Waits
 abbrev pub heard_form : Row → ReplyForm
 heard_form (Exchanges exchange) = (expected_of exchange.hears).form
 heard_form (Arms offset) = Plain
+heard_form Resyncs = Plain
 heard_form (Sets setting) = Plain
 heard_form (Moves movement) = Plain
 

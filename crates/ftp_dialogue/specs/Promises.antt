@@ -31,7 +31,7 @@ use Rattle.ftp_calls.specs.declared.exchange.Ending.{Ending}
 use Rattle.ftp_calls.specs.declared.exchange.Ending.TheVariants.{Done, GivesReply, TakesReply, Greets, GivesPath, GivesSecondLine, GivesTime, GivesSize, GivesFeatures, SetsText, GoesOn, Continues, GivesAddress, GivesPort, Opens, Performs, Finishes, Drains, Stops}
 use Rattle.ftp_calls.specs.declared.exchange.Exchange.{Exchange}
 use Rattle.ftp_calls.specs.declared.exchange.Row.{Row}
-use Rattle.ftp_calls.specs.declared.exchange.Row.TheVariants.{Exchanges, Arms, Sets, Moves}
+use Rattle.ftp_calls.specs.declared.exchange.Row.TheVariants.{Exchanges, Arms, Resyncs, Sets, Moves}
 use Rattle.ftp_calls.specs.declared.call.Call.{Call}
 use Rattle.ftp_calls.specs.declared.call.Call.TheVariants.{Drain}
 use Rattle.ftp_dialogue.specs.declared.model.Standing.{Standing}
@@ -108,6 +108,7 @@ IsSilent s t = (t.said ≡ s.said) × (t.unsent ≡ s.unsent) × (t.bytes ≡ s.
 abbrev pub ExchangedIf : Bool → Coding → Row → Standing → Standing → Type 0
 ExchangedIf true coding (Exchanges exchange) s t = (reply : Response) × Exchanged coding exchange reply s t
 ExchangedIf true coding (Arms offset) s t = IsSilent s t
+ExchangedIf true coding Resyncs s t = Unit {0}
 ExchangedIf true coding (Sets setting) s t = IsSilent s t
 ExchangedIf true coding (Moves movement) s t = IsSilent s t
 ExchangedIf false coding row s t = IsSilent s t
@@ -123,6 +124,7 @@ pub record ExchangesTwo (coding : Coding) (exchange : Exchange) (next : Row) (s 
 abbrev pub SucceedsBy : Coding → Row → Row → Standing → Standing → Type 0
 SucceedsBy coding (Exchanges exchange) next s t = ExchangesTwo coding exchange next s t
 SucceedsBy coding (Arms offset) next s t = IsSilent s t
+SucceedsBy coding Resyncs next s t = Unit {0}
 SucceedsBy coding (Sets setting) next s t = IsSilent s t
 SucceedsBy coding (Moves movement) next s t = IsSilent s t
 

@@ -20,6 +20,12 @@ none_left Nothing = true
 none_left (Live number) = true
 none_left (Left number) = false
 
+-- some transfer is live
+abbrev pub some_live : Owed → Bool
+some_live Nothing = false
+some_live (Live number) = true
+some_live (Left number) = false
+
 -- a transfer is held: it is live, and its data connection is kept here, not handed out
 abbrev pub holds : Bool → Owed → Bool
 holds none Nothing = false

@@ -26,7 +26,7 @@ use super::{Answer, Call, Owed};
 use ftp_base::encoding::Encoding;
 use ftp_base::status::Status;
 use ftp_base::types::{FtpError, FtpResult, Response};
-use ftp_calls::exchange::{drains, drains_first, is_read, negotiates};
+use ftp_calls::exchange::{drains, drains_first, is_read, negotiates, resyncs};
 use ftp_transport::{Conn, Network, NeverWaits, PollConn};
 use futures::task::Poll;
 use std::alloc::Global;
@@ -40,8 +40,8 @@ impl<Tr: Network> Machine<Tr> {
         if self.channel.failed() || self.state.unanswered == 0 {
             return false;
         }
-        let opens_beside = matches!(self.state.counts.owed(), Owed::Live(_)) && negotiates(call);
-        (drains_first(call) || drains(call)) && !opens_beside
+        let live = matches!(self.state.counts.owed(), Owed::Live(_));
+        (drains_first(call) || drains(call)) && !(live && (negotiates(call) || resyncs(call)))
     }
 
     /// Polls the replies that are due to commands that were dropped, after the unsent tail of a line; before a plain read

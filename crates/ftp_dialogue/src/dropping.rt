@@ -4,12 +4,12 @@
 //! kept. A transfer that the call held is left, so that its last reply is read before the next command.
 
 ghost use Rattle.std.specs.Prelude.{◌≡◌};
-ghost use Rattle.ftp_dialogue.specs.Dropping.{DropsCall, abort_unanswered, aborted_by, awaits_abort, is_unanswered, left_by, missed_by, owes_last_reply};
+ghost use Rattle.ftp_dialogue.specs.Dropping.{DropsCall, abort_unanswered, aborted_by, awaits_abort, is_unanswered, left_by, missed_by, noop_unanswered, owes_last_reply};
 
 use super::Call;
 use super::aborting::is_out;
 use super::machine::Machine;
-use super::stage::{Aborting, Agreeing, Asking, Stage};
+use super::stage::{Aborting, Agreeing, Asking, Resyncing, Stage};
 use ftp_calls::exchange::{Turn, aborts, finishes, says_at};
 use ftp_transport::Network;
 
@@ -69,7 +69,19 @@ fn is_unanswered(call: &Call, stage: &Stage) -> bool
     match stage {
         Stage::Saying(line, _awaits) => line.is_none(),
         Stage::Hearing(awaits) => says_at(call, awaits.turn),
+        Stage::Resyncing(_, resyncing) => noop_unanswered(resyncing),
         _ => false,
+    }
+}
+
+/// Whether `NOOP` was begun, and its reply is sought.
+fn noop_unanswered(resyncing: &Resyncing) -> bool
+    ensures { result ≡ noop_unanswered resyncing.now }
+{
+    match resyncing {
+        Resyncing::Wording => false,
+        Resyncing::Sending(line) => line.is_none(),
+        Resyncing::Seeking(_) => true,
     }
 }
 

@@ -25,6 +25,7 @@ mod negotiation;
 mod nodes;
 mod readiness;
 mod requests;
+mod resyncing;
 mod sending;
 pub mod stage;
 pub mod state;

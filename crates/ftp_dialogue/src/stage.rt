@@ -35,6 +35,8 @@ pub enum Stage {
     Hearing(Awaits),
     /// Nothing is said or heard: the next transfer begins at this offset, in bytes.
     Arming(Turn, u64),
+    /// The reply to `NOOP` is sought among those that come before it.
+    Resyncing(Turn, Resyncing),
     /// The way to a data connection, beside the exchanges.
     Agreeing(Agreeing),
     /// The transfer's data connection is closed.
@@ -78,6 +80,17 @@ pub enum Aborting {
     Sending(Option<WireLine>),
     /// The data connection is closed.
     Parting,
+}
+
+/// How far a call has come that reads replies until that to its `NOOP`.
+#[derive(Drop)]
+pub enum Resyncing {
+    /// `NOOP` is put into a line.
+    Wording,
+    /// The line goes out, whole; none once it has begun to.
+    Sending(Option<WireLine>),
+    /// Its reply is read; so many others may come before it.
+    Seeking(u64),
 }
 
 /// How far the way to a data connection was gone.
@@ -166,6 +179,7 @@ pub(super) fn begin<E: Encoding>(
     match row_at(alloc, call, turn)? {
         Row::Exchanges(exchange) => first_node(alloc, encoding, turn, exchange),
         Row::Arms(offset) => Ok(Stage::Arming(turn, offset)),
+        Row::Resyncs => Ok(Stage::Resyncing(turn, Resyncing::Wording)),
         Row::Sets(_) | Row::Moves(_) => unreachable!(),
     }
 }

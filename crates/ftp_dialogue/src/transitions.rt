@@ -74,6 +74,9 @@ impl<Tr: Network> Machine<Tr> {
                 asker, alloc, encoding, call, awaits, stage, w,
             ),
             Stage::Arming(_turn, offset) => self.arm(offset),
+            Stage::Resyncing(turn, resyncing) => self.resync(
+                asker, alloc, encoding, call, turn, resyncing, stage, w,
+            ),
             Stage::Agreeing(agreeing) => self.walk(asker, call, agreeing, stage, w),
             Stage::Closing => self.close(asker, call, stage, w),
             Stage::Aborting(aborting) => self.abort(
@@ -517,6 +520,7 @@ fn is_first(stage: &Stage) -> bool
         Stage::Saying(..)
         | Stage::Hearing(_)
         | Stage::Arming(..)
+        | Stage::Resyncing(..)
         | Stage::Agreeing(_)
         | Stage::Closing
         | Stage::Aborting(_)

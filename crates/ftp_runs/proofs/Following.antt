@@ -36,7 +36,7 @@ use Rattle.ftp_calls.specs.declared.call.Call.TheVariants.{Finish, Leave}
 use Rattle.ftp_calls.specs.declared.exchange.Turn.{Turn}
 use Rattle.ftp_calls.specs.declared.exchange.Turn.TheVariants.{First, Second, Passive, ExtendedPassive, Active, Restart, Closed, Aborted}
 use Rattle.ftp_dialogue.specs.declared.stage.Stage.{Stage}
-use Rattle.ftp_dialogue.specs.declared.stage.Stage.TheVariants.{At, Saying, Hearing, Arming, Agreeing, Closing, Aborting, Fetching}
+use Rattle.ftp_dialogue.specs.declared.stage.Stage.TheVariants.{At, Saying, Hearing, Arming, Resyncing, Agreeing, Closing, Aborting, Fetching}
 use Rattle.ftp_dialogue.specs.declared.model.Standing.{Standing}
 use Rattle.ftp_dialogue.specs.declared.model.Wait.{Wait}
 use Rattle.ftp_dialogue.specs.declared.model.Wait.TheVariants as wait
@@ -50,9 +50,17 @@ use Rattle.ftp_dialogue.specs.State.{SessionValue}
 use Rattle.ftp_dialogue.specs.Coding.{Coding}
 use Rattle.ftp_calls.specs.declared.exchange.Exchange.{Exchange}
 use Rattle.ftp_calls.specs.declared.exchange.Row.{Row}
-use Rattle.ftp_calls.specs.declared.exchange.Row.TheVariants.{Exchanges, Arms, Sets, Moves}
+use Rattle.ftp_calls.specs.declared.exchange.Row.TheVariants.{Exchanges, Arms, Resyncs, Sets, Moves}
 use Rattle.ftp_calls.specs.Exchanges.{drains, finishes, is_local, negotiates, is_read, row_of, aborts}
 use Rattle.std.specs.Net.Socket.{socket_port}
+use Rattle.ftp_base.specs.declared.command.Command.TheVariants.{Noop}
+use Rattle.ftp_dialogue.specs.Sound.{some_live}
+use Rattle.ftp_dialogue.specs.Dialogue.{seeking}
+use Rattle.ftp_dialogue.specs.Dialogue.{most_passed_over}
+use Rattle.ftp_base.specs.declared.types.fault.FtpError.TheVariants.{DataConnectionAlreadyOpen}
+use Rattle.ftp_dialogue.proofs.ResyncLemmas.{seeking_is}
+use Rattle.ftp_calls.specs.declared.call.Answer.TheVariants.{Fault}
+use Rattle.ftp_dialogue.specs.Dialogue.{Leaf}
 use Rattle.ftp_dialogue.specs.Sound.{cannot_open}
 use Rattle.ftp_dialogue.specs.Dialogue.{agreeing, at_port, closing, entered, opened_from, told_of_close, with_left, from_turn, negotiating, negotiating_unless, on_address, Expected, expected_of, Tree, Say, Hear, saying, awaiting, doing, later, dialogue, parting, aborting, breaking_off}
 use Rattle.ftp_dialogue.specs.Play.{ended, finally, play, fits, heard_then, needs_data}
@@ -159,9 +167,19 @@ module _ (builds : Builds) (coding : Coding) (outcomes : List DealOutcome) where
         go e waits None = (one_mode, waits)
         go e waits (Some command) = line e waits (wire coding.encode (text_of command))
 
+        sought : SaysNothingYet modes.setting Plain kept → (l : Result (List ℕ) Cause) → Resumes modes kept (Say l (seeking most_passed_over state))
+        sought waits (Ok bytes) =
+            let P : Tree → Type 0 = λ t. Resumes modes kept (Say (Ok bytes) t) in
+            subst P (sym (seeking_is most_passed_over state)) (one_mode, waits)
+        sought waits (Err cause) = tt
+
         row : (r : Row) → SaysNothingYet modes.setting (heard_form r) kept → Resumes modes kept (doing coding r state (later coding call turn))
         row (Exchanges e) waits = go e waits e.says
         row (Arms offset) waits = tt
+        row Resyncs waits = elim (some_live state.counts.owed) as (λ b. Resumes modes kept (cond b (Leaf (Fault DataConnectionAlreadyOpen) state) (Say (wire coding.encode (text_of Noop)) (seeking most_passed_over state)))) [
+          | true ↦ tt
+          | false ↦ sought waits (wire coding.encode (text_of Noop))
+        ]
         row (Sets setting) waits = tt
         row (Moves moves) waits = carrying_resumes modes kept moves state
 
@@ -211,6 +229,7 @@ module _ (builds : Builds) (coding : Coding) (outcomes : List DealOutcome) where
   settled_state call (Saying line a) state stage_of = refl
   settled_state call (Hearing a) state stage_of = refl
   settled_state call (Arming turn offset) state stage_of = refl
+  settled_state call (Resyncing turn seeks) state stage_of = refl
   settled_state call (Agreeing way) state stage_of = refl
 
   settled_tree : (call : Call) (stage : Stage) (state : State) → StageOf call stage → entered_tree coding call stage state ≡ remaining coding call state stage
@@ -228,6 +247,7 @@ module _ (builds : Builds) (coding : Coding) (outcomes : List DealOutcome) where
   settled_tree call (Saying line a) state stage_of = refl
   settled_tree call (Hearing a) state stage_of = refl
   settled_tree call (Arming turn offset) state stage_of = refl
+  settled_tree call (Resyncing turn seeks) state stage_of = refl
   settled_tree call (Agreeing way) state stage_of = refl
 
   -- what was fed, seen from after a poll

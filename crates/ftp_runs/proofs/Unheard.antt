@@ -26,6 +26,7 @@ use Rattle.ftp_control.specs.Found.{after_line}
 use Rattle.ftp_control.specs.Lenient.{to_list_end, by_dash, lists, opens_list}
 use Rattle.ftp_control.specs.Answer.{expected_reply}
 use Rattle.ftp_control.specs.Saying.{due}
+use Rattle.ftp_calls.specs.declared.call.Answer.{Answer}
 use Rattle.ftp_calls.specs.declared.call.Answer.TheVariants.{Fault}
 use Rattle.ftp_calls.specs.declared.call.Answer.TheVariants as answers
 use Rattle.ftp_calls.specs.declared.call.Call.{Call}
@@ -33,11 +34,11 @@ use Rattle.ftp_calls.specs.declared.exchange.Ending.{Ending}
 use Rattle.ftp_calls.specs.declared.exchange.Turn.TheVariants.{First}
 use Rattle.ftp_calls.specs.declared.exchange.Exchange.{Exchange}
 use Rattle.ftp_calls.specs.declared.exchange.Row.{Row}
-use Rattle.ftp_calls.specs.declared.exchange.Row.TheVariants.{Exchanges, Arms, Sets, Moves}
+use Rattle.ftp_calls.specs.declared.exchange.Row.TheVariants.{Exchanges, Arms, Resyncs, Sets, Moves}
 use Rattle.ftp_calls.specs.Exchanges.{is_read, reads, row_of}
 use Rattle.ftp_dialogue.specs.declared.state.State.{State}
 use Rattle.ftp_dialogue.specs.declared.stage.Stage.{Stage}
-use Rattle.ftp_dialogue.specs.declared.stage.Stage.TheVariants.{At, Saying, Hearing, Arming, Agreeing, Closing, Aborting, Fetching}
+use Rattle.ftp_dialogue.specs.declared.stage.Stage.TheVariants.{At, Saying, Hearing, Arming, Resyncing, Agreeing, Closing, Aborting, Fetching}
 use Rattle.ftp_dialogue.specs.declared.model.Standing.{Standing}
 use Rattle.ftp_dialogue.specs.declared.model.Wait.{Wait}
 use Rattle.ftp_dialogue.specs.declared.model.Wait.TheVariants as wait
@@ -45,6 +46,16 @@ use Rattle.ftp_dialogue.specs.declared.model.Played.{Played}
 use Rattle.ftp_dialogue.specs.declared.model.Played.TheVariants.{Done, Pending}
 use Rattle.ftp_runs.specs.declared.model.Script.{Script}
 use Rattle.ftp_dialogue.specs.Coding.{Coding}
+use Rattle.ftp_base.specs.declared.command.Command.TheVariants.{Noop}
+use Rattle.ftp_dialogue.specs.Sound.{some_live}
+use Rattle.ftp_dialogue.specs.Dialogue.{seeking}
+use Rattle.ftp_dialogue.specs.Dialogue.{most_passed_over}
+use Rattle.ftp_dialogue.specs.Dialogue.{resyncing}
+use Rattle.ftp_dialogue.specs.Dialogue.{sought}
+use Rattle.ftp_dialogue.specs.Dialogue.{expecting}
+use Rattle.ftp_base.specs.declared.status.Status.TheVariants.{CommandOk}
+use Rattle.ftp_dialogue.proofs.ResyncLemmas.{others, seeking_is}
+use Rattle.ftp_dialogue.specs.declared.stage.Resyncing.TheVariants.{Wording, Sending, Seeking}
 use Rattle.ftp_dialogue.specs.Dialogue.{Expected, expected_of, Tree, Say, Hear, Look, Ask, Build, Move, Leaf, saying, after_fault_of, awaiting, armed, doing, exchanging, concluded, later, set_to, answer_to_fault, dialogue}
 use Rattle.ftp_dialogue.specs.declared.model.DealOutcome.{DealOutcome}
 use Rattle.ftp_dialogue.specs.declared.model.DealOutcome.TheVariants as came
@@ -273,6 +284,62 @@ module _ (coding : Coding) (room : Room) (script : Script) (s : Standing) (untak
       go true is e = absurd (hears_none codes ending state after (s.said ++ s.unsent ++ line) [] e)
       go false is e = record { line = line; next = next; is = refl; full = is }
 
+  -- an answer doesn't wait
+  never_ends : {A : Type 0} (answer : Answer) (state : State) (u : Standing) → play room (Leaf answer state) u ≡ Pending how t → A
+  never_ends answer state u is = let clash : Done answer (record u { state = state }) ≡ Pending how t = sym (play-Leaf room answer state u) ∙ is in cc
+
+  -- the reply to NOOP is heard, or waited for
+  seeking_none : (left : ℕ) (state : State) (said unsent : List ℕ) → play room (seeking left state) (record s { said = said; unsent = unsent }) ≡ Pending how t → ⊥
+  seeking_none left state said unsent is = go (outcome s.state.settings.reply_rule (expecting (CommandOk ∷ [])).form s.bytes s.ended) refl (sym (play-Hear room (expecting (CommandOk ∷ [])) next here) ∙ ap (λ x. play room x here) (sym (seeking_is left state)) ∙ is)
+    where
+      here : Standing
+      here = record s { said = said; unsent = unsent }
+
+      next : Result Response FtpError → Tree
+      next = sought (others left state) state
+
+      k : Result Response FtpError → Standing → Played
+      k = λ heard u. play room (next heard) u
+
+      go : (o : Outcome) → outcome s.state.settings.reply_rule (expecting (CommandOk ∷ [])).form s.bytes s.ended ≡ o → heard_then o (expecting (CommandOk ∷ [])) here k ≡ Pending how t → ⊥
+      go (Whole reply code) is e =
+          let heard = expected_reply (CommandOk ∷ []) (record { status = status_of code; body = reply }) in
+          let less = play_shrinks room (next heard) (taken (left_by (Whole reply code) s.bytes) here) how t e in
+          let fewer : length t.bytes < length script.untaken = omega (arith, less, length-drop (length reply) s.bytes, whole_some s.state.settings.reply_rule (expecting (CommandOk ∷ [])).form s.bytes s.ended reply code is, some_bytes s.state.settings.reply_rule (expecting (CommandOk ∷ [])).form s.bytes s.ended reply code is, ap length untaken) in
+          let clash : true ≡ false = sym (fewer_heard how script t.bytes fewer) ∙ unheard in
+          cc
+      go (Bad line) is e = never_ends (Fault fault.BadResponse) state _ e
+      go TooLarge is e = never_ends (Fault (fault.ConnectionError connection.ReplyTooLarge)) state _ e
+      go Ended is e = never_ends (Fault (fault.ConnectionError connection.UnexpectedEof)) state _ e
+      go Waits is e =
+          let waits : wait.Bytes (expecting (CommandOk ∷ [])).form ≡ how = ap waits_in e in
+          let P : Wait → Type 0 = λ w. heard_at w script t.bytes ≡ false in
+          let clash : true ≡ false = subst P (sym waits) unheard in
+          cc
+
+  says_seeking : (line : List ℕ) (state : State) → play room (Say (Ok line) (seeking most_passed_over state)) s ≡ Pending how t → LacksRoomFor room s (Say (Ok line) (seeking most_passed_over state))
+  says_seeking line state is = go (fits room (s.said ++ s.unsent ++ line)) refl (sym (play-Say room line (seeking most_passed_over state) s) ∙ is)
+    where
+      here : Standing
+      here = record s { said = s.said ++ s.unsent ++ line; unsent = [] }
+
+      go : (f : Bool) → fits room (s.said ++ s.unsent ++ line) ≡ f → cond f (play room (seeking most_passed_over state) here) (Pending wait.Room here) ≡ Pending how t → LacksRoomFor room s (Say (Ok line) (seeking most_passed_over state))
+      go true is e = absurd (seeking_none most_passed_over state (s.said ++ s.unsent ++ line) [] e)
+      go false is e = record { line = line; next = seeking most_passed_over state; is = refl; full = is }
+
+  noop_lacks : (state : State) → play room (resyncing coding state) s ≡ Pending how t → LacksRoomFor room s (resyncing coding state)
+  noop_lacks state is =
+      let unsaid : Tree = Leaf (Fault fault.DataConnectionAlreadyOpen) state in
+      let said : Tree = Say (wire coding.encode (text_of Noop)) (seeking most_passed_over state) in
+      elim (some_live state.counts.owed) as (λ b. play room (cond b unsaid said) s ≡ Pending how t → LacksRoomFor room s (cond b unsaid said)) [
+        | true ↦ λ e. never_ends (Fault fault.DataConnectionAlreadyOpen) state s e
+        | false ↦ λ e. line (wire coding.encode (text_of Noop)) e
+      ] is
+    where
+      line : (l : Result (List ℕ) Cause) → play room (Say l (seeking most_passed_over state)) s ≡ Pending how t → LacksRoomFor room s (Say l (seeking most_passed_over state))
+      line (Ok bytes) is = says_seeking bytes state is
+      line (Err cause) is = let clash : Done (Fault (fault.ConnectionError cause)) s ≡ Pending how t = sym (play-Refused room cause (seeking most_passed_over state) s) ∙ is in cc
+
   -- a change of settings never waits
   never_waits : {A : Type 0} (state : State) → play room (Leaf answers.Unit state) s ≡ Pending how t → A
   never_waits state is = let clash : Done answers.Unit (record s { state = state }) ≡ Pending how t = sym (play-Leaf room answers.Unit state s) ∙ is in cc
@@ -292,11 +359,15 @@ module _ (coding : Coding) (room : Room) (script : Script) (s : Standing) (untak
       row : (r : Row) → row_of call turn ≡ r → play room (doing coding r state (later coding call turn)) s ≡ Pending how t → LacksRoomFor room s (doing coding r state (later coding call turn))
       row (Exchanges e) at is = go e e.says is
       row (Arms offset) at is = never_waits (armed offset state) is
+      row Resyncs at is = noop_lacks state is
       row (Sets setting) at is = never_waits (set_to setting state) is
       row (Moves moves) at is = absurd (turn_abroad call turn (Moves moves) at refl stage_of)
   lacks_room call state (Saying line a) plain stage_of is = says_more (due line) (expected_of a.hears) a.ending state (later coding call a.turn) is
   lacks_room call state (Hearing a) plain stage_of is = absurd (hears_none (expected_of a.hears) a.ending state (later coding call a.turn) s.said s.unsent is)
   lacks_room call state (Arming turn offset) plain stage_of is = never_waits (armed offset state) is
+  lacks_room call state (Resyncing turn Wording) plain stage_of is = noop_lacks state is
+  lacks_room call state (Resyncing turn (Sending line)) plain stage_of is = says_seeking (due line) state is
+  lacks_room call state (Resyncing turn (Seeking left)) plain stage_of is = absurd (seeking_none left state s.said s.unsent is)
   lacks_room call state (Agreeing way) plain stage_of is = let clash : true ≡ false = sym stage_of.0 ∙ (needs_none call plain).0 in cc
   lacks_room call state Closing plain stage_of is = let clash : true ≡ false = sym (finishing_moves call stage_of) ∙ (needs_none call plain).1 in cc
   lacks_room call state (Aborting abort) plain stage_of is = let clash : true ≡ false = sym (finishing_moves call (aborts_finish call stage_of)) ∙ (needs_none call plain).1 in cc
@@ -317,5 +388,6 @@ says_no_read coding call state line next plain is = row (row_of call First) refl
     row : (r : Row) → row_of call First ≡ r → doing coding r state (later coding call First) ≡ Say (Ok line) next → is_read call ≡ false
     row (Exchanges e) at is = go e at is e.says refl
     row (Arms offset) at is = ap reads at
+    row Resyncs at is = ap reads at
     row (Sets setting) at is = ap reads at
     row (Moves moves) at is = ap reads at

@@ -6,7 +6,7 @@ use Rattle.ftp_base.specs.declared.status.Status.TheVariants.{CommandOk}
 use Rattle.ftp_base.specs.declared.types.mode.Mode.TheVariants.{ExtendedPassive}
 use Rattle.ftp_base.specs.Scan.{number_up_to}
 use Rattle.ftp_calls.specs.declared.call.Call.{Call}
-use Rattle.ftp_calls.specs.declared.call.Call.TheVariants.{Noop, Quit, Pwd, Feat, Cwd, Size, CustomCommand, Login, ResumeTransfer, Retr, List as Listing, Set, Finish}
+use Rattle.ftp_calls.specs.declared.call.Call.TheVariants.{Noop, Resync, Quit, Pwd, Feat, Cwd, Size, CustomCommand, Login, ResumeTransfer, Retr, List as Listing, Set, Finish}
 use Rattle.ftp_calls.specs.declared.call.Setting.TheVariants.{LenientReplies, Mode as OfMode, PassiveNatWorkaround}
 use Rattle.ftp_script.specs.Escapes.{unescaped}
 
@@ -23,12 +23,13 @@ text_of argument = ascii_only (unescaped argument)
 abbrev pub call_named : List ℕ → Option Call
 call_named name =
     if bytes_eq name (codes "noop") then Some Noop
+    else (if bytes_eq name (codes "resync") then Some Resync
     else (if bytes_eq name (codes "quit") then Some Quit
     else (if bytes_eq name (codes "pwd") then Some Pwd
     else (if bytes_eq name (codes "feat") then Some Feat
     else (if bytes_eq name (codes "list") then Some (Listing None)
     else (if bytes_eq name (codes "finish") then Some Finish
-    else None)))))
+    else None))))))
 
 -- a setting
 abbrev pub setting_named : List ℕ → Option Call

@@ -40,6 +40,8 @@ fn call_named(name: &[u8]) -> Option<Call>
 {
     if is(name, b"noop") {
         Some(Call::Noop)
+    } else if is(name, b"resync") {
+        Some(Call::Resync)
     } else if is(name, b"quit") {
         Some(Call::Quit)
     } else if is(name, b"pwd") {

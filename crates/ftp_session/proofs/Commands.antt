@@ -12,10 +12,9 @@ use Rattle.ftp_control.specs.declared.control.outcome.Outcome.TheVariants.{Whole
 use Rattle.ftp_control.specs.Grammar.{outcome, left_by}
 use Rattle.ftp_control.specs.Answer.{is_among}
 use Rattle.ftp_transport.specs.declared.room.Room.TheVariants.{Any}
-use Rattle.ftp_calls.specs.Exchanges.{drains, drains_first, finishes, is_local, is_read, negotiates, of_transfer}
+use Rattle.ftp_calls.specs.Exchanges.{drains, drains_first, finishes, is_local, is_read, negotiates, of_transfer, resyncs}
 use Rattle.ftp_dialogue.specs.CatchingUp.{InStepIf, is_behind, is_late, is_plain_read, opens_beside}
 use Rattle.ftp_dialogue.specs.declared.state.Owed.{Owed}
-use Rattle.ftp_dialogue.specs.declared.state.Owed.TheVariants as owed
 use Rattle.ftp_dialogue.proofs.CatchingUpLemmas.{step_map}
 use Rattle.ftp_calls.specs.declared.call.Call.{Call}
 use Rattle.ftp_calls.specs.declared.call.Call.TheVariants.{Drain}
@@ -34,7 +33,7 @@ use Rattle.ftp_dialogue.specs.Dialogue.{Expected, Tree, Say, Hear, Look, Ask, Bu
 use Rattle.ftp_dialogue.specs.Link.{Link, unasked}
 use Rattle.ftp_dialogue.specs.Play.{Refusal, Taken, Lacking, Failing, heard_then, is_unit, play, refused_if_failed, taken}
 use Rattle.ftp_dialogue.specs.Promises.{Aborts, Completes, DrainsIf, IsPlayed, IsRefused, IsSilent, IsSuccess, IsWithheld, LeavesIf, MakesAfter, Plays, PlaysAlone, Refuses, Wired, begun_by, due_of, lacks_of, refusal_of, standing}
-use Rattle.ftp_dialogue.specs.Sound.{none_left}
+use Rattle.ftp_dialogue.specs.Sound.{none_left, some_live}
 use Rattle.ftp_dialogue.specs.State.{SessionValue, LetsGo}
 use Rattle.ftp_dialogue.proofs.Hearing.{play-Hear}
 use Rattle.ftp_dialogue.proofs.Moving.{play-Leaf, play-Refused, play-Say}
@@ -54,7 +53,7 @@ StopsAtFaults other = Unit {0}
 -- a call is a command: it goes over the control connection, after the last reply of a transfer that was left, and neither
 -- opens a data connection nor moves or ends a transfer
 abbrev pub IsOneCommand : Call → Type 0
-IsOneCommand call = (negotiates call ≡ false) × (is_local call ≡ false) × (of_transfer call ≡ false) × (finishes call ≡ false) × (drains_first call ≡ true) × (drains call ≡ false)
+IsOneCommand call = (negotiates call ≡ false) × (is_local call ≡ false) × (of_transfer call ≡ false) × (finishes call ≡ false) × (drains_first call ≡ true) × (drains call ≡ false) × (resyncs call ≡ false)
 
 -- and its dialogue is this tree
 pub record IsCommand (coding : Coding) (call : Call) (tree : State → Tree) : Type 0 where
@@ -224,15 +223,19 @@ due_is call v follows =
     turned false = refl
 
 -- the replies of dropped commands come before it, unless the session has failed
-opens_none_beside : (call : Call) (o : Owed) → negotiates call ≡ false → opens_beside call o ≡ false
-opens_none_beside call owed.Nothing none = refl
-opens_none_beside call (owed.Live number) none = none
-opens_none_beside call (owed.Left number) none = refl
+opens_none_beside : (call : Call) (o : Owed) → negotiates call ≡ false → resyncs call ≡ false → opens_beside call o ≡ false
+opens_none_beside call o none seeks_none =
+    let F : Bool → Bool → Bool = λ n r. some_live o && (n || r) in
+    ap (λ n. F n (resyncs call)) none ∙ ap (λ r. F false r) seeks_none ∙ nothing (some_live o)
+  where
+    nothing : (b : Bool) → b && false ≡ false
+    nothing true = refl
+    nothing false = refl
 
 behind_is : (call : Call) (v : SessionValue) → IsOneCommand call → is_behind call v ≡ is_late v
 behind_is call v sort =
     let F : Bool → Bool → Bool = λ d o. is_late v && (d || drains call) && not o in
-    ap (λ d. F d (opens_beside call v.state.counts.owed)) sort.4 ∙ ap (λ o. F true o) (opens_none_beside call v.state.counts.owed sort.0) ∙ all (is_late v) (drains call)
+    ap (λ d. F d (opens_beside call v.state.counts.owed)) sort.4 ∙ ap (λ o. F true o) (opens_none_beside call v.state.counts.owed sort.0 sort.6) ∙ all (is_late v) (drains call)
   where
     all : (b d : Bool) → b && (true || d) && not false ≡ b
     all true d = refl

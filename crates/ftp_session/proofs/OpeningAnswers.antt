@@ -11,7 +11,7 @@ use Rattle.ftp_calls.specs.declared.exchange.Ending.{Ending}
 use Rattle.ftp_calls.specs.declared.exchange.Ending.TheVariants.{Opens}
 use Rattle.ftp_calls.specs.declared.exchange.Exchange.{Exchange}
 use Rattle.ftp_calls.specs.declared.exchange.Row.{Row}
-use Rattle.ftp_calls.specs.declared.exchange.Row.TheVariants.{Exchanges, Arms, Sets, Moves}
+use Rattle.ftp_calls.specs.declared.exchange.Row.TheVariants.{Exchanges, Arms, Resyncs, Sets, Moves}
 use Rattle.ftp_calls.specs.declared.exchange.Turn.TheVariants.{First, Second}
 use Rattle.ftp_dialogue.specs.Coding.{Coding}
 use Rattle.ftp_dialogue.specs.Dialogue.{Tree, Leaf, awaiting, concluded, doing, expected_of, last_turn, opened_answer, saying, with_transfer}
@@ -52,6 +52,7 @@ module _ (replies : Bool) (coding : Coding) (state : State) (after : State → T
   row_tells : (row : Row) → OpensRow replies row → Tells (IsOpened replies) (doing coding row state after)
   row_tells (Exchanges exchange) is = exchange_tells exchange is
   row_tells (Arms offset) is = absurd is
+  row_tells Resyncs is = absurd is
   row_tells (Sets setting) is = absurd is
   row_tells (Moves movement) is = absurd is
 
@@ -61,6 +62,7 @@ last_tells replies coding call is state = row_tells replies coding state (λ s. 
 row_follows : (replies : Bool) (row : Row) → OpensRow replies row → drained_row row ≡ true
 row_follows replies (Exchanges exchange) is = ap follows_reply is
 row_follows replies (Arms offset) is = absurd is
+row_follows replies Resyncs is = absurd is
 row_follows replies (Sets setting) is = absurd is
 row_follows replies (Moves movement) is = absurd is
 

@@ -12,7 +12,7 @@ use Rattle.ftp_base.specs.Command.{text_of}
 use Rattle.ftp_base.specs.Wire.{wire}
 use Rattle.ftp_answers.specs.Answers.{path_of, second_line_of, size_of, features_in}
 use Rattle.ftp_answers.specs.Times.{time_of}
-use Rattle.ftp_calls.specs.Exchanges.{drained_row, draining_row, finishes, finishing_row, is_ascii, local_row, moving_row, negotiates, opens, own_row, says}
+use Rattle.ftp_calls.specs.Exchanges.{drained_row, draining_row, finishes, finishing_row, is_ascii, local_row, moving_row, negotiates, opens, own_row, resyncing_row, says}
 use Rattle.ftp_calls.specs.declared.call.Call.{Call}
 use Rattle.ftp_calls.specs.declared.call.Call.TheVariants as call
 use Rattle.ftp_calls.specs.declared.call.Answer.{Answer}
@@ -69,14 +69,14 @@ said_once coding call command codes how state none goes_on is =
 pub unit_is : (coding : Coding) (call : Call) (command : Command) (codes : Codes) → own_row call true ≡ says command codes ending.Done → IsCommand coding call (unit_tree coding command codes)
 unfolding unit_tree
 unit_is coding call command codes is =
-    replied_command coding call command codes ending.Done (λ reply. Unit) (ap opens is, ap local_row is, ap moving_row is, ap finishing_row is, ap drained_row is, ap draining_row is)
+    replied_command coding call command codes ending.Done (λ reply. Unit) (ap opens is, ap local_row is, ap moving_row is, ap finishing_row is, ap drained_row is, ap draining_row is, ap resyncing_row is)
     (λ state. said_once coding call command codes ending.Done state (ap opens is) (ap finishing_row is) is) (unit_replies coding)
 
 -- its reply is its answer
 pub reply_is : (coding : Coding) (call : Call) (command : Command) (codes : Codes) → own_row call true ≡ says command codes ending.GivesReply → IsCommand coding call (reply_tree coding command codes)
 unfolding reply_tree
 reply_is coding call command codes is =
-    replied_command coding call command codes ending.GivesReply Reply (ap opens is, ap local_row is, ap moving_row is, ap finishing_row is, ap drained_row is, ap draining_row is)
+    replied_command coding call command codes ending.GivesReply Reply (ap opens is, ap local_row is, ap moving_row is, ap finishing_row is, ap drained_row is, ap draining_row is, ap resyncing_row is)
     (λ state. said_once coding call command codes ending.GivesReply state (ap opens is) (ap finishing_row is) is) (whole_replies coding)
 
 -- Reads of one reply, and a setting
@@ -89,46 +89,46 @@ read_is coding call codes sort is = record {
 }
 
 pub read_one_is : (coding : Coding) (status : Status) → IsCommand coding (call.ReadResponse status) (read_tree (status ∷ []))
-read_one_is coding status = read_is coding (call.ReadResponse status) (One status) (refl, refl, refl, refl, refl, refl) (λ state. refl)
+read_one_is coding status = read_is coding (call.ReadResponse status) (One status) (refl, refl, refl, refl, refl, refl, refl) (λ state. refl)
 
 pub read_in_is : (coding : Coding) (statuses : List Status) → IsCommand coding (call.ReadResponseIn statuses) (read_tree statuses)
-read_in_is coding statuses = read_is coding (call.ReadResponseIn statuses) (Given statuses) (refl, refl, refl, refl, refl, refl) (λ state. refl)
+read_in_is coding statuses = read_is coding (call.ReadResponseIn statuses) (Given statuses) (refl, refl, refl, refl, refl, refl, refl) (λ state. refl)
 
 pub resume_is : (coding : Coding) (offset : ℕ) → IsCommand coding (call.ResumeTransfer offset) (resume_tree offset)
-resume_is coding offset = record { sort = (refl, refl, refl, refl, refl, refl); same = λ state. refl; stops = λ state. tt }
+resume_is coding offset = record { sort = (refl, refl, refl, refl, refl, refl, refl); same = λ state. refl; stops = λ state. tt }
 
 -- Calls whose answer is in the reply's text
 
 pub pwd_is : (coding : Coding) → IsCommand coding call.Pwd (pwd_tree coding)
-pwd_is coding = replied_command coding call.Pwd command.Pwd (One PathCreated) ending.GivesPath (λ reply. path_answer reply (path_of coding.decode reply.body)) (refl, refl, refl, refl, refl, refl) (λ state. refl) replies
+pwd_is coding = replied_command coding call.Pwd command.Pwd (One PathCreated) ending.GivesPath (λ reply. path_answer reply (path_of coding.decode reply.body)) (refl, refl, refl, refl, refl, refl, refl) (λ state. refl) replies
   where
     replies : (state : State) (l : State → Tree) (heard : Result Response FtpError) → concluded coding ending.GivesPath state l heard ≡ replied (λ reply. path_answer reply (path_of coding.decode reply.body)) state heard
     replies state l (Ok reply) = refl
     replies state l (Err fault) = refl
 
 pub mlst_is : (coding : Coding) (path : Option (List ℕ)) → IsCommand coding (call.Mlst path) (mlst_tree coding path)
-mlst_is coding path = replied_command coding (call.Mlst path) (command.Mlst path) (One RequestedFileActionOk) ending.GivesSecondLine (λ reply. line_answer (second_line_of coding.decode reply.body)) (refl, refl, refl, refl, refl, refl) (λ state. refl) replies
+mlst_is coding path = replied_command coding (call.Mlst path) (command.Mlst path) (One RequestedFileActionOk) ending.GivesSecondLine (λ reply. line_answer (second_line_of coding.decode reply.body)) (refl, refl, refl, refl, refl, refl, refl) (λ state. refl) replies
   where
     replies : (state : State) (l : State → Tree) (heard : Result Response FtpError) → concluded coding ending.GivesSecondLine state l heard ≡ replied (λ reply. line_answer (second_line_of coding.decode reply.body)) state heard
     replies state l (Ok reply) = refl
     replies state l (Err fault) = refl
 
 pub mdtm_is : (coding : Coding) (path : List ℕ) → IsCommand coding (call.Mdtm path) (mdtm_tree coding path)
-mdtm_is coding path = replied_command coding (call.Mdtm path) (command.Mdtm path) (One File) ending.GivesTime (λ reply. time_answer (time_of reply.body)) (refl, refl, refl, refl, refl, refl) (λ state. refl) replies
+mdtm_is coding path = replied_command coding (call.Mdtm path) (command.Mdtm path) (One File) ending.GivesTime (λ reply. time_answer (time_of reply.body)) (refl, refl, refl, refl, refl, refl, refl) (λ state. refl) replies
   where
     replies : (state : State) (l : State → Tree) (heard : Result Response FtpError) → concluded coding ending.GivesTime state l heard ≡ replied (λ reply. time_answer (time_of reply.body)) state heard
     replies state l (Ok reply) = refl
     replies state l (Err fault) = refl
 
 pub size_is : (coding : Coding) (path : List ℕ) → IsCommand coding (call.Size path) (size_tree coding path)
-size_is coding path = replied_command coding (call.Size path) (command.Size path) (One File) ending.GivesSize (λ reply. size_answer (size_of reply.body)) (refl, refl, refl, refl, refl, refl) (λ state. refl) replies
+size_is coding path = replied_command coding (call.Size path) (command.Size path) (One File) ending.GivesSize (λ reply. size_answer (size_of reply.body)) (refl, refl, refl, refl, refl, refl, refl) (λ state. refl) replies
   where
     replies : (state : State) (l : State → Tree) (heard : Result Response FtpError) → concluded coding ending.GivesSize state l heard ≡ replied (λ reply. size_answer (size_of reply.body)) state heard
     replies state l (Ok reply) = refl
     replies state l (Err fault) = refl
 
 pub feat_is : (coding : Coding) → IsCommand coding call.Feat (feat_tree coding)
-feat_is coding = replied_command coding call.Feat command.Feat Features ending.GivesFeatures (λ reply. features_answer (features_in reply.body)) (refl, refl, refl, refl, refl, refl) (λ state. refl) replies
+feat_is coding = replied_command coding call.Feat command.Feat Features ending.GivesFeatures (λ reply. features_answer (features_in reply.body)) (refl, refl, refl, refl, refl, refl, refl) (λ state. refl) replies
   where
     replies : (state : State) (l : State → Tree) (heard : Result Response FtpError) → concluded coding ending.GivesFeatures state l heard ≡ replied (λ reply. features_answer (features_in reply.body)) state heard
     replies state l (Ok reply) = refl
@@ -138,7 +138,7 @@ feat_is coding = replied_command coding call.Feat command.Feat Features ending.G
 
 pub type_is : (coding : Coding) (kind : FileType) → IsCommand coding (call.TransferType kind) (type_tree coding kind)
 type_is coding kind = record {
-  sort = (refl, refl, refl, refl, refl, refl);
+  sort = (refl, refl, refl, refl, refl, refl, refl);
   same = λ state. same_next coding (command.TransferType kind) (One CommandOk) (concluded coding (ending.SetsText (is_ascii kind)) state (later coding (call.TransferType kind) First)) (type_reply kind state) (replies state (later coding (call.TransferType kind) First));
   stops = λ state. (λ fault. (state, refl), λ reply. tt);
 }
@@ -167,7 +167,7 @@ leading_command coding called first second codes last status sort is then = reco
     ends state false = tt
 
 pub login_is : (coding : Coding) (user password : List ℕ) → IsCommand coding (call.Login user password) (login_tree coding user password)
-login_is coding user password = leading_command coding (call.Login user password) (command.User user) (command.Pass password) (Either LoggedIn NeedPassword) (One LoggedIn) NeedPassword (refl, refl, refl, refl, refl, refl) (λ state. refl) (λ state. refl)
+login_is coding user password = leading_command coding (call.Login user password) (command.User user) (command.Pass password) (Either LoggedIn NeedPassword) (One LoggedIn) NeedPassword (refl, refl, refl, refl, refl, refl, refl) (λ state. refl) (λ state. refl)
 
 pub rename_is : (coding : Coding) (one other : List ℕ) → IsCommand coding (call.Rename one other) (rename_tree coding one other)
-rename_is coding one other = leading_command coding (call.Rename one other) (command.RenameFrom one) (command.RenameTo other) (One RequestFilePending) (Either RequestedFileActionOk CommandOk) RequestFilePending (refl, refl, refl, refl, refl, refl) (λ state. refl) (λ state. refl)
+rename_is coding one other = leading_command coding (call.Rename one other) (command.RenameFrom one) (command.RenameTo other) (One RequestFilePending) (Either RequestedFileActionOk CommandOk) RequestFilePending (refl, refl, refl, refl, refl, refl, refl) (λ state. refl) (λ state. refl)

@@ -13,7 +13,7 @@ use Rattle.ftp_calls.specs.declared.call.Answer.{Answer}
 use Rattle.ftp_calls.specs.declared.call.Answer.TheVariants.{Opened, OpenedWith, Fault, Unit as Done}
 use Rattle.ftp_calls.specs.declared.exchange.Ending.TheVariants as ending
 use Rattle.ftp_calls.specs.declared.exchange.Row.{Row}
-use Rattle.ftp_calls.specs.declared.exchange.Row.TheVariants.{Exchanges, Arms, Sets, Moves}
+use Rattle.ftp_calls.specs.declared.exchange.Row.TheVariants.{Exchanges, Arms, Resyncs, Sets, Moves}
 use Rattle.ftp_calls.specs.declared.exchange.Turn.TheVariants.{First, Second}
 use Rattle.ftp_transfer.specs.Mark.{End, loaded}
 use Rattle.ftp_transport.specs.Told.{Told}
@@ -121,6 +121,7 @@ GivesUp None cause old new = (cause ≡ ConnectionError NotOwed) × (new ≡ lef
 abbrev pub OpensRow : Bool → Row → Type 0
 OpensRow replies (Exchanges exchange) = exchange.ending ≡ ending.Opens replies
 OpensRow replies (Arms offset) = ⊥
+OpensRow replies Resyncs = ⊥
 OpensRow replies (Sets setting) = ⊥
 OpensRow replies (Moves movement) = ⊥
 

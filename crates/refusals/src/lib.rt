@@ -11,4 +11,5 @@ mod connecting;
 mod ending;
 mod machine;
 mod polls;
+mod resyncing;
 mod transfers;

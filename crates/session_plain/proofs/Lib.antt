@@ -3,4 +3,5 @@ pub mod Openings
 pub mod Parts
 pub mod Polled
 pub mod Requests
+pub mod Seeks
 pub mod Sends

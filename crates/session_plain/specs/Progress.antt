@@ -1,5 +1,5 @@
 -- How far a part of a dialogue gets.
-use Rattle.std.specs.Prelude.{◌≡◌, ℕ, Bool, false, List, [], ◌∷◌, Option, Some, None, Result}
+use Rattle.std.specs.Prelude.{◌≡◌, ◌==◌, ◌||◌, ℕ, Bool, false, List, [], ◌∷◌, Option, Some, None, Result, Ok, Err, if◌then◌else◌}
 use Rattle.ftp_base.specs.declared.types.reply.Response.{Response}
 use Rattle.ftp_control.specs.Grammar.{outcome}
 use Rattle.ftp_control.specs.declared.control.outcome.Outcome.{Outcome}
@@ -7,17 +7,18 @@ use Rattle.ftp_transport.specs.declared.room.Room.{Room}
 use Rattle.ftp_dialogue.specs.declared.state.State.{State}
 use Rattle.ftp_dialogue.specs.declared.model.Played.{Played}
 use Rattle.ftp_dialogue.specs.Coding.{Coding}
-use Rattle.ftp_dialogue.specs.Dialogue.{Expected, Tree, giving_up, on_data, on_sent}
+use Rattle.ftp_dialogue.specs.Dialogue.{Expected, Tree, closes, giving_up, on_data, on_sent}
 use Rattle.ftp_dialogue.specs.Deals.{answers}
 use Rattle.ftp_dialogue.specs.Play.{play, asked_then, built_then, heard_then, moved_then}
 use Rattle.ftp_calls.specs.declared.call.Answer.{Answer}
+use Rattle.ftp_calls.specs.declared.call.Answer.TheVariants.{Unit, Fault}
 use Rattle.ftp_calls.specs.declared.exchange.Fetch.{Fetch}
 use Rattle.ftp_calls.specs.declared.exchange.Movement.{Movement}
 use Rattle.ftp_dialogue.specs.declared.model.DealOutcome.{DealOutcome}
 use Rattle.ftp_dialogue.specs.declared.model.DealOutcome.TheVariants.{Answered, Built}
 use Rattle.std.specs.declared.net.socket_addr.SocketAddr.{SocketAddr}
 use Rattle.ftp_base.specs.declared.types.fault.FtpError.{FtpError}
-use Rattle.ftp_base.specs.declared.types.fault.FtpError.TheVariants.{ConnectionError}
+use Rattle.ftp_base.specs.declared.types.fault.FtpError.TheVariants.{ConnectionError, UnexpectedResponse}
 use Rattle.ftp_base.specs.declared.types.fault.ConnectionError.TheVariants.{Io}
 use Rattle.session_plain.specs.declared.building.Answered.{Answered as FromBuilder}
 use Rattle.session_plain.specs.declared.building.Answered.TheVariants as built
@@ -101,3 +102,9 @@ LeadsTo coding form all outcome (Over answer) =
 abbrev pub SendsOn : List ℕ → DealOutcome → Sent → Type 0
 SendsOn rest outcome (Rest more) = (on : List ℕ → Tree) (state : State) → on_sent rest on state outcome ≡ on more
 SendsOn rest outcome (Failed kind) = (on : List ℕ → Tree) (state : State) → on_sent rest on state outcome ≡ giving_up (ConnectionError (Io kind)) state
+
+-- the answer of a search for the reply to NOOP, by what was heard; none where the next reply is
+abbrev pub answer_sought : ℕ → Result Response FtpError → Option Answer
+answer_sought left (Ok reply) = Some Unit
+answer_sought left (Err (UnexpectedResponse reply)) = if (left == 0) || closes reply then Some (Fault (UnexpectedResponse reply)) else None
+answer_sought left (Err fault) = Some (Fault fault)

@@ -18,6 +18,7 @@ use crate::fetching::performs;
 use crate::finishing::{after_fault, answer_to_fault, answered, drained, finish_answer, finished};
 use crate::hearing::{Heard, hear_reply};
 use crate::opening::{opened_answer, opens};
+use crate::resyncing::resync;
 use crate::settings::{armed, set_to};
 use ftp_base::command::Command;
 use ftp_base::encoding::{Encoding, WelcomeMessage};
@@ -59,6 +60,7 @@ pub(crate) fn row<E: Encoding>(
     match row_at(alloc, call, turn)? {
         Row::Exchanges(made) => exchange(alloc, room, encoding, made, standing),
         Row::Arms(offset) => Ok(done(Answer::Unit, armed(offset, standing))),
+        Row::Resyncs => resync(alloc, room, encoding, standing),
         Row::Sets(setting) => Ok(done(Answer::Unit, set_to(setting, standing))),
         Row::Moves(movement) => carrying(alloc, movement, standing),
     }

@@ -19,6 +19,7 @@ mod negotiation;
 mod opening;
 mod outcomes;
 mod play;
+mod resyncing;
 mod runs;
 mod settings;
 mod storing;

@@ -512,6 +512,7 @@ pub record DropsAbort (tells : Type 0) (stage : Stage) (old new : SessionValue) 
 abbrev pub DoesRow : Row → Type 0 → SessionValue → SessionValue → Answer → Type 0
 DoesRow (Exchanges exchange) tells old new answer = ⊥
 DoesRow (Arms offset) tells old new answer = ⊥
+DoesRow row.Resyncs tells old new answer = ⊥
 DoesRow (row.Sets setting) tells old new answer = Sets setting old new answer
 DoesRow (row.Moves movement) tells old new answer = Carries tells movement old new answer
 

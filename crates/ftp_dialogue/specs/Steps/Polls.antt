@@ -11,7 +11,7 @@ use Rattle.ftp_calls.specs.declared.exchange.Turn.{Turn}
 use Rattle.ftp_calls.specs.declared.exchange.Turn.TheVariants.{First, Second, Passive, ExtendedPassive, Active, Restart, Closed, Aborted}
 use Rattle.ftp_dialogue.specs.declared.state.State.{State}
 use Rattle.ftp_dialogue.specs.declared.stage.Stage.{Stage}
-use Rattle.ftp_dialogue.specs.declared.stage.Stage.TheVariants.{At, Saying, Hearing, Arming, Agreeing, Closing, Aborting, Fetching}
+use Rattle.ftp_dialogue.specs.declared.stage.Stage.TheVariants.{At, Saying, Hearing, Arming, Resyncing, Agreeing, Closing, Aborting, Fetching}
 use Rattle.ftp_dialogue.specs.declared.stage.Aborting.TheVariants.{Wording}
 use Rattle.ftp_dialogue.specs.declared.stage.Agreeing.TheVariants.{Negotiating}
 use Rattle.ftp_dialogue.specs.State.{SessionValue}
@@ -40,6 +40,7 @@ is_first (At turn) = is_first_turn turn
 is_first (Saying line a) = false
 is_first (Hearing a) = false
 is_first (Arming turn offset) = false
+is_first (Resyncing turn seeks) = false
 is_first (Agreeing agreeing) = false
 is_first Closing = false
 is_first (Aborting abort) = false

@@ -1,11 +1,13 @@
 -- The stages of a call: what of its dialogue is left at each.
-use Rattle.std.specs.Prelude.{◌≡◌, ◌<◌, ◌-◌, ◌+◌, ◌⊎◌, ◌&&◌, ℕ, Bool, true, false, Option, Some, None, is_none, List, [], Result, Ok, Err}
+use Rattle.std.specs.Prelude.{◌≡◌, ◌<◌, ◌-◌, ◌+◌, ◌⊎◌, ◌&&◌, ℕ, suc, Bool, true, false, Option, Some, None, is_none, List, [], Result, Ok, Err}
 use Rattle.futures.specs.declared.task.Poll.{Poll}
 use Rattle.futures.specs.declared.task.Poll.TheVariants.{Ready, Pending}
 use Rattle.ftp_base.specs.declared.command.Command.{Command}
 use Rattle.ftp_base.specs.Command.{text_of}
 use Rattle.ftp_base.specs.Wire.{wire}
 use Rattle.ftp_base.specs.declared.types.fault.FtpError.{FtpError}
+use Rattle.ftp_base.specs.declared.types.fault.FtpError.TheVariants.{UnexpectedResponse}
+use Rattle.ftp_base.specs.declared.types.reply.Response.{Response}
 use Rattle.ftp_base.specs.declared.types.fault.ConnectionError.{ConnectionError as Cause}
 use Rattle.ftp_control.specs.Refusal.{IsRefusalOf}
 use Rattle.ftp_control.specs.Saying.{due}
@@ -23,7 +25,7 @@ use Rattle.ftp_calls.specs.declared.exchange.Fetch.TheVariants.{Whole}
 use Rattle.ftp_calls.specs.declared.exchange.Task.{Task}
 use Rattle.ftp_dialogue.specs.declared.stage.Awaits.{Awaits}
 use Rattle.ftp_dialogue.specs.declared.stage.Stage.{Stage}
-use Rattle.ftp_dialogue.specs.declared.stage.Stage.TheVariants.{At, Saying, Hearing, Arming, Agreeing, Closing, Aborting, Fetching}
+use Rattle.ftp_dialogue.specs.declared.stage.Stage.TheVariants.{At, Saying, Hearing, Arming, Resyncing, Agreeing, Closing, Aborting, Fetching}
 use Rattle.ftp_dialogue.specs.declared.stage.Fetching.{Fetching as Fetched}
 use Rattle.ftp_dialogue.specs.declared.stage.Fetching.TheVariants.{Starting, Gathering, Sending as SendingData, Ending}
 use Rattle.ftp_dialogue.specs.declared.stage.Fetching.TheVariants as fetch
@@ -33,6 +35,8 @@ use Rattle.ftp_dialogue.specs.declared.stage.Agreeing.{Agreeing as Way}
 use Rattle.ftp_dialogue.specs.declared.stage.Agreeing.TheVariants.{Negotiating, Locating, Binding, Asking}
 use Rattle.ftp_dialogue.specs.declared.stage.Aborting.{Aborting as Abort}
 use Rattle.ftp_dialogue.specs.declared.stage.Aborting.TheVariants.{Wording, Sending, Parting}
+use Rattle.ftp_dialogue.specs.declared.stage.Resyncing.{Resyncing as Resync}
+use Rattle.ftp_dialogue.specs.declared.stage.Resyncing.TheVariants as resync
 use Rattle.ftp_dialogue.specs.declared.stage.Asking.{Asking as Asked}
 use Rattle.ftp_dialogue.specs.declared.stage.Asking.TheVariants.{PeerPort, Connection, Peer, Accepting}
 use Rattle.ftp_dialogue.specs.declared.stage.Step.{Step}
@@ -40,9 +44,9 @@ use Rattle.ftp_dialogue.specs.declared.stage.Step.TheVariants as step
 use Rattle.ftp_dialogue.specs.Coding.{Coding}
 use Rattle.ftp_dialogue.specs.Promises.{IsFault}
 use Rattle.ftp_calls.specs.declared.exchange.Row.{Row}
-use Rattle.ftp_calls.specs.declared.exchange.Row.TheVariants.{Exchanges, Arms}
+use Rattle.ftp_calls.specs.declared.exchange.Row.TheVariants.{Exchanges, Arms, Resyncs}
 use Rattle.ftp_calls.specs.Exchanges.{row_of, aborting_row, aborts, finishes, is_local, is_read, negotiates, next_turn, Movements, Listings, Kind, kind_of_fetch, kind_of_task, Nothing, Replies, Texts, Times, Sizes, Lists, Connections, ending_of, given_by, says_of}
-use Rattle.ftp_dialogue.specs.Dialogue.{expected_of, Tree, Say, Look, There, Leaf, armed, awaiting, aborting, breaking_off, closing, later, from_turn, negotiating, listening, listening_at, connecting_to, connecting_to_peer, accepting, fetch_ending, fetch_parting, gathering, most_reads, performing, sending, strangers, with_transfer}
+use Rattle.ftp_dialogue.specs.Dialogue.{expected_of, Tree, Say, Look, There, Leaf, armed, awaiting, aborting, breaking_off, closes, closing, later, from_turn, negotiating, listening, listening_at, connecting_to, connecting_to_peer, accepting, fetch_ending, fetch_parting, gathering, most_reads, performing, resyncing, seeking, most_passed_over, sending, strangers, with_transfer}
 
 -- an exchange was made before
 abbrev pub is_later : Turn → Bool
@@ -90,6 +94,12 @@ abort_left coding call state Wording = aborting coding call state
 abort_left coding call state (Sending line) = Say (Ok (due line)) (breaking_off coding call state)
 abort_left coding call state Parting = breaking_off coding call state
 
+-- what is left where the reply to NOOP is sought
+abbrev pub resync_left : Coding → State → Resync → Tree
+resync_left coding state resync.Wording = resyncing coding state
+resync_left coding state (resync.Sending line) = Say (Ok (due line)) (seeking most_passed_over state)
+resync_left coding state (resync.Seeking left) = seeking left state
+
 -- what is left where a whole file or listing goes over the data connection
 abbrev pub fetch_left : Coding → State → Fetched → Tree
 fetch_left coding state (Starting task) = performing coding task state
@@ -104,6 +114,7 @@ remaining coding call state (At turn) = from_turn coding call turn state
 remaining coding call state (Saying line a) = Say (Ok (due line)) (awaited coding call state a)
 remaining coding call state (Hearing a) = awaited coding call state a
 remaining coding call state (Arming turn offset) = Leaf answer.Unit (armed offset state)
+remaining coding call state (Resyncing turn seeks) = resync_left coding state seeks
 remaining coding call state (Agreeing agreeing) = way_of coding call state agreeing
 remaining coding call state Closing = closing coding call state
 remaining coding call state (Aborting abort) = abort_left coding call state abort
@@ -130,6 +141,13 @@ is_out (Aborting (Sending line)) = false
 is_out (At First) = false
 is_out stage = true
 
+-- NOOP goes out, or has; or something was said or taken before
+abbrev pub has_sought : Bool → Resync → Bool
+has_sought before resync.Wording = before
+has_sought before (resync.Sending None) = true
+has_sought before (resync.Sending (Some line)) = before
+has_sought before (resync.Seeking left) = true
+
 -- something of the dialogue was said or taken
 abbrev pub begun_at : Stage → Bool
 begun_at (At turn) = is_later turn
@@ -137,6 +155,7 @@ begun_at (Saying None a) = true
 begun_at (Saying (Some line) a) = a.begun
 begun_at (Hearing a) = a.begun
 begun_at (Arming turn offset) = is_later turn
+begun_at (Resyncing turn seeks) = has_sought (is_later turn) seeks
 begun_at (Agreeing agreeing) = has_asked agreeing
 begun_at Closing = false
 begun_at (Aborting abort) = has_sent abort
@@ -173,6 +192,11 @@ nodes_of_abort Wording = many + 33
 nodes_of_abort (Sending line) = many + 32
 nodes_of_abort Parting = many + 31
 
+abbrev pub nodes_of_resync : Turn → Resync → ℕ
+nodes_of_resync turn resync.Wording = nodes_from turn - 1
+nodes_of_resync turn (resync.Sending line) = nodes_from turn - 2
+nodes_of_resync turn (resync.Seeking left) = left + 1
+
 abbrev pub nodes_of_fetch : Fetched → ℕ
 nodes_of_fetch (Starting task) = most_reads + 11
 nodes_of_fetch (Gathering form left all) = left + 10
@@ -185,6 +209,7 @@ nodes_left (At turn) = nodes_from turn
 nodes_left (Saying line a) = nodes_from a.turn - 1
 nodes_left (Hearing a) = nodes_from a.turn - 2
 nodes_left (Arming turn offset) = nodes_from turn - 1
+nodes_left (Resyncing turn seeks) = nodes_of_resync turn seeks
 nodes_left (Agreeing agreeing) = nodes_of agreeing
 nodes_left Closing = many + 30
 nodes_left (Aborting abort) = nodes_of_abort abort
@@ -204,6 +229,7 @@ NodeOf coding turn exchange (At other) = ⊥
 NodeOf coding turn exchange (Saying line a) = (line_of coding exchange.says ≡ Ok (due line)) × (is_none line ≡ false) × (is_none exchange.says ≡ false) × (a ≡ awaits_of turn exchange)
 NodeOf coding turn exchange (Hearing a) = (exchange.says ≡ None) × (a ≡ awaits_of turn exchange)
 NodeOf coding turn exchange (Arming other offset) = ⊥
+NodeOf coding turn exchange (Resyncing other seeks) = ⊥
 NodeOf coding turn exchange (Agreeing agreeing) = ⊥
 NodeOf coding turn exchange Closing = ⊥
 NodeOf coding turn exchange (Aborting abort) = ⊥
@@ -290,6 +316,7 @@ StageOf call (At turn) = TurnOf call turn
 StageOf call (Saying line a) = (ending_of (row_of call a.turn) ≡ Some a.ending) × (is_read call ≡ false) × TurnOf call a.turn
 StageOf call (Hearing a) = (ending_of (row_of call a.turn) ≡ Some a.ending) × (a.begun ≡ true → is_read call ≡ false) × TurnOf call a.turn
 StageOf call (Arming turn offset) = (row_of call turn ≡ Arms offset) × TurnOf call turn
+StageOf call (Resyncing turn seeks) = (row_of call turn ≡ Resyncs) × TurnOf call turn
 StageOf call (Agreeing agreeing) = (negotiates call ≡ true) × WayOf call agreeing
 StageOf call Closing = finishes call ≡ true
 StageOf call (Aborting abort) = aborts call ≡ true
@@ -326,3 +353,11 @@ abbrev pub GoesOnTo : Call → Turn → Stage → Step → Type 0
 GoesOnTo call turn stage step.Next = (next : Turn) × (next_turn call turn ≡ Some next) × (stage ≡ At next)
 GoesOnTo call turn stage step.Pending = ⊥
 GoesOnTo call turn stage (step.Done last) = (next_turn call turn ≡ None) × (last ≡ answer.Unit)
+
+-- what follows another reply than that to NOOP, or a fault in its place
+abbrev pub FollowsSought : Turn → ℕ → FtpError → Stage → Step → Type 0
+FollowsSought turn left fault stage step.Next =
+    (rest : ℕ) × (reply : Response) × (left ≡ suc rest) × (fault ≡ UnexpectedResponse reply) × (closes reply ≡ false) × (stage ≡ Resyncing turn (resync.Seeking rest))
+FollowsSought turn left fault stage step.Pending = ⊥
+FollowsSought turn left fault stage (step.Done last) =
+    (last ≡ answer.Fault fault) × ((reply : Response) → fault ≡ UnexpectedResponse reply → (left ≡ 0) ⊎ (closes reply ≡ true))

@@ -123,6 +123,23 @@ where
         self.perform(alloc, Ok(Call::Noop))
     }
 
+    /// Comes back into step with a server that has sent more replies than were read, as some do after `ABOR`: `NOOP`, and
+    /// replies are read until its own (200), at most eight; those before it are passed over. A 200 among them ends it
+    /// early (RFC 959, section 4.1.3).
+    ///
+    /// # Errors
+    /// Those of a command and its reply: `UnexpectedResponse` with a 421 that is read, or with the eighth other reply; the
+    /// session goes on. Beside a live transfer `DataConnectionAlreadyOpen`, and nothing is sent or read.
+    pub fn resync(&mut self, alloc: Global) -> FtpResult<()>
+        ensures plays { PlaysSeen (blocking Tr.Conn.Conn) (chosen E.decoded E.encoded self.old.encoding.0) Call.Resync
+            self.old.mark self.new.mark self.old.machine self.new.machine (unit_answer result) }
+        ensures encoding { self.new.encoding ≡ self.old.encoding }
+        ensures builder { self.new.builder ≡ self.old.builder }
+        ensures former { self.new.former ≡ self.old.former }
+    {
+        self.perform(alloc, Ok(Call::Resync))
+    }
+
     /// Names the address that the server is to open data connections to: `EPRT` (200; RFC 2428, section 2).
     ///
     /// # Errors

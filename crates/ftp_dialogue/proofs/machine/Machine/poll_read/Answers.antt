@@ -1,6 +1,6 @@
 use Rattle.std.proofs.Common.{◌∙◌, refl, ap, sym}
 use Rattle.futures.specs.declared.task.Poll.TheVariants.{Ready, Pending}
-use Rattle.ftp_dialogue.proofs.CatchingUpLemmas.{late_going, reads_flushed, reads_unflushed}
+use Rattle.ftp_dialogue.proofs.CatchingUpLemmas.{reads_flushed, reads_unflushed}
 use Rattle.ftp_dialogue.proofs.machine.Machine.poll_read.Goals.{then-is_late+in-Ready-None, else-is_late}
 use Rattle.ftp_dialogue.proofs.machine.Machine.poll_read.Goals as goal
 

@@ -8,6 +8,7 @@ use Rattle.ftp_dialogue.proofs.Sorts.{aborts_finish, fetch_opens}
 use Rattle.ftp_calls.specs.Exchanges.{given_by}
 use Rattle.ftp_calls.proofs.Openings.{read_opens_none}
 use Rattle.ftp_dialogue.proofs.TransitionsLemmas.{arms, exchange_begins, exchange_is_quiet, exchange_tracks}
+use Rattle.ftp_dialogue.proofs.Stages.{resync_unread}
 use Rattle.ftp_dialogue.proofs.machine.Machine.step.Goals as goal
 
 pub returns-in-At-clause-steps : goal.returns-in-At-clause-steps
@@ -193,4 +194,40 @@ returns-in-Fetching-clause-rests g c = λ waits read.
     let is = c.in-Fetching.ensures.value in
     let stage_of = rw (← is) at c.requires.stage in
     let clash : true ≡ false = sym read ∙ read_opens_none c.args.call.now (fetch_opens c.args.call.now c.in-Fetching.fetching stage_of) in
+    cc
+
+pub returns-in-Resyncing-clause-stage : goal.returns-in-Resyncing-clause-stage
+returns-in-Resyncing-clause-stage g c = c.resync.ensures.breaks.stage_of
+
+pub returns-in-Resyncing-clause-waits : goal.returns-in-Resyncing-clause-waits
+returns-in-Resyncing-clause-waits g c = λ waits. inl (c.resync.ensures.waits waits)
+
+pub returns-in-Resyncing-clause-answers : goal.returns-in-Resyncing-clause-answers
+returns-in-Resyncing-clause-answers g c = c.resync.ensures.breaks.answers
+
+pub returns-in-Resyncing-clause-fewer : goal.returns-in-Resyncing-clause-fewer
+returns-in-Resyncing-clause-fewer g c =
+    let is = c.in-Resyncing.ensures.value in
+    rw (← is) c.resync.ensures.breaks.fewer
+
+pub returns-in-Resyncing-clause-steps : goal.returns-in-Resyncing-clause-steps
+returns-in-Resyncing-clause-steps g c =
+    let is = c.in-Resyncing.ensures.value in
+    rw (← is) c.resync.ensures.breaks.steps
+
+pub returns-in-Resyncing-clause-quiet : goal.returns-in-Resyncing-clause-quiet
+returns-in-Resyncing-clause-quiet g c =
+    let is = c.in-Resyncing.ensures.value in
+    rw (← is) c.resync.ensures.breaks.quiet
+
+pub returns-in-Resyncing-clause-begun : goal.returns-in-Resyncing-clause-begun
+returns-in-Resyncing-clause-begun g c =
+    let is = c.in-Resyncing.ensures.value in
+    rw (← is) c.resync.ensures.breaks.begun
+
+pub returns-in-Resyncing-clause-rests : goal.returns-in-Resyncing-clause-rests
+returns-in-Resyncing-clause-rests g c = λ waits read.
+    let is = c.in-Resyncing.ensures.value in
+    let stage_of = rw (← is) at c.requires.stage in
+    let clash : true ≡ false = sym read ∙ resync_unread c.args.call.now c.in-Resyncing.turn stage_of.0 stage_of.1 in
     cc
