@@ -101,6 +101,7 @@ fn made<'r, R: AllocGlobal>(
         }
         Call::Cwd(path) => State::Unit(client.cwd(rt, path.as_str())),
         Call::Noop => State::Unit(client.noop(rt)),
+        Call::Resync => State::Unit(client.resync(rt)),
         Call::Rm(path) => State::Unit(client.rm(rt, path.as_str())),
         Call::Rename(from, to) => State::Unit(client.rename(rt, from.as_str(), to.as_str())),
         Call::ReadResponse(status) => State::Reply(client.read_response(rt, *status)),

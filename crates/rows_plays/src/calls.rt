@@ -19,6 +19,7 @@ macro_rules! made_by_method {
             Call::Cwd(path) => unit($done($rt, $target.cwd($memory, path.as_str()))),
             Call::Cdup => unit($done($rt, $target.cdup($memory))),
             Call::Noop => unit($done($rt, $target.noop($memory))),
+            Call::Resync => unit($done($rt, $target.resync($memory))),
             Call::Eprt(address) => unit($done($rt, $target.eprt($memory, *address))),
             Call::Opts(option, value) => {
                 unit($done($rt, $target.opts($memory, option.as_str(), optional(value))))
@@ -66,6 +67,7 @@ fn bare(alloc: Global, name: &str) -> Option<Call> {
         "cdup" => Some(Call::Cdup),
         "pwd" => Some(Call::Pwd),
         "noop" => Some(Call::Noop),
+        "resync" => Some(Call::Resync),
         "mlst" => Some(Call::Mlst(None)),
         "feat" => Some(Call::Feat),
         "quit" => Some(Call::Quit),
