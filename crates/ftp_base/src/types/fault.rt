@@ -5,8 +5,9 @@
 //! a connection, or what goes over it, can answer, and has a kind of the standard library. Where memory ran out the
 //! fault takes none.
 
-ghost use Rattle.std.specs.Prelude.{◌≡◌, Some, codes};
+ghost use Rattle.std.specs.Prelude.{◌≡◌, ◌≢◌, ◌⊎◌, Some, codes};
 ghost use Rattle.std.specs.IoError.{error_kind};
+ghost use Rattle.jiff_core.specs.declared.error.Error.TheVariants as date;
 ghost use Rattle.ftp_base.specs.Fault.{connection_number, connection_text, kind_of, number_of};
 ghost use Rattle.ftp_base.specs.declared.types.fault.FtpError.TheVariants as fault;
 ghost use Rattle.ftp_base.specs.declared.types.fault.ConnectionError.TheVariants as connection;
@@ -204,6 +205,28 @@ impl From<io::Error> for FtpError {
 
     fn from(cause: io::Error) -> FtpError {
         FtpError::ConnectionError(ConnectionError::Io(cause.kind()))
+    }
+}
+
+impl From<ErrorKind> for FtpError {
+    ghost from_gives = { λ kind error. error ≡ fault.ConnectionError (connection.Io kind) };
+
+    fn from(kind: ErrorKind) -> FtpError {
+        FtpError::ConnectionError(ConnectionError::Io(kind))
+    }
+}
+
+/// For a program that computes with dates beside the client: what it lacks is a date, as where a reply tells of one that
+/// doesn't exist.
+impl From<jiff_core::Error> for FtpError {
+    ghost from_gives = { λ cause error. ((cause ≡ date.OutOfMemory) × (error ≡ fault.OutOfMemory)) ⊎
+        ((cause ≢ date.OutOfMemory) × (error ≡ fault.BadResponse)) };
+
+    fn from(cause: jiff_core::Error) -> FtpError {
+        match cause {
+            jiff_core::Error::OutOfMemory => FtpError::OutOfMemory,
+            _ => FtpError::BadResponse,
+        }
     }
 }
 

@@ -4,7 +4,7 @@
 //! lie in a map, so each name stands once and they are gone through in the order of names, whatever the order of the
 //! reply. A contract sees the names with their values, and not the map's tree.
 
-ghost use Rattle.std.specs.Prelude.{◌≡◌, ℕ, List, [], Option, None, Some, MatchOption, OnOk, OnErr, string_bytes};
+ghost use Rattle.std.specs.Prelude.{◌≡◌, ◌==◌, ℕ, List, [], length, not, is_none, Option, None, Some, MatchOption, OnOk, OnErr, string_bytes};
 ghost use Rattle.std.specs.Option.{option_map};
 ghost use Rattle.std.specs.Cmp.{partial_equiv_from_equiv};
 ghost use Rattle.std.specs.Map.Iter.{ShowsInOrder, deref_pair};
@@ -60,6 +60,27 @@ impl Features {
             (λ value. value_at self.now name.now ≡ Some (option_map string_bytes value.now)) }
     {
         self.map.get(name)
+    }
+
+    /// Whether the name is there, with a value or without one.
+    pub fn contains(&self, name: &str) -> bool
+        ensures { result ≡ not (is_none (value_at self.now name.now)) }
+    {
+        self.get(name).is_some()
+    }
+
+    /// How many names there are.
+    pub fn len(&self) -> usize
+        ensures { result ≡ length self.now }
+    {
+        self.map.len()
+    }
+
+    /// Whether there is none.
+    pub fn is_empty(&self) -> bool
+        ensures { result ≡ (length self.now == 0) }
+    {
+        self.map.len() == 0
     }
 
     /// Each name with its value, in the order of names.

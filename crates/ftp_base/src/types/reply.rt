@@ -43,6 +43,13 @@ impl Response {
         }
     }
 
+    /// The status of the line that ended the reply.
+    pub fn status(&self) -> Status
+        ensures { result ≡ self.now.status }
+    {
+        self.status
+    }
+
     /// The body as text, white space cut at its end.
     ///
     /// # Errors
