@@ -1,5 +1,5 @@
 -- The sound channel goes on.
-use Rattle.std.proofs.Common.{◌≡◌, ℕ, Bool, true, false, List, [], ◌++◌, length, drop, Result, Ok, Err, refl, ap, sym, ◌∙◌, subst, append_assoc, append-nil, arith}
+use Rattle.std.proofs.Common.{◌≡◌, ℕ, ◌≤◌, Bool, true, false, List, [], ◌++◌, length, drop, Result, Ok, Err, refl, ap, sym, ◌∙◌, subst, append_assoc, append-nil, arith}
 use Rattle.ftp_control.specs.declared.control.rule.ReplyRule.{ReplyRule}
 use Rattle.ftp_control.specs.declared.control.form.ReplyForm.TheVariants.{Features}
 use Rattle.ftp_control.specs.declared.control.lenient.Phase.{Phase}
@@ -54,22 +54,21 @@ end_of_end part middle whole a b = record { front = b.front ++ a.front; is = b.i
 end_with_more : (part whole more : List ℕ) → IsEndOf part whole → IsEndOf (part ++ more) (whole ++ more)
 end_with_more part whole more a = record { front = a.front; is = ap (λ w. w ++ more) a.is ∙ append_assoc a.front part more }
 
--- nothing lies ahead
-nothing_ahead : (kept whole : List ℕ) → IsEndOf kept whole → IsEndOf (kept ++ []) whole
-nothing_ahead kept whole a = let P : List ℕ → Type 0 = λ k. IsEndOf k whole in subst P (sym (append-nil kept)) a
-
 -- after a read
-pub read_holds : (tells : Type 0) (t u : Told) (kept kept' : List ℕ) (start start' : ℕ) (phase phase' : Phase) (line : List ℕ) (sent : ℕ) (ended ended' failed failed' : Bool) (rule : ReplyRule) (says : List ℕ → Bool → Outcome) (result : Result Outcome Broken) → Holds tells t kept start phase line sent ended failed rule → IsUnderWay rule kept' start' phase' → (tells → u.ended ≡ ended') → Hears tells says kept kept' ended ended' t u result → Holds tells u kept' start' phase' line sent ended' failed' rule
-read_holds tells t u kept kept' start start' phase phase' line sent ended ended' failed failed' rule says result held under known heard = record {
+pub read_holds : (tells : Type 0) (t u : Told) (kept kept' : List ℕ) (start start' : ℕ) (phase phase' : Phase) (ahead ahead' line : List ℕ) (sent : ℕ) (ended ended' failed failed' : Bool) (rule : ReplyRule) (says : List ℕ → Bool → Outcome) (result : Result Outcome Broken) → Holds tells t kept start phase ahead line sent ended failed rule → IsUnderWay rule kept' start' phase' → length ahead' ≤ 8192 → (tells → u.ended ≡ ended') → Hears tells says kept kept' ahead ahead' ended ended' t u result → Holds tells u kept' start' phase' ahead' line sent ended' failed' rule
+read_holds tells t u kept kept' start start' phase phase' ahead ahead' line sent ended ended' failed failed' rule says result held under bound known heard = record {
   under_way = under;
   within = held.within;
+  over = heard.at_end;
   sound = record {
     waits = (waiting_form phase', under.waits);
     kept = λ h.
         let reads = only_reads result heard.came ended' t u (heard.told h) in
-        let before : IsEndOf kept t.received = let P : List ℕ → Type 0 = λ k. IsEndOf k t.received in subst P (append-nil kept) (held.sound.kept h) in
-        let all : IsEndOf (kept ++ heard.came) u.received = let P : List ℕ → Type 0 = IsEndOf (kept ++ heard.came) in subst P (sym reads.received) (end_with_more kept t.received heard.came before) in
-        nothing_ahead kept' u.received (end_of_end kept' (kept ++ heard.came) u.received (kept_end result (kept ++ heard.came) kept' heard.all) all);
+        let all : IsEndOf ((kept ++ ahead) ++ heard.came) u.received = let P : List ℕ → Type 0 = IsEndOf ((kept ++ ahead) ++ heard.came) in subst P (sym reads.received) (end_with_more (kept ++ ahead) t.received heard.came (held.sound.kept h)) in
+        let part : IsEndOf (kept' ++ ahead') (heard.taken ++ ahead') = end_with_more kept' heard.taken ahead' (kept_end result heard.taken kept' heard.all) in
+        let P : List ℕ → Type 0 = IsEndOf (kept' ++ ahead') in
+        end_of_end (kept' ++ ahead') ((kept ++ ahead) ++ heard.came) u.received (subst P (sym heard.split) part) all;
+    ahead = bound;
     lines = λ h.
         let reads = only_reads result heard.came ended' t u (heard.told h) in
         let P : List ℕ → Type 0 = λ s. IsLines (s ++ drop sent line) (drop sent line) in subst P (sym reads.sent) (held.sound.lines h);
@@ -88,13 +87,15 @@ fresh_fits Any sent none = tt
 fresh_fits (UpTo most) sent none = rw none (omega arith)
 
 -- a channel begins
-pub idle_holds : (tells : Type 0) (t : Told) (rule : ReplyRule) → (tells → (t.ended ≡ false) × (t.sent ≡ [])) → Holds tells t [] 0 InReply [] 0 false false rule
+pub idle_holds : (tells : Type 0) (t : Told) (rule : ReplyRule) → (tells → (t.ended ≡ false) × (t.sent ≡ [])) → Holds tells t [] 0 InReply [] [] 0 false false rule
 idle_holds tells t rule begins = record {
   under_way = nothing_under_way rule;
   within = omega arith;
+  over = λ e. refl;
   sound = record {
     waits = (Features, (nothing_under_way rule).waits);
     kept = λ h. record { front = t.received; is = sym (append-nil t.received) };
+    ahead = omega arith;
     lines = λ h. let P : List ℕ → Type 0 = λ s. IsLines (s ++ []) [] in subst P (sym (begins h).1) (record { whole = refl; lines = tt; end_of_last = omega arith });
     ended = λ h. (begins h).0;
     fits = λ h. fresh_fits t.given.room t.sent (begins h).1;
@@ -102,17 +103,19 @@ idle_holds tells t rule begins = record {
 }
 
 -- the rule of the next reply is chosen, where nothing of one is kept
-pub rule_holds : (tells : Type 0) (t : Told) (kept : List ℕ) (start : ℕ) (phase : Phase) (line : List ℕ) (sent : ℕ) (ended failed : Bool) (rule chosen : ReplyRule) → kept ≡ [] → Holds tells t kept start phase line sent ended failed rule → Holds tells t kept start phase line sent ended failed chosen
+pub rule_holds : (tells : Type 0) (t : Told) (kept : List ℕ) (start : ℕ) (phase : Phase) (ahead line : List ℕ) (sent : ℕ) (ended failed : Bool) (rule chosen : ReplyRule) → kept ≡ [] → Holds tells t kept start phase ahead line sent ended failed rule → Holds tells t kept start phase ahead line sent ended failed chosen
 unfolding Rattle.ftp_control.specs.Grammar.outcome
-rule_holds tells t kept start phase line sent ended failed rule chosen none held =
+rule_holds tells t kept start phase ahead line sent ended failed rule chosen none held =
     let U : List ℕ → Type 0 = λ k. IsUnderWay rule k start phase → IsUnderWay chosen k start phase in
     let under : IsUnderWay chosen kept start phase = subst U (sym none) (λ way. record { split = way.split; phase_is = way.phase_is; waits = way.waits }) held.under_way in
     record {
       under_way = under;
       within = held.within;
+      over = held.over;
       sound = record {
         waits = (waiting_form phase, under.waits);
         kept = held.sound.kept;
+        ahead = held.sound.ahead;
         lines = held.sound.lines;
         ended = held.sound.ended;
         fits = held.sound.fits;
@@ -120,13 +123,15 @@ rule_holds tells t kept start phase line sent ended failed rule chosen none held
     }
 
 -- a line is taken whole, to go out
-pub push_holds : (tells : Type 0) (t : Told) (kept : List ℕ) (start : ℕ) (phase : Phase) (old line : List ℕ) (sent : ℕ) (ended failed : Bool) (rule : ReplyRule) → Holds tells t kept start phase old sent ended failed rule → drop sent old ≡ [] → is_wire_line line ≡ true → Holds tells t kept start phase line 0 ended failed rule
-push_holds tells t kept start phase old line sent ended failed rule held none is = record {
+pub push_holds : (tells : Type 0) (t : Told) (kept : List ℕ) (start : ℕ) (phase : Phase) (ahead old line : List ℕ) (sent : ℕ) (ended failed : Bool) (rule : ReplyRule) → Holds tells t kept start phase ahead old sent ended failed rule → drop sent old ≡ [] → is_wire_line line ≡ true → Holds tells t kept start phase ahead line 0 ended failed rule
+push_holds tells t kept start phase ahead old line sent ended failed rule held none is = record {
   under_way = held.under_way;
   within = omega arith;
+  over = held.over;
   sound = record {
     waits = held.sound.waits;
     kept = held.sound.kept;
+    ahead = held.sound.ahead;
     lines = λ h.
         let P : List ℕ → Type 0 = λ u. IsLines (t.sent ++ u) u in
         let before : IsLines (t.sent ++ []) [] = subst P none (held.sound.lines h) in

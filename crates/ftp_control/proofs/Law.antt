@@ -12,13 +12,13 @@ use Rattle.ftp_base.specs.Features.{is_last}
 use Rattle.ftp_control.specs.declared.control.form.ReplyForm.{ReplyForm}
 use Rattle.ftp_control.specs.declared.control.lenient.Phase.{Phase}
 use Rattle.ftp_control.specs.Inside.Phases.{is_listing, phase_in}
-use Rattle.ftp_control.specs.Grammar.{whole_lines, rest, last_line, lines, joined, opens, ends, code_at_start, to_end, reply_in, reply_limit, within, outcome}
+use Rattle.ftp_control.specs.Grammar.{whole_lines, rest, last_line, lines, joined, opens, ends, code_at_start, to_end, reply_in, reply_limit, within, outcome, first_within, line_outcome}
 use Rattle.ftp_control.specs.Found.{after_line}
 use Rattle.ftp_control.specs.Lenient.{by_dash, lists, opens_list, to_list_end}
 use Rattle.ftp_control.specs.Law.{IsSettled, SettledStays}
 use Rattle.ftp_control.proofs.Lines.{lines-append, joined-whole_lines, first_line_length, has_line_feed-rest}
 use Rattle.ftp_control.proofs.Replies.{after_lines, after_lines-Reply, after_lines-Unfinished, found_in, found_after, reply_in-append, reply_in-stays, to_end-NoReply, to_list_end-NoReply}
-use Rattle.ftp_control.proofs.Outcomes.{outcome-open, after_lines-NoReply, rest_all}
+use Rattle.ftp_control.proofs.Outcomes.{lines-open, outcome-open, after_lines-NoReply, rest_all}
 
 -- a reply has at least its first line
 covers : (line bytes : List ℕ) (code : ℕ) (found : Found) → after_line line found ≡ Reply bytes code → length line ≤ length bytes
@@ -201,3 +201,51 @@ ended_last rule form bytes false result is e =
     let P : Result Outcome Broken → Type 0 = λ r. AnswersOutcome r (outcome rule form bytes false) in
     let ended : Ended ≡ outcome rule form bytes false = subst P e is in
     absurd (never_ended rule form bytes (sym ended))
+
+-- Single lines: what is said of one that came with others stays, too
+
+line_overrun : (bytes more : List ℕ) (ended : Bool) → whole_lines bytes ≡ [] → reply_limit < length bytes → line_outcome (bytes ++ more) ended ≡ TooLarge
+unfolding line_outcome
+line_overrun bytes more ended none over =
+    let split : lines (bytes ++ more) ended ≡ lines (rest bytes ++ more) ended = lines-append bytes more ended ∙ ap (λ ls. ls ++ lines (rest bytes ++ more) ended) none in
+    rw split (go (lines (rest bytes ++ more) ended) refl)
+  where
+    count : length (bytes ++ more) ≡ length bytes + length more
+    count = length-append bytes more
+
+    go : (ls : List (List ℕ)) → lines (rest bytes ++ more) ended ≡ ls → first_within (length (bytes ++ more)) ended ls ≡ TooLarge
+    go [] is = let above : reply_limit < length (bytes ++ more) = omega (arith, over, count) in rw (lt-ltb _ _ above)
+    go (l ∷ ls) is =
+        let all : length (rest bytes) ≡ length bytes = ap length (rest_all bytes none) in
+        let long : length (rest bytes) ≤ length l = first_line_length (rest bytes) more ended l ls (has_line_feed-rest bytes) is in
+        let above : reply_limit < length l = omega (arith, over, all, long) in
+        rw (lt-leb _ _ above)
+
+line_open : (bytes : List ℕ) → line_outcome bytes false ≡ first_within (length bytes) false (whole_lines bytes)
+unfolding line_outcome
+line_open bytes = rw (lines-open bytes)
+
+line_at : (bytes : List ℕ) (ended : Bool) → line_outcome bytes ended ≡ first_within (length bytes) ended (lines bytes ended)
+unfolding line_outcome
+line_at bytes ended = refl
+
+line_settled_stays : (bytes more : List ℕ) (ended : Bool) (heard : Outcome) → (heard ≡ Waits → ⊥) → heard ≡ line_outcome bytes false → line_outcome (bytes ++ more) ended ≡ heard
+line_settled_stays bytes more ended heard settled is = go (whole_lines bytes) refl
+  where
+    go : (ls : List (List ℕ)) → whole_lines bytes ≡ ls → line_outcome (bytes ++ more) ended ≡ heard
+    go [] none =
+        let now : heard ≡ cond (ltb reply_limit (length bytes)) TooLarge Waits = is ∙ line_open bytes ∙ ap (first_within (length bytes) false) none in
+        elim (ltb reply_limit (length bytes)) as (λ t. ltb reply_limit (length bytes) ≡ t → heard ≡ cond t TooLarge Waits → line_outcome (bytes ++ more) ended ≡ heard) [
+          | true ↦ λ t e. line_overrun bytes more ended none (ltb-true _ _ t) ∙ sym e
+          | false ↦ λ t e. absurd (settled e)
+        ]
+        refl now
+    go (l ∷ ls) some =
+        let now : heard ≡ cond (leb (length l) reply_limit) (Whole l 0) TooLarge = is ∙ line_open bytes ∙ ap (first_within (length bytes) false) some in
+        let split : lines (bytes ++ more) ended ≡ l ∷ (ls ++ lines (rest bytes ++ more) ended) = lines-append bytes more ended ∙ ap (λ front. front ++ lines (rest bytes ++ more) ended) some in
+        let later : line_outcome (bytes ++ more) ended ≡ cond (leb (length l) reply_limit) (Whole l 0) TooLarge = line_at (bytes ++ more) ended ∙ ap (first_within (length (bytes ++ more)) ended) split in
+        later ∙ sym now
+
+pub line_answer_stays : (bytes : List ℕ) (ended : Bool) (heard : Outcome) → (heard ≡ Waits → ⊥) → heard ≡ line_outcome bytes ended → (more : List ℕ) (e : Bool) → GoesOn ended more e → line_outcome (bytes ++ more) e ≡ heard
+line_answer_stays bytes true heard settled is more e on = rw (on.nothing refl, on.over refl, append-nil bytes) (sym is)
+line_answer_stays bytes false heard settled is more e on = line_settled_stays bytes more e heard settled is

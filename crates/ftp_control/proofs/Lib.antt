@@ -1,3 +1,4 @@
+pub mod Ahead
 pub mod Channels
 pub mod Law
 pub mod Lines

@@ -1,7 +1,7 @@
 -- Lemmas on outcomes: one byte more, and the end of the input.
 use Rattle.std.proofs.Common.{◌≡◌, ◌≢◌, ◌⊎◌, inl, inr, ℕ, ◌+◌, ◌≤◌, ◌<◌, Bool, true, false, cond, not, ◌&&◌, ◌||◌, List, [], ◌∷◌, ◌++◌, length, take, drop, nat_eq, Ok, refl, ap, sym, ◌∙◌, append_assoc, arith, length-append, append-nil, add-zero, leb, ltb, nat_le, slice_index}
 use Rattle.std.specs.Cmp.Lexicographic.{pointwise}
-use Rattle.std.proofs.lemmas.Bool.{and_parts, and_right, le-leb, lt-leb, leb-true, lt-ltb, le-ltb, ltb-false, eqb-true, ne_eqb}
+use Rattle.std.proofs.lemmas.Bool.{and_parts, and_right, or_parts, le-leb, lt-leb, leb-true, lt-ltb, le-ltb, ltb-false, eqb-true, ne_eqb}
 use Rattle.ftp_control.specs.Inside.UnderWay.{IsUnderWay}
 use Rattle.std.proofs.lemmas.List.{take-append-le, drop-append-le}
 use Rattle.std.proofs.Math.Seq.{drop-append_seam}
@@ -10,7 +10,7 @@ use Rattle.ftp_control.specs.declared.control.rule.ReplyRule.TheVariants.{Strict
 use Rattle.ftp_control.specs.declared.control.outcome.Outcome.TheVariants.{Whole, Bad, TooLarge, Ended, Waits}
 use Rattle.ftp_control.specs.declared.control.grammar.Verdict.{Verdict}
 use Rattle.ftp_control.specs.declared.control.grammar.Verdict.TheVariants.{Refused, Ends, GoesOn}
-use Rattle.ftp_control.specs.Grammar.{is_line_feed, whole_lines, rest, last_line, lines, joined, begins_with_digits, opens, ends, code_at_start, to_end, reply_in, reply_limit, within, outcome, line_outcome}
+use Rattle.ftp_control.specs.Grammar.{is_line_feed, has_line_feed, whole_lines, rest, last_line, lines, joined, begins_with_digits, opens, ends, code_at_start, to_end, reply_in, reply_limit, within, outcome, line_outcome}
 use Rattle.ftp_control.specs.Lenient.{by_dash, lists, opens_list, to_list_end}
 use Rattle.ftp_control.specs.declared.plain.Found.{Found}
 use Rattle.ftp_control.specs.declared.plain.Found.TheVariants.{Reply, NoReply, Unfinished}
@@ -25,7 +25,7 @@ use Rattle.ftp_control.specs.Inside.Verdict.{verdict, line_verdict, outcome_by, 
 use Rattle.ftp_control.proofs.Lines.{joined-whole_lines, whole_lines-line_feed, rest-closed, whole_lines-other, rest-other, first_nonempty}
 use Rattle.ftp_control.proofs.Replies.{after_lines, after_lines-Reply, after_lines-Unfinished, found_after, found_in, reply_in-append, reply_never_past, opened}
 
-lines-open : (bytes : List ℕ) → lines bytes false ≡ whole_lines bytes
+pub lines-open : (bytes : List ℕ) → lines bytes false ≡ whole_lines bytes
 lines-open bytes = go (rest bytes)
   where
     go : (r : List ℕ) → whole_lines bytes ++ last_line false r ≡ whole_lines bytes
@@ -686,3 +686,30 @@ starts_no_line bytes start split zero = go (whole_lines bytes) refl (first_start
     go : (ls : List (List ℕ)) → whole_lines bytes ≡ ls → is_first_of ls ≡ true → whole_lines bytes ≡ []
     go [] is first = is
     go (l ∷ ls) is first = let clash : false ≡ true = first in cc
+
+-- A piece: what holds after each byte that closes no line holds after all of them
+
+module _ (b : ℕ) (front : List ℕ) (bytes : List ℕ) where
+  front_next : bytes ++ b ∷ front ≡ (bytes ++ b ∷ []) ++ front
+  front_next = sym (append_assoc bytes (b ∷ []) front)
+
+  front_fits : (limit : ℕ) → length bytes + length (b ∷ front) ≤ limit → length (bytes ++ b ∷ []) + length front ≤ limit
+  front_fits limit fits = rw (length-append bytes (b ∷ [])) (omega (arith, fits))
+
+pub front_waits : (rule : ReplyRule) (form : ReplyForm) (bytes front : List ℕ) → outcome rule form bytes false ≡ Waits → has_line_feed front ≡ false → length bytes + length front ≤ reply_limit → outcome rule form (bytes ++ front) false ≡ Waits
+front_waits rule form bytes [] waits none fits = rw (append-nil bytes) waits
+front_waits rule form bytes (b ∷ front) waits none fits =
+    let parts = or_parts (is_line_feed b) (has_line_feed front) none in
+    rw (front_next b front bytes) (front_waits rule form (bytes ++ b ∷ []) front (waits_on rule form bytes b waits parts.0 (omega (arith, fits))) parts.1 (front_fits b front bytes reply_limit fits))
+
+pub front_leaves : (rule : ReplyRule) (bytes front : List ℕ) (start : ℕ) (phase : Phase) → IsUnderWay rule bytes start phase → has_line_feed front ≡ false → length bytes + length front ≤ reply_limit → IsUnderWay rule (bytes ++ front) start phase
+front_leaves rule bytes [] start phase under none fits = rw (append-nil bytes) under
+front_leaves rule bytes (b ∷ front) start phase under none fits =
+    let parts = or_parts (is_line_feed b) (has_line_feed front) none in
+    rw (front_next b front bytes) (front_leaves rule (bytes ++ b ∷ []) front start phase (byte_leaves rule bytes start phase b under parts.0 (omega (arith, fits))) parts.1 (front_fits b front bytes reply_limit fits))
+
+pub front_no_line : (bytes front : List ℕ) → whole_lines bytes ≡ [] → has_line_feed front ≡ false → whole_lines (bytes ++ front) ≡ []
+front_no_line bytes [] no_line none = rw (append-nil bytes) no_line
+front_no_line bytes (b ∷ front) no_line none =
+    let parts = or_parts (is_line_feed b) (has_line_feed front) none in
+    rw (front_next b front bytes) (front_no_line (bytes ++ b ∷ []) front (no_line_yet bytes b no_line parts.0) parts.1)

@@ -1,26 +1,91 @@
--- Lemmas on the read loop: byte by byte, after whatever was read before.
-use Rattle.std.proofs.Common.{◌≡◌, ℕ, Bool, true, false, List, [], ◌∷◌, ◌++◌, Ok, Err, refl, ap, sym, ◌∙◌, append_assoc, append-nil, subst}
+-- Lemmas on the read loop: piece by piece, after whatever was read before.
+use Rattle.std.proofs.Common.{◌≡◌, ℕ, ◌+◌, ◌-◌, ◌≤◌, ◌<◌, Bool, true, false, cond, not, List, [], ◌++◌, length, Ok, Err, refl, ap, sym, ◌∙◌, append_assoc, append-nil, length-append, subst, arith}
 use Rattle.std.specs.declared.io.ErrorKind.{ErrorKind}
+use Rattle.futures.specs.declared.task.Poll.TheVariants.{Ready}
+use Rattle.ftp_control.specs.declared.control.broken.Broken.{Broken}
 use Rattle.ftp_control.specs.declared.control.broken.Broken.TheVariants.{Connection, OutOfMemory}
 use Rattle.ftp_control.specs.declared.control.outcome.Outcome.{Outcome}
 use Rattle.ftp_control.specs.declared.control.outcome.Outcome.TheVariants.{Whole, Bad, TooLarge, Ended, Waits}
 use Rattle.ftp_transport.specs.Told.{Told, IsDry, HasFailed, after_read, after_end}
 use Rattle.ftp_control.specs.Reading.{after_input, GoesOn, HearTells}
-use Rattle.ftp_control.specs.Inside.ReadLoop.{TakesAll, Hears}
+use Rattle.ftp_control.specs.Grammar.{reply_limit}
+use Rattle.ftp_control.specs.Inside.Ahead.{Fills}
+use Rattle.ftp_control.specs.Inside.ReadLoop.{TakesAll, Takes, Hears}
 
--- what was read so far, where it says nothing yet
-pub record SoFar (tells : Type 0) (says : List ℕ → Bool → Outcome) (kept kept' : List ℕ) (first ended : Bool) (t u : Told) : Type 0 where
+-- what was looked at so far, where it says nothing yet
+pub record LooksSoFar (says : List ℕ → Bool → Outcome) (kept kept' ahead ahead' : List ℕ) : Type 0 where
+  pub split : kept ++ ahead ≡ kept' ++ ahead'
+  pub past : length ahead' ≤ length ahead
+  pub waits : says kept false ≡ Waits → says kept' false ≡ Waits
+
+pub nothing_looked_at : (says : List ℕ → Bool → Outcome) (kept ahead : List ℕ) → LooksSoFar says kept kept ahead ahead
+nothing_looked_at says kept ahead = record { split = refl; past = omega arith; waits = λ w. w }
+
+module _ (says : List ℕ → Bool → Outcome) (kept now ahead left : List ℕ) (so_far : LooksSoFar says kept now ahead left) (piece after : List ℕ) (parts : left ≡ piece ++ after) where
+  next_split : kept ++ ahead ≡ (now ++ piece) ++ after
+  next_split = so_far.split ∙ ap (λ l. now ++ l) parts ∙ sym (append_assoc now piece after)
+
+  next_past : length after ≤ length ahead
+  next_past = let longer : length left ≡ length piece + length after = ap length parts ∙ length-append piece after in omega (arith, so_far.past, longer)
+
+  -- a piece more, which says nothing yet
+  pub looks_on : (later : List ℕ) → later ≡ now ++ piece → (says now false ≡ Waits → Waits ≡ says (now ++ piece) false) → LooksSoFar says kept later ahead after
+  looks_on later is waits = record { split = rw is next_split; past = next_past; waits = λ w. rw is (sym (waits (so_far.waits w))) }
+
+  -- a piece more settles it
+  pub piece_settles : (later : List ℕ) (heard : Outcome) → (heard ≡ Waits → ⊥) → (heard ≡ Ended → ⊥) → TakesAll (Ok heard) (now ++ piece) later → (says now false ≡ Waits → heard ≡ says (now ++ piece) false) → Takes says kept later ahead after (Ok heard)
+  piece_settles later heard settled goes_on all is = record {
+    taken = now ++ piece;
+    split = next_split;
+    past = next_past;
+    all = all;
+    none = λ w. absurd (settled (let same : Ok heard ≡ Ok Waits = w in cc same));
+    goes_on = λ e. goes_on (let same : Ok heard ≡ Ok Ended = e in cc same);
+    answer = λ w. is (so_far.waits w);
+  }
+
+module _ (says : List ℕ → Bool → Outcome) (kept now ahead left : List ℕ) (so_far : LooksSoFar says kept now ahead left) where
+  -- there is no room for a piece more
+  pub lacks_memory : Takes says kept now ahead left (Err OutOfMemory)
+  lacks_memory = record {
+    taken = now;
+    split = so_far.split;
+    past = so_far.past;
+    all = refl;
+    none = λ w. let clash : Err OutOfMemory ≡ Ok Waits = w in cc;
+    goes_on = λ e. let clash : Err OutOfMemory ≡ Ok Ended = e in cc;
+    answer = λ w. tt;
+  }
+
+  -- nothing is left to look at
+  pub looked_at_all : left ≡ [] → Takes says kept now ahead left (Ok Waits)
+  looked_at_all none = record {
+    taken = now;
+    split = so_far.split;
+    past = so_far.past;
+    all = refl;
+    none = λ w. none;
+    goes_on = λ e. let clash : Ok Waits ≡ Ok Ended = e in cc;
+    answer = λ w. sym (so_far.waits w);
+  }
+
+-- what was read so far, where what was looked at says nothing yet
+pub record SoFar (tells : Type 0) (says : List ℕ → Bool → Outcome) (kept kept' ahead ahead' : List ℕ) (first ended : Bool) (t u : Told) : Type 0 where
   pub came : List ℕ
   pub over : GoesOn first came ended
-  pub grown : kept' ≡ kept ++ came
+  pub split : (kept ++ ahead) ++ came ≡ kept' ++ ahead'
+  pub past : length ahead' ≤ length ahead + length came
+  pub at_end : ended ≡ true → ahead' ≡ []
   pub waits : says kept false ≡ Waits → says kept' false ≡ Waits
   pub told : tells → u ≡ after_input came ended t
 
-pub nothing_so_far : (tells : Type 0) (says : List ℕ → Bool → Outcome) (kept : List ℕ) (ended : Bool) (t : Told) → (tells → t.ended ≡ ended) → SoFar tells says kept kept ended ended t t
-nothing_so_far tells says kept ended t known = record {
+pub nothing_so_far : (tells : Type 0) (says : List ℕ → Bool → Outcome) (kept ahead : List ℕ) (ended : Bool) (t : Told) → (tells → t.ended ≡ ended) → (ended ≡ true → ahead ≡ []) → SoFar tells says kept kept ahead ahead ended ended t t
+nothing_so_far tells says kept ahead ended t known over = record {
   came = [];
   over = record { nothing = λ e. refl; over = λ e. e };
-  grown = sym (append-nil kept);
+  split = append-nil (kept ++ ahead);
+  past = omega arith;
+  at_end = over;
   waits = λ w. w;
   told = λ h. rw (append-nil t.received, ← known h);
 }
@@ -32,75 +97,169 @@ goes_on first came more later so_far = record {
   over = λ e. let clash : false ≡ true = so_far.over e in cc;
 }
 
-module _ (tells : Type 0) (says : List ℕ → Bool → Outcome) (kept now : List ℕ) (first : Bool) (t u : Told) (so_far : SoFar tells says kept now first false t u) where
-  -- one byte more, which says nothing yet
-  pub one_more : (later : List ℕ) (byte : ℕ) (v : Told) → later ≡ now ++ byte ∷ [] → (says now false ≡ Waits → Waits ≡ says (now ++ byte ∷ []) false) → (tells → v ≡ after_read (byte ∷ []) u) → SoFar tells says kept later first false t v
-  one_more later byte v is waits told = record {
-    came = so_far.came ++ byte ∷ [];
-    over = goes_on first so_far.came (so_far.came ++ byte ∷ []) false so_far.over;
-    grown = is ∙ ap (λ bs. bs ++ byte ∷ []) so_far.grown ∙ append_assoc kept so_far.came (byte ∷ []);
-    waits = λ w. rw is (sym (waits (so_far.waits w)));
-    told = λ h. told h ∙ rw (so_far.told h, append_assoc);
-  }
+module _ (tells : Type 0) (says : List ℕ → Bool → Outcome) (kept now later ahead left after : List ℕ) (first : Bool) (t u : Told) (so_far : SoFar tells says kept now ahead left first false t u) where
+  module _ (heard : Outcome) (looks : Takes says now later left after (Ok heard)) where
+    taken_split : (kept ++ ahead) ++ so_far.came ≡ looks.taken ++ after
+    taken_split = so_far.split ∙ looks.split
 
-  -- the end, where nothing was said before
-  pub at_end : (v : Told) → (tells → v ≡ after_end u) → SoFar tells says kept now first true t v
-  at_end v told = record { came = so_far.came; over = goes_on first so_far.came so_far.came true so_far.over; grown = so_far.grown; waits = so_far.waits; told = λ h. told h ∙ rw (so_far.told h) }
+    -- what lies ahead settles it
+    pub look_settles : (heard ≡ Waits → ⊥) → Hears tells says kept later ahead after first false t u (Ok heard)
+    look_settles settled = record {
+      came = so_far.came;
+      taken = looks.taken;
+      split = taken_split;
+      past = omega (arith, so_far.past, looks.past);
+      over = so_far.over;
+      unended = λ w. refl;
+      none = looks.none;
+      at_end = λ e. let clash : false ≡ true = e in cc;
+      last = λ e. absurd (looks.goes_on e);
+      all = looks.all;
+      answer = λ w. looks.answer (so_far.waits w);
+      told = λ h. go heard settled (so_far.told h);
+    }
+      where
+        go : (o : Outcome) → (o ≡ Waits → ⊥) → u ≡ after_input so_far.came false t → HearTells (Ok o) so_far.came false t u
+        go (Whole bytes code) other e = e
+        go (Bad line) other e = e
+        go TooLarge other e = e
+        go Ended other e = e
+        go Waits other e = absurd (other refl)
 
-  -- one byte more settles it
-  pub byte_settles : (later : List ℕ) (byte : ℕ) (heard : Outcome) (v : Told) → (heard ≡ Waits → ⊥) → (says now false ≡ Waits → heard ≡ says (now ++ byte ∷ []) false) → TakesAll (Ok heard) (now ++ byte ∷ []) later → (tells → v ≡ after_read (byte ∷ []) u) → Hears tells says kept later first false t v (Ok heard)
-  byte_settles later byte heard v settled is whole told =
-      let all : now ++ byte ∷ [] ≡ kept ++ (so_far.came ++ byte ∷ []) = ap (λ bs. bs ++ byte ∷ []) so_far.grown ∙ append_assoc kept so_far.came (byte ∷ []) in
-      record {
-        came = so_far.came ++ byte ∷ [];
-        over = goes_on first so_far.came (so_far.came ++ byte ∷ []) false so_far.over;
-        unended = λ w. refl;
-        all = let P : List ℕ → Type 0 = λ bs. TakesAll (Ok heard) bs later in subst P all whole;
-        answer = λ w. is (so_far.waits w) ∙ rw all;
-        told = λ h. go heard settled (told h ∙ rw (so_far.told h, append_assoc));
-      }
-    where
-      go : (o : Outcome) → (o ≡ Waits → ⊥) → v ≡ after_input (so_far.came ++ byte ∷ []) false t → HearTells (Ok o) (so_far.came ++ byte ∷ []) false t v
-      go (Whole bytes code) other e = e
-      go (Bad line) other e = e
-      go TooLarge other e = e
-      go Ended other e = e
-      go Waits other e = absurd (other refl)
-
-  -- the connection waits
-  pub waits_hears : (v : Told) → (tells → (v ≡ u) × IsDry v) → Hears tells says kept now first false t v (Ok Waits)
-  waits_hears v told = record {
+  -- there is no room for what lies ahead
+  pub memory_hears : Takes says now later left after (Err OutOfMemory) → Hears tells says kept later ahead after first false t u (Err OutOfMemory)
+  memory_hears looks = record {
     came = so_far.came;
+    taken = looks.taken;
+    split = so_far.split ∙ looks.split;
+    past = omega (arith, so_far.past, looks.past);
     over = so_far.over;
     unended = λ w. refl;
-    all = so_far.grown;
-    answer = λ w. sym (so_far.waits w) ∙ rw so_far.grown;
-    told = λ h. ((told h).0 ∙ so_far.told h, (told h).1);
-  }
-
--- the read fails, and nothing is lost
-module _ (tells : Type 0) (says : List ℕ → Bool → Outcome) (first ended : Bool) (kept now : List ℕ) (t u : Told) (so_far : SoFar tells says kept now first ended t u) where
-  pub fails_hears : (kind : ErrorKind) (v : Told) → (tells → HasFailed kind u v) → Hears tells says kept now first ended t v (Err (Connection kind))
-  fails_hears kind v told = record {
-    came = so_far.came;
-    over = so_far.over;
-    unended = λ w. let clash : Err (Connection kind) ≡ Ok Waits = w in cc;
-    all = so_far.grown;
+    none = λ w. let clash : Err OutOfMemory ≡ Ok Waits = w in cc;
+    at_end = λ e. let clash : false ≡ true = e in cc;
+    last = λ e. let clash : Err OutOfMemory ≡ Ok Ended = e in cc;
+    all = looks.all;
     answer = λ w. tt;
-    told = λ h. let P : Told → Type 0 = λ x. HasFailed kind x v in subst P (so_far.told h) (told h);
+    told = λ h. so_far.told h;
   }
 
-  pub memory_hears : Hears tells says kept now first ended t u (Err OutOfMemory)
-  memory_hears = record { came = so_far.came; over = so_far.over; unended = λ w. (let clash : Err OutOfMemory ≡ Ok Waits = w in cc); all = so_far.grown; answer = λ w. tt; told = so_far.told }
+  module _ (looks : Takes says now later left after (Ok Waits)) where
+    -- all that lay ahead was looked at
+    looked_at : (kept ++ ahead) ++ so_far.came ≡ later
+    looked_at = so_far.split ∙ looks.split ∙ ap (λ l. looks.taken ++ l) (looks.none refl) ∙ append-nil looks.taken ∙ sym looks.all
+
+    still_waits : says kept false ≡ Waits → says later false ≡ Waits
+    still_waits w = rw looks.all (sym (looks.answer (so_far.waits w)))
+
+    -- more bytes came
+    pub more_comes : (more : List ℕ) (v : Told) → (tells → v ≡ after_read more u) → SoFar tells says kept later ahead more first false t v
+    more_comes more v told = record {
+      came = so_far.came ++ more;
+      over = goes_on first so_far.came (so_far.came ++ more) false so_far.over;
+      split = sym (append_assoc (kept ++ ahead) so_far.came more) ∙ ap (λ l. l ++ more) looked_at;
+      past = rw (length-append so_far.came more) (omega arith);
+      at_end = λ e. let clash : false ≡ true = e in cc;
+      waits = still_waits;
+      told = λ h. told h ∙ rw (so_far.told h, append_assoc);
+    }
+
+    -- the end came
+    pub end_comes : (v : Told) → (tells → v ≡ after_end u) → SoFar tells says kept later ahead [] first true t v
+    end_comes v told = record {
+      came = so_far.came;
+      over = goes_on first so_far.came so_far.came true so_far.over;
+      split = looked_at ∙ sym (append-nil later);
+      past = omega arith;
+      at_end = λ e. refl;
+      waits = still_waits;
+      told = λ h. told h ∙ rw (so_far.told h);
+    }
+
+    -- the connection waits
+    pub waits_hears : (v : Told) → (tells → (v ≡ u) × IsDry v) → Hears tells says kept later ahead [] first false t v (Ok Waits)
+    waits_hears v told = record {
+      came = so_far.came;
+      taken = later;
+      split = looked_at ∙ sym (append-nil later);
+      past = omega arith;
+      over = so_far.over;
+      unended = λ w. refl;
+      none = λ w. refl;
+      at_end = λ e. refl;
+      last = λ e. let clash : Ok Waits ≡ Ok Ended = e in cc;
+      all = refl;
+      answer = λ w. sym (still_waits w);
+      told = λ h. ((told h).0 ∙ so_far.told h, (told h).1);
+    }
+
+    -- the read fails, and nothing is lost
+    pub fails_hears : (kind : ErrorKind) (v : Told) → (tells → HasFailed kind u v) → Hears tells says kept later ahead [] first false t v (Err (Connection kind))
+    fails_hears kind v told = record {
+      came = so_far.came;
+      taken = later;
+      split = looked_at ∙ sym (append-nil later);
+      past = omega arith;
+      over = so_far.over;
+      unended = λ w. refl;
+      none = λ w. refl;
+      at_end = λ e. refl;
+      last = λ e. let clash : Err (Connection kind) ≡ Ok Ended = e in cc;
+      all = refl;
+      answer = λ w. tt;
+      told = λ h. let P : Told → Type 0 = λ x. HasFailed kind x v in subst P (so_far.told h) (told h);
+    }
+
+    -- there is no room for the buffer
+    pub buffer_hears : (v : Told) → (tells → v ≡ u) → Hears tells says kept later ahead [] first false t v (Err OutOfMemory)
+    buffer_hears v told = record {
+      came = so_far.came;
+      taken = later;
+      split = looked_at ∙ sym (append-nil later);
+      past = omega arith;
+      over = so_far.over;
+      unended = λ w. refl;
+      none = λ w. refl;
+      at_end = λ e. refl;
+      last = λ e. let clash : Err OutOfMemory ≡ Ok Ended = e in cc;
+      all = refl;
+      answer = λ w. tt;
+      told = λ h. told h ∙ so_far.told h;
+    }
+
+    -- the connection was read
+    pub fills_on : (any : Bool) (new : List ℕ) (v : Told) → Fills tells (Ok (Ready any)) new u v → SoFar tells says kept later ahead new first (not any) t v
+    fills_on true new v fills = more_comes new v fills.told
+    fills_on false new v fills = let P : List ℕ → Type 0 = λ l. SoFar tells says kept later ahead l first true t v in subst P (sym fills.leaves) (end_comes v fills.told)
+
+    -- it couldn't be
+    pub fill_fails : (broken : Broken) (new : List ℕ) (v : Told) → Fills tells (Err broken) new u v → Hears tells says kept later ahead new first false t v (Err broken)
+    fill_fails (Connection kind) new v fills = let P : List ℕ → Type 0 = λ l. Hears tells says kept later ahead l first false t v (Err (Connection kind)) in subst P (sym fills.leaves) (fails_hears kind v fills.told)
+    fill_fails OutOfMemory new v fills = let P : List ℕ → Type 0 = λ l. Hears tells says kept later ahead l first false t v (Err OutOfMemory) in subst P (sym fills.leaves) (buffer_hears v fills.told)
+
+-- what is kept and ahead has grown, or the input has ended
+pub fill_smaller : (any : Bool) (before after came : ℕ) → before ≡ after → after ≤ reply_limit → came ≤ 8192 → (any ≡ true → 0 < came) → cond (not any) 0 (270337 - (after + came)) < 270337 - before
+fill_smaller true before after came same fits bound some = omega (arith, same, fits, bound, some refl)
+fill_smaller false before after came same fits bound some = omega (arith, same, fits)
+
+-- bytes came
+pub some_came : (tells : Type 0) (any : Bool) (new : List ℕ) (t u : Told) → Fills tells (Ok (Ready any)) new t u → any ≡ true → 0 < length new
+some_came tells true new t u fills is = fills.leaves
+some_came tells false new t u fills is = let clash : false ≡ true = is in cc
 
 -- the end settles it
-pub end_settles : (tells : Type 0) (says : List ℕ → Bool → Outcome) (kept now : List ℕ) (first : Bool) (t u : Told) → SoFar tells says kept now first true t u → (later : List ℕ) (heard : Outcome) → (heard ≡ Waits → ⊥) → (says now false ≡ Waits → heard ≡ says now true) → TakesAll (Ok heard) now later → Hears tells says kept later first true t u (Ok heard)
-end_settles tells says kept now first t u so_far later heard settled is whole = record {
+pub end_settles : (tells : Type 0) (says : List ℕ → Bool → Outcome) (kept now ahead left : List ℕ) (first : Bool) (t u : Told) → SoFar tells says kept now ahead left first true t u → (later : List ℕ) (heard : Outcome) → (heard ≡ Waits → ⊥) → (says now false ≡ Waits → heard ≡ says now true) → TakesAll (Ok heard) now later → Hears tells says kept later ahead left first true t u (Ok heard)
+end_settles tells says kept now ahead left first t u so_far later heard settled is whole = record {
   came = so_far.came;
+  taken = now;
+  split = so_far.split;
+  past = so_far.past;
   over = so_far.over;
   unended = λ w. absurd (settled (let same : Ok heard ≡ Ok Waits = w in cc same));
-  all = let P : List ℕ → Type 0 = λ bs. TakesAll (Ok heard) bs later in subst P so_far.grown whole;
-  answer = λ w. is (so_far.waits w) ∙ rw so_far.grown;
+  none = λ w. so_far.at_end refl;
+  at_end = so_far.at_end;
+  last = λ e. refl;
+  all = whole;
+  answer = λ w. is (so_far.waits w);
   told = λ h. go heard settled (so_far.told h);
 }
   where
@@ -110,3 +269,12 @@ end_settles tells says kept now first t u so_far later heard settled is whole = 
     go TooLarge other e = e
     go Ended other e = e
     go Waits other e = absurd (other refl)
+
+-- the connection's record knows whether it has ended
+pub fill_known : (tells : Type 0) (any : Bool) (new : List ℕ) (t u : Told) → Fills tells (Ok (Ready any)) new t u → tells → t.ended ≡ false → u.ended ≡ not any
+fill_known tells true new t u fills h before = ap (λ x. x.ended) (fills.told h) ∙ before
+fill_known tells false new t u fills h before = ap (λ x. x.ended) (fills.told h)
+
+pub none_came : (any : Bool) → not any ≡ true → any ≡ false
+none_came true is = sym is
+none_came false is = refl

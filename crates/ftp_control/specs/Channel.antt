@@ -40,10 +40,11 @@ pub record IsEndOf (part whole : List ℕ) : Type 0 where
   pub is : whole ≡ front ++ part
 
 -- the sound channel: what is kept says nothing yet of some form, and what is untaken ends what was received; what went out is
--- within the room, and with what is unsent it is whole wire lines
+-- within the room, and with what is unsent it is whole wire lines; no more lies ahead than one read gives
 pub record IsSound (tells : Type 0) (c : Channel) : Type 0 where
   pub waits : (form : ReplyForm) × (outcome c.rule form c.kept false ≡ Waits)
   pub kept : tells → IsEndOf (untaken c) c.told.received
+  pub ahead : length c.ahead ≤ 8192
   pub lines : tells → IsLines (c.told.sent ++ c.unsent) c.unsent
   pub ended : tells → c.told.ended ≡ c.ended
   pub fits : tells → Fits c.told

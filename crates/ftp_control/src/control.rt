@@ -7,6 +7,7 @@
 //!
 //! Each is polled. A blocking call is the same poll over a connection that never waits.
 
+mod ahead;
 mod broken;
 mod channel;
 mod ends;

@@ -1,8 +1,5 @@
--- The read loop: bytes one by one, until they settle what is sought.
-use Rattle.std.specs.Prelude.{◌≡◌, ℕ, ◌+◌, Bool, false, List, [], ◌∷◌, ◌++◌, length, Option, Some, None, Result, Ok, Err}
-use Rattle.std.specs.declared.io.ErrorKind.{ErrorKind}
-use Rattle.futures.specs.declared.task.Poll.{Poll}
-use Rattle.futures.specs.declared.task.Poll.TheVariants.{Ready, Pending}
+-- The read loop: pieces one by one, until they settle what is sought.
+use Rattle.std.specs.Prelude.{◌≡◌, ℕ, ◌+◌, ◌≤◌, Bool, true, false, List, [], ◌++◌, length, Result, Ok, Err}
 use Rattle.ftp_control.specs.declared.control.broken.Broken.{Broken}
 use Rattle.ftp_control.specs.declared.control.outcome.Outcome.{Outcome}
 use Rattle.ftp_control.specs.declared.control.outcome.Outcome.TheVariants.{Whole, Bad, TooLarge, Ended, Waits}
@@ -10,15 +7,8 @@ use Rattle.ftp_control.specs.declared.control.rule.ReplyRule.{ReplyRule}
 use Rattle.ftp_control.specs.declared.control.sought.Sought.{Sought}
 use Rattle.ftp_control.specs.declared.control.sought.Sought.TheVariants.{Reply, Line}
 use Rattle.ftp_control.specs.Grammar.{outcome, line_outcome, whole_lines, reply_limit}
-use Rattle.ftp_transport.specs.Told.{Told, IsDry, HasFailed, after_read, after_end}
+use Rattle.ftp_transport.specs.Told.{Told}
 use Rattle.ftp_control.specs.Reading.{GoesOn, HearTells, AnswersOutcome}
-
--- what the connection records of a read of one byte
-abbrev pub ByteTells : Result (Poll (Option ℕ)) ErrorKind → Told → Told → Type 0
-ByteTells (Ok (Ready (Some byte))) t u = u ≡ after_read (byte ∷ []) t
-ByteTells (Ok (Ready None)) t u = u ≡ after_end t
-ByteTells (Ok Pending) t u = (u ≡ t) × IsDry t
-ByteTells (Err kind) t u = HasFailed kind t u
 
 -- what all bytes since the read began say of what is sought
 abbrev pub says_of : ReplyRule → Sought → List ℕ → Bool → Outcome
@@ -39,11 +29,28 @@ TakesAll (Ok Ended) bytes kept' = kept' ≡ []
 TakesAll (Ok Waits) bytes kept' = kept' ≡ bytes
 TakesAll (Err broken) bytes kept' = kept' ≡ bytes
 
--- a run of the loop: it returns what is said of all bytes since the read began, where those kept said nothing yet
-pub record Hears (tells : Type 0) (says : List ℕ → Bool → Outcome) (kept kept' : List ℕ) (ended ended' : Bool) (t u : Told) (result : Result Outcome Broken) : Type 0 where
+-- a look at what lies ahead: what is said of the bytes that it took, where those kept said nothing yet
+pub record Takes (says : List ℕ → Bool → Outcome) (kept kept' ahead ahead' : List ℕ) (result : Result Outcome Broken) : Type 0 where
+  pub taken : List ℕ
+  pub split : kept ++ ahead ≡ taken ++ ahead'
+  pub past : length ahead' ≤ length ahead
+  pub all : TakesAll result taken kept'
+  pub none : result ≡ Ok Waits → ahead' ≡ []
+  pub goes_on : result ≡ Ok Ended → ⊥
+  pub answer : says kept false ≡ Waits → AnswersOutcome result (says taken false)
+
+-- a run of the loop: it returns what is said of the bytes that it took of those kept, ahead and read, where those kept
+-- said nothing yet
+pub record Hears (tells : Type 0) (says : List ℕ → Bool → Outcome) (kept kept' ahead ahead' : List ℕ) (ended ended' : Bool) (t u : Told) (result : Result Outcome Broken) : Type 0 where
   pub came : List ℕ
+  pub taken : List ℕ
+  pub split : (kept ++ ahead) ++ came ≡ taken ++ ahead'
+  pub past : length ahead' ≤ length ahead + length came
   pub over : GoesOn ended came ended'
   pub unended : result ≡ Ok Waits → ended' ≡ false
-  pub all : TakesAll result (kept ++ came) kept'
-  pub answer : says kept false ≡ Waits → AnswersOutcome result (says (kept ++ came) ended')
+  pub none : result ≡ Ok Waits → ahead' ≡ []
+  pub at_end : ended' ≡ true → ahead' ≡ []
+  pub last : result ≡ Ok Ended → ended' ≡ true
+  pub all : TakesAll result taken kept'
+  pub answer : says kept false ≡ Waits → AnswersOutcome result (says taken ended')
   pub told : tells → HearTells result came ended' t u

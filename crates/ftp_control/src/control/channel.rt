@@ -1,7 +1,8 @@
 //! The control channel: a connection, the bytes of the reply under way, and the line that goes out.
 //!
-//! How it works: bytes are read one by one into one buffer, which holds a part of a reply and nothing behind it. A read
-//! that is settled empties the buffer; one that waits leaves it, so that the next read goes on there, whoever makes it.
+//! How it works: received bytes lie ahead until a read looks at them. Those of the reply under way are moved, line by line,
+//! into one buffer, which holds a part of a reply and nothing after it. A read that is settled empties the buffer, and what
+//! came after the reply stays ahead; one that waits leaves the buffer, so that the next read goes on there, whoever makes it.
 //! A line is moved into the outbox whole before its first byte is written; what isn't sent of it goes out before
 //! anything else. So a call that is dropped in the middle leaves at most a part of a reply to be read on, and a part of
 //! a line to be sent on, and never a byte that belongs to something else.
@@ -14,6 +15,7 @@ ghost use Rattle.futures.specs.declared.task.Poll.TheVariants as poll;
 ghost use Rattle.ftp_control.specs.declared.control.outcome.Outcome.TheVariants as outcomes;
 ghost use Rattle.ftp_control.specs.Channel.{fails_by};
 
+use super::ahead::ReadAhead;
 use super::lenient::Phase;
 use super::outbox::{Outbox, flush};
 use super::read_loop::hear;
@@ -33,6 +35,7 @@ use std::marker::Model;
 #[derive(Drop)]
 pub struct ControlChannel<C: Tells + Drop> {
     pub(super) conn: C,
+    pub(super) ahead: ReadAhead,
     pub(super) reply: ReplyBuffer,
     pub(super) outbox: Outbox,
     pub(super) ended: bool,
@@ -51,7 +54,7 @@ impl<C: Tells + Drop> Model for ControlChannel<C> {
     ghost view = { λ c. record {
       told = C.told c.conn;
       kept = c.reply.bytes.items;
-      ahead = [];
+      ahead = c.ahead;
       unsent = drop c.outbox.sent c.outbox.line.items;
       ended = c.ended;
       failed = c.failed;
@@ -59,7 +62,7 @@ impl<C: Tells + Drop> Model for ControlChannel<C> {
     } };
 
     ghost invariant = { λ c. Holds C.tells (C.told c.conn) c.reply.bytes.items c.reply.line_start c.reply.phase
-        c.outbox.line.items c.outbox.sent c.ended c.failed c.rule };
+        c.ahead c.outbox.line.items c.outbox.sent c.ended c.failed c.rule };
 }
 
 impl<C: Tells + Drop> ControlChannel<C> {
@@ -92,6 +95,7 @@ impl<C: Tells + Drop> ControlChannel<C> {
         let result = hear(
             alloc,
             &mut self.conn,
+            &mut self.ahead,
             &mut self.reply,
             &mut self.ended,
             self.rule,
@@ -112,6 +116,7 @@ impl<C: Tells + Drop> ControlChannel<C> {
         conn.begin();
         ControlChannel {
             conn,
+            ahead: ReadAhead::new(alloc),
             reply: ReplyBuffer {
                 bytes: Vec::new(alloc),
                 line_start: 0,
@@ -158,7 +163,7 @@ impl<C: Tells + Drop> ControlChannel<C> {
         ensures value { result ≡ length (untaken self.now) }
         ensures sound { IsSound C.tells self.now }
     {
-        self.reply.bytes.as_slice().len()
+        self.reply.bytes.as_slice().len() + self.ahead.bytes().len()
     }
 
     /// The connection.
@@ -168,12 +173,13 @@ impl<C: Tells + Drop> ControlChannel<C> {
         &self.conn
     }
 
-    /// Returns the connection. What is kept or unsent is dropped.
+    /// Returns the connection. What is kept, ahead or unsent is dropped.
     pub fn into_inner(self) -> C
         ensures { C.told result ≡ self.told }
     {
         let ControlChannel {
             conn,
+            ahead: _,
             reply: _,
             outbox: _,
             ended: _,

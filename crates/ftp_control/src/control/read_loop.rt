@@ -1,32 +1,32 @@
 //! The read loop: one for replies and single lines, and for every way to wait.
 //!
-//! It reads byte by byte and stops with the byte that settles what is sought, so it consumes nothing that belongs
-//! to the next reply.
+//! What lies ahead is looked at piece by piece, each up to an LF, and the piece that settles what is sought is the last that
+//! is consumed: what belongs to the next reply stays ahead. The connection is read only where nothing lies ahead.
 
-ghost use Rattle.std.specs.Prelude.{◌≡◌, IfErr, Ok, None, true};
-ghost use Rattle.futures.specs.declared.task.Poll.TheVariants as poll;
+ghost use Rattle.std.specs.Prelude.{◌≡◌, ◌≤◌, Ok, [], length, true};
 ghost use Rattle.ftp_control.specs.declared.control.outcome.Outcome.TheVariants as outcomes;
 ghost use Rattle.ftp_control.specs.Inside.UnderWay.{IsUnderWay};
-ghost use Rattle.ftp_control.specs.Inside.ReadLoop.{ByteTells, CanSeek, Hears, says_of};
+ghost use Rattle.ftp_control.specs.Inside.ReadLoop.{CanSeek, Hears, Takes, says_of};
 ghost use Rattle.ftp_transport.specs.Told.{EndsAsTold};
 ghost use Rattle.ftp_transport.specs.Memory.{IsGiven};
 ghost use Rattle.ftp_control.specs.Reading.{MayBreak};
 
-use super::reply_buffer::ReplyBuffer;
+use super::ahead::{ReadAhead, piece_len};
+use super::reply_buffer::{REPLY_LIMIT, ReplyBuffer, count};
 use super::sought::Sought;
 use super::{Broken, Outcome, ReplyRule};
 use ftp_transport::PollConn;
 use futures::task::Poll;
 use std::alloc::Global;
-use std::io::ErrorKind;
 
 /// Reads what is sought as far as it has come. Returns `Waits` where the connection waits.
 ///
 /// # Errors
-/// A fault of the connection; out of memory for one more byte, which is then not read. What was read is kept.
+/// A fault of the connection; out of memory for what comes next, which then stays ahead. What was read is kept.
 pub(crate) fn hear<W, C: PollConn<W>>(
     alloc: Global,
     conn: &mut C,
+    ahead: &mut ReadAhead,
     reply: &mut ReplyBuffer,
     ended: &mut bool,
     rule: ReplyRule,
@@ -36,8 +36,11 @@ pub(crate) fn hear<W, C: PollConn<W>>(
     requires under_way { IsUnderWay rule reply.old.bytes.items reply.old.line_start reply.old.phase }
     requires can_seek { CanSeek sought reply.old.bytes.items }
     requires known { C.Tells.tells → (C.Tells.told conn.old).ended ≡ ended.old }
+    requires over { ended.old ≡ true → ahead.old ≡ [] }
+    requires bound { length ahead.old ≤ 8192 }
     ensures under_way { IsUnderWay rule reply.new.bytes.items reply.new.line_start reply.new.phase }
     ensures known { C.Tells.tells → (C.Tells.told conn.new).ended ≡ ended.new }
+    ensures bound { length ahead.new ≤ 8192 }
     ensures waits { result ≡ Ok outcomes.Waits → C.may_wait }
     ensures end { C.Tells.tells → C.may_wait →
         EndsAsTold ended.old ended.new (C.Tells.told conn.old) }
@@ -45,42 +48,54 @@ pub(crate) fn hear<W, C: PollConn<W>>(
     ensures given { C.Tells.tells → IsGiven (C.Tells.told conn.old) →
         IsGiven (C.Tells.told conn.new) }
     ensures heard { Hears C.Tells.tells (says_of rule sought) reply.old.bytes.items
-        reply.new.bytes.items ended.old ended.new (C.Tells.told conn.old) (C.Tells.told conn.new)
-        result }
+        reply.new.bytes.items ahead.old ahead.new ended.old ended.new (C.Tells.told conn.old)
+        (C.Tells.told conn.new) result }
 {
     while !*ended {
-        if reply.bytes.reserve(1).is_err() {
-            return Err(Broken::OutOfMemory);
+        match look(alloc, ahead, reply, rule, sought) {
+            Ok(Outcome::Waits) => {}
+            other => return other,
         }
-        match poll_byte(conn, w) {
-            Ok(Poll::Ready(Some(byte))) => match sought.take_byte(alloc, reply, rule, byte) {
-                Outcome::Waits => {}
-                heard => return Ok(heard),
-            },
-            Ok(Poll::Ready(None)) => *ended = true,
+        match ahead.fill(alloc, conn, w) {
+            Ok(Poll::Ready(any)) => *ended = !any,
             Ok(Poll::Pending) => return Ok(Outcome::Waits),
-            Err(kind) => return Err(Broken::Connection(kind)),
+            Err(broken) => return Err(broken),
         }
     }
     Ok(sought.take_end(alloc, reply, rule))
 }
 
-/// Reads one byte, or `None` at the end of the input.
-fn poll_byte<W, C: PollConn<W>>(conn: &mut C, w: &mut W) -> Result<Poll<Option<u8>>, ErrorKind>
-    ensures waits { result ≡ Ok poll.Pending → C.may_wait }
-    ensures end { C.Tells.tells → C.may_wait → result ≡ Ok (poll.Ready None) →
-        (C.Tells.told conn.old).given.closed ≡ true }
-    ensures fault { IfErr result (λ kind. C.read_faults kind) }
-    ensures given { C.Tells.tells → IsGiven (C.Tells.told conn.old) →
-        IsGiven (C.Tells.told conn.new) }
-    ensures told { C.Tells.tells → ByteTells result (C.Tells.told conn.old)
-        (C.Tells.told conn.new) }
+/// Looks at what lies ahead, until it settles what is sought or none is left, and consumes what was looked at.
+///
+/// # Errors
+/// Out of memory for the next piece, which stays ahead.
+fn look(
+    alloc: Global,
+    ahead: &mut ReadAhead,
+    reply: &mut ReplyBuffer,
+    rule: ReplyRule,
+    sought: Sought,
+) -> Result<Outcome, Broken>
+    requires under_way { IsUnderWay rule reply.old.bytes.items reply.old.line_start reply.old.phase }
+    requires can_seek { CanSeek sought reply.old.bytes.items }
+    ensures under_way { IsUnderWay rule reply.new.bytes.items reply.new.line_start reply.new.phase }
+    ensures can_seek { CanSeek sought reply.new.bytes.items }
+    ensures fault { MayBreak (λ _. ⊥) result }
+    ensures takes { Takes (says_of rule sought) reply.old.bytes.items reply.new.bytes.items ahead.old
+        ahead.new result }
 {
-    let mut one = [0u8; 1];
-    match conn.poll_read(w, &mut one) {
-        Ok(Poll::Ready(0)) => Ok(Poll::Ready(None)),
-        Ok(Poll::Ready(_)) => Ok(Poll::Ready(Some(one[0]))),
-        Ok(Poll::Pending) => Ok(Poll::Pending),
-        Err(kind) => Err(kind),
+    while !ahead.bytes().is_empty() {
+        let most = REPLY_LIMIT + 1 - count(reply);
+        let next = piece_len(ahead.bytes(), most);
+        if reply.bytes.reserve(next).is_err() {
+            return Err(Broken::OutOfMemory);
+        }
+        let outcome = sought.take_piece(alloc, reply, rule, &ahead.bytes()[..next]);
+        ahead.consume(next);
+        match outcome {
+            Outcome::Waits => {}
+            heard => return Ok(heard),
+        }
     }
+    Ok(Outcome::Waits)
 }

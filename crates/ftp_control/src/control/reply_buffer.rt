@@ -4,8 +4,9 @@
 //! judged when it ends and no byte is looked at again: a reply of many lines takes time in proportion to its bytes. A reply of more than [`REPLY_LIMIT`] bytes is given up, so
 //! a server can't make a client fill its memory.
 
-ghost use Rattle.std.specs.Prelude.{◌≡◌, ◌≤◌, ◌<◌, Ok, nat_eq, false, true, ◌∷◌, [], ◌++◌, drop, length, vec_len, vec_capacity};
-ghost use Rattle.ftp_control.specs.Grammar.{outcome};
+ghost use Rattle.std.specs.Prelude.{◌≡◌, ◌≤◌, ◌+◌, Ok, nat_eq, false, true, [], ◌++◌, drop, length, vec_len, vec_capacity};
+ghost use Rattle.ftp_control.specs.Grammar.{outcome, reply_limit};
+ghost use Rattle.ftp_control.specs.Inside.Ahead.{IsPiece};
 ghost use Rattle.ftp_control.specs.Inside.ReadLoop.{TakesAll};
 ghost use Rattle.ftp_control.specs.Inside.UnderWay.{IsUnderWay};
 ghost use Rattle.ftp_control.specs.Inside.Phases.{is_listing, phase_after};
@@ -29,27 +30,30 @@ pub(crate) struct ReplyBuffer {
     pub(crate) phase: Phase,
 }
 
-/// Consumes one more byte of the reply.
-pub(super) fn take_reply_byte(
+/// Consumes a piece of the reply, for which there is room.
+pub(super) fn take_reply_piece(
     alloc: Global,
     reply: &mut ReplyBuffer,
     rule: ReplyRule,
     form: ReplyForm,
-    byte: u8,
+    piece: &[u8],
 ) -> Outcome
     requires under_way { IsUnderWay rule reply.old.bytes.items reply.old.line_start reply.old.phase }
-    requires room { vec_len reply.old.bytes < vec_capacity reply.old.bytes }
+    requires piece { IsPiece piece.now }
+    requires limit { length reply.old.bytes.items + length piece.now ≤ reply_limit + 1 }
+    requires room { vec_len reply.old.bytes + length piece.now ≤ vec_capacity reply.old.bytes }
     ensures outcome { outcome rule form reply.old.bytes.items false ≡ Outcome.Waits → result ≡
-        outcome rule form (reply.old.bytes.items ++ byte ∷ []) false }
-    ensures all { TakesAll (Ok result) (reply.old.bytes.items ++ byte ∷ []) reply.new.bytes.items }
+        outcome rule form (reply.old.bytes.items ++ piece.now) false }
+    ensures all { TakesAll (Ok result) (reply.old.bytes.items ++ piece.now) reply.new.bytes.items }
+    ensures goes_on { result ≡ Outcome.Ended → ⊥ }
     ensures under_way { IsUnderWay rule reply.new.bytes.items reply.new.line_start reply.new.phase }
 {
-    reply.bytes.push(byte).unwrap();
+    reply.bytes.extend_from_slice(piece).unwrap();
     if count(reply) > REPLY_LIMIT {
         take_all(alloc, reply);
         return Outcome::TooLarge;
     }
-    if byte != b'\n' {
+    if piece[piece.len() - 1] != b'\n' {
         return Outcome::Waits;
     }
     let verdict = judge_line(reply, rule, form);

@@ -47,6 +47,7 @@ impl<C: Tells + Drop> ControlChannel<C> {
         let heard = hear(
             alloc,
             &mut self.conn,
+            &mut self.ahead,
             &mut self.reply,
             &mut self.ended,
             self.rule,

@@ -1,4 +1,4 @@
-use Rattle.std.proofs.Common.{◌≡◌, ◌-◌, length, cond}
+use Rattle.std.proofs.Common.{◌≡◌, ◌≤◌, ◌+◌, ◌-◌, length, cond}
 use Rattle.ftp_control.specs.Inside.ReadLoop.{says_of, CanSeek}
 use Rattle.ftp_control.specs.Inside.UnderWay.{IsUnderWay}
 use Rattle.ftp_transport.specs.Memory.{IsGiven}
@@ -16,9 +16,10 @@ invariant-loop-ended g l =
       known : g.C.Tells.tells → (told l.conn).ended ≡ l.ended;
       given : g.C.Tells.tells → IsGiven (told l.fn.conn) → IsGiven (told l.conn);
       end : g.C.Tells.tells → g.C.PollConn.may_wait → EndsAsTold l.fn.ended l.ended (told l.fn.conn);
-      so_far : SoFar g.C.Tells.tells (says_of l.rule l.sought) l.fn.reply.bytes.items l.reply.bytes.items l.fn.ended l.ended (told l.fn.conn) (told l.conn);
+      bound : length l.ahead ≤ 8192;
+      so_far : SoFar g.C.Tells.tells (says_of l.rule l.sought) l.fn.reply.bytes.items l.reply.bytes.items l.fn.ahead l.ahead l.fn.ended l.ended (told l.fn.conn) (told l.conn);
     }
 
--- a byte more is kept, or the input has ended
+-- more bytes have come, or the input has ended
 abbrev pub decreases-loop-ended : goal.decreases-loop-ended
-decreases-loop-ended g l = cond l.ended 0 (262146 - length l.reply.bytes.items)
+decreases-loop-ended g l = cond l.ended 0 (270337 - (length l.reply.bytes.items + length l.ahead))

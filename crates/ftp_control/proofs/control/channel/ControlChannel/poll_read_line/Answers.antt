@@ -1,4 +1,4 @@
-use Rattle.std.proofs.Common.{◌≡◌, [], refl, ap, sym, ◌∙◌}
+use Rattle.std.proofs.Common.{◌≡◌, [], ap, sym, ◌∙◌}
 use Rattle.ftp_control.specs.Grammar.{whole_lines}
 use Rattle.ftp_control.proofs.Outcomes.{no_line_starts, starts_no_line}
 use Rattle.ftp_control.proofs.Channels.{read_holds}
@@ -16,7 +16,7 @@ hear-heard-requires-clause-can_seek g c = starts_no_line _ _ c.self.invariant.un
 pub returns-clause-reads : goal.returns-clause-reads
 returns-clause-reads g c = λ failed none. rw (← c.self.view_is) (record {
   result = c.hear-heard.result;
-  reads = reads_line _ _ _ _ refl refl (rw c.fails-self-inside.ensures) _ c.self.invariant.under_way.waits (starts_no_line _ _ c.self.invariant.under_way.split c.if-self-ne0.false) c.hear-heard.ensures.heard;
+  reads = reads_line _ _ _ _ (rw c.fails-self-inside.ensures) _ c.self.invariant.under_way.waits (starts_no_line _ _ c.self.invariant.under_way.split c.if-self-ne0.false) c.hear-heard.ensures.heard;
   fault = c.hear-heard.ensures.fault;
   given = c.hear-heard.ensures.given;
   is = c.answer.ensures;
@@ -24,7 +24,7 @@ returns-clause-reads g c = λ failed none. rw (← c.self.view_is) (record {
 
 pub invariant_of-self : goal.invariant_of-self
 invariant_of-self g c =
-    read_holds _ _ _ _ _ _ _ _ _ _ _ _ _ _ _ _ _ _ c.self.invariant c.hear-heard.ensures.under_way c.hear-heard.ensures.known c.hear-heard.ensures.heard
+    read_holds _ _ _ _ _ _ _ _ _ _ _ _ _ _ _ _ _ _ _ _ c.self.invariant c.hear-heard.ensures.under_way c.hear-heard.ensures.bound c.hear-heard.ensures.known c.hear-heard.ensures.heard
 
 pub returns-clause-under_way : goal.returns-clause-under_way
 returns-clause-under_way g c = λ failed some.

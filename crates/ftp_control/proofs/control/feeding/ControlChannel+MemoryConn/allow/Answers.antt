@@ -8,9 +8,11 @@ invariant_of-self c =
     (record {
       under_way = held.under_way;
       within = held.within;
+      over = held.over;
       sound = record {
         waits = held.sound.waits;
         kept = held.sound.kept;
+        ahead = held.sound.ahead;
         lines = held.sound.lines;
         ended = held.sound.ended;
         fits = λ h. rw c.allow.ensures.widened at fits (held.sound.fits h);
