@@ -20,7 +20,7 @@ impl<K: Drop, E: Encoding, B: Drop> ImplFtpStream<TcpTransport, K, E, B> {
         R: Net<Listener = TcpListener, Stream = TcpStream> + Clock + AllocGlobal,
     {
         let alloc = rt.alloc();
-        let session = Session::connect(alloc, rt, TcpTransport, addresses)?;
+        let session = Session::connect(alloc, rt, TcpTransport::new(), addresses)?;
         ImplFtpStream::new(alloc, session)
     }
 
@@ -47,8 +47,41 @@ impl<K: Drop, E: Encoding, B: Drop> ImplFtpStream<TcpTransport, K, E, B> {
         R: Net<Listener = TcpListener, Stream = TcpStream> + Clock + AllocGlobal,
     {
         let alloc = rt.alloc();
-        let session = Session::connect_lenient(alloc, rt, TcpTransport, addresses)?;
+        let session = Session::connect_lenient(alloc, rt, TcpTransport::new(), addresses)?;
         ImplFtpStream::new(alloc, session)
+    }
+
+    /// The same over the caller's transport, as one with time limits (`TcpTransport::with_limits`), which makes the data
+    /// connections, too.
+    ///
+    /// # Errors
+    /// Those of `connect`; `Io(TimedOut)` where a limit passes, and `Io(InvalidInput)` where one is zero.
+    pub fn connect_over<R>(
+        rt: &R,
+        transport: TcpTransport,
+        addresses: &[SocketAddr],
+    ) -> FtpResult<Self>
+    where
+        R: Net<Listener = TcpListener, Stream = TcpStream> + Clock + AllocGlobal,
+    {
+        let alloc = rt.alloc();
+        let session = Session::connect(alloc, rt, transport, addresses)?;
+        ImplFtpStream::new(alloc, session)
+    }
+
+    /// A client none of whose waits for the server is longer than this: to connect to one of these addresses, to read or to
+    /// write, on the control connection and on data connections, from the greeting (220) to the end of the client.
+    ///
+    /// # Errors
+    /// Those of `connect`; `Io(TimedOut)` where a connect or a read of the greeting takes longer; `Io(InvalidInput)` of a
+    /// limit of zero. Later calls fail with `Io(TimedOut)` where they wait longer.
+    pub fn connect_within<R>(rt: &R, addresses: &[SocketAddr], limit: Duration) -> FtpResult<Self>
+    where
+        R: Net<Listener = TcpListener, Stream = TcpStream> + Clock + AllocGlobal,
+    {
+        let limit = Some(limit);
+        let transport = TcpTransport::with_limits(limit, limit, limit);
+        ImplFtpStream::connect_over(rt, transport, addresses)
     }
 
     /// A client on this address, connected to within this time, once the server's greeting (220) was read. There is no
@@ -62,7 +95,7 @@ impl<K: Drop, E: Encoding, B: Drop> ImplFtpStream<TcpTransport, K, E, B> {
         R: Net<Listener = TcpListener, Stream = TcpStream> + Clock + AllocGlobal,
     {
         let alloc = rt.alloc();
-        let session = Session::connect_timeout(alloc, rt, TcpTransport, address, limit)?;
+        let session = Session::connect_timeout(alloc, rt, TcpTransport::new(), address, limit)?;
         ImplFtpStream::new(alloc, session)
     }
 
@@ -72,7 +105,11 @@ impl<K: Drop, E: Encoding, B: Drop> ImplFtpStream<TcpTransport, K, E, B> {
     /// Those of a read of one reply, and `OutOfMemory`. The connection is closed then.
     pub fn connect_with_stream<R: AllocGlobal>(rt: &R, stream: TcpStream) -> FtpResult<Self> {
         let alloc = rt.alloc();
-        let session = Session::connect_with_stream(alloc, TcpTransport, TcpConn::new(stream))?;
+        let session = Session::connect_with_stream(
+            alloc,
+            TcpTransport::new(),
+            TcpConn::new(stream),
+        )?;
         ImplFtpStream::new(alloc, session)
     }
 
@@ -86,7 +123,7 @@ impl<K: Drop, E: Encoding, B: Drop> ImplFtpStream<TcpTransport, K, E, B> {
     ) -> FtpResult<Self> {
         let alloc = rt.alloc();
         let conn = TcpConn::new(stream);
-        let session = Session::connect_with_stream_lenient(alloc, TcpTransport, conn)?;
+        let session = Session::connect_with_stream_lenient(alloc, TcpTransport::new(), conn)?;
         ImplFtpStream::new(alloc, session)
     }
 }

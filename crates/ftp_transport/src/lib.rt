@@ -16,6 +16,7 @@ mod polled_memory;
 mod request;
 mod room;
 mod socket;
+mod socket_limits;
 mod socket_listener;
 mod supply;
 mod task;

@@ -1,12 +1,14 @@
 //! Connections over TCP sockets.
 //!
 //! What a socket carried is not covered by any proof: its record is never true, so each theorem on records says nothing
-//! of it. That a call interrupted by a signal is tried again, at most 64 times in a row, is tested.
+//! of it. That a call interrupted by a signal is tried again, at most 64 times in a row, is tested, and so is that a time
+//! limit ends a wait.
 
 ghost use Rattle.std.specs.Prelude.{[]};
 ghost use Rattle.ftp_transport.specs.Memory.{fresh_memory};
 
 use super::{Accepted, Conn, Connected, Listening, Network, TcpConnListener, Tells, Transport};
+use crate::socket_limits::SocketLimits;
 use ftp_base::retry::{read_retrying, write_retrying};
 use ftp_base::types::ConnectionError;
 use std::alloc::AllocError;
@@ -14,7 +16,8 @@ use std::io::ErrorKind;
 use std::net::{Net, Shutdown, SocketAddr, TcpListener, TcpStream};
 use std::time::{Clock, Duration};
 
-/// A connection over a TCP socket.
+/// A connection over a TCP socket. A read or write that waits longer than the socket's time limit (`set_read_timeout`,
+/// `set_write_timeout`) fails with `TimedOut`.
 #[derive(Drop)]
 pub struct TcpConn {
     stream: TcpStream,
@@ -73,7 +76,7 @@ impl Conn for TcpConn {
     fn read(&mut self, buffer: &mut [u8]) -> Result<usize, ErrorKind> {
         match read_retrying(&mut self.stream, buffer) {
             Ok(count) => Ok(count),
-            Err(error) => Err(error.kind()),
+            Err(error) => Err(socket_fault(error.kind())),
         }
     }
 
@@ -81,14 +84,50 @@ impl Conn for TcpConn {
         match write_retrying(&mut self.stream, bytes) {
             Ok(0) => Err(ErrorKind::WriteZero),
             Ok(count) => Ok(count),
-            Err(error) => Err(error.kind()),
+            Err(error) => Err(socket_fault(error.kind())),
         }
     }
 }
 
 /// The transport over TCP sockets. Its runtime is one that has the network (`Net`) and the time (`Clock`).
 #[derive(Drop)]
-pub struct TcpTransport;
+pub struct TcpTransport {
+    limits: SocketLimits,
+}
+
+impl TcpTransport {
+    /// A transport whose sockets have no time limits.
+    pub fn new() -> TcpTransport {
+        TcpTransport::with_limits(None, None, None)
+    }
+
+    /// A transport whose sockets have these time limits: how long a connect may take, and how long a read and a write
+    /// may wait. They hold on control and data connections alike, connected and accepted. `None` is no limit.
+    ///
+    /// Where a limit passes the call fails with `Io(TimedOut)`. A limit of zero can't be set: each connect or accept
+    /// fails with `Io(InvalidInput)`. The look-up of a host's name has no limit, and `connect_timeout` keeps its own
+    /// in place of that of a connect.
+    pub fn with_limits(
+        connect: Option<Duration>,
+        read: Option<Duration>,
+        write: Option<Duration>,
+    ) -> TcpTransport {
+        let limits = SocketLimits {
+            connect,
+            read,
+            write,
+        };
+        TcpTransport { limits }
+    }
+
+    /// A connection over this socket, with the limits of reads and writes.
+    fn limited(&self, stream: TcpStream) -> Result<TcpConn, ConnectionError> {
+        match self.limits.set_on(stream) {
+            Ok(stream) => Ok(TcpConn::new(stream)),
+            Err(error) => Err(ConnectionError::Io(error.kind())),
+        }
+    }
+}
 
 impl Network for TcpTransport {
     type Conn = TcpConn;
@@ -127,7 +166,7 @@ where
     R: Net<Listener = TcpListener, Stream = TcpStream> + Clock,
 {
     fn connect(&mut self, rt: &R, address: SocketAddr) -> Connected<TcpConn> {
-        match rt.connect(address) {
+        match self.limits.connect(rt, address) {
             Ok(stream) => Ok(Ok(TcpConn::new(stream))),
             Err(error) => Ok(Err(ConnectionError::Io(error.kind()))),
         }
@@ -140,7 +179,7 @@ where
         limit: Duration,
     ) -> Connected<TcpConn> {
         match rt.connect_timeout(address, limit) {
-            Ok(stream) => Ok(Ok(TcpConn::new(stream))),
+            Ok(stream) => Ok(self.limited(stream)),
             Err(error) => Ok(Err(deadline_fault(error.kind()))),
         }
     }
@@ -159,9 +198,20 @@ where
         deadline: Duration,
     ) -> Accepted<TcpConn> {
         match listener.accept_within(rt, deadline) {
-            Ok((stream, peer)) => Ok(Ok((TcpConn::new(stream), peer))),
+            Ok((stream, peer)) => match self.limited(stream) {
+                Ok(conn) => Ok(Ok((conn, peer))),
+                Err(fault) => Ok(Err(fault)),
+            },
             Err(fault) => Ok(Err(fault)),
         }
+    }
+}
+
+/// How a failed read or write of a socket is told: the system says `WouldBlock` where the socket's limit passed.
+fn socket_fault(kind: ErrorKind) -> ErrorKind {
+    match kind {
+        ErrorKind::WouldBlock => ErrorKind::TimedOut,
+        other => other,
     }
 }
 

@@ -16,7 +16,7 @@ where
     R: Net<Listener = TcpListener, Stream = TcpStream> + Clock + AllocGlobal,
 {
     let address = SocketAddr::from(([127, 0, 0, 1], 0));
-    let (listener, bound) = TcpTransport.listen(rt, address)??;
+    let (listener, bound) = TcpTransport::new().listen(rt, address)??;
     Ok((boxed(rt.alloc(), listener)?, bound))
 }
 
@@ -36,7 +36,7 @@ where
 {
     let (mut listener, bound) = listening(rt)?;
     let peer = TcpStream::connect(rt, bound)?;
-    let (conn, from) = TcpTransport.accept(rt, &mut listener, Duration::from_secs(5))??;
+    let (conn, from) = TcpTransport::new().accept(rt, &mut listener, Duration::from_secs(5))??;
     let pair = Pair {
         conn,
         bound,
@@ -55,7 +55,7 @@ fn fault_within<R>(
 where
     R: Net<Listener = TcpListener, Stream = TcpStream> + Clock,
 {
-    let made = TcpTransport.accept(rt, listener, Duration::from_millis(limit))?;
+    let made = TcpTransport::new().accept(rt, listener, Duration::from_millis(limit))?;
     Ok(made.err())
 }
 
@@ -66,10 +66,10 @@ fn an_accepted_connection_is_between_its_listener_and_its_peer(
     let mut pair = connected(&rt)?;
     let (bound, from, local) = (pair.bound, pair.from, pair.peer.local_addr()?);
     let ends = (pair.conn.local_addr(), pair.conn.peer_addr());
-    TcpTransport.make_room()?;
+    TcpTransport::new().make_room()?;
     let Pair { conn, peer, .. } = Box::into_inner(pair);
     drop(peer);
-    TcpTransport.closed(conn);
+    TcpTransport::new().closed(conn);
     assert_eq!(rt; (ends, from), ((Ok(bound), Ok(local)), local));
     Ok(())
 }
@@ -152,7 +152,7 @@ fn a_deadline_is_counted_from_the_first_accept(rt: HostRuntime) -> Result<(), Fa
 
 #[test]
 fn no_listener_is_bound_to_an_address_of_others(rt: HostRuntime) -> Result<(), Fail> {
-    let made = TcpTransport.listen(&rt, SocketAddr::from(([192, 0, 2, 1], 0)))?;
+    let made = TcpTransport::new().listen(&rt, SocketAddr::from(([192, 0, 2, 1], 0)))?;
     let fault = ConnectionError::Io(ErrorKind::AddrNotAvailable);
     assert_eq!(rt; made.err(), Some(fault));
     Ok(())
