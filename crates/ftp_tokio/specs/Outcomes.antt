@@ -1,5 +1,5 @@
 -- What a connect and an accept result in.
-use Rattle.std.specs.Prelude.{Some, Result, Ok, Err, false}
+use Rattle.std.specs.Prelude.{◌≡◌, Some, None, Result, Ok, Err, IfOk, false}
 use Rattle.std.specs.IoError.{error_kind}
 use Rattle.std.specs.declared.io.Error.{Error}
 use Rattle.std.specs.declared.net.socket_addr.SocketAddr.{SocketAddr}
@@ -7,10 +7,16 @@ use Rattle.ftp_base.specs.declared.types.fault.ConnectionError.{ConnectionError}
 use Rattle.ftp_base.specs.declared.types.fault.ConnectionError.TheVariants.{Io}
 use Rattle.tokio.specs.declared.net.stream.TcpStream.{TcpStream}
 use Rattle.ftp_tokio.specs.declared.conn.TokioConn.{TokioConn}
+use Rattle.ftp_tokio.specs.declared.transport.TokioTransport.{TokioTransport}
+use Rattle.ftp_tokio.specs.declared.watch.Watch.{Watch}
 
--- the connection over a socket that is connected, on which nothing waits
+-- no limit
+abbrev pub no_watch : Watch
+no_watch = record { limit = None; turn = None; end = None; late = false }
+
+-- the connection over a socket that is connected, on which nothing waits, without a limit
 abbrev pub conn_over : TcpStream → TokioConn
-conn_over stream = record { stream = Some stream; read_waits = false; write_waits = false; reads = 0; writes = 0 }
+conn_over stream = record { stream = Some stream; read_waits = false; write_waits = false; reads = 0; writes = 0; read_watch = no_watch; write_watch = no_watch }
 
 -- an error of the system is a fault of its kind
 abbrev pub with_fault : {A : Type 0} → Result A Error → Result A ConnectionError
@@ -26,3 +32,12 @@ connected_as (Err error) = Err (Io (error_kind error))
 abbrev pub accepted_as : Result (TcpStream × SocketAddr) Error → Result (TokioConn × SocketAddr) ConnectionError
 accepted_as (Ok (stream, peer)) = Ok (conn_over stream, peer)
 accepted_as (Err error) = Err (Io (error_kind error))
+
+-- the reads and writes of a transport's sockets may wait for ever
+abbrev pub HasNoLimits : TokioTransport → Type 0
+HasNoLimits transport = (transport.limits.read ≡ None) × (transport.limits.write ≡ None)
+
+-- a connect whose limits could be set returns its socket, and one that failed its fault
+abbrev pub ComesAs : Result TcpStream Error → Result TokioConn ConnectionError → Type 0
+ComesAs (Ok stream) made = IfOk made (λ conn. conn.stream ≡ Some stream)
+ComesAs (Err error) made = made ≡ Err (Io (error_kind error))

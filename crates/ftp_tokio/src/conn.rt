@@ -4,17 +4,22 @@
 //! the task can be registered afterwards for just that: `Remembers` in their contracts. After so many reads in a row that
 //! didn't wait one does, whatever the socket has, and so for writes: other tasks run before a long transfer goes on. What a
 //! socket carries is not covered by any proof: its record is never true.
+//!
+//! Where a limit is set, a read or write that has waited longer fails with `TimedOut` at the next poll at which the socket
+//! still has nothing for it. A wait ends when bytes come or go, not when its future is dropped; a read's begins anew with
+//! each write, too, since what answers that can't have come before.
 
 ghost use Rattle.std.specs.Prelude.{◌≡◌, ◌≢◌, ℕ, Err, None, Ok, false, length, true, ◌+◌, min};
 ghost use Rattle.std.specs.Option.{option_copied};
-ghost use Rattle.std.specs.declared.io.ErrorKind.TheVariants.{NotConnected, WouldBlock};
+ghost use Rattle.std.specs.declared.io.ErrorKind.TheVariants.{NotConnected, TimedOut, WouldBlock};
 ghost use Rattle.futures.specs.Task.{Covers, Keeps};
 ghost use Rattle.ftp_transport.specs.Memory.{fresh_memory};
 ghost use Rattle.ftp_transport.specs.Told.{ReadsAtMost, WritesSome};
 ghost use Rattle.ftp_transport.specs.declared.waiting.Waiting.TheVariants as waits;
 ghost use Rattle.ftp_tokio.specs.Needs.{ConnNeeds, IsOverOn, ReadNeeds, Remembers, TakesTurns, WriteNeeds};
-ghost use Rattle.ftp_tokio.specs.Outcomes.{conn_over};
+ghost use Rattle.ftp_tokio.specs.Outcomes.{conn_over, no_watch};
 
+use crate::watch::Watch;
 use ftp_base::retry::{read_retrying, write_retrying};
 use ftp_transport::{PollConn, TaskConn, Tells, Waiting};
 use futures::task::{Context, Poll};
@@ -38,12 +43,23 @@ pub struct TokioConn {
     // How many reads in a row haven't waited, and how many writes.
     reads: u8,
     writes: u8,
+    // How long a read may wait, and how long a write may.
+    read_watch: Watch,
+    write_watch: Watch,
 }
 
 impl TokioConn {
-    /// A connection over a socket that is connected.
+    /// A connection over a socket that is connected. Its reads and writes may wait for ever.
     pub fn new(stream: TcpStream) -> TokioConn
         ensures { result ≡ conn_over stream }
+    {
+        TokioConn::watched(stream, Watch::none(), Watch::none())
+    }
+
+    /// A connection over a socket that is connected, with the limits of its reads and of its writes.
+    pub(crate) fn watched(stream: TcpStream, read_watch: Watch, write_watch: Watch) -> TokioConn
+        ensures { result ≡ record (conn_over stream)
+            { read_watch = read_watch; write_watch = write_watch } }
     {
         TokioConn {
             stream: Some(stream),
@@ -51,6 +67,8 @@ impl TokioConn {
             write_waits: false,
             reads: 0,
             writes: 0,
+            read_watch,
+            write_watch,
         }
     }
 
@@ -77,7 +95,7 @@ impl TokioConn {
         }
         match read_retrying(stream, buffer) {
             Ok(count) => Ok(Poll::Ready(count)),
-            Err(error) => waits_or_fails(error.kind()),
+            Err(error) => waits_or_fails(error.kind(), self.read_watch.is_late()),
         }
     }
 
@@ -98,7 +116,7 @@ impl TokioConn {
         match write_retrying(stream, bytes) {
             Ok(0) => Err(ErrorKind::WriteZero),
             Ok(count) => Ok(Poll::Ready(count)),
-            Err(error) => waits_or_fails(error.kind()),
+            Err(error) => waits_or_fails(error.kind(), self.write_watch.is_late()),
         }
     }
 
@@ -120,13 +138,12 @@ impl TokioConn {
         let Some(stream) = &mut self.stream else {
             return Waiting::Nothing;
         };
-        match stream.poll_read_ready(cx) {
-            Poll::Ready(_) => {
-                self.read_waits = false;
-                Waiting::Over
-            }
-            Poll::Pending => Waiting::Registered,
+        let waits = stream.poll_read_ready(cx).is_pending();
+        if waits && !self.read_watch.has_passed(cx) {
+            return Waiting::Registered;
         }
+        self.read_waits = false;
+        Waiting::Over
     }
 
     /// Registers the task for the room that the last write waits for, where it does.
@@ -147,13 +164,12 @@ impl TokioConn {
         let Some(stream) = &mut self.stream else {
             return Waiting::Nothing;
         };
-        match stream.poll_write_ready(cx) {
-            Poll::Ready(_) => {
-                self.write_waits = false;
-                Waiting::Over
-            }
-            Poll::Pending => Waiting::Registered,
+        let waits = stream.poll_write_ready(cx).is_pending();
+        if waits && !self.write_watch.has_passed(cx) {
+            return Waiting::Registered;
         }
+        self.write_waits = false;
+        Waiting::Over
     }
 }
 
@@ -165,12 +181,15 @@ fn in_a_row(calls: u8, waits: bool) -> u8
     if waits { 0 } else { calls.saturating_add(1) }
 }
 
-/// What a call of a socket that doesn't block results in where it fails: that it waits, or a fault.
-fn waits_or_fails(kind: ErrorKind) -> Result<Poll<usize>, ErrorKind>
-    ensures blocks { kind ≡ WouldBlock → result ≡ Ok Poll.Pending }
+/// What a call of a socket that doesn't block results in where it fails: that it waits, or a fault; also where it has waited
+/// for too long.
+fn waits_or_fails(kind: ErrorKind, late: bool) -> Result<Poll<usize>, ErrorKind>
+    ensures blocks { kind ≡ WouldBlock → late ≡ false → result ≡ Ok Poll.Pending }
+    ensures late { kind ≡ WouldBlock → late ≡ true → result ≡ Err TimedOut }
     ensures fails { kind ≢ WouldBlock → result ≡ Err kind }
 {
     match kind {
+        ErrorKind::WouldBlock if late => Err(ErrorKind::TimedOut),
         ErrorKind::WouldBlock => Ok(Poll::Pending),
         other => Err(other),
     }
@@ -209,13 +228,23 @@ impl Tells for TokioConn {
     fn close(&mut self) -> Result<(), ErrorKind>
         ensures ok { result ≡ Ok tt }
         ensures dropped { self.new ≡
-            record { stream = None; read_waits = false; write_waits = false; reads = 0; writes = 0 } }
+            record {
+              stream = None;
+              read_waits = false;
+              write_waits = false;
+              reads = 0;
+              writes = 0;
+              read_watch = no_watch;
+              write_watch = no_watch;
+            } }
     {
         self.stream = None;
         self.read_waits = false;
         self.write_waits = false;
         self.reads = 0;
         self.writes = 0;
+        self.read_watch = Watch::none();
+        self.write_watch = Watch::none();
         Ok(())
     }
 }
@@ -237,6 +266,9 @@ impl PollConn<()> for TokioConn {
         let read = self.try_read(buffer);
         self.read_waits = matches!(read, Ok(Poll::Pending));
         self.reads = in_a_row(self.reads, self.read_waits);
+        if !self.read_waits {
+            self.read_watch.end();
+        }
         read
     }
 
@@ -250,6 +282,10 @@ impl PollConn<()> for TokioConn {
         let written = self.try_write(bytes);
         self.write_waits = matches!(written, Ok(Poll::Pending));
         self.writes = in_a_row(self.writes, self.write_waits);
+        if !self.write_waits {
+            self.write_watch.end();
+            self.read_watch.end();
+        }
         written
     }
 }

@@ -12,8 +12,10 @@
 mod alarm;
 mod attempt;
 mod conn;
+mod limits;
 mod listener;
 mod transport;
+mod watch;
 
 pub use conn::TokioConn;
 pub use listener::TokioListener;

@@ -5,15 +5,16 @@
 //! the task is woken at its end, by a timer of the runtime's; made with a reactor alone the transport has none, and then
 //! the task is polled again at once.
 
-ghost use Rattle.std.specs.Prelude.{◌≡◌, [], ℕ, IfOk, IfSome, None, Ok, false, is_none, true};
+ghost use Rattle.std.specs.Prelude.{◌≡◌, [], ℕ, IfOk, IfSome, None, Ok, Some, false, is_none, true};
 ghost use Rattle.futures.specs.Poll.{IfReady, OnPending};
 ghost use Rattle.futures.specs.Task.{Covers, Keeps};
 ghost use Rattle.ftp_transport.specs.declared.waiting.Waiting.TheVariants as waits;
 ghost use Rattle.ftp_tokio.specs.Attempts.{AttemptNeeds, CameTo, IsDone, IsUnderWay};
 ghost use Rattle.ftp_tokio.specs.Needs.{AcceptNeeds};
-ghost use Rattle.ftp_tokio.specs.Outcomes.{accepted_as, connected_as, with_fault};
+ghost use Rattle.ftp_tokio.specs.Outcomes.{ComesAs, HasNoLimits, accepted_as, conn_over, connected_as, with_fault};
 
 use crate::attempt::{Attempt, fault};
+use crate::limits::{Limits, passed};
 use crate::{TokioConn, TokioListener};
 use ftp_base::types::ConnectionError;
 use ftp_transport::{
@@ -35,6 +36,7 @@ pub struct TokioTransport {
     timers: Option<TimeHandle>,
     // The connect that is under way, or whose outcome no poll has returned.
     attempt: Option<Attempt>,
+    limits: Limits,
 }
 
 impl TokioTransport {
@@ -46,25 +48,58 @@ impl TokioTransport {
     pub fn of_runtime(handle: &RuntimeHandle) -> Result<TokioTransport, AllocError>
         ensures attempt { IfOk result (λ made. made.attempt ≡ None) }
         ensures timers { IfOk result (λ made. is_none made.timers ≡ false) }
+        ensures limits { IfOk result HasNoLimits }
+    {
+        TokioTransport::of_runtime_with_limits(handle, None, None, None)
+    }
+
+    /// The same, whose sockets have these time limits: how long a connect may take, and how long a read and a write may
+    /// wait. They hold on control and data connections alike, connected and accepted. `None` is no limit.
+    ///
+    /// Where a limit passes the call fails with `Io(TimedOut)`. A limit of zero can't be set: each connect or accept
+    /// fails with `Io(InvalidInput)`. The look-up of a host's name has no limit; a connect within a time of its own keeps
+    /// that, and accepts keep their deadline. A wait is counted from the event loop's turn after it began, to the
+    /// millisecond; it ends when bytes come or go, not when its future is dropped.
+    ///
+    /// # Errors
+    /// Where an allocation fails.
+    pub fn of_runtime_with_limits(
+        handle: &RuntimeHandle,
+        connect: Option<Duration>,
+        read: Option<Duration>,
+        write: Option<Duration>,
+    ) -> Result<TokioTransport, AllocError>
+        ensures attempt { IfOk result (λ made. made.attempt ≡ None) }
+        ensures timers { IfOk result (λ made. is_none made.timers ≡ false) }
+        ensures limits { IfOk result (λ made.
+            made.limits ≡ record { connect = connect; read = read; write = write }) }
     {
         let reactor = handle.reactor().clone()?;
         let timers = handle.time().clone()?;
+        let limits = Limits {
+            connect,
+            read,
+            write,
+        };
         Ok(TokioTransport {
             reactor,
             timers: Some(timers),
             attempt: None,
+            limits,
         })
     }
 
     /// A transport whose sockets are registered with this reactor: `runtime.handle().reactor().clone()?`. It has no
     /// timers: a task that waits for a peer, or for a connect within a time, is polled again at once.
     pub fn new(handle: Handle) -> TokioTransport
-        ensures { result.attempt ≡ None }
+        ensures attempt { result.attempt ≡ None }
+        ensures limits { HasNoLimits result }
     {
         TokioTransport {
             reactor: handle,
             timers: None,
             attempt: None,
+            limits: Limits::none(),
         }
     }
 
@@ -79,18 +114,31 @@ impl TokioTransport {
         ensures kept { (outcome : _) → CameTo self.old.attempt address outcome →
             result ≡ Poll.Ready (with_fault outcome) }
         ensures done { IfReady result (λ _. self.new.attempt ≡ None) }
+        ensures limits { self.new.limits ≡ self.old.limits }
     {
         let mut attempt = self.take_attempt(rt, address);
         if let Some(outcome) = attempt.take_outcome() {
             return Poll::Ready(outcome.map_err(fault));
         }
-        match attempt.has_passed(rt, self.timers.as_ref(), limit) {
+        let shortest = limit.or(self.limits.connect);
+        match attempt.has_passed(rt, self.timers.as_ref(), shortest) {
             Ok(false) => {
                 self.attempt = Some(attempt);
                 Poll::Pending
             }
-            Ok(true) => Poll::Ready(Err(ConnectionError::TimedOut)),
+            Ok(true) => Poll::Ready(Err(passed(limit))),
             Err(error) => Poll::Ready(Err(fault(error))),
+        }
+    }
+
+    /// A connection over this socket, with the limits of its reads and writes.
+    fn watched<R: Clock>(&self, rt: &R, stream: TcpStream) -> Result<TokioConn, ConnectionError>
+        ensures none { HasNoLimits self.now → result ≡ Ok (conn_over stream) }
+        ensures stream { IfOk result (λ conn. conn.stream ≡ Some stream) }
+    {
+        match self.limits.watched(rt, self.timers.as_ref(), stream) {
+            Ok(conn) => Ok(conn),
+            Err(error) => Err(fault(error)),
         }
     }
 
@@ -100,6 +148,7 @@ impl TokioTransport {
         ensures kept { (outcome : _) → CameTo self.old.attempt address outcome →
             result.outcome ≡ Some outcome }
         ensures taken { self.new.attempt ≡ None }
+        ensures limits { self.new.limits ≡ self.old.limits }
     {
         match self.attempt.take() {
             Some(attempt) if attempt.is_to(address) => attempt,
@@ -153,10 +202,12 @@ impl<R: Net + Clock> PollTransport<R, ()> for TokioTransport {
         ensures waits { OnPending result (IsUnderWay self.new.attempt address) }
         ensures done { IfReady result (λ _. self.new.attempt ≡ None) }
         ensures kept { (outcome : _) → CameTo self.old.attempt address outcome →
-            result ≡ Poll.Ready (Ok (connected_as outcome)) }
+            HasNoLimits self.old → result ≡ Poll.Ready (Ok (connected_as outcome)) }
+        ensures came { (outcome : _) → CameTo self.old.attempt address outcome →
+            IfReady result (λ made. IfOk made (ComesAs outcome)) }
     {
         match self.poll_stream(rt, address, limit) {
-            Poll::Ready(Ok(stream)) => Poll::Ready(Ok(Ok(TokioConn::new(stream)))),
+            Poll::Ready(Ok(stream)) => Poll::Ready(Ok(self.watched(rt, stream))),
             Poll::Ready(Err(fault)) => Poll::Ready(Ok(Err(fault))),
             Poll::Pending => Poll::Pending,
         }
@@ -186,12 +237,15 @@ impl<R: Net + Clock> PollTransport<R, ()> for TokioTransport {
     ) -> Poll<Accepted<TokioConn>>
         ensures waits { OnPending result (listener.new.waits ≡ true) }
         ensures done { IfReady result (λ _. listener.new.waits ≡ false) }
-        ensures kept { IfSome listener.old.accepted
+        ensures kept { HasNoLimits self.old → IfSome listener.old.accepted
             (λ accepted. result ≡ Poll.Ready (Ok (accepted_as accepted))) }
         ensures same { self.new ≡ self.old }
     {
         match listener.poll_peer(rt, self.timers.as_ref(), deadline) {
-            Poll::Ready(Ok((stream, peer))) => Poll::Ready(Ok(Ok((TokioConn::new(stream), peer)))),
+            Poll::Ready(Ok((stream, peer))) => match self.watched(rt, stream) {
+                Ok(conn) => Poll::Ready(Ok(Ok((conn, peer)))),
+                Err(fault) => Poll::Ready(Ok(Err(fault))),
+            },
             Poll::Ready(Err(fault)) => Poll::Ready(Ok(Err(fault))),
             Poll::Pending => Poll::Pending,
         }
