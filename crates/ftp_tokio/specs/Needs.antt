@@ -6,7 +6,12 @@ use Rattle.futures.specs.declared.task.Poll.TheVariants.{Ready, Pending}
 use Rattle.tokio.specs.declared.net.listener.TcpListener.{TcpListener}
 use Rattle.tokio.specs.declared.net.stream.ConnectFuture.{ConnectFuture}
 use Rattle.tokio.specs.declared.net.stream.TcpStream.{TcpStream}
+use Rattle.futures.specs.declared.task.context.Context.{Context}
+use Rattle.futures.specs.Task.{Hears}
+use Rattle.tokio.specs.declared.time.interval.Interval.{Interval}
+use Rattle.tokio.specs.Timers.{interval_delay, sleep_source}
 use Rattle.ftp_tokio.specs.declared.conn.TokioConn.{TokioConn}
+use Rattle.ftp_tokio.specs.declared.watch.Watch.{Watch}
 use Rattle.tokio.specs.Net.{ConnectNeeds, connect_state, listener_readable, stream_readable, stream_writable}
 
 -- a flag says whether the call that gave this result waits
@@ -45,3 +50,15 @@ ConnectWaits future None source = ConnectNeeds (connect_state future) source
 -- an accept that waits, of this socket, waits for a peer
 abbrev pub AcceptNeeds : TcpListener → Bool → ℕ → Type 0
 AcceptNeeds socket waits source = (waits ≡ true) × (source ≡ listener_readable socket)
+
+-- the task is woken at this timer's next tick
+abbrev pub Rings : Context → Interval → Type 0
+Rings cx ticks = Hears cx (sleep_source (interval_delay ticks))
+
+-- there is such a timer, or the task is polled again at once
+abbrev pub IsRungBy : Context → Option Interval → Type 0
+IsRungBy cx ticks = (cx.is_woken ≡ true) ⊎ IsSomeAnd ticks (Rings cx)
+
+-- the task is woken at the end of a wait's limit, or at the turn from which it is counted; or is polled again at once
+abbrev pub IsRung : Context → Watch → Type 0
+IsRung cx watch = IsRungBy cx watch.end ⊎ IsRungBy cx watch.turn

@@ -9,14 +9,14 @@
 //! still has nothing for it. A wait ends when bytes come or go, not when its future is dropped; a read's begins anew with
 //! each write, too, since what answers that can't have come before.
 
-ghost use Rattle.std.specs.Prelude.{◌≡◌, ◌≢◌, ℕ, Err, None, Ok, false, length, true, ◌+◌, min};
+ghost use Rattle.std.specs.Prelude.{◌≡◌, ◌≢◌, ℕ, Err, IsSome, None, Ok, false, length, true, ◌+◌, min};
 ghost use Rattle.std.specs.Option.{option_copied};
 ghost use Rattle.std.specs.declared.io.ErrorKind.TheVariants.{NotConnected, TimedOut, WouldBlock};
 ghost use Rattle.futures.specs.Task.{Covers, Keeps};
 ghost use Rattle.ftp_transport.specs.Memory.{fresh_memory};
 ghost use Rattle.ftp_transport.specs.Told.{ReadsAtMost, WritesSome};
 ghost use Rattle.ftp_transport.specs.declared.waiting.Waiting.TheVariants as waits;
-ghost use Rattle.ftp_tokio.specs.Needs.{ConnNeeds, IsOverOn, ReadNeeds, Remembers, TakesTurns, WriteNeeds};
+ghost use Rattle.ftp_tokio.specs.Needs.{ConnNeeds, IsOverOn, IsRung, ReadNeeds, Remembers, TakesTurns, WriteNeeds};
 ghost use Rattle.ftp_tokio.specs.Outcomes.{conn_over, no_watch};
 
 use crate::watch::Watch;
@@ -124,6 +124,8 @@ impl TokioConn {
     fn poll_reads(&mut self, cx: &mut Context<'_>) -> Waiting
         ensures registered { result ≡ waits.Registered →
             Covers cx.new (ReadNeeds self.new.stream self.new.read_waits) }
+        ensures rings { result ≡ waits.Registered → IsSome self.old.read_watch.limit →
+            IsRung cx.new self.new.read_watch }
         ensures nothing { result ≡ waits.Nothing →
             (source : ℕ) → ReadNeeds self.new.stream self.new.read_waits source → ⊥ }
         ensures over { result ≡ waits.Over →
@@ -150,6 +152,8 @@ impl TokioConn {
     fn poll_writes(&mut self, cx: &mut Context<'_>) -> Waiting
         ensures registered { result ≡ waits.Registered →
             Covers cx.new (WriteNeeds self.new.stream self.new.write_waits) }
+        ensures rings { result ≡ waits.Registered → IsSome self.old.write_watch.limit →
+            IsRung cx.new self.new.write_watch }
         ensures nothing { result ≡ waits.Nothing →
             (source : ℕ) → WriteNeeds self.new.stream self.new.write_waits source → ⊥ }
         ensures over { result ≡ waits.Over →

@@ -5,8 +5,9 @@
 //! may lie far back where the loop has only begun to run. So the limit is counted from the turn after the wait's
 //! registration, which comes within a few milliseconds.
 
-ghost use Rattle.std.specs.Prelude.{◌≡◌, None, Ok, false, true};
+ghost use Rattle.std.specs.Prelude.{◌≡◌, IsSome, None, Ok, false, true};
 ghost use Rattle.futures.specs.Task.{Keeps};
+ghost use Rattle.ftp_tokio.specs.Needs.{IsRung, IsRungBy};
 ghost use Rattle.ftp_tokio.specs.Outcomes.{no_watch};
 
 use futures::task::{Context, Poll};
@@ -126,6 +127,7 @@ impl Watch {
         ensures none { self.old.limit ≡ None → result ≡ false }
         ensures late { result ≡ true → self.new.late ≡ true }
         ensures limit { self.new.limit ≡ self.old.limit }
+        ensures rings { result ≡ false → IsSome self.old.limit → IsRung cx.new self.new }
         ensures kept { Keeps cx.old cx.new }
     {
         let Some(limit) = &self.limit else {
@@ -148,13 +150,26 @@ impl Watch {
 /// Whether the next tick has come. Where it hasn't, the task is woken at it; where there is no timer it is polled again at
 /// once.
 fn has_ticked(ticks: &mut Option<Interval>, cx: &mut Context<'_>) -> bool
-    ensures { Keeps cx.old cx.new }
+    ensures rings { result ≡ false → IsRungBy cx.new ticks.new }
+    ensures kept { Keeps cx.old cx.new }
 {
-    match ticks {
-        Some(ticks) => matches!(ticks.poll_tick(cx), Poll::Ready(Ok(_))),
-        None => {
-            let _: Poll<()> = cx.yield_now();
-            false
-        }
+    let ticked = match ticks {
+        Some(ticks) => ticks.poll_tick(cx),
+        None => return again(cx),
+    };
+    match ticked {
+        Poll::Ready(Ok(_)) => true,
+        Poll::Pending => false,
+        Poll::Ready(Err(_)) => again(cx),
     }
+}
+
+/// Has the task polled again at once: no tick has come.
+fn again(cx: &mut Context<'_>) -> bool
+    ensures none { result ≡ false }
+    ensures again { cx.new.is_woken ≡ true }
+    ensures kept { Keeps cx.old cx.new }
+{
+    let _: Poll<()> = cx.yield_now();
+    false
 }
