@@ -16,6 +16,8 @@ mod failing;
 #[cfg(test)]
 mod greetings;
 #[cfg(test)]
+mod limits;
+#[cfg(test)]
 mod listings;
 #[cfg(test)]
 mod room;

@@ -12,6 +12,8 @@ mod counted;
 #[cfg(test)]
 mod dropping;
 #[cfg(test)]
+mod limits;
+#[cfg(test)]
 mod requests;
 #[cfg(test)]
 mod scene;
