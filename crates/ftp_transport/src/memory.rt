@@ -34,6 +34,8 @@ pub struct MemoryConn {
     closed_here: bool,
     failures: u64,
     last_fault: Option<ErrorKind>,
+    // How many reads were asked of it; the record doesn't have them.
+    reads: u64,
 }
 
 impl Model for MemoryConn {
@@ -88,6 +90,7 @@ impl MemoryConn {
             closed_here: false,
             failures: 0,
             last_fault: None,
+            reads: 0,
         }
     }
 
@@ -135,6 +138,11 @@ impl MemoryConn {
         self.read - self.begun
     }
 
+    /// How many reads were asked of it, those that gave nothing among them. No clause says how many.
+    pub fn reads(&self) -> u64 {
+        self.reads
+    }
+
     /// How many bytes of the server weren't read yet.
     pub fn unread(&self) -> usize
         ensures value { length self.now.received + result ≡ length self.now.given.bytes }
@@ -152,6 +160,7 @@ impl MemoryConn {
     {
         let count = copy_front(behind(self.input.as_slice(), self.read), buffer);
         self.read += count;
+        self.reads = self.reads.saturating_add(1);
         count
     }
 
