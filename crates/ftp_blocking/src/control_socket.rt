@@ -34,6 +34,11 @@ impl<Tr: Network, K: Drop, E: Encoding, B: Drop> ControlSocket<'_, Tr, K, E, B> 
     pub fn socket(&self) -> &Tr::Conn {
         self.session.get_ref()
     }
+
+    /// How many received bytes no reply has consumed: those of a reply under way, and those that were read ahead.
+    pub fn untaken(&self) -> usize {
+        self.session.untaken()
+    }
 }
 
 impl<Tr: Network, K: Drop, E: Encoding, B: Drop> ImplFtpStream<Tr, K, E, B> {

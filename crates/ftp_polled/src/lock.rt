@@ -50,7 +50,7 @@ where
         self.session.transport()
     }
 
-    /// How many received bytes are part of no reply yet.
+    /// How many received bytes no reply has consumed: those of a reply under way, and those that were read ahead.
     pub fn untaken(&self) -> usize {
         self.session.untaken()
     }

@@ -256,7 +256,6 @@ fn stands<R: Wait + AllocGlobal>(
         sent,
         answers: texts_of(rt.alloc(), answers)?,
         taken,
-        seen: None,
         welcome: had(client.get_welcome_msg(rt))?,
         failed: has_failed(client.noop(rt)),
     })
@@ -269,9 +268,10 @@ fn has_failed(answer: FtpResult<()>) -> bool {
     has_failed
 }
 
-/// What was sent, and how many bytes were taken: a call that blocks receives none beyond its reply.
+/// What was sent, and how many bytes the replies have consumed.
 fn traffic<R: Wait + AllocGlobal>(rt: &R, client: &Client) -> Result<(Vec<u8>, usize), AllocError> {
     let control = client.get_ref(rt);
     let conn = control.socket();
-    Ok((Vec::from_slice(rt.alloc(), conn.sent())?, conn.received()))
+    let taken = conn.received().saturating_sub(control.untaken());
+    Ok((Vec::from_slice(rt.alloc(), conn.sent())?, taken))
 }

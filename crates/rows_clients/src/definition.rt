@@ -204,7 +204,6 @@ fn stands(
         sent: Vec::from_slice(alloc, here.said.as_slice())?,
         answers,
         taken: play.input.len().saturating_sub(here.bytes.len()),
-        seen: None,
         failed: here.failed,
         welcome: welcome(alloc, &here.state)?,
     })

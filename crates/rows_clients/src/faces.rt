@@ -34,33 +34,25 @@ pub struct Came {
     pub transcript: String,
     /// Whether the session has failed.
     pub failed: bool,
-    /// How many bytes of no reply were read, where the face tells.
-    pub seen: Option<usize>,
 }
 
 /// What the faces of a row have told beside their transcripts.
 #[derive(Clone, Copy)]
 pub struct Agreement {
     failed: Option<bool>,
-    seen: Option<usize>,
 }
 
 impl Agreement {
     /// No face was played.
     pub fn new() -> Agreement {
-        Agreement {
-            failed: None,
-            seen: None,
-        }
+        Agreement { failed: None }
     }
 
     /// Whether a face tells what those before it told.
     pub fn agrees(&mut self, came: &Came) -> bool {
         let failed = self.failed.unwrap_or(came.failed);
-        let seen = self.seen.or(came.seen);
         self.failed = Some(failed);
-        self.seen = seen;
-        failed == came.failed && (came.seen.is_none() || came.seen == seen)
+        failed == came.failed
     }
 }
 
@@ -148,7 +140,6 @@ impl Face {
         Ok(Came {
             transcript,
             failed: end.failed,
-            seen: end.seen,
         })
     }
 

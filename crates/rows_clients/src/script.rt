@@ -63,7 +63,6 @@ pub fn scripted(alloc: Global, events: &[Event], play: &Play) -> Result<Standing
         sent: Vec::from_slice(alloc, script.sent.as_slice())?,
         answers: texts_of(alloc, script.answers.as_slice())?,
         taken: script.bytes.len().saturating_sub(script.untaken.len()),
-        seen: Some(script.seen),
         failed: script.failed,
         welcome: welcome(alloc, &script.state)?,
     })

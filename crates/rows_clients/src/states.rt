@@ -343,8 +343,10 @@ fn told<R: Wait + RandomSource + AllocGlobal>(
         uploaded: Vec::new(alloc),
         sent: Vec::from_slice(alloc, control.socket().sent())?,
         answers: texts_of(alloc, answers)?,
-        taken: control.socket().received(),
-        seen: None,
+        taken: control
+            .socket()
+            .received()
+            .saturating_sub(control.untaken()),
         failed: false,
         welcome: copied(alloc, control.get_welcome_msg())?,
     })

@@ -77,9 +77,7 @@ pub fn polled(alloc: Global, events: &[Event], play: &Play) -> Result<Standing, 
     let session = session_on(alloc, bare(alloc, play), play)?;
     let mut session = encoded(alloc, session, play)?;
     let answers = happened(alloc, &mut session, events, &play.runs)?;
-    let mut standing = stands(alloc, &session, &answers)?;
-    standing.seen = Some(session.untaken());
-    Ok(standing)
+    stands(alloc, &session, &answers)
 }
 
 /// The answers of these events, in runs that begin at these places.
@@ -127,7 +125,6 @@ pub fn stands(
         sent: Vec::from_slice(alloc, conn.sent())?,
         answers: texts_of(alloc, answers)?,
         taken: conn.received().saturating_sub(session.untaken()),
-        seen: None,
         failed: session.failed(),
         welcome: welcome(alloc, session.state())?,
     })

@@ -16,8 +16,6 @@ pub struct Standing {
     pub answers: Vec<String>,
     /// How many of the server's bytes were taken.
     pub taken: usize,
-    /// How many bytes of no reply were read, where the face tells.
-    pub seen: Option<usize>,
     /// Whether the session has failed.
     pub failed: bool,
     /// What the server greeted with.

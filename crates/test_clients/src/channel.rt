@@ -45,9 +45,9 @@ fn replies(alloc: Global, channel: &mut ControlChannel<MemoryConn>) -> FtpResult
     channel.feed(b"20")?;
     let waits = reply(alloc, channel, true);
     channel.feed(b"0 ok\r\n200 a\r\n")?;
-    let (first, unread) = (reply(alloc, channel, true), channel.unread());
+    let (first, ahead) = (reply(alloc, channel, true), channel.untaken());
     let (second, end) = (reply(alloc, channel, false), reply(alloc, channel, false));
-    Ok([waits, first, unread, second, end])
+    Ok([waits, first, ahead, second, end])
 }
 
 /// Reads of three lines, the second of which comes in two pieces, and of the end of the input, twice.

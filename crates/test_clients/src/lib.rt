@@ -20,6 +20,8 @@ mod limits;
 #[cfg(test)]
 mod listings;
 #[cfg(test)]
+mod reads;
+#[cfg(test)]
 mod room;
 #[cfg(test)]
 mod rows;

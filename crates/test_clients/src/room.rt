@@ -37,7 +37,8 @@ fn two_commands(alloc: Global, room: u64) -> FtpResult<Came> {
     let mut session = greeted(alloc, MemoryTransport::new(alloc), conn)?;
     let (first, second) = (word(session.noop(alloc)), word(session.noop(alloc)));
     let conn = session.get_ref();
-    Ok((first, second, conn.sent().len(), conn.received()))
+    let taken = conn.received().saturating_sub(session.untaken());
+    Ok((first, second, conn.sent().len(), taken))
 }
 
 #[test]

@@ -6,6 +6,8 @@ mod broken_data;
 #[cfg(test)]
 mod handed;
 #[cfg(test)]
+mod reads;
+#[cfg(test)]
 mod scene;
 #[cfg(test)]
 mod sources;
