@@ -11,3 +11,4 @@ pub mod DateFacts
 pub mod ListingFacts
 pub mod FactFacts
 pub mod LawFacts
+pub mod EntryFacts

@@ -14,3 +14,4 @@ pub mod Listing
 pub mod Times
 pub mod Facts
 pub mod Lines
+pub mod Entries

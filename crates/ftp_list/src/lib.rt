@@ -10,6 +10,7 @@ mod class;
 mod dates;
 mod dos;
 mod ends;
+mod entries;
 mod error;
 mod facts;
 mod file;
@@ -29,6 +30,7 @@ mod split;
 mod times;
 mod trims;
 
+pub use crate::entries::Listing;
 pub use crate::error::{ParseError, ParseResult};
 pub use crate::file::File;
 pub use crate::file_type::FileType;

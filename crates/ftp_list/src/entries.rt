@@ -1,0 +1,129 @@
+//! The lines of a whole listing: those of `LIST` (RFC 959, section 4.1.3), whose form no RFC fixes, or of `MLSD` (RFC 3659,
+//! section 7).
+//!
+//! A line that can't be read doesn't take the others away: it is kept by its text. `LIST` is read a line in the POSIX
+//! form or the DOS form, and what `ls -l` adds to its lines is left out.
+ghost use Rattle.std.specs.Prelude.{◌≡◌, [], IfOk, OnOk, map};
+ghost use Rattle.std.specs.String.{string_bytes};
+ghost use Rattle.ftp_list.specs.Listing.{UnlessMemory};
+ghost use Rattle.ftp_list.specs.Entries.{is_spaced_number, is_total, is_entry, entries, IsAdded, IsOfList, IsOfMlsd, IsRead};
+
+use crate::class::Class;
+use crate::error::{ParseError, ParseResult};
+use crate::file::File;
+use crate::parser::ListParser;
+use crate::places::{begins_with, rest};
+use crate::trims::{chars_of, trimmed, trimmed_front};
+use jiff::Timestamp;
+use std::alloc::{AllocError, Global};
+
+const TOTAL: [char; 5] = ['t', 'o', 't', 'a', 'l'];
+
+/// What was read of a listing, each part in the order of the lines.
+#[derive(Debug, Drop)]
+pub struct Listing {
+    /// The files.
+    pub files: Vec<File>,
+    /// The lines that can't be read, as they came.
+    pub unread: Vec<String>,
+}
+
+impl Listing {
+    /// What the lines of `LIST` say: each in the POSIX form, as `ListParser::parse_posix` reads it at that moment, or, where
+    /// it doesn't have that form at all (`SyntaxError`), in the DOS form, as `ListParser::parse_dos` does. Blank lines and
+    /// `total N`, as `ls -l` begins, are left out.
+    ///
+    /// # Errors
+    /// `AllocError`.
+    pub fn of_list(alloc: Global, lines: &[String], now: Timestamp) -> Result<Listing, AllocError>
+        ensures read { IfOk result (λ listing. IsRead (IsOfList now.nanosecond)
+            (entries (map string_bytes lines.now))
+            listing.files.items (map string_bytes listing.unread.items)) }
+    {
+        let mut listing = Listing::empty(alloc);
+        for line in lines {
+            let text = line.as_str();
+            if is_of_file(alloc, text)? {
+                listing.add(alloc, text, file_in_list(alloc, text, now))?;
+            }
+        }
+        Ok(listing)
+    }
+
+    /// What the lines of `MLSD` say, each as `ListParser::parse_mlsd` reads it.
+    ///
+    /// # Errors
+    /// `AllocError`.
+    pub fn of_mlsd(alloc: Global, lines: &[String]) -> Result<Listing, AllocError>
+        ensures read { IfOk result (λ listing. IsRead IsOfMlsd (map string_bytes lines.now)
+            listing.files.items (map string_bytes listing.unread.items)) }
+    {
+        let mut listing = Listing::empty(alloc);
+        for line in lines {
+            let text = line.as_str();
+            listing.add(alloc, text, ListParser::parse_mlsd(alloc, text))?;
+        }
+        Ok(listing)
+    }
+
+    fn empty(alloc: Global) -> Listing
+        ensures files { result.files.items ≡ [] }
+        ensures unread { result.unread.items ≡ [] }
+    {
+        Listing {
+            files: Vec::new(alloc),
+            unread: Vec::new(alloc),
+        }
+    }
+
+    /// Adds what was read of a line: its file, or else the line.
+    ///
+    /// # Errors
+    /// `AllocError`, also where the line couldn't be read for want of memory.
+    fn add(&mut self, alloc: Global, line: &str, read: ParseResult<File>) -> Result<(), AllocError>
+        ensures added { OnOk result (IsAdded line.now read
+            self.old.files.items (map string_bytes self.old.unread.items)
+            self.new.files.items (map string_bytes self.new.unread.items)) }
+    {
+        match read {
+            Ok(file) => self.files.push(file)?,
+            Err(ParseError::OutOfMemory) => return Err(AllocError),
+            Err(_) => self.unread.push(String::from_str(alloc, line)?)?,
+        }
+        Ok(())
+    }
+}
+
+/// The file of a line of `LIST`.
+fn file_in_list(alloc: Global, line: &str, now: Timestamp) -> ParseResult<File>
+    ensures { UnlessMemory (IsOfList now.nanosecond line.now) result }
+{
+    match ListParser::parse_posix(alloc, line, now) {
+        Err(ParseError::SyntaxError) => ListParser::parse_dos(alloc, line),
+        read => read,
+    }
+}
+
+/// Whether a line of `LIST` is that of a file.
+fn is_of_file(alloc: Global, line: &str) -> Result<bool, AllocError>
+    ensures { IfOk result (λ is. is ≡ is_entry line.now) }
+{
+    let characters = chars_of(alloc, line)?;
+    let text = trimmed(&characters);
+    Ok(!text.is_empty() && !is_sum(text))
+}
+
+/// Whether the text is `total` and a number.
+fn is_sum(text: &[char]) -> bool
+    ensures { result ≡ is_total text.now }
+{
+    begins_with(text, &TOTAL) && is_number_after_blanks(rest(text, 5))
+}
+
+/// Whether the text is blanks and then digits alone.
+fn is_number_after_blanks(text: &[char]) -> bool
+    ensures { result ≡ is_spaced_number text.now }
+{
+    let digits = trimmed_front(text);
+    digits.len() < text.len() && !digits.is_empty() && Class::Digit.has_all(digits)
+}
