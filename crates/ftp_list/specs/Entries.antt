@@ -1,5 +1,6 @@
 -- What the lines of a whole listing say. A line is the bytes of its text.
-use Rattle.std.specs.Prelude.{◌≡◌, ℕ, Bool, not, ◌&&◌, ◌==◌, nat_lt, List, [], ◌∷◌, ◌++◌, length, drop, filter, Result, Ok, Err, ℤ, codes}
+use Rattle.std.specs.Prelude.{map, ◌⊎◌, ◌≡◌, ℕ, Bool, not, ◌&&◌, ◌==◌, nat_lt, List, [], ◌∷◌, ◌++◌, length, drop, filter, Result, Ok, Err, ℤ, codes}
+use Rattle.std.specs.Char.{to_ascii_lowercase}
 use Rattle.std.specs.Str.{chars}
 use Rattle.ftp_list.specs.declared.class.Class.TheVariants.{Digit}
 use Rattle.ftp_list.specs.declared.error.ParseError.{ParseError}
@@ -58,3 +59,7 @@ IsAdded line (Ok entry) files unread new_files new_unread =
 IsAdded line (Err OutOfMemory) files unread new_files new_unread = ⊥
 IsAdded line (Err fault) files unread new_files new_unread =
     (new_files ≡ files) × (new_unread ≡ unread ++ line ∷ [])
+
+-- The name of a feature by which a server has MLSD, in any case (RFC 3659, section 7.8).
+abbrev pub NamesFacts : List ℕ → Type 0
+NamesFacts name = (map to_ascii_lowercase name ≡ codes "mlst") ⊎ (map to_ascii_lowercase name ≡ codes "mlsd")

@@ -3,10 +3,10 @@
 //!
 //! A line that can't be read doesn't take the others away: it is kept by its text. `LIST` is read a line in the POSIX
 //! form or the DOS form, and what `ls -l` adds to its lines is left out.
-ghost use Rattle.std.specs.Prelude.{◌≡◌, [], IfOk, OnOk, map};
+ghost use Rattle.std.specs.Prelude.{◌≡◌, ◌↔◌, [], IfOk, IfSome, IsSome, IsTrue, OnOk, map, vec_len};
 ghost use Rattle.std.specs.String.{string_bytes};
 ghost use Rattle.ftp_list.specs.Listing.{UnlessMemory};
-ghost use Rattle.ftp_list.specs.Entries.{is_spaced_number, is_total, is_entry, entries, IsAdded, IsOfList, IsOfMlsd, IsRead};
+ghost use Rattle.ftp_list.specs.Entries.{NamesFacts, is_spaced_number, is_total, is_entry, entries, IsAdded, IsOfList, IsOfMlsd, IsRead};
 
 use crate::class::Class;
 use crate::error::{ParseError, ParseResult};
@@ -66,6 +66,15 @@ impl Listing {
         Ok(listing)
     }
 
+    /// The files, where every line could be read.
+    pub fn into_files(self) -> Option<Vec<File>>
+        ensures complete { IsSome result ↔ (vec_len self.unread ≡ 0) }
+        ensures files { IfSome result (λ files. files ≡ self.files) }
+    {
+        let Listing { files, unread } = self;
+        if unread.is_empty() { Some(files) } else { None }
+    }
+
     fn empty(alloc: Global) -> Listing
         ensures files { result.files.items ≡ [] }
         ensures unread { result.unread.items ≡ [] }
@@ -92,6 +101,14 @@ impl Listing {
         }
         Ok(())
     }
+}
+
+/// Whether a server that names a feature so, in upper or lower case, has `MLSD`: by `MLST`, which stands for both (RFC 3659,
+/// section 7.8), or by `MLSD` itself.
+pub fn names_facts(feature: &str) -> bool
+    ensures { IsTrue result ↔ NamesFacts feature.now }
+{
+    feature.eq_ignore_ascii_case("mlst") || feature.eq_ignore_ascii_case("mlsd")
 }
 
 /// The file of a line of `LIST`.

@@ -30,7 +30,7 @@ mod split;
 mod times;
 mod trims;
 
-pub use crate::entries::Listing;
+pub use crate::entries::{Listing, names_facts};
 pub use crate::error::{ParseError, ParseResult};
 pub use crate::file::File;
 pub use crate::file_type::FileType;
