@@ -4,10 +4,9 @@
 use super::ImplFtpStream;
 use ftp_base::encoding::Encoding;
 use ftp_base::types::{FtpError, FtpResult};
-use ftp_list::{File, ListParser, ParseError};
+use ftp_list::{File, Listing, names_facts};
 use ftp_transport::{Conn, Network, PassiveStreamBuilder, Transport};
 use jiff::Timestamp;
-use std::alloc::Global;
 use std::sync::Wait;
 use std::time::Clock;
 
@@ -20,16 +19,10 @@ impl<Tr: Network, K: Drop, E: Encoding, B: PassiveStreamBuilder<Tr::Conn>> ImplF
 where
     Tr::Conn: Conn,
 {
-    /// The files of this directory, or of the current one: by `MLSD`, where the reply to `FEAT` names `MLST`, which stands
-    /// for both (RFC 3659, section 7.8), or `MLSD`; else, and where the server refuses `FEAT`, by `LIST`, each line of which
-    /// is read in the POSIX form or the DOS form. Of `LIST`, blank lines and `total N` are left out. The directory itself
-    /// and the one above are among the files where the server lists them. `FEAT` and the listing are a hold of the lock
-    /// each.
+    /// The files of this directory, or of the current one, as [`list_entries`](Self::list_entries) lists them.
     ///
     /// # Errors
-    /// Those of `feat`, but for `UnexpectedResponse`; those of `mlsd` or `list`. After the listing `BadResponse`, where one
-    /// of its lines can't be read, or where the present moment can't, by which a line of `LIST` that names no year is dated;
-    /// `OutOfMemory`.
+    /// Those of `list_entries`; `BadResponse` where one of the lines can't be read.
     pub fn list_files<R: Wait + Clock + AllocGlobal>(
         &self,
         rt: &R,
@@ -38,13 +31,35 @@ where
     where
         Tr: Transport<R>,
     {
+        match self.list_entries(rt, path)?.into_files() {
+            Some(files) => Ok(files),
+            None => Err(FtpError::BadResponse),
+        }
+    }
+
+    /// The files of this directory, or of the current one, and the lines that can't be read: by `MLSD`, where the reply to
+    /// `FEAT` names `MLST`, which stands for both (RFC 3659, section 7.8), or `MLSD`; else, and where the server refuses
+    /// `FEAT`, by `LIST`. The lines are read by [`Listing::of_mlsd`] or [`Listing::of_list`]. The directory itself and the
+    /// one above are among the files where the server lists them. `FEAT` and the listing are a hold of the lock each.
+    ///
+    /// # Errors
+    /// Those of `feat`, but for `UnexpectedResponse`; those of `mlsd` or `list`. After a listing by `LIST` `BadResponse`,
+    /// where the present moment can't be read, by which a line that names no year is dated; `OutOfMemory`.
+    pub fn list_entries<R: Wait + Clock + AllocGlobal>(
+        &self,
+        rt: &R,
+        path: Option<&str>,
+    ) -> FtpResult<Listing>
+    where
+        Tr: Transport<R>,
+    {
         if self.lists_facts(rt)? {
             let lines = self.mlsd(rt, path)?;
-            return files_of_facts(rt.alloc(), &lines);
+            return Ok(Listing::of_mlsd(rt.alloc(), &lines)?);
         }
         let lines = self.list(rt, path)?;
         match Timestamp::now(rt) {
-            Ok(now) => files_of_lines(rt.alloc(), &lines, now),
+            Ok(now) => Ok(Listing::of_list(rt.alloc(), &lines, now)?),
             Err(_) => Err(FtpError::BadResponse),
         }
     }
@@ -61,74 +76,4 @@ where
             Err(fault) => Err(fault),
         }
     }
-}
-
-/// Whether a server with a feature of this name, in upper or lower case, has `MLSD`.
-fn names_facts(name: &str) -> bool {
-    name.eq_ignore_ascii_case("MLST") || name.eq_ignore_ascii_case("MLSD")
-}
-
-/// The files of the lines of `MLSD`.
-///
-/// # Errors
-/// `BadResponse` where a line has a wrong fact; `OutOfMemory`.
-fn files_of_facts(alloc: Global, lines: &[String]) -> FtpResult<Vec<File>> {
-    let mut files = Vec::new(alloc);
-    for line in lines {
-        match ListParser::parse_mlsd(alloc, line.as_str()) {
-            Ok(file) => files.push(file)?,
-            Err(error) => return Err(unread(error)),
-        }
-    }
-    Ok(files)
-}
-
-/// The files of the lines of `LIST`.
-///
-/// # Errors
-/// `BadResponse` where a line is an entry in neither form; `OutOfMemory`.
-fn files_of_lines(alloc: Global, lines: &[String], now: Timestamp) -> FtpResult<Vec<File>> {
-    let mut files = Vec::new(alloc);
-    for line in lines {
-        if is_entry(line.as_str()) {
-            files.push(file_of(alloc, line.as_str(), now)?)?;
-        }
-    }
-    Ok(files)
-}
-
-/// The file of a line of `LIST`. A line that has the POSIX form isn't read in the DOS form.
-///
-/// # Errors
-/// `BadResponse` where the line has neither form, or a date or size that doesn't exist; `OutOfMemory`.
-fn file_of(alloc: Global, line: &str, now: Timestamp) -> FtpResult<File> {
-    let read = match ListParser::parse_posix(alloc, line, now) {
-        Err(ParseError::SyntaxError) => ListParser::parse_dos(alloc, line),
-        read => read,
-    };
-    read.map_err(unread)
-}
-
-/// The error of a line that can't be read.
-fn unread(error: ParseError) -> FtpError {
-    match error {
-        ParseError::OutOfMemory => FtpError::OutOfMemory,
-        _ => FtpError::BadResponse,
-    }
-}
-
-/// Whether a line of `LIST` tells of an entry: it isn't blank, and isn't the sum `total N` that `ls -l` begins with.
-fn is_entry(line: &str) -> bool {
-    let text = line.trim();
-    match text.strip_prefix("total") {
-        Some(rest) => !is_number(rest),
-        None => !text.is_empty(),
-    }
-}
-
-/// Whether blanks and then digits alone stand here.
-fn is_number(text: &str) -> bool {
-    let digits = text.trim_start();
-    let has_blank = digits.len() < text.len();
-    has_blank && !digits.is_empty() && digits.bytes().all(|byte| byte.is_ascii_digit())
 }

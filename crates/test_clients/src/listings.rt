@@ -4,6 +4,7 @@ use crate::scene::{boxed, conn_with, greeted, number};
 use ftp_base::status::Status;
 use ftp_base::types::{FtpResult, Response};
 use ftp_blocking::{ImplFtpStream, TransferStream};
+use ftp_list::Listing;
 use ftp_transport::{MemoryTransport, Supply};
 use std::alloc::Global;
 use std::sync::Wait;
@@ -93,6 +94,32 @@ fn a_line_that_cannot_be_read_is_an_error_and_the_session_goes_on(
     // BadResponse
     let due = "E11|0|FEAT\r\nPASV\r\nLIST\r\nNOOP\r\n";
     assert_eq!(rt; (dated.as_str(), other.as_str()), (due, due));
+    Ok(())
+}
+
+/// What is in a listing: each file with its size, and each line that can't be read.
+fn text_of(alloc: Global, listing: &Listing) -> Result<String, Fail> {
+    let mut text = String::new(alloc);
+    for file in &listing.files {
+        write!(text, "{} {}|", file.name(), file.size())?;
+    }
+    for line in &listing.unread {
+        write!(text, "?{line}|")?;
+    }
+    Ok(text)
+}
+
+#[test]
+fn lines_that_cannot_be_read_leave_the_files(rt: HostRuntime) -> Result<(), Fail> {
+    let replies = "502 no\r\n227 ok (10,0,0,1,4,0)\r\n150 b\r\n226 d\r\n";
+    let data =
+        "total 8\r\n-rw-r--r-- 1 user group 1234 Nov 5 2018 a.txt\r\nhello\r\n04-08-14  03:09PM  8192 b.txt\r\ntotal of 8\r\n";
+    let client = client_of(rt.alloc(), replies, data)?;
+    let listing = Box::new(rt.alloc(), client.list_entries(&rt, None)?)?;
+    drop(client);
+    let text = text_of(rt.alloc(), &listing)?;
+    drop(listing);
+    assert_eq!(rt; text.as_str(), "a.txt 1234|b.txt 8192|?hello|?total of 8|");
     Ok(())
 }
 

@@ -14,6 +14,8 @@ mod dropping;
 #[cfg(test)]
 mod limits;
 #[cfg(test)]
+mod listings;
+#[cfg(test)]
 mod requests;
 #[cfg(test)]
 mod scene;
