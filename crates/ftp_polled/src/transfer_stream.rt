@@ -18,7 +18,7 @@ use ftp_transport::{PollConn, TaskConn, TaskTransport};
 use futures::task::{Context, Poll};
 use std::io;
 use std::io::ErrorKind;
-use tokio::io::AsyncRead;
+use tokio::io::{AsyncRead, AsyncWrite};
 
 /// A transfer of a polled client, and the client's session. Dropped, it is left: its data connection is closed, and the
 /// client's next command reads its last reply first.
@@ -159,5 +159,35 @@ where
             Ok(Poll::Pending) => Poll::Pending,
             Err(kind) => Poll::Ready(Err(kind.into())),
         }
+    }
+}
+
+// So that what writes to `tokio`'s writers writes to a transfer. What a connection takes no clause says.
+impl<Tr: TaskTransport, K: Drop, E: Encoding, B: Drop> AsyncWrite for TransferStream<Tr, K, E, B>
+where
+    Tr::Conn: PollConn<()> + TaskConn,
+{
+    ghost writes = { λ _ _ _. ⊤ };
+
+    ghost writes_nothing = { λ _. tt };
+
+    ghost writes_in_order = { λ _ _ _ _ _ _ _. tt };
+
+    fn poll_write(&mut self, cx: &mut Context<'_>, buf: &[u8]) -> Poll<io::Result<usize>> {
+        match self.transfer.poll_write_in(cx, buf) {
+            Ok(Poll::Ready(count)) => Poll::Ready(Ok(count)),
+            Ok(Poll::Pending) => Poll::Pending,
+            Err(kind) => Poll::Ready(Err(kind.into())),
+        }
+    }
+
+    /// Does nothing: a transfer holds nothing back.
+    fn poll_flush(&mut self, _cx: &mut Context<'_>) -> Poll<io::Result<()>> {
+        Poll::Ready(Ok(()))
+    }
+
+    /// Does nothing: `finish` closes the data connection, and reads the transfer's last reply.
+    fn poll_shutdown(&mut self, _cx: &mut Context<'_>) -> Poll<io::Result<()>> {
+        Poll::Ready(Ok(()))
     }
 }

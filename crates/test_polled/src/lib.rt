@@ -27,3 +27,5 @@ mod surface;
 mod threads;
 #[cfg(test)]
 mod traffic;
+#[cfg(test)]
+mod writers;
