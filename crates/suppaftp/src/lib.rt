@@ -6,6 +6,7 @@
 //! listings, and `FtpError` is what calls fail with. What the crates below have for one another isn't given again.
 #![tactic(auto)]
 
+mod host;
 pub mod polled_ftp;
 pub mod session;
 pub mod sync_ftp;
@@ -22,11 +23,12 @@ pub use ftp_calls::call;
 pub use ftp_control::control;
 pub use ftp_list as list;
 /// What kind of entry a file of a listing is, which `list` calls a `FileType`; the other `FileType` is that of `TYPE`.
-pub use ftp_list::{File, FileType as EntryKind, ListParser};
+pub use ftp_list::{File, FileType as EntryKind, ListParser, Listing};
 pub use ftp_session::session::DownloadReader;
 pub use ftp_transfer::mark;
 pub use ftp_transport as transport;
 pub use ftp_transport::{PassiveStreamBuilder, TcpTransport};
+pub use host::Host;
 pub use polled_ftp::{AsyncFtpStream, AsyncFtpTransferStream, ImplAsyncFtpStream};
 pub use sync_ftp::{
     ControlSocket, FtpStream, FtpTransferStream, ImplFtpStream, Transfer, TransferStream,

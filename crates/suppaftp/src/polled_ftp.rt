@@ -5,8 +5,9 @@
 
 pub use ftp_polled::{
     Abort, Adjust, AsyncNoTlsStream, AsyncTlsConnector, AsyncTlsStream, Connect, ControlSocket,
-    Dialogue, Failed, Finish, ImplAsyncFtpStream, Lines, Lock, OpenTransfer, OpenWithReply,
-    Outcome, ReadReply, RetrReader, Retrieve, Settle, StreamLines, TransferStream, Upload, Welcome,
+    Dialogue, Failed, Finish, ImplAsyncFtpStream, Lines, ListEntries, ListFiles, Lock,
+    OpenTransfer, OpenWithReply, Outcome, ReadReply, RetrReader, Retrieve, Settle, StreamLines,
+    TransferStream, Upload, Welcome,
 };
 pub use ftp_tokio::{TokioConn, TokioListener, TokioTransport};
 pub use ftp_transport::PassiveStreamBuilder;
