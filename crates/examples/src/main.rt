@@ -1,63 +1,109 @@
-//! A first client: it logs in to the server whose address is its first word, as `192.0.2.7:21`, and prints what the
-//! server says that it is.
+//! Five first programs, each a module: `fetch`, `put`, `list`, `mirror` and `polled`.
+//!
+//! `examples NAME ADDRESS` runs one of them with the server at that address, as `192.0.2.7:21`; `examples all` runs each with
+//! a server of its own. `examples entry LINE` reads a line of a listing.
 #![tactic(auto)]
 
-mod ask;
-mod directory;
-mod download;
+mod fetch;
+mod list;
 mod listing;
+mod mirror;
 mod polled;
-mod upload;
+mod put;
+mod serving;
 
+use std::alloc::AllocError;
+use std::net::TcpListener;
 use std::process::ExitCode;
+use std::random::RandomSource;
 use std::rt::Env;
-use std::{env, io};
+use std::sync::Wait;
+use std::thread::{JoinHandle, Threads};
+use std::{env, io, thread};
+use suppaftp::{FtpError, FtpResult, Host};
+
+/// How many clients the programs are.
+const CLIENTS: usize = 7;
+
+/// A thread that serves a client.
+type Serving = JoinHandle<io::Result<()>>;
 
 fn main(rt: HostRuntime) -> ExitCode {
-    match words(&rt) {
-        Ok(words) if words.len() == 1 => ask::print_system(&rt, words[0].as_str()),
-        Ok(words) if words.len() == 2 && words[0].as_str() == "polled" => {
-            polled::print_list(&rt, words[1].as_str())
-        }
-        Ok(words) if words.len() == 2 && words[0].as_str() == "entry" => listing::print_entry(
-            &rt,
-            words[1].as_str(),
-        ),
-        Ok(words) if words.len() == 3 && words[0].as_str() == "get" => download::print_length(
-            &rt,
-            words[1].as_str(),
-            words[2].as_str(),
-        ),
-        Ok(words) if words.len() == 3 && words[0].as_str() == "list" => directory::print_files(
-            &rt,
-            words[1].as_str(),
-            words[2].as_str(),
-        ),
-        Ok(words) if words.len() == 4 && words[0].as_str() == "put" => upload::print_count(
-            &rt,
-            words[1].as_str(),
-            words[2].as_str(),
-            words[3].as_str(),
-        ),
-        Ok(words) if words.len() == 3 && words[0].as_str() == "file" => ask::print_file(
-            &rt,
-            words[1].as_str(),
-            words[2].as_str(),
-        ),
-        _ => {
-            let _ = rt.eprintln(
-                "usage: examples ADDRESS | examples file ADDRESS NAME | examples get ADDRESS NAME | examples list ADDRESS DIRECTORY | examples put ADDRESS NAME TEXT | examples polled ADDRESS | examples entry LINE",
+    match run_words(&rt) {
+        Ok(true) => ExitCode::SUCCESS,
+        Ok(false) => {
+            let _ = eprintln!(rt;
+                "usage: examples fetch|put|list|mirror|polled ADDRESS, examples entry LINE, or examples all"
             );
             ExitCode::from(2)
+        }
+        Err(FtpError::UnexpectedResponse(reply)) => {
+            let _ = eprintln!(rt; "refused: {reply}");
+            ExitCode::from(1)
+        }
+        Err(fault) => {
+            let _ = eprintln!(rt; "{fault}");
+            ExitCode::from(1)
         }
     }
 }
 
-/// The words that the program was called with, after its own name.
-fn words<R: Env + AllocGlobal>(rt: &R) -> io::Result<Vec<String>> {
-    let mut words = Vec::new(rt.alloc());
-    for word in env::args(rt)?.skip(1) {
-        words.push(word)?;
+/// Runs what the program's words say; whether they say anything.
+fn run_words<R>(rt: &R) -> FtpResult<bool>
+where
+    R: Host + Wait + Threads + RandomSource + Env + Print + Eprint,
+{
+    let words: Vec<String> = env::args(rt)?.skip(1).collect(rt.alloc())?;
+    match words.as_slice() {
+        [name, address] => run(rt, name.as_str(), address.as_str()),
+        [name] if name.as_str() == "all" => run_all(rt),
+        _ => Ok(false),
     }
-    Ok(words)
+}
+
+/// Runs a program with the server at an address; whether there is such a program.
+fn run<R>(rt: &R, name: &str, address: &str) -> FtpResult<bool>
+where
+    R: Host + Wait + RandomSource + Print + Eprint,
+{
+    match name {
+        "fetch" => fetch::run(rt, address)?,
+        "put" => put::run(rt, address)?,
+        "list" => list::run(rt, address)?,
+        "mirror" => mirror::run(rt, address)?,
+        "polled" => polled::run(rt, address)?,
+        "entry" => listing::print_entry(rt, address)?,
+        _ => return Ok(false),
+    }
+    Ok(true)
+}
+
+/// Runs each program with a server of its own.
+fn run_all<R>(rt: &R) -> FtpResult<bool>
+where
+    R: Host + Wait + Threads + RandomSource + Print + Eprint,
+{
+    let listener = TcpListener::bind(rt, "127.0.0.1:0")?;
+    let address = format!(in rt.alloc(); "{}", listener.local_addr()?)?;
+    let mut servers = Vec::new(rt.alloc());
+    for _ in 0..CLIENTS {
+        servers.push(started(rt, listener.try_clone()?)?)?;
+    }
+    for name in ["fetch", "put", "list", "mirror", "polled"] {
+        run(rt, name, address.as_str())?;
+    }
+    for server in servers {
+        server.join(rt)?;
+    }
+    Ok(true)
+}
+
+/// A thread that serves the next client.
+fn started<R: Host + Threads>(rt: &R, listener: TcpListener) -> FtpResult<Serving> {
+    let alloc = rt.alloc();
+    let data = TcpListener::bind(rt, "127.0.0.1:0")?;
+    match thread::spawn(rt, move || serving::serve(alloc, &listener, data)) {
+        Ok(server) => Ok(server),
+        Err(error) => Err(AllocError::from(error).into()),
+    }
 }

@@ -1,60 +1,45 @@
-//! A session with a server, whose calls are futures.
+//! Three files are fetched at once: three clients, whose calls are futures that one thread polls.
 
-use std::io;
-use std::net::{Net, TcpListener, TcpStream};
-use std::process::ExitCode;
+use futures::future::join3;
 use std::random::RandomSource;
 use std::sync::Wait;
-use std::time::Clock;
 use suppaftp::polled_ftp::{AsyncFtpStream, TokioTransport};
-use suppaftp::{FtpError, FtpResult};
+use suppaftp::{FileType, FtpResult, Host};
 use tokio::runtime::LocalRuntime;
 
-/// Logs in, and lists the current directory. Each call is a future, which this thread's runtime polls.
-pub fn list<R>(rt: &R, address: &str) -> FtpResult<Vec<String>>
+/// A client that has logged in.
+fn logged_in<R>(rt: &R, runtime: &mut LocalRuntime, address: &str) -> FtpResult<AsyncFtpStream>
 where
-    R: Net<Listener = TcpListener, Stream = TcpStream> + Clock + Wait + RandomSource + AllocGlobal,
+    R: Host + Wait + RandomSource,
 {
-    let mut runtime = LocalRuntime::new(rt)?;
     let transport = TokioTransport::of_runtime(runtime.handle())?;
     let client = runtime.block_on(rt, AsyncFtpStream::connect_to(rt, transport, address))??;
     runtime.block_on(rt, client.login(rt, "anonymous", "guest@example.org"))??;
-    let lines = runtime.block_on(rt, client.list(rt, None))??;
-    runtime.block_on(rt, client.quit(rt))??;
-    Ok(lines)
+    runtime.block_on(rt, client.transfer_type(rt, FileType::Binary))??;
+    Ok(client)
 }
 
-/// Prints the lines of the current directory, or why there are none.
-pub fn print_list<R>(rt: &R, address: &str) -> ExitCode
+/// Downloads three files side by side; how long each is.
+pub fn lengths<R>(rt: &R, address: &str, names: [&str; 3]) -> FtpResult<[usize; 3]>
 where
-    R: Net<Listener = TcpListener, Stream = TcpStream>
-        + Clock
-        + Wait
-        + RandomSource
-        + AllocGlobal
-        + Print
-        + Eprint,
+    R: Host + Wait + RandomSource,
 {
-    match list(rt, address) {
-        Ok(lines) => match print_lines(rt, &lines) {
-            Ok(()) => ExitCode::SUCCESS,
-            Err(_fault) => ExitCode::from(1),
-        },
-        Err(FtpError::UnexpectedResponse(reply)) => {
-            let _ = eprintln!(rt; "refused: {reply}");
-            ExitCode::from(1)
-        }
-        Err(fault) => {
-            let _ = eprintln!(rt; "{fault}");
-            ExitCode::from(1)
-        }
-    }
+    let mut runtime = LocalRuntime::new(rt)?;
+    let first = logged_in(rt, &mut runtime, address)?;
+    let second = logged_in(rt, &mut runtime, address)?;
+    let third = logged_in(rt, &mut runtime, address)?;
+    let fetches = join3(
+        first.retr_as_buffer(rt, names[0]),
+        second.retr_as_buffer(rt, names[1]),
+        third.retr_as_buffer(rt, names[2]),
+    );
+    let (one, two, three) = runtime.block_on(rt, fetches)?;
+    Ok([one?.len(), two?.len(), three?.len()])
 }
 
-/// Prints these lines.
-fn print_lines<R: Print>(rt: &R, lines: &[String]) -> io::Result<()> {
-    for line in lines {
-        println!(rt; "{line}")?;
-    }
+/// Fetches three files at once, and prints how long each is.
+pub fn run<R: Host + Wait + RandomSource + Print>(rt: &R, address: &str) -> FtpResult<()> {
+    let [one, two, three] = lengths(rt, address, ["one.txt", "two.txt", "three.txt"])?;
+    println!(rt; "at once: {one}, {two} and {three} bytes")?;
     Ok(())
 }
