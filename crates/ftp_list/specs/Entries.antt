@@ -22,9 +22,13 @@ is_spaced_number text =
 abbrev pub is_total : List ℕ → Bool
 is_total text = begins (codes "total") text && is_spaced_number (drop 5 text)
 
--- a line of LIST is that of a file, unless it is blank or that sum
+-- the characters of a line of LIST are those of a file's, unless they are blank or that sum
+abbrev pub is_entry_text : List ℕ → Bool
+is_entry_text text = not (length (trim text) == 0) && not (is_total (trim text))
+
+-- a line of LIST is a file's
 abbrev pub is_entry : List ℕ → Bool
-is_entry line = not (length (trim (chars line)) == 0) && not (is_total (trim (chars line)))
+is_entry line = is_entry_text (chars line)
 
 -- the lines of LIST that are those of files
 abbrev pub entries : List (List ℕ) → List (List ℕ)
@@ -52,7 +56,7 @@ pub data IsRead (Says : List ℕ → Result Entry ParseError → Type 0) : List 
   Unread : {line : List ℕ} {fault : ParseError} {lines : List (List ℕ)} {files : List Entry} {unread : List (List ℕ)}
       → Says line (Err fault) → IsRead Says lines files unread → IsRead Says (line ∷ lines) files (line ∷ unread)
 
--- What was read of one more line is added to what was read, unless there was no memory to read it.
+-- What was read of one more line is added to what was read, unless an allocation failed.
 abbrev pub IsAdded : List ℕ → Result Entry ParseError → List Entry → List (List ℕ) → List Entry → List (List ℕ) → Type 0
 IsAdded line (Ok entry) files unread new_files new_unread =
     (new_files ≡ files ++ entry ∷ []) × (new_unread ≡ unread)

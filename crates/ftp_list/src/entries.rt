@@ -6,14 +6,14 @@
 ghost use Rattle.std.specs.Prelude.{◌≡◌, ◌↔◌, [], IfOk, IfSome, IsSome, IsTrue, OnOk, map, vec_len};
 ghost use Rattle.std.specs.String.{string_bytes};
 ghost use Rattle.ftp_list.specs.Listing.{UnlessMemory};
-ghost use Rattle.ftp_list.specs.Entries.{NamesFacts, is_spaced_number, is_total, is_entry, entries, IsAdded, IsOfList, IsOfMlsd, IsRead};
+ghost use Rattle.ftp_list.specs.Entries.{NamesFacts, is_spaced_number, is_total, is_entry_text, is_entry, entries, IsAdded, IsOfList, IsOfMlsd, IsRead};
 
 use crate::class::Class;
 use crate::error::{ParseError, ParseResult};
 use crate::file::File;
-use crate::parser::ListParser;
+use crate::parser::{ListParser, ROOM};
 use crate::places::{begins_with, rest};
-use crate::trims::{chars_of, trimmed, trimmed_front};
+use crate::trims::{chars_of, copied_line, trimmed, trimmed_front};
 use jiff::Timestamp;
 use std::alloc::{AllocError, Global};
 
@@ -88,7 +88,7 @@ impl Listing {
     /// Adds what was read of a line: its file, or else the line.
     ///
     /// # Errors
-    /// `AllocError`, also where the line couldn't be read for want of memory.
+    /// `AllocError`, also where the line wasn't read because an allocation failed.
     fn add(&mut self, alloc: Global, line: &str, read: ParseResult<File>) -> Result<(), AllocError>
         ensures added { OnOk result (IsAdded line.now read
             self.old.files.items (map string_bytes self.old.unread.items)
@@ -125,9 +125,19 @@ fn file_in_list(alloc: Global, line: &str, now: Timestamp) -> ParseResult<File>
 fn is_of_file(alloc: Global, line: &str) -> Result<bool, AllocError>
     ensures { IfOk result (λ is. is ≡ is_entry line.now) }
 {
-    let characters = chars_of(alloc, line)?;
-    let text = trimmed(&characters);
-    Ok(!text.is_empty() && !is_sum(text))
+    let mut room = [' '; ROOM];
+    match copied_line(&mut room, line) {
+        Some(count) => Ok(is_text_of_file(&room[..count])),
+        None => Ok(is_text_of_file(&chars_of(alloc, line)?)),
+    }
+}
+
+/// Whether the characters of a line of `LIST` are those of a file's.
+fn is_text_of_file(text: &[char]) -> bool
+    ensures { result ≡ is_entry_text text.now }
+{
+    let text = trimmed(text);
+    !text.is_empty() && !is_sum(text)
 }
 
 /// Whether the text is `total` and a number.

@@ -17,7 +17,7 @@ use jiff::Timestamp;
 use std::alloc::Global;
 
 // How many characters of an ASCII line stand on the stack. A longer line, or another, takes memory.
-const ROOM: usize = 256;
+pub(crate) const ROOM: usize = 256;
 
 /// The parsers of the forms of a listing line.
 pub struct ListParser;
