@@ -2,9 +2,11 @@
 //!
 //! There is one error for all forms, so that a caller who tries several can compare them. It
 //! holds no text of the line: the caller still has the line, and an error takes no memory.
-ghost use Rattle.std.specs.Prelude.{◌≡◌};
+ghost use Rattle.std.specs.Prelude.{◌≡◌, ◌≢◌, ◌⊎◌};
+ghost use Rattle.ftp_base.specs.declared.types.fault.FtpError.TheVariants as fault;
 ghost use Rattle.ftp_list.specs.declared.error.ParseError.TheVariants.{OutOfMemory};
 
+use ftp_base::types::FtpError;
 use std::alloc::{AllocError, AllocFailed};
 use thiserror::Error;
 
@@ -41,5 +43,18 @@ impl<T: Drop> From<AllocFailed<T>> for ParseError {
 
     fn from(_e: AllocFailed<T>) -> ParseError {
         ParseError::OutOfMemory
+    }
+}
+
+/// For a program that reads lines between calls of the client: a line that can't be read is a bad response.
+impl From<ParseError> for FtpError {
+    ghost from_gives = { λ cause error. ((cause ≡ OutOfMemory) × (error ≡ fault.OutOfMemory)) ⊎
+        ((cause ≢ OutOfMemory) × (error ≡ fault.BadResponse)) };
+
+    fn from(cause: ParseError) -> FtpError {
+        match cause {
+            ParseError::OutOfMemory => FtpError::OutOfMemory,
+            _ => FtpError::BadResponse,
+        }
     }
 }

@@ -45,6 +45,18 @@ fn features_are_lent_and_given_away_as_a_map(rt: HostRuntime) -> Result<(), Fail
     Ok(())
 }
 
+#[test]
+fn features_are_counted_and_looked_for(rt: HostRuntime) -> Result<(), Fail> {
+    let features = some_features(rt.alloc())?;
+    let has = [features.contains("SIZE"), features.contains("MDTM")];
+    let none = Features::new(rt.alloc()).is_empty();
+    assert_eq!(rt;
+        (has, features.len(), features.is_empty(), none),
+        ([true, false], 2, false, true)
+    );
+    Ok(())
+}
+
 // RFC 2389, section 3.2.
 #[test]
 fn the_features_of_a_reply(rt: HostRuntime) -> Result<(), Fail> {

@@ -8,6 +8,8 @@ mod accessors;
 #[cfg(test)]
 mod contents;
 #[cfg(test)]
+mod conversions;
+#[cfg(test)]
 mod copies;
 #[cfg(test)]
 mod described;

@@ -21,7 +21,7 @@ fn the_body_of_a_reply_is_read_as_a_slice(rt: HostRuntime) -> Result<(), Fail> {
     );
     let copy = reply.clone()?;
     let read = (copy.body.len(), copy.body.get(3).copied());
-    let same = copy.body == reply.body;
+    let same = copy.body == reply.body && copy.status() == Status::CommandOk;
     assert_eq!(rt; (read, same), ((8, Some(b' ')), true));
     Ok(())
 }
