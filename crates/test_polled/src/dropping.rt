@@ -28,7 +28,7 @@ const NAMES: [&str; 8] = ["1", "2", "3", "4", "5", "6", "7", "8"];
 const DROPS: u32 = 1000;
 
 /// The most rounds of eight calls.
-const ROUNDS: u32 = 1000;
+const ROUNDS: u32 = 20_000;
 
 /// A server that answers SIZE of a file, whose name is one digit, by that digit.
 fn serve(listener: &TcpListener) -> io::Result<()> {

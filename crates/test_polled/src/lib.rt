@@ -24,8 +24,6 @@ mod settings;
 #[cfg(test)]
 mod surface;
 #[cfg(test)]
-mod threads;
-#[cfg(test)]
 mod traffic;
 #[cfg(test)]
 mod writers;
