@@ -75,7 +75,10 @@ impl<Tr: Network> Machine<Tr> {
         };
         let outcome = match conn.close() {
             Ok(()) => DealOutcome::Closed,
-            Err(kind) => DealOutcome::Failed(kind),
+            Err(kind) => {
+                self.failures.note_data(true);
+                DealOutcome::Failed(kind)
+            }
         };
         self.transport.closed(conn);
         outcome

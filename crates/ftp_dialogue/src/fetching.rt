@@ -183,7 +183,9 @@ impl<Tr: Network> Machine<Tr> {
         let Some(conn) = &mut self.data_conn else {
             unreachable!();
         };
-        gathered.read_more(asker, conn, w)
+        let more = gathered.read_more(asker, conn, w);
+        self.failures.note_data(has_failed(&more));
+        more
     }
 
     /// The data connection is closed, and the transfer's last reply is due. The fault of an upload's close is the answer.
@@ -266,6 +268,11 @@ impl<Tr: Network> Machine<Tr> {
     }
 }
 
+/// Whether a read failed.
+fn has_failed(more: &Poll<More>) -> bool {
+    matches!(more, Poll::Ready(More::Failed(_)))
+}
+
 /// What follows a read, where so many more may be made.
 fn follow<E: Encoding>(
     alloc: Global,
@@ -296,7 +303,7 @@ fn answer_of<E: Encoding>(alloc: Global, encoding: &E, form: Fetch, gathered: Ga
     ensures { (result ≡ fetched (coding_of E.decoded E.encoded encoding.now) form gathered) ⊎
         (result ≡ Answer.Fault FtpError.OutOfMemory) }
 {
-    let bytes = gathered.into_bytes();
+    let bytes = gathered.into_bytes(alloc);
     match form {
         Fetch::Whole => Answer::Bytes(bytes),
         Fetch::Listed => match read_listing(alloc, bytes.as_slice(), encoding) {

@@ -91,14 +91,33 @@ impl Gathered {
         self.filled
     }
 
-    /// The bytes, in their memory.
-    pub(super) fn into_bytes(self) -> Bytes
+    /// The bytes. Where their memory is more than a quarter above them they are moved into memory of their size, if there
+    /// is any.
+    pub(super) fn into_bytes(self, alloc: Global) -> Bytes
         ensures { result ≡ self }
     {
         let Gathered { mut buffer, filled } = self;
         buffer.truncate(filled);
-        Bytes::from_vec(buffer)
+        if buffer.capacity() - filled <= filled / 4 {
+            return Bytes::from_vec(buffer);
+        }
+        match exact_copy(alloc, buffer.as_slice()) {
+            Ok(exact) => {
+                drop(buffer);
+                Bytes::from_vec(exact)
+            }
+            Err(AllocError) => Bytes::from_vec(buffer),
+        }
     }
+}
+
+/// These bytes, in memory of their size.
+fn exact_copy(alloc: Global, bytes: &[u8]) -> Result<Vec<u8>, AllocError>
+    ensures { IfOk result (λ copy. copy.items ≡ bytes.now) }
+{
+    let mut copy = Vec::with_capacity(alloc, bytes.len())?;
+    copy.extend_from_slice(bytes)?;
+    Ok(copy)
 }
 
 /// Reads once into a buffer, after its filled bytes, and makes room before. Nothing is read where there is no memory.

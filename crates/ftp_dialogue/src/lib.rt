@@ -16,6 +16,7 @@ mod carrying;
 mod catching_up;
 mod draining;
 mod dropping;
+mod failures;
 mod fetching;
 pub mod gathered;
 pub mod laws;
@@ -33,5 +34,6 @@ mod transitions;
 pub mod unsent;
 
 pub use draining::unless_unit;
+pub use failures::Failure;
 pub use ftp_calls::call::{Answer, Call, Setting};
 pub use state::{Counts, Owed, Settings, State, rule_by};

@@ -4,6 +4,7 @@
 //! functions. `transitions` plays dialogues on it; the session's `run` and `run_polled` play lists of them.
 
 use super::carrying::pass_over;
+use super::failures::{Failure, Failures};
 use super::state::{Owed, State};
 use ftp_control::control::{ControlChannel, ReplyRule};
 use ftp_transport::Network;
@@ -24,6 +25,7 @@ pub struct Machine<Tr: Network> {
     pub(crate) listener: Option<Tr::Listener>,
     /// The data connection, unless it was handed out.
     pub data_conn: Option<Tr::Conn>,
+    pub(crate) failures: Failures,
 }
 
 impl<Tr: Network> Model for Machine<Tr> {
@@ -67,6 +69,7 @@ impl<Tr: Network> Machine<Tr> {
             state,
             listener: None,
             data_conn: None,
+            failures: Failures::none(),
         }
     }
 
@@ -80,6 +83,22 @@ impl<Tr: Network> Machine<Tr> {
             Owed::Nothing => self.data_conn = None,
             Owed::Live(_) => {}
             Owed::Left(_) => pass_over(self.close_data()),
+        }
+    }
+
+    /// Where the last error of input or output was met, if there was one. No call depends on it, and no clause says it.
+    pub fn last_failure(&self) -> Option<Failure> {
+        self.failures.last()
+    }
+
+    /// What the caller handed in has failed, or the data connection of a transfer that was handed out.
+    pub fn note_failure(&mut self, caller: bool)
+        ensures same { self.new ≡ self.old }
+    {
+        if caller {
+            self.failures.note(Failure::Caller);
+        } else {
+            self.failures.note_data(true);
         }
     }
 

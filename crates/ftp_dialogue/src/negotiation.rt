@@ -440,7 +440,9 @@ impl<Tr: Network> Machine<Tr> {
         ensures end { self.new.channel.ended ≡ self.old.channel.ended }
         ensures looks { LooksUp (asking (A.builds _asker.now) A.may_wait (polling Tr.Conn.PollConn)) Here self.old self.new result }
     {
-        self.channel.local_addr()
+        let address = self.channel.local_addr();
+        self.failures.note_control(address.is_err());
+        address
     }
 
     /// The address of the other end of the control connection.
@@ -455,7 +457,9 @@ impl<Tr: Network> Machine<Tr> {
         ensures end { self.new.channel.ended ≡ self.old.channel.ended }
         ensures looks { LooksUp (asking (A.builds _asker.now) A.may_wait (polling Tr.Conn.PollConn)) There self.old self.new result }
     {
-        self.channel.peer_addr()
+        let address = self.channel.peer_addr();
+        self.failures.note_control(address.is_err());
+        address
     }
 
     /// Memory ran out after a reply was taken: the session has failed.

@@ -51,7 +51,9 @@ impl<Tr: Network> Machine<Tr> {
             self.new result }
         ensures says { SaysNode (asking (A.builds _asker.now) A.may_wait (polling Tr.Conn.PollConn)) line.old line.new self.old self.new result }
     {
-        step_of(self.channel.poll_perform(line, w))
+        let performed = self.channel.poll_perform(line, w);
+        self.failures.note_control(self.channel.failed());
+        step_of(performed)
     }
 
     /// Reads a reply of one of these statuses. A read that waits may be dropped and made again.
@@ -101,7 +103,9 @@ impl<Tr: Network> Machine<Tr> {
             next self.old self.new result }
     {
         self.channel.set_rule(self.state.settings.reply_rule);
-        self.channel.poll_read_reply(alloc, form, expected, w)
+        let reply = self.channel.poll_read_reply(alloc, form, expected, w);
+        self.failures.note_control(self.channel.failed());
+        reply
     }
 
     /// Reads the reply that an exchange awaits.

@@ -8,6 +8,7 @@ ghost use Rattle.ftp_dialogue.specs.Link.{asking, polling};
 ghost use Rattle.ftp_dialogue.specs.Steps.Moving.{AsksFor, BuildsFor};
 
 use super::asks::Asks;
+use super::failures::Failure;
 use super::machine::Machine;
 use ftp_base::types::FtpError;
 use ftp_transport::{Network, PollConn, RequestOutcome, Tells};
@@ -33,13 +34,17 @@ impl<Tr: Network> Machine<Tr> {
         if self.transport.make_room().is_err() {
             return Poll::Ready(Err(AllocError));
         }
+        self.failures.at(address);
         match asker.connect(&mut self.transport, w, address) {
             Poll::Ready(Ok(Ok(mut conn))) => {
                 conn.begin();
                 self.data_conn = Some(conn);
                 Poll::Ready(Ok(RequestOutcome::Done))
             }
-            Poll::Ready(Ok(Err(fault))) => Poll::Ready(Ok(RequestOutcome::Refused(fault))),
+            Poll::Ready(Ok(Err(fault))) => {
+                self.failures.note_data(true);
+                Poll::Ready(Ok(RequestOutcome::Refused(fault)))
+            }
             Poll::Ready(Err(full)) => Poll::Ready(Err(full)),
             Poll::Pending => Poll::Pending,
         }
@@ -65,13 +70,17 @@ impl<Tr: Network> Machine<Tr> {
         let Ok(()) = self.transport.note_build(address) else {
             return Err(AllocError);
         };
+        self.failures.at(address);
         match asker.build(address) {
             Ok(mut conn) => {
                 conn.begin();
                 self.data_conn = Some(conn);
                 Ok(None)
             }
-            Err(fault) => Ok(Some(fault)),
+            Err(fault) => {
+                self.failures.note(Failure::Caller);
+                Ok(Some(fault))
+            }
         }
     }
 
@@ -88,12 +97,17 @@ impl<Tr: Network> Machine<Tr> {
         ensures end { self.new.channel.ended ≡ self.old.channel.ended }
         ensures asks { AsksFor (asking (A.builds asker.now) A.may_wait (polling Tr.Conn.PollConn)) (Listen address) self.old self.new result }
     {
+        self.failures.at(address);
         match asker.listen(&mut self.transport, w, address) {
             Poll::Ready(Ok(Ok((listener, bound)))) => {
                 self.listener = Some(listener);
+                self.failures.at(bound);
                 Poll::Ready(Ok(RequestOutcome::Address(bound)))
             }
-            Poll::Ready(Ok(Err(fault))) => Poll::Ready(Ok(RequestOutcome::Refused(fault))),
+            Poll::Ready(Ok(Err(fault))) => {
+                self.failures.note_data(true);
+                Poll::Ready(Ok(RequestOutcome::Refused(fault)))
+            }
             Poll::Ready(Err(full)) => Poll::Ready(Err(full)),
             Poll::Pending => Poll::Pending,
         }
@@ -123,10 +137,12 @@ impl<Tr: Network> Machine<Tr> {
             Poll::Ready(Ok(Ok((mut conn, from)))) => {
                 conn.begin();
                 self.data_conn = Some(conn);
+                self.failures.at(from);
                 Poll::Ready(Ok(RequestOutcome::Address(from)))
             }
             Poll::Ready(Ok(Err(fault))) => {
                 self.data_conn = None;
+                self.failures.note_data(true);
                 Poll::Ready(Ok(RequestOutcome::Refused(fault)))
             }
             Poll::Ready(Err(full)) => Poll::Ready(Err(full)),

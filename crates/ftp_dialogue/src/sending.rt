@@ -128,7 +128,9 @@ impl<Tr: Network> Machine<Tr> {
         let Some(conn) = &mut self.data_conn else {
             unreachable!();
         };
-        unsent.write_some(asker, conn, w)
+        let written = unsent.write_some(asker, conn, w);
+        self.failures.note_data(written.is_err());
+        written
     }
 
     /// The upload can't go on: its transfer was opened, and is left.

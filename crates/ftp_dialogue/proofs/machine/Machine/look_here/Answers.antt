@@ -5,5 +5,5 @@ use Rattle.ftp_dialogue.proofs.machine.Machine.look_here.Goals as goal
 
 pub returns-clause-looks : goal.returns-clause-looks
 returns-clause-looks g c =
-    let here = c.local_addr.ensures in
-    looks_up _ Here _ _ _ c.self.view_is here.same c.local_addr.result (ap (λ v. v.channel.failed) c.self.view_is ∙ c.requires.going) here.fault here.told
+    let here = c.local_addr-address.ensures in
+    looks_up _ Here _ _ _ c.self.view_is here.same c.local_addr-address.result (ap (λ v. v.channel.failed) c.self.view_is ∙ c.requires.going) here.fault here.told

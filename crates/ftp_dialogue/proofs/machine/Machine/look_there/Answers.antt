@@ -5,5 +5,5 @@ use Rattle.ftp_dialogue.proofs.machine.Machine.look_there.Goals as goal
 
 pub returns-clause-looks : goal.returns-clause-looks
 returns-clause-looks g c =
-    let here = c.peer_addr.ensures in
-    looks_up _ There _ _ _ c.self.view_is here.same c.peer_addr.result (ap (λ v. v.channel.failed) c.self.view_is ∙ c.requires.going) here.fault here.told
+    let here = c.peer_addr-address.ensures in
+    looks_up _ There _ _ _ c.self.view_is here.same c.peer_addr-address.result (ap (λ v. v.channel.failed) c.self.view_is ∙ c.requires.going) here.fault here.told
