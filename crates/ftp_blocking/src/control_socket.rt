@@ -2,7 +2,7 @@
 
 use super::ImplFtpStream;
 use ftp_base::encoding::{Encoding, Utf8Encoding};
-use ftp_session::session::{NoStreamBuilder, NoTlsConnector, Session};
+use ftp_session::session::{Failure, NoStreamBuilder, NoTlsConnector, Session};
 use ftp_transport::Network;
 use std::sync::{MutexGuard, Wait};
 
@@ -47,6 +47,12 @@ impl<Tr: Network, K: Drop, E: Encoding, B: Drop> ImplFtpStream<Tr, K, E, B> {
     /// connect anew.
     pub fn failed<R: Wait>(&self, rt: &R) -> bool {
         self.session.lock(rt).failed()
+    }
+
+    /// Where the last error of input or output was met, if there was one: after a call that returned `Io`, where that was.
+    /// It stays until the next is met. What a caller reads or writes on a `TransferStream` isn't among them.
+    pub fn last_failure<R: Wait>(&self, rt: &R) -> Option<Failure> {
+        self.session.lock(rt).last_failure()
     }
 
     /// Takes the lock, and keeps it for as long as the result lives, which lends the control connection.

@@ -3,9 +3,9 @@
 use super::ImplFtpStream;
 use ftp_base::encoding::Encoding;
 use ftp_base::types::FtpResult;
-use ftp_session::session::DownloadReader;
+use ftp_session::session::{DownloadReader, Progress};
 use ftp_transport::{Conn, Network, PassiveStreamBuilder, Transport};
-use std::io::Read;
+use std::io::{Read, Write};
 use std::sync::Wait;
 
 impl<Tr: Network, K: Drop, E: Encoding, B: PassiveStreamBuilder<Tr::Conn>> ImplFtpStream<
@@ -54,6 +54,67 @@ where
         self.session
             .lock(rt)
             .append_file(rt.alloc(), rt, path, source)
+    }
+
+    /// Uploads all that a source gives to this file, as `put_file` does, and tells how far it has come.
+    ///
+    /// # Errors
+    /// Those of `put_file`.
+    pub fn put_file_with<R: Wait + AllocGlobal, S: Read, P: Progress>(
+        &self,
+        rt: &R,
+        path: &str,
+        source: &mut S,
+        progress: &mut P,
+    ) -> FtpResult<u64>
+    where
+        Tr: Transport<R>,
+    {
+        self.session
+            .lock(rt)
+            .put_file_with(rt.alloc(), rt, path, source, progress)
+    }
+
+    /// Uploads all that a source gives to the end of this file, as `append_file` does, and tells how far it has come.
+    ///
+    /// # Errors
+    /// Those of `put_file`.
+    pub fn append_file_with<R: Wait + AllocGlobal, S: Read, P: Progress>(
+        &self,
+        rt: &R,
+        path: &str,
+        source: &mut S,
+        progress: &mut P,
+    ) -> FtpResult<u64>
+    where
+        Tr: Transport<R>,
+    {
+        self.session
+            .lock(rt)
+            .append_file_with(rt.alloc(), rt, path, source, progress)
+    }
+
+    /// Downloads this file to a writer: `RETR` (150, 125; RFC 959, section 4.1.3), the bytes as they come, and the last
+    /// reply (226, 250). Returns how many bytes were written, and tells how far the download has come; `NoProgress` is told
+    /// nothing. The offset is taken as by `retr_as_stream`. The client is busy until then.
+    ///
+    /// # Errors
+    /// Those of a data command. The fault of the data connection, where what came was written, or of the writer, where a
+    /// front of that was; `SourceTooLarge` past 2^63 - 1 bytes; `OutOfMemory` for a buffer: they come before the fault of the
+    /// last reply, which is read all the same.
+    pub fn write_to<R: Wait + AllocGlobal, W: Write, P: Progress>(
+        &self,
+        rt: &R,
+        path: &str,
+        writer: &mut W,
+        progress: &mut P,
+    ) -> FtpResult<u64>
+    where
+        Tr: Transport<R>,
+    {
+        self.session
+            .lock(rt)
+            .write_to(rt.alloc(), rt, path, writer, progress)
     }
 
     /// Downloads this file to a reader of the caller's: `RETR` (150, 125; RFC 959, section 4.1.3), the reader, which is

@@ -1,12 +1,13 @@
 //! A source is copied to a transfer, a piece a poll: a text's lines end in CR LF on the wire (RFC 959, section 3.1.1.1).
 
-ghost use Rattle.std.specs.Prelude.{◌≡◌};
+ghost use Rattle.std.specs.Prelude.{◌≡◌, Some};
 ghost use Rattle.futures.specs.Poll.{OnPending};
 ghost use Rattle.futures.specs.Task.{IsArmed, Keeps};
 
 use ftp_base::ascii::{CrlfEncoder, upload_size};
 use ftp_base::retry::RETRIES;
 use ftp_base::types::{ConnectionError, FtpError, FtpResult};
+use ftp_session::session::Progress;
 use ftp_transfer::Transfer;
 use ftp_transport::{PollConn, TaskConn};
 use futures::task::{Context, Poll};
@@ -17,15 +18,21 @@ use tokio::io::AsyncRead;
 /// How many bytes of a source are read at once.
 const BUFFER: usize = 8_192;
 
+/// How many reads and writes one poll makes, so that other tasks run beside a long transfer.
+pub(crate) const STEPS: u32 = 64;
+
 /// A source, and how far it was copied.
 #[derive(Drop)]
-pub(crate) struct Copying<S: AsyncRead> {
+pub(crate) struct Copying<S: AsyncRead, P: Progress> {
     source: S,
+    progress: P,
     buffers: Option<Buffers>,
     // How often in a row the source was interrupted.
     interrupted: usize,
     // How many bytes stand on the wire for what was read.
     count: u64,
+    // Whether the data connection failed.
+    data_failed: bool,
 }
 
 /// What was read last, and what stands on the wire for it.
@@ -91,7 +98,7 @@ pub(crate) fn front(bytes: &[u8], count: usize) -> &[u8] {
 }
 
 /// The bytes after so many.
-fn behind(bytes: &[u8], count: usize) -> &[u8] {
+pub(crate) fn behind(bytes: &[u8], count: usize) -> &[u8] {
     if count < bytes.len() {
         &bytes[count..]
     } else {
@@ -107,15 +114,22 @@ enum Read {
     Goes,
 }
 
-impl<S: AsyncRead> Copying<S> {
+impl<S: AsyncRead, P: Progress> Copying<S, P> {
     /// Nothing was copied yet.
-    pub(crate) fn new(source: S) -> Copying<S> {
+    pub(crate) fn new(source: S, progress: P) -> Copying<S, P> {
         Copying {
             source,
+            progress,
             buffers: None,
             interrupted: 0,
             count: 0,
+            data_failed: false,
         }
+    }
+
+    /// Whether the data connection failed.
+    pub(crate) fn data_failed(&self) -> bool {
+        self.data_failed
     }
 
     /// How many bytes were written, once the source has ended.
@@ -132,7 +146,7 @@ impl<S: AsyncRead> Copying<S> {
         Ok(())
     }
 
-    /// Goes on to copy: one read of the source at most, and one write. Ready once the source has ended and all is written.
+    /// Goes on to copy. Ready once the source has ended and all is written.
     ///
     /// # Errors
     /// The fault of the source, or of the data connection; `SourceTooLarge`, `OutOfMemory`.
@@ -144,8 +158,25 @@ impl<S: AsyncRead> Copying<S> {
         ensures registered { OnPending result (IsArmed cx.new) }
         ensures kept { Keeps cx.old cx.new }
     {
+        for _ in 0..STEPS {
+            if let Some(polled) = self.poll_step(transfer, cx) {
+                return polled;
+            }
+        }
+        cx.yield_now()
+    }
+
+    /// Makes one read of the source, or one write. None where the copy goes on.
+    fn poll_step<C: PollConn<()> + TaskConn + Drop>(
+        &mut self,
+        transfer: &mut Transfer<C>,
+        cx: &mut Context<'_>,
+    ) -> Option<Poll<FtpResult<()>>>
+        ensures registered { result ≡ Some Poll.Pending → IsArmed cx.new }
+        ensures kept { Keeps cx.old cx.new }
+    {
         let Some(buffers) = &mut self.buffers else {
-            return Poll::Ready(Err(FtpError::OutOfMemory));
+            return Some(Poll::Ready(Err(FtpError::OutOfMemory)));
         };
         if buffers.is_sent() {
             return match poll_source(
@@ -155,19 +186,25 @@ impl<S: AsyncRead> Copying<S> {
                 &mut self.count,
                 cx,
             ) {
-                Poll::Ready(Ok(Read::Ended)) => Poll::Ready(Ok(())),
-                Poll::Ready(Ok(Read::Goes)) => cx.yield_now(),
-                Poll::Ready(Err(fault)) => Poll::Ready(Err(fault)),
-                Poll::Pending => Poll::Pending,
+                Poll::Ready(Ok(Read::Ended)) => Some(Poll::Ready(Ok(()))),
+                Poll::Ready(Ok(Read::Goes)) => None,
+                Poll::Ready(Err(fault)) => Some(Poll::Ready(Err(fault))),
+                Poll::Pending => Some(Poll::Pending),
             };
         }
         match transfer.poll_write_in(cx, buffers.unsent()) {
             Ok(Poll::Ready(count)) => {
                 buffers.sent = buffers.sent.saturating_add(count);
-                cx.yield_now()
+                if buffers.is_sent() {
+                    self.progress.went(self.count);
+                }
+                None
             }
-            Ok(Poll::Pending) => Poll::Pending,
-            Err(kind) => Poll::Ready(Err(io_fault(kind))),
+            Ok(Poll::Pending) => Some(Poll::Pending),
+            Err(kind) => {
+                self.data_failed = true;
+                Some(Poll::Ready(Err(io_fault(kind))))
+            }
         }
     }
 }
@@ -209,6 +246,6 @@ fn take_piece(buffers: &mut Buffers, taken: usize, count: &mut u64) -> FtpResult
 }
 
 /// A fault of the source, or of the data connection.
-fn io_fault(kind: ErrorKind) -> FtpError {
+pub(crate) fn io_fault(kind: ErrorKind) -> FtpError {
     FtpError::ConnectionError(ConnectionError::Io(kind))
 }

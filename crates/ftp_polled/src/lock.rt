@@ -4,7 +4,7 @@ use crate::client::ImplAsyncFtpStream;
 use crate::hold::Hold;
 use ftp_base::encoding::{Encoding, Utf8Encoding};
 use ftp_base::types::{ConnectionError, FtpError, FtpResult};
-use ftp_session::session::{NoStreamBuilder, NoTlsConnector, Session};
+use ftp_session::session::{Failure, NoStreamBuilder, NoTlsConnector, Session};
 use ftp_transport::{TaskConn, TaskTransport};
 use futures::Future;
 use futures::task::{Context, Poll};
@@ -63,6 +63,11 @@ where
     /// Whether the session has failed, as [`ImplAsyncFtpStream::failed`] tells.
     pub fn failed(&self) -> bool {
         self.session.failed()
+    }
+
+    /// Where the last error of input or output was met, as [`ImplAsyncFtpStream::last_failure`] tells.
+    pub fn last_failure(&self) -> Option<Failure> {
+        self.session.last_failure()
     }
 }
 
@@ -133,10 +138,45 @@ where
     }
 }
 
+/// The lock of a client is waited for, to ask where its last error of input or output was met.
+///
+/// # Errors
+/// Those of [`Lock`].
+#[derive(Drop)]
+pub struct LastFailure<Tr: TaskTransport, K: Drop, E: Encoding, B: Drop>
+where
+    Tr::Conn: TaskConn,
+{
+    lock: Lock<Tr, K, E, B>,
+}
+
+impl<Tr: TaskTransport, K: Drop, E: Encoding, B: Drop> Future for LastFailure<Tr, K, E, B>
+where
+    Tr::Conn: TaskConn,
+{
+    type Output = FtpResult<Option<Failure>>;
+
+    fn poll(&mut self, cx: &mut Context<'_>) -> Poll<FtpResult<Option<Failure>>> {
+        match self.lock.poll(cx) {
+            Poll::Ready(Ok(socket)) => Poll::Ready(Ok(socket.last_failure())),
+            Poll::Ready(Err(fault)) => Poll::Ready(Err(fault)),
+            Poll::Pending => Poll::Pending,
+        }
+    }
+}
+
 impl<Tr: TaskTransport, K: Drop, E: Encoding, B: Drop> ImplAsyncFtpStream<Tr, K, E, B>
 where
     Tr::Conn: TaskConn,
 {
+    /// Where the last error of input or output was met, if there was one: after a call that returned `Io`, where that was.
+    /// It stays until the next is met. What a caller reads or writes on a `TransferStream` isn't among them.
+    pub fn last_failure(&self) -> LastFailure<Tr, K, E, B> {
+        LastFailure {
+            lock: self.get_ref(),
+        }
+    }
+
     /// Whether the session has failed: a read or a write of the control connection did, its input ended where a reply
     /// was due, a reply was too large, or memory ran out inside a dialogue. Each later command returns `SessionFailed`;
     /// connect anew.

@@ -77,6 +77,13 @@ where
         }
     }
 
+    /// A whole file has met an error of input or output, if it did: on the data connection, or in what the caller handed in.
+    pub(crate) fn note(&mut self, fault: &FtpError, data_failed: bool) {
+        if let Hold::Has(session) = &mut self.hold {
+            session.note_failure(fault, data_failed);
+        }
+    }
+
     /// Leaves a transfer under the lock, hands its data connection back, closed, and lets the lock go.
     pub(crate) fn abandon(&mut self, transfer: Transfer<Tr::Conn>) {
         if let Hold::Has(session) = &mut self.hold {

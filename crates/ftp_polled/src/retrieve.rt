@@ -31,6 +31,11 @@ pub trait RetrReader<C: TaskConn + Drop>: Drop {
     ) -> Poll<FtpResult<Self::Out>>
         ensures registered { OnPending result (IsArmed cx.new) }
         ensures kept { Keeps cx.old cx.new };
+
+    /// Whether its fault was that of the data connection, which `last_failure` tells then.
+    fn data_failed(&self) -> bool {
+        false
+    }
 }
 
 /// A download, which a reader reads: `RETR`, the data, and the last reply, in one hold of the lock.
@@ -94,6 +99,7 @@ where
                 Poll::Ready(Ok(()))
             }
             Poll::Ready(Err(fault)) => {
+                self.opening.note(&fault, self.reader.data_failed());
                 drop(transfer);
                 self.opening.let_go();
                 Poll::Ready(Err(fault))

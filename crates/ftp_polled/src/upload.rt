@@ -10,7 +10,7 @@ use crate::opening::Opening;
 use ftp_base::encoding::Encoding;
 use ftp_base::types::{ConnectionError, FtpError, FtpResult};
 use ftp_calls::call::{append_call, put_call};
-use ftp_session::session::Call;
+use ftp_session::session::{Call, NoProgress, Progress};
 use ftp_transfer::{Direction, Transfer};
 use ftp_transport::{PassiveStreamBuilder, PollConn, PollTransport, TaskConn, TaskTransport};
 use futures::Future;
@@ -25,18 +25,36 @@ use tokio::io::AsyncRead;
 /// Dropped while its data is written or its last reply is waited for, it leaves its transfer. A fault of the source or of
 /// the data connection leaves it, too.
 #[derive(Drop)]
-pub struct Upload<'r, R, Tr: TaskTransport, K: Drop, E: Encoding, B: Drop, S: AsyncRead>
+pub struct Upload<
+    'r,
+    R,
+    Tr: TaskTransport,
+    K: Drop,
+    E: Encoding,
+    B: Drop,
+    S: AsyncRead,
+    P: Progress = NoProgress,
+>
 where
     Tr::Conn: TaskConn,
 {
     // Dropped first: the transfer has left its mark before the lock is let go.
     transfer: Option<Transfer<Tr::Conn>>,
     opening: Opening<'r, R, Tr, K, E, B>,
-    copying: Copying<S>,
+    copying: Copying<S, P>,
     ending: Option<Ending<'r, R, Tr, K, E, B>>,
 }
 
-impl<'r, R: AllocGlobal, Tr, K: Drop, E: Encoding, B, S: AsyncRead> Upload<'r, R, Tr, K, E, B, S>
+impl<'r, R: AllocGlobal, Tr, K: Drop, E: Encoding, B, S: AsyncRead, P: Progress> Upload<
+    'r,
+    R,
+    Tr,
+    K,
+    E,
+    B,
+    S,
+    P,
+>
 where
     Tr: PollTransport<R, ()> + TaskTransport,
     Tr::Conn: PollConn<()> + TaskConn,
@@ -89,6 +107,7 @@ where
                 Poll::Ready(Ok(()))
             }
             Poll::Ready(Err(fault)) => {
+                self.opening.note(&fault, self.copying.data_failed());
                 self.opening.abandon(transfer);
                 Poll::Ready(Err(fault))
             }
@@ -115,8 +134,8 @@ where
     }
 }
 
-impl<'r, R: AllocGlobal, Tr, K: Drop, E: Encoding, B, S: AsyncRead> Future
-    for Upload<'r, R, Tr, K, E, B, S>
+impl<'r, R: AllocGlobal, Tr, K: Drop, E: Encoding, B, S: AsyncRead, P: Progress> Future
+    for Upload<'r, R, Tr, K, E, B, S, P>
 where
     Tr: PollTransport<R, ()> + TaskTransport,
     Tr::Conn: PollConn<()> + TaskConn,
@@ -148,16 +167,17 @@ where
     Tr::Conn: TaskConn,
 {
     /// The state of an upload.
-    fn upload<'r, R, S: AsyncRead>(
+    fn upload<'r, R, S: AsyncRead, P: Progress>(
         &self,
         rt: &'r R,
         call: Result<Call, AllocError>,
         source: S,
-    ) -> Upload<'r, R, Tr, K, E, B, S> {
+        progress: P,
+    ) -> Upload<'r, R, Tr, K, E, B, S, P> {
         Upload {
             transfer: None,
             opening: Opening::new(rt, &self.session, call, false, Direction::Upload),
-            copying: Copying::new(source),
+            copying: Copying::new(source, progress),
             ending: None,
         }
     }
@@ -175,7 +195,21 @@ where
         path: &str,
         source: S,
     ) -> Upload<'r, R, Tr, K, E, B, S> {
-        self.upload(rt, put_call(rt.alloc(), path), source)
+        self.upload(rt, put_call(rt.alloc(), path), source, NoProgress)
+    }
+
+    /// Uploads a source to this file, as `put_file` does, and tells how far it has come. `&mut progress` may be passed, too.
+    ///
+    /// # Errors
+    /// Those of `put_file`.
+    pub fn put_file_with<'r, R: AllocGlobal, S: AsyncRead, P: Progress>(
+        &self,
+        rt: &'r R,
+        path: &str,
+        source: S,
+        progress: P,
+    ) -> Upload<'r, R, Tr, K, E, B, S, P> {
+        self.upload(rt, put_call(rt.alloc(), path), source, progress)
     }
 
     /// Uploads a source to the end of this file: `APPE` (125, 150; RFC 959, section 4.1.3), as `put_file` does.
@@ -188,6 +222,20 @@ where
         path: &str,
         source: S,
     ) -> Upload<'r, R, Tr, K, E, B, S> {
-        self.upload(rt, append_call(rt.alloc(), path), source)
+        self.upload(rt, append_call(rt.alloc(), path), source, NoProgress)
+    }
+
+    /// Uploads a source to the end of this file, as `append_file` does, and tells how far it has come.
+    ///
+    /// # Errors
+    /// Those of `put_file`.
+    pub fn append_file_with<'r, R: AllocGlobal, S: AsyncRead, P: Progress>(
+        &self,
+        rt: &'r R,
+        path: &str,
+        source: S,
+        progress: P,
+    ) -> Upload<'r, R, Tr, K, E, B, S, P> {
+        self.upload(rt, append_call(rt.alloc(), path), source, progress)
     }
 }

@@ -8,9 +8,11 @@ use Rattle.ftp_base.specs.Ascii.{AddsPiece, IsCopyFault, converted, crlf, ends_i
 use Rattle.ftp_base.proofs.AsciiLemmas.{crlf-append}
 use Rattle.ftp_base.proofs.CopyLemmas.{added-all, added-length, length-converted}
 use Rattle.ftp_base.specs.declared.types.fault.FtpError.{FtpError}
-use Rattle.ftp_base.specs.declared.types.fault.FtpError.TheVariants.{OutOfMemory}
+use Rattle.ftp_base.specs.declared.types.fault.FtpError.TheVariants.{ConnectionError, OutOfMemory}
+use Rattle.ftp_base.specs.declared.types.fault.ConnectionError.TheVariants.{Io, SourceTooLarge}
+use Rattle.std.specs.declared.io.ErrorKind.{ErrorKind}
 use Rattle.ftp_dialogue.specs.Dialogue.{wire_data}
-use Rattle.ftp_session.specs.Copying.{Adds, Copied, Copies, GaveUp, Hinders, HinderedPiece, SendsAll, SendsPiece, SentPiece, Wrote, WroteFront}
+use Rattle.ftp_session.specs.Copying.{Adds, Copied, Copies, GaveUp, Hinders, HinderedPiece, SendsAll, SendsPiece, SentPiece, TooLarge, Wrote, WroteFront}
 use Rattle.ftp_transfer.specs.Transfer.{TransferValue, with_told}
 
 -- what a source gave so far has gone out
@@ -88,9 +90,16 @@ so_far_kept tells text r s t old new after count far keeps = record {
   last = far.last;
 }
 
+-- other faults aren't that of a source that is too large
+pub io_is_other : (kind : ErrorKind) (size : ℕ) → TooLarge (ConnectionError (Io kind)) size
+io_is_other kind size same = let clash : ConnectionError (Io kind) ≡ ConnectionError SourceTooLarge = same in cc
+
+pub memory_is_other : (fault : FtpError) (size : ℕ) → fault ≡ OutOfMemory → TooLarge fault size
+memory_is_other fault size is same = let clash : OutOfMemory ≡ ConnectionError SourceTooLarge = sym is ∙ same in cc
+
 -- the source failed
-pub source_fails : (tells : Type 0) (text : Bool) (r s : Option (List ℕ)) (old new : TransferValue) (after : Bool) (count : ℕ) (fault : FtpError) → SoFar tells text r s old new after count → IsCopyFault fault → GaveUp tells text r s old new fault
-source_fails tells text r s old new after count fault far is = record { given = far.copied.given; taken = far.copied.taken; wrote = inl (far.copied.wrote, is) }
+pub source_fails : (tells : Type 0) (text : Bool) (r s : Option (List ℕ)) (old new : TransferValue) (after : Bool) (count : ℕ) (kind : ErrorKind) → SoFar tells text r s old new after count → GaveUp tells text r s old new (ConnectionError (Io kind))
+source_fails tells text r s old new after count kind far = record { given = far.copied.given; taken = far.copied.taken; wrote = inl (far.copied.wrote, inl (kind, refl)); too_large = io_is_other kind (length (wire_data text far.copied.given)) }
 
 -- what hinders a piece hinders the copy: no call had failed before
 hinders_since : (tells : Type 0) (bytes : List ℕ) (old mid new : TransferValue) (fault : FtpError) → Wrote tells bytes old mid → Hinders tells mid new fault → Hinders tells old new fault
@@ -103,7 +112,7 @@ hinders_since tells bytes old mid new fault first (inr (inr (kind, is, failed)))
     counted same (inr full) = inr full
 
 -- a piece couldn't be written whole
-pub piece_fails : (tells : Type 0) (text : Bool) (r s t : Option (List ℕ)) (old mid new : TransferValue) (after : Bool) (count : ℕ) (piece : List ℕ) (fault : FtpError) (far : SoFar tells text r s old mid after count) → Consumes s t piece → HinderedPiece tells text far.copied.given piece mid new fault → GaveUp tells text r t old new fault
+pub piece_fails : (tells : Type 0) (text : Bool) (r s t : Option (List ℕ)) (old mid new : TransferValue) (after : Bool) (count : ℕ) (piece : List ℕ) (fault : FtpError) (far : SoFar tells text r s old mid after count) → Consumes s t piece → HinderedPiece tells text far.copied.given piece mid new count fault → GaveUp tells text r t old new fault
 piece_fails tells text r s t old mid new after count piece fault far taken hindered =
     let given : List ℕ = far.copied.given in
     let before : List ℕ = wire_data text given in
@@ -111,6 +120,7 @@ piece_fails tells text r s t old mid new after count piece fault far taken hinde
       given = given ++ piece;
       taken = Consumes-trans r s t given piece far.copied.taken taken;
       wrote = inr (front_as tells (before ++ hindered.added) (wire_data text (given ++ piece)) old new (sym hindered.adds.whole) (front_more tells before hindered.added old mid new far.copied.wrote hindered.wrote), hinders_since tells before old mid new fault far.copied.wrote hindered.cause);
+      too_large = λ is. subst (λ n. 9223372036854775807 < n) (ap (λ n. n + length hindered.added) far.copied.counted ∙ sym (length-append before hindered.added) ∙ sym (ap length hindered.adds.whole)) (hindered.too_large is);
     }
 
 -- what a piece of a text adds, and of other bytes
@@ -139,12 +149,13 @@ no_memory tells text before piece after t count (Err fault) fails is = record {
   adds = adds_always text before piece;
   wrote = front_none tells (added_of text before piece) t;
   cause = inl is;
+  too_large = memory_is_other fault (count + length (added_of text before piece)) is;
 }
 
 -- a piece of a text goes out as these bytes
 pub text_sent : (tells : Type 0) (before piece bytes : List ℕ) (after : Bool) (old new : TransferValue) (count : ℕ) (result : Result ℕ FtpError) → Adds true before piece bytes → after ≡ ends_in_return (before ++ piece) → SendsAll tells bytes old new count result → SendsPiece tells true before piece after old new count result
 text_sent tells before piece bytes after old new count (Ok size) adds last (wrote, counts, within) = record { added = bytes; adds = adds; wrote = wrote; counts = counts; within = within; last = λ is. last }
-text_sent tells before piece bytes after old new count (Err fault) adds last (wrote, cause) = record { added = bytes; adds = adds; wrote = wrote; cause = cause }
+text_sent tells before piece bytes after old new count (Err fault) adds last (wrote, cause, too_large) = record { added = bytes; adds = adds; wrote = wrote; cause = cause; too_large = too_large }
 
 -- a copy that gives up answers that
 pub gives_up_as : (tells : Type 0) (text : Bool) (r s : Option (List ℕ)) (old new : TransferValue) (fault : FtpError) (result : Result ℕ FtpError) → IsErr result → IsErrAnd result (λ f. f ≡ fault) → GaveUp tells text r s old new fault → Copies tells text r s old new result

@@ -7,4 +7,5 @@ pub mod Handed
 pub mod NegotiatedAnswers
 pub mod OpeningAnswers
 pub mod PolledLemmas
+pub mod SavingLemmas
 pub mod Trees

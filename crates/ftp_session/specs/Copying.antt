@@ -1,5 +1,5 @@
 -- A source that is copied to a transfer: RFC 959, sections 3.1.1.1 (a text's lines end in CR LF) and 3.4.1.
-use Rattle.std.specs.Prelude.{◌≡◌, ◌⊎◌, ◌+◌, ◌≤◌, ℕ, Bool, true, List, ◌++◌, length, Option, Result, Ok, Err}
+use Rattle.std.specs.Prelude.{◌≡◌, ◌⊎◌, ◌+◌, ◌≤◌, ◌<◌, ℕ, Bool, true, List, ◌++◌, length, Option, Result, Ok, Err}
 use Rattle.std.specs.Io.KnownBytes.{Consumes, IsAtEnd}
 use Rattle.std.specs.declared.io.ErrorKind.{ErrorKind}
 use Rattle.ftp_base.specs.Ascii.{IsCopyFault, ends_in_return}
@@ -38,10 +38,14 @@ abbrev pub Hinders : Type 0 → TransferValue → TransferValue → FtpError →
 Hinders tells old new fault =
     (fault ≡ OutOfMemory) ⊎ (fault ≡ ConnectionError SourceTooLarge) ⊎ ((kind : ErrorKind) × (fault ≡ ConnectionError (Io kind)) × Failed tells kind old new)
 
+-- a source is too large only where more bytes than can be counted would go out
+abbrev pub TooLarge : FtpError → ℕ → Type 0
+TooLarge fault size = fault ≡ ConnectionError SourceTooLarge → most_bytes < size
+
 -- bytes are written after so many
 abbrev pub SendsAll : Type 0 → List ℕ → TransferValue → TransferValue → ℕ → Result ℕ FtpError → Type 0
 SendsAll tells bytes old new count (Ok size) = Wrote tells bytes old new × (size ≡ count + length bytes) × (size ≤ most_bytes)
-SendsAll tells bytes old new count (Err fault) = WroteFront tells bytes old new × Hinders tells old new fault
+SendsAll tells bytes old new count (Err fault) = WroteFront tells bytes old new × Hinders tells old new fault × TooLarge fault (count + length bytes)
 
 -- what a piece adds to what stands on the wire for the bytes before it
 pub record Adds (text : Bool) (before piece added : List ℕ) : Type 0 where
@@ -57,15 +61,16 @@ pub record SentPiece (tells : Type 0) (text : Bool) (before piece : List ℕ) (a
   pub within : size ≤ most_bytes
   pub last : text ≡ true → after ≡ ends_in_return (before ++ piece)
 
-pub record HinderedPiece (tells : Type 0) (text : Bool) (before piece : List ℕ) (old new : TransferValue) (fault : FtpError) : Type 0 where
+pub record HinderedPiece (tells : Type 0) (text : Bool) (before piece : List ℕ) (old new : TransferValue) (count : ℕ) (fault : FtpError) : Type 0 where
   pub added : List ℕ
   pub adds : Adds text before piece added
   pub wrote : WroteFront tells added old new
   pub cause : Hinders tells old new fault
+  pub too_large : TooLarge fault (count + length added)
 
 abbrev pub SendsPiece : Type 0 → Bool → List ℕ → List ℕ → Bool → TransferValue → TransferValue → ℕ → Result ℕ FtpError → Type 0
 SendsPiece tells text before piece after old new count (Ok size) = SentPiece tells text before piece after old new count size
-SendsPiece tells text before piece after old new count (Err fault) = HinderedPiece tells text before piece old new fault
+SendsPiece tells text before piece after old new count (Err fault) = HinderedPiece tells text before piece old new count fault
 
 -- so many bytes have gone out for what a source gave
 pub record Copied (tells : Type 0) (text : Bool) (source source' : Option (List ℕ)) (old new : TransferValue) (count : ℕ) : Type 0 where
@@ -79,6 +84,7 @@ pub record GaveUp (tells : Type 0) (text : Bool) (source source' : Option (List 
   pub given : List ℕ
   pub taken : Consumes source source' given
   pub wrote : (Wrote tells (wire_data text given) old new × IsCopyFault fault) ⊎ (WroteFront tells (wire_data text given) old new × Hinders tells old new fault)
+  pub too_large : TooLarge fault (length (wire_data text given))
 
 -- a source is copied to its end, or not
 abbrev pub Copies : Type 0 → Bool → Option (List ℕ) → Option (List ℕ) → TransferValue → TransferValue → Result ℕ FtpError → Type 0

@@ -6,4 +6,5 @@ pub mod Fetched
 pub mod Files
 pub mod Handed
 pub mod Polled
+pub mod Saving
 pub mod Trees

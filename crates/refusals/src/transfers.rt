@@ -6,14 +6,16 @@ ghost use Rattle.ftp_dialogue.specs.Link.{asking, blocking, built_by};
 ghost use Rattle.ftp_session.specs.Calls.{bytes_answer, lines_answer};
 ghost use Rattle.ftp_session.specs.Files.{Retrieves};
 ghost use Rattle.ftp_session.specs.Handed.{Opens, PlaysSeen};
+ghost use Rattle.ftp_session.specs.Saving.{WritesTo};
 ghost use Rattle.ftp_transfer.specs.declared.direction.Direction.TheVariants as directions;
 
 use ftp_base::encoding::Encoding;
 use ftp_base::types::FtpResult;
-use ftp_session::session::{Call, DownloadReader, Session};
+use ftp_session::session::{Call, DownloadReader, Progress, Session};
 use ftp_transfer::Transfer;
 use ftp_transport::{Conn, Network, PassiveStreamBuilder, Transport};
 use std::alloc::Global;
+use std::io::Write;
 
 /// `Session::retr_as_stream`.
 pub fn retr_as_stream<Tr: Network, K: Drop, E: Encoding, B: PassiveStreamBuilder<Tr::Conn>, R>(
@@ -114,4 +116,32 @@ where
     ensures builder { session.new.builder ≡ session.old.builder }
 {
     session.retr(alloc, rt, path, reader)
+}
+
+/// `Session::write_to`.
+pub fn write_to<
+    Tr: Network,
+    K: Drop,
+    E: Encoding,
+    B: PassiveStreamBuilder<Tr::Conn>,
+    R,
+    W: Write,
+    P: Progress,
+>(
+    session: &mut Session<Tr, K, E, B>,
+    alloc: Global,
+    rt: &R,
+    path: &str,
+    writer: &mut W,
+    progress: &mut P,
+) -> FtpResult<u64>
+where
+    Tr::Conn: Conn,
+    Tr: Transport<R>,
+    ensures writes { WritesTo (asking (built_by B.answers session.old.builder) ⊥ (blocking Tr.Conn.Conn)) (blocking Tr.Conn.Conn) (chosen E.decoded E.encoded session.old.encoding.0) (Call.RetrAsStream path.now)
+        (W.contents writer.old) (W.contents writer.new) session.old.mark session.new.mark session.old.former session.new.former session.old.machine session.new.machine result }
+    ensures encoding { session.new.encoding ≡ session.old.encoding }
+    ensures builder { session.new.builder ≡ session.old.builder }
+{
+    session.write_to(alloc, rt, path, writer, progress)
 }

@@ -24,7 +24,7 @@ pub use ftp_control::control;
 pub use ftp_list as list;
 /// What kind of entry a file of a listing is, which `list` calls a `FileType`; the other `FileType` is that of `TYPE`.
 pub use ftp_list::{File, FileType as EntryKind, ListParser, Listing};
-pub use ftp_session::session::DownloadReader;
+pub use ftp_session::session::{DownloadReader, Failure, NoProgress, Progress};
 pub use ftp_transfer::mark;
 pub use ftp_transport as transport;
 pub use ftp_transport::{PassiveStreamBuilder, TcpTransport};

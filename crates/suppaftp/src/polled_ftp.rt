@@ -4,10 +4,10 @@
 //! before that is polled. A state that waits may be dropped.
 
 pub use ftp_polled::{
-    Abort, Adjust, AsyncNoTlsStream, AsyncTlsConnector, AsyncTlsStream, Connect, ControlSocket,
-    Dialogue, Failed, Finish, ImplAsyncFtpStream, Lines, ListEntries, ListFiles, Lock,
-    OpenTransfer, OpenWithReply, Outcome, ReadReply, RetrReader, Retrieve, Settle, StreamLines,
-    TransferStream, Upload, Welcome,
+    Abort, Adjust, AllowStdIo, AsyncNoTlsStream, AsyncTlsConnector, AsyncTlsStream, Connect,
+    ControlSocket, Dialogue, Failed, Finish, ImplAsyncFtpStream, LastFailure, Lines, ListEntries,
+    ListFiles, Lock, OpenTransfer, OpenWithReply, Outcome, ReadReply, RetrReader, Retrieve, Settle,
+    Sink, StreamLines, TransferStream, Upload, Welcome, WriteTo,
 };
 pub use ftp_tokio::{TokioConn, TokioListener, TokioTransport};
 pub use ftp_transport::PassiveStreamBuilder;

@@ -15,7 +15,7 @@ ghost use Rattle.ftp_dialogue.specs.State.{greeted_again, Begins};
 
 use super::chosen::Chosen;
 use super::parameters::{NoStreamBuilder, NoTlsConnector};
-use super::{Call, Counts, State};
+use super::{Call, Counts, Failure, State};
 use ftp_base::encoding::{Encoding, Utf8Encoding};
 use ftp_base::types::{FtpError, FtpResult};
 use ftp_control::control::ReplyRule;
@@ -234,6 +234,13 @@ impl<Tr: Network, K: Drop, E: Encoding, B: Drop> Session<Tr, K, E, B> {
         ensures { result ≡ self.now.machine.channel.failed }
     {
         self.machine.channel.failed()
+    }
+
+    /// Where the last error of input or output was met, if there was one: after a call that returned `Io`, where that was,
+    /// but that of an upload's close and a last reply that both fail the second is told. It stays until the next is met.
+    /// No clause says it.
+    pub fn last_failure(&self) -> Option<Failure> {
+        self.machine.last_failure()
     }
 
     /// The text that the server greeted with, once the greeting was taken.

@@ -7,19 +7,22 @@
 ghost use Rattle.std.specs.Prelude.{◌≡◌};
 ghost use Rattle.ftp_dialogue.specs.Coding.{chosen};
 ghost use Rattle.ftp_dialogue.specs.Link.{asking, blocking, built_by};
+ghost use Rattle.ftp_session.specs.Saving.{Receives, WritesTo};
 ghost use Rattle.ftp_session.specs.Files.{Abandons, FinishesWhole, Puts, Retrieves, Stores, failed_if, first_of, lacks_memory, unless_failed};
 
 use super::client::Session;
 use super::copying::copy;
 use super::ending::take_back;
 use super::polling::DropsCalls;
+use super::progress::{NoProgress, Progress, Watch};
+use super::saving::save;
 use super::{Answer, Call};
 use ftp_base::encoding::Encoding;
 use ftp_base::types::{FtpError, FtpResult};
 use ftp_transfer::Transfer;
 use ftp_transport::{Conn, Network, PassiveStreamBuilder, Transport};
 use std::alloc::Global;
-use std::io::Read;
+use std::io::{Read, Write};
 
 /// What reads a download for [`Session::retr`], and what it makes of it: a `D`.
 ///
@@ -30,7 +33,7 @@ pub trait DownloadReader<C: Conn + Drop, D> {
     ghost use Rattle.ftp_transfer.specs.Transfer.{TransferValue};
 
     /// What it may return for a transfer, and how it leaves the transfer.
-    ghost reads: { TransferValue → Result D Faults → TransferValue → Type 0 };
+    ghost reads: { TransferValue → Result D Faults → TransferValue → Type 0 } = { λ _ _ _. Unit {0} };
 
     /// Reads from the transfer, as much as it wants to. It is called once.
     ///
@@ -69,8 +72,30 @@ where
         ensures encoding { self.new.encoding ≡ self.old.encoding }
         ensures builder { self.new.builder ≡ self.old.builder }
     {
+        self.put_file_with(alloc, rt, path, source, &mut NoProgress)
+    }
+
+    /// Uploads all that a source gives to this file, as `put_file` does, and tells how far it has come.
+    ///
+    /// # Errors
+    /// Those of `put_file`.
+    pub fn put_file_with<R, S: Read, P: Progress>(
+        &mut self,
+        alloc: Global,
+        rt: &R,
+        path: &str,
+        source: &mut S,
+        progress: &mut P,
+    ) -> FtpResult<u64>
+    where
+        Tr: Transport<R>,
+        ensures puts { Puts (asking (built_by B.answers self.old.builder) ⊥ (blocking Tr.Conn.Conn)) (blocking Tr.Conn.Conn) (chosen E.decoded E.encoded self.old.encoding.0) (Call.PutWithStream path.now)
+            (S.remaining source.old) (S.remaining source.new) self.old.mark self.new.mark self.old.former self.new.former self.old.machine self.new.machine result }
+        ensures encoding { self.new.encoding ≡ self.old.encoding }
+        ensures builder { self.new.builder ≡ self.old.builder }
+    {
         match self.put_with_stream(alloc, rt, path) {
-            Ok(transfer) => self.store(alloc, source, transfer),
+            Ok(transfer) => self.store(alloc, source, progress, transfer),
             Err(fault) => Err(fault),
         }
     }
@@ -93,8 +118,30 @@ where
         ensures encoding { self.new.encoding ≡ self.old.encoding }
         ensures builder { self.new.builder ≡ self.old.builder }
     {
+        self.append_file_with(alloc, rt, path, source, &mut NoProgress)
+    }
+
+    /// Uploads all that a source gives to the end of this file, as `append_file` does, and tells how far it has come.
+    ///
+    /// # Errors
+    /// Those of `put_file`.
+    pub fn append_file_with<R, S: Read, P: Progress>(
+        &mut self,
+        alloc: Global,
+        rt: &R,
+        path: &str,
+        source: &mut S,
+        progress: &mut P,
+    ) -> FtpResult<u64>
+    where
+        Tr: Transport<R>,
+        ensures puts { Puts (asking (built_by B.answers self.old.builder) ⊥ (blocking Tr.Conn.Conn)) (blocking Tr.Conn.Conn) (chosen E.decoded E.encoded self.old.encoding.0) (Call.AppendWithStream path.now)
+            (S.remaining source.old) (S.remaining source.new) self.old.mark self.new.mark self.old.former self.new.former self.old.machine self.new.machine result }
+        ensures encoding { self.new.encoding ≡ self.old.encoding }
+        ensures builder { self.new.builder ≡ self.old.builder }
+    {
         match self.append_with_stream(alloc, rt, path) {
-            Ok(transfer) => self.store(alloc, source, transfer),
+            Ok(transfer) => self.store(alloc, source, progress, transfer),
             Err(fault) => Err(fault),
         }
     }
@@ -125,17 +172,69 @@ where
         match self.retr_as_stream(alloc, rt, path) {
             Ok(mut transfer) => {
                 let read = reader.read(&mut transfer);
+                self.note(&read, false);
                 first_of(read, self.finish_whole(alloc, transfer))
             }
             Err(fault) => Err(fault),
         }
     }
 
+    /// Downloads this file to a writer: `RETR` (150, 125), the bytes as they come, and the last reply (226, 250). Returns how
+    /// many bytes were written, and tells how far the download has come. It begins at the offset that `resume_transfer` set,
+    /// if it did; the offset is taken away.
+    ///
+    /// # Errors
+    /// Those of a data command: `DataConnectionAlreadyOpen` where a transfer is live, and nothing is said. The fault of the
+    /// data connection, where what came was written, or of the writer, where a front of that was; `SourceTooLarge` where more
+    /// than 2^63 - 1 bytes come; `OutOfMemory` for a buffer: whatever the last reply is, which is read all the same. Else the
+    /// fault of the last reply. `OutOfMemory` for that leaves the transfer, and the session has failed.
+    pub fn write_to<R, W: Write, P: Progress>(
+        &mut self,
+        alloc: Global,
+        rt: &R,
+        path: &str,
+        writer: &mut W,
+        progress: &mut P,
+    ) -> FtpResult<u64>
+    where
+        Tr: Transport<R>,
+        ensures writes { WritesTo (asking (built_by B.answers self.old.builder) ⊥ (blocking Tr.Conn.Conn)) (blocking Tr.Conn.Conn) (chosen E.decoded E.encoded self.old.encoding.0) (Call.RetrAsStream path.now)
+            (W.contents writer.old) (W.contents writer.new) self.old.mark self.new.mark self.old.former self.new.former self.old.machine self.new.machine result }
+        ensures encoding { self.new.encoding ≡ self.old.encoding }
+        ensures builder { self.new.builder ≡ self.old.builder }
+    {
+        match self.retr_as_stream(alloc, rt, path) {
+            Ok(transfer) => self.receive(alloc, writer, progress, transfer),
+            Err(fault) => Err(fault),
+        }
+    }
+
+    /// Writes what a transfer gives to a writer, and brings the transfer to its end.
+    fn receive<W: Write, P: Progress>(
+        &mut self,
+        alloc: Global,
+        writer: &mut W,
+        progress: &mut P,
+        mut transfer: Transfer<Tr::Conn>,
+    ) -> FtpResult<u64>
+        ensures receives { Receives (blocking Tr.Conn.Conn) (chosen E.decoded E.encoded self.old.encoding.0)
+            (W.contents writer.old) (W.contents writer.new) transfer self.old.mark self.new.mark self.old.machine self.new.machine result }
+        ensures encoding { self.new.encoding ≡ self.old.encoding }
+        ensures builder { self.new.builder ≡ self.old.builder }
+        ensures former { self.new.former ≡ self.old.former }
+    {
+        let mut watch = Watch::new(progress);
+        let saved = save(alloc, &mut transfer, writer, &mut watch);
+        self.note(&saved, watch.data_failed());
+        first_of(saved, self.finish_whole(alloc, transfer))
+    }
+
     /// Copies a source to a transfer, and brings it to its end; or leaves it, where that can't be done.
-    fn store<S: Read>(
+    fn store<S: Read, P: Progress>(
         &mut self,
         alloc: Global,
         source: &mut S,
+        progress: &mut P,
         mut transfer: Transfer<Tr::Conn>,
     ) -> FtpResult<u64>
         ensures stores { Stores (blocking Tr.Conn.Conn) (chosen E.decoded E.encoded self.old.encoding.0)
@@ -144,17 +243,29 @@ where
         ensures builder { self.new.builder ≡ self.old.builder }
         ensures former { self.new.former ≡ self.old.former }
     {
-        match copy(
-            alloc,
-            self.machine.state.settings.text,
-            source,
-            &mut transfer,
-        ) {
+        let text = self.machine.state.settings.text;
+        let mut watch = Watch::new(progress);
+        let copied = copy(alloc, text, source, &mut transfer, &mut watch);
+        self.note(&copied, watch.data_failed());
+        match copied {
             Ok(count) => unless_failed(count, self.finish_whole(alloc, transfer)),
             Err(fault) => {
                 self.abandon(alloc, transfer);
                 Err(fault)
             }
+        }
+    }
+
+    /// A whole file has met an error of input or output, if it did: on the data connection, or in what the caller handed in.
+    fn note<T>(&mut self, copied: &FtpResult<T>, data_failed: bool)
+        ensures machine { self.new.machine ≡ self.old.machine }
+        ensures mark { self.new.mark ≡ self.old.mark }
+        ensures encoding { self.new.encoding ≡ self.old.encoding }
+        ensures builder { self.new.builder ≡ self.old.builder }
+        ensures former { self.new.former ≡ self.old.former }
+    {
+        if let Err(fault) = copied {
+            self.note_failure(fault, data_failed);
         }
     }
 

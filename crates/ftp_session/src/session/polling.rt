@@ -123,6 +123,10 @@ pub trait DropsCalls {
 
     /// There is no memory for the end of a call that has begun: the session has failed.
     fn fail(&mut self);
+
+    /// A whole file met this fault. Where it is one of input or output the data connection failed, or what the caller handed
+    /// in, which `last_failure` tells from then on.
+    fn note_failure(&mut self, fault: &FtpError, data_failed: bool);
 }
 
 impl<
@@ -216,6 +220,20 @@ impl<Tr: Network, K: Drop, E: Encoding, B: Drop> DropsCalls for Session<Tr, K, E
         ensures mark { self.new.mark ≡ self.old.mark }
     {
         self.machine.channel.fail();
+    }
+
+    /// A whole file met this fault. Where it is one of input or output the data connection failed, or what the caller handed
+    /// in, which `last_failure` tells from then on. Nothing else changes.
+    fn note_failure(&mut self, fault: &FtpError, data_failed: bool)
+        ensures machine { self.new.machine ≡ self.old.machine }
+        ensures mark { self.new.mark ≡ self.old.mark }
+        ensures encoding { self.new.encoding ≡ self.old.encoding }
+        ensures builder { self.new.builder ≡ self.old.builder }
+        ensures former { self.new.former ≡ self.old.former }
+    {
+        if let FtpError::ConnectionError(ConnectionError::Io(_)) = fault {
+            self.machine.note_failure(!data_failed);
+        }
     }
 }
 

@@ -11,7 +11,7 @@ loop-init g c = record {
 
 pub returns-in_err-taken : goal.returns-in_err-taken
 returns-in_err-taken g c = record {
-  copies = gives_up_as _ c.args.text _ _ c.args.transfer.now c.loop.transfer _ c.from_residual.result c.from_residual.ensures.0 c.from_residual.ensures.1 (source_fails _ c.args.text _ _ c.args.transfer.now c.loop.transfer _ _ _ (so_far_kept _ c.args.text _ _ _ c.args.transfer.now c.loop.transfer _ _ c.loop.invariant.copied c.in_err-taken.ensures.bytes) (inl (_, refl)));
+  copies = gives_up_as _ c.args.text _ _ c.args.transfer.now c.loop.transfer _ c.from_residual.result c.from_residual.ensures.0 c.from_residual.ensures.1 (source_fails _ c.args.text _ _ c.args.transfer.now c.loop.transfer _ _ _ (so_far_kept _ c.args.text _ _ _ c.args.transfer.now c.loop.transfer _ _ c.loop.invariant.copied c.in_err-taken.ensures.bytes));
 }
 
 pub returns-in_err-count : goal.returns-in_err-count

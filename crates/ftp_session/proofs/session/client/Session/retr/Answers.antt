@@ -4,5 +4,5 @@ use Rattle.ftp_session.proofs.session.client.Session.retr.Goals as goal
 pub returns-in-Ok-clause-retrieves : goal.returns-in-Ok-clause-retrieves
 returns-in-Ok-clause-retrieves g c =
     let opened = rw c.in-Ok.is at c.retr_as_stream.ensures.opens in
-    let ends_it = rw c.retr_as_stream.ensures.encoding at c.finish_whole.ensures.finishes in
-    rw c.finish_whole.ensures.former (retrieves_on _ _ _ _ _ c.retr_as_stream.new.self.mark _ _ c.retr_as_stream.new.self.former _ c.retr_as_stream.new.self.machine _ c.in-Ok.transfer g.F.DownloadReader.reads c.read-read.new.transfer c.read-read.result c.first_of.result c.finish_whole.result opened c.read-read.ensures ends_it c.first_of.ensures)
+    let ends_it = rw (c.note.ensures.encoding, c.note.ensures.mark, c.note.ensures.machine, c.retr_as_stream.ensures.encoding) at c.finish_whole.ensures.finishes in
+    rw (c.finish_whole.ensures.former, c.note.ensures.former) (retrieves_on _ _ _ _ _ c.retr_as_stream.new.self.mark _ _ c.retr_as_stream.new.self.former _ c.retr_as_stream.new.self.machine _ c.in-Ok.transfer g.F.DownloadReader.reads c.read-read.new.transfer c.read-read.result c.first_of.result c.finish_whole.result opened c.read-read.ensures ends_it c.first_of.ensures)

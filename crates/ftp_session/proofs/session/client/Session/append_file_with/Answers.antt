@@ -1,5 +1,5 @@
 use Rattle.ftp_session.proofs.FilesLemmas.{puts_on}
-use Rattle.ftp_session.proofs.session.client.Session.append_file.Goals as goal
+use Rattle.ftp_session.proofs.session.client.Session.append_file_with.Goals as goal
 
 pub returns-in-Ok-clause-puts : goal.returns-in-Ok-clause-puts
 returns-in-Ok-clause-puts g c =

@@ -1,0 +1,8 @@
+use Rattle.ftp_session.proofs.SavingLemmas.{writes_on}
+use Rattle.ftp_session.proofs.session.client.Session.write_to.Goals as goal
+
+pub returns-in-Ok-clause-writes : goal.returns-in-Ok-clause-writes
+returns-in-Ok-clause-writes g c =
+    let opened = rw c.in-Ok.is at c.retr_as_stream.ensures.opens in
+    let receives = rw c.retr_as_stream.ensures.encoding at c.receive.ensures.receives in
+    rw c.receive.ensures.former (writes_on _ _ _ _ _ c.retr_as_stream.new.self.mark _ _ c.retr_as_stream.new.self.former _ c.retr_as_stream.new.self.machine _ c.in-Ok.transfer _ _ _ opened receives)
