@@ -67,7 +67,7 @@ where
     R: Host + Wait + RandomSource + Print + Eprint,
 {
     match name {
-        "fetch" => fetch::run(rt, address)?,
+        "fetch" => fetch::run(rt, address, "two.txt")?,
         "put" => put::run(rt, address)?,
         "list" => list::run(rt, address)?,
         "mirror" => mirror::run(rt, address)?,
