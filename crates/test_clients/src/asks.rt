@@ -270,8 +270,6 @@ struct Counts {
 }
 
 impl DownloadReader<TcpConn, u64> for Counts {
-    ghost reads = { λ _ _ _. Unit {0} };
-
     fn read(&mut self, transfer: &mut Transfer<TcpConn>) -> FtpResult<u64> {
         let mut count = 0u64;
         for _ in 0..10_000_000 {

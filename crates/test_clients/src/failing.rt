@@ -4,22 +4,24 @@ use crate::scene::number;
 use crate::server::serve;
 use ftp_base::types::FtpResult;
 use ftp_blocking::FtpStream;
+use ftp_session::session::Failure;
 use std::net::{Net, SocketAddr, TcpListener, TcpStream};
 use std::sync::Wait;
 use std::test::Fail;
 use std::thread;
 use std::time::Clock;
 
-/// The numbers of the faults of three calls, and whether the client has failed after each.
-fn calls<R>(rt: &R, address: SocketAddr) -> FtpResult<[(u8, bool); 3]>
+/// The numbers of the faults of three calls, and whether the client has failed after each; and where it did.
+fn calls<R>(rt: &R, address: SocketAddr) -> FtpResult<([(u8, bool); 3], [Option<Failure>; 2])>
 where
     R: Net<Listener = TcpListener, Stream = TcpStream> + Wait + Clock + AllocGlobal,
 {
     let client = FtpStream::connect(rt, &[address])?;
     let refused = (number(client.rm(rt, "a")), client.failed(rt));
+    let before = client.last_failure(rt);
     let cut = (number(client.noop(rt)), client.failed(rt));
     let late = (number(client.noop(rt)), client.failed(rt));
-    Ok([refused, cut, late])
+    Ok(([refused, cut, late], [before, client.last_failure(rt)]))
 }
 
 #[test]
@@ -28,10 +30,11 @@ fn a_client_tells_that_it_has_failed(rt: HostRuntime) -> Result<(), Fail> {
     let address = listener.local_addr()?;
     let script = "send 220 ready;line;send 550 no;line";
     let serving = thread::spawn(&rt, move || serve(&rt, &listener, script))?;
-    let calls = calls(&rt, address)?;
+    let (calls, places) = calls(&rt, address)?;
     let noted = serving.join(&rt)?;
     // `UnexpectedResponse` is 10, `UnexpectedEof` 2, `SessionFailed` 14
     assert_eq!(rt; calls, [(10, false), (2, true), (14, true)]);
+    assert_eq!(rt; places, [None, Some(Failure::Control)]);
     assert_eq!(rt; noted.as_str(), "DELE a|NOOP|");
     Ok(())
 }

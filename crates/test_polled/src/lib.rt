@@ -18,6 +18,8 @@ mod listings;
 #[cfg(test)]
 mod requests;
 #[cfg(test)]
+mod saving;
+#[cfg(test)]
 mod scene;
 #[cfg(test)]
 mod settings;

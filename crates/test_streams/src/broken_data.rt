@@ -5,7 +5,7 @@ ghost use Rattle.ftp_transport.specs.Memory.{fresh_memory};
 
 use crate::scene::{conn_with, number};
 use ftp_base::types::{ConnectionError, FtpError, FtpResult};
-use ftp_session::session::Session;
+use ftp_session::session::{Failure, NoProgress, Session};
 use ftp_transport::{Accepted, Conn, Connected, Listening, MemoryConn, Network, Tells, Transport};
 use std::alloc::{AllocError, Global};
 use std::io::ErrorKind;
@@ -164,6 +164,23 @@ fn downloaded(alloc: Global, input: &[u8]) -> FtpResult<(bool, u8)> {
     Ok((reset, number(session.noop(alloc))))
 }
 
+/// How many bytes of a download were written whose data are reset, whether its fault is the reset, and whether the data
+/// connection at that address is told to have failed; and that of the download after it, for which there is no connection.
+fn written(alloc: Global, bytes: &mut Vec<u8>) -> FtpResult<(u8, bool, u8, bool)> {
+    let both = b"220 r\r\n227 x (10,0,0,1,4,0).\r\n150 b\r\n426 n\r\n227 x (10,0,0,2,4,1).\r\n";
+    let mut session = session_on(alloc, both)?;
+    let reset = number(session.write_to(alloc, &(), "a", bytes, &mut NoProgress));
+    let first = session.last_failure() == at([10, 0, 0, 1], 1024);
+    let refused = number(session.retr_as_buffer(alloc, &(), "a"));
+    let second = session.last_failure() == at([10, 0, 0, 2], 1025);
+    Ok((reset, first, refused, second))
+}
+
+/// A failure of the data connection of this address.
+fn at(host: [u8; 4], port: u16) -> Option<Failure> {
+    Some(Failure::Data(Some(SocketAddr::from((host, port)))))
+}
+
 /// Whether this is the fault of a connection that was reset.
 fn is_reset(answer: FtpResult<Vec<u8>>) -> bool {
     let reset = match &answer {
@@ -188,5 +205,18 @@ fn a_fault_of_a_files_data_is_told_whatever_the_last_reply_is(rt: HostRuntime) -
         downloaded(rt.alloc(), NOT_SENT)?,
     );
     assert_eq!(rt; came, ((true, 0), (true, 0)));
+    Ok(())
+}
+
+#[test]
+fn what_came_before_a_reset_is_written_and_where_it_was_is_told(
+    rt: HostRuntime,
+) -> Result<(), Fail> {
+    let mut bytes = Vec::new(rt.alloc());
+    let came = written(rt.alloc(), &mut bytes)?;
+    assert_eq!(rt;
+        (bytes.as_slice(), came),
+        (&b"a\r\n"[..], (1, true, 1, true))
+    );
     Ok(())
 }

@@ -8,6 +8,8 @@ mod handed;
 #[cfg(test)]
 mod reads;
 #[cfg(test)]
+mod saving;
+#[cfg(test)]
 mod scene;
 #[cfg(test)]
 mod sources;

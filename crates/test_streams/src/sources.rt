@@ -89,8 +89,6 @@ struct Pair {
 }
 
 impl DownloadReader<MemoryConn, u16> for Pair {
-    ghost reads = { λ _ _ _. Unit {0} };
-
     fn read(&mut self, transfer: &mut Transfer<MemoryConn>) -> FtpResult<u16> {
         let mut pair = [0u8; 2];
         Read::read(transfer, &mut pair)?;

@@ -1,0 +1,175 @@
+//! Downloads to a writer, uploads, and who is told how far they have come.
+
+use crate::clients::write_passive;
+use crate::scene::{Scene, done, greeted, listening};
+use ftp_base::types::FtpResult;
+use ftp_polled::AllowStdIo;
+use ftp_session::session::{Failure, NoProgress, Progress};
+use std::alloc::AllocGlobal;
+use std::io::{Read, Write};
+use std::net::{Net, SocketAddr, TcpListener, TcpStream};
+use std::random::RandomSource;
+use std::sync::Wait;
+use std::test::Fail;
+use std::time::Clock;
+use std::{io, thread};
+
+/// What was told last.
+#[derive(Drop)]
+struct Told(u64);
+
+impl Progress for Told {
+    fn went(&mut self, so_far: u64) {
+        self.0 = so_far;
+    }
+}
+
+/// Sends these bytes on the next connection, and closes it.
+fn give(listener: &TcpListener, bytes: &[u8]) -> io::Result<()> {
+    let (mut peer, _address) = listener.accept()?;
+    peer.write_all(bytes)
+}
+
+/// A client whose server accepts a data command, whose data connection goes to this port, and the next command.
+fn agreed<R>(rt: &R, port: u16) -> Result<Box<Scene>, Fail>
+where
+    R: Net<Listener = TcpListener, Stream = TcpStream> + Wait + Clock + RandomSource + AllocGlobal,
+{
+    let mut scene = greeted(rt)?;
+    write_passive(&mut scene.server, port)?;
+    scene.server.write_all(b"226 done\r\n200 ok\r\n")?;
+    Ok(scene)
+}
+
+/// A download to a `Vec`: how many bytes it gives and tells, and the number of the refusal of the command after it.
+fn saved<R>(rt: &R, scene: &mut Scene, bytes: &mut Vec<u8>) -> Result<(u64, u64, u8), Fail>
+where
+    R: Net + Wait + Clock + RandomSource + AllocGlobal,
+{
+    let mut told = Told(0);
+    let write = scene.client.write_to(rt, "a", bytes, &mut told);
+    let count: FtpResult<u64> = scene.runtime.block_on(rt, write)?;
+    let noop = scene.client.noop(rt);
+    Ok((count?, told.0, done(rt, &mut scene.runtime, noop)))
+}
+
+#[test]
+fn a_download_goes_to_a_writer_and_tells_how_far_it_has_come(rt: HostRuntime) -> Result<(), Fail> {
+    let (listener, address) = listening(&rt)?;
+    let giving = thread::spawn(&rt, move || give(&listener, b"hello"))?;
+    let mut scene = agreed(&rt, address.port())?;
+    let mut bytes = Vec::new(rt.alloc());
+    let came = saved(&rt, &mut scene, &mut bytes)?;
+    drop(scene);
+    let gave = giving.join(&rt).is_ok();
+    assert_eq!(rt;
+        (bytes.as_slice(), came, gave),
+        (&b"hello"[..], (5, 5, 0), true)
+    );
+    Ok(())
+}
+
+/// A writer of `std` that takes nothing.
+#[derive(Drop)]
+struct Full;
+
+impl Write for Full {
+    fn write(&mut self, _buf: &[u8]) -> io::Result<usize> {
+        Ok(0)
+    }
+
+    fn flush(&mut self) -> io::Result<()> {
+        Ok(())
+    }
+}
+
+/// Where the client's last failure was.
+fn failure<R>(rt: &R, scene: &mut Scene) -> Result<Option<Failure>, Fail>
+where
+    R: Net + Wait + Clock + RandomSource + AllocGlobal,
+{
+    let place: FtpResult<Option<Failure>> = scene
+        .runtime
+        .block_on(rt, scene.client.last_failure())?;
+    Ok(place?)
+}
+
+#[test]
+fn a_writer_that_fails_leaves_its_download(rt: HostRuntime) -> Result<(), Fail> {
+    let (listener, address) = listening(&rt)?;
+    let giving = thread::spawn(&rt, move || give(&listener, b"hello"))?;
+    let mut scene = agreed(&rt, address.port())?;
+    let write = scene
+        .client
+        .write_to(&rt, "a", AllowStdIo(Full), NoProgress);
+    let full = done(&rt, &mut scene.runtime, write);
+    let place = failure(&rt, &mut scene)?;
+    let noop = scene.client.noop(&rt);
+    let next = done(&rt, &mut scene.runtime, noop);
+    drop(scene);
+    let gave = giving.join(&rt).is_ok();
+    assert_eq!(rt;
+        (full, place, next, gave),
+        (1, Some(Failure::Caller), 0, true)
+    );
+    Ok(())
+}
+
+/// How many bytes come on the next connection, until it is closed.
+fn taken<R: AllocGlobal>(rt: &R, listener: &TcpListener) -> io::Result<usize> {
+    let (mut peer, _address) = listener.accept()?;
+    let mut bytes = Vec::new(rt.alloc());
+    peer.read_to_end(&mut bytes)
+}
+
+/// An upload of a text by a reader of `std`, in the place of a file or at its end: how many bytes it gives and tells.
+fn put<R>(rt: &R, scene: &mut Scene, appends: bool) -> Result<(u64, u64), Fail>
+where
+    R: Net + Wait + Clock + RandomSource + AllocGlobal,
+{
+    let mut told = Told(0);
+    let source = AllowStdIo(&b"a\nb"[..]);
+    let upload = if appends {
+        scene.client.append_file_with(rt, "a", source, &mut told)
+    } else {
+        scene.client.put_file_with(rt, "a", source, &mut told)
+    };
+    let count: FtpResult<u64> = scene.runtime.block_on(rt, upload)?;
+    Ok((count?, told.0))
+}
+
+#[test]
+fn an_upload_tells_how_many_bytes_have_gone_out(rt: HostRuntime) -> Result<(), Fail> {
+    for appends in [false, true] {
+        let (listener, address) = listening(&rt)?;
+        let taking = thread::spawn(&rt, move || taken(&rt, &listener))?;
+        let mut scene = agreed(&rt, address.port())?;
+        let came = put(&rt, &mut scene, appends)?;
+        drop(scene);
+        let took = taking.join(&rt)?;
+        // CR is put before the LF: RFC 959, section 3.1.1.1
+        assert_eq!(rt; (came, took), ((4, 4), 4));
+    }
+    Ok(())
+}
+
+/// The number of the refusal of a download for which nobody listens at this address, and whether the address is told.
+fn refused<R>(rt: &R, address: SocketAddr) -> Result<(u8, bool), Fail>
+where
+    R: Net<Listener = TcpListener, Stream = TcpStream> + Wait + Clock + RandomSource + AllocGlobal,
+{
+    let mut scene = agreed(rt, address.port())?;
+    let fetch = scene.client.retr_as_buffer(rt, "a");
+    let refused = done(rt, &mut scene.runtime, fetch);
+    let place = failure(rt, &mut scene)?;
+    Ok((refused, place == Some(Failure::Data(Some(address)))))
+}
+
+#[test]
+fn where_a_data_connection_failed_is_told(rt: HostRuntime) -> Result<(), Fail> {
+    let (listener, address) = listening(&rt)?;
+    drop(listener);
+    let came = refused(&rt, address)?;
+    assert_eq!(rt; came, (1, true));
+    Ok(())
+}
