@@ -60,9 +60,9 @@ impl Held for Live {
     }
 }
 
-/// Whether rows can play each of these calls by the client's methods. It reads a reply alone only where it is the greeting,
-/// which a session has read before the client is made; and what went out in an upload of one call is told by its session,
-/// which the client doesn't lend.
+/// Whether rows can play each of these calls by the client's methods. The greeting can only be the first, which a session
+/// has read before the client is made; and what went out in an upload of one call is told by its session, which the client
+/// doesn't lend.
 pub fn has_methods(calls: &[Call]) -> bool {
     let others = match calls.split_first() {
         Some((Call::Greet, others)) => others,
@@ -71,16 +71,9 @@ pub fn has_methods(calls: &[Call]) -> bool {
     !others.iter().any(|call| is_apart(call))
 }
 
-/// Whether a call reads a reply and says nothing, or uploads a whole file.
+/// Whether a call reads the greeting, or uploads a whole file.
 fn is_apart(call: &Call) -> bool {
-    matches!(
-        call,
-        Call::Greet
-            | Call::ReadResponse(_)
-            | Call::ReadResponseIn(_)
-            | Call::PutFile(..)
-            | Call::AppendFile(..)
-    )
+    matches!(call, Call::Greet | Call::PutFile(..) | Call::AppendFile(..))
 }
 
 /// Where these calls lead to, each made by the client's method.
@@ -151,13 +144,11 @@ where
     R: Wait + RandomSource + AllocGlobal,
 {
     Ok(made_by_method!(call, client, rt, done(rt), {
-        Call::Greet
-        | Call::ReadResponse(_)
-        | Call::ReadResponseIn(_)
-        | Call::PutFile(..)
-        | Call::AppendFile(..) => {
+        Call::Greet | Call::PutFile(..) | Call::AppendFile(..) => {
             return Err(RowError::NotUnderstood);
         }
+        Call::ReadResponse(status) => reply(client.read_response(rt, *status)),
+        Call::ReadResponseIn(codes) => reply(client.read_response_in(rt, codes.as_slice())),
         Call::RetrAsStream(_)
         | Call::PutWithStream(_)
         | Call::AppendWithStream(_)

@@ -96,8 +96,8 @@ impl Face {
         }
     }
 
-    /// Whether a row can be played on it: the blocking client has no method that reads a reply alone, and a run is made
-    /// on a connection.
+    /// Whether a row can be played on it: the blocking client is made once the greeting was read, and a run is made on a
+    /// connection.
     pub fn plays(self, play: &Play) -> bool {
         match self {
             Face::Definition | Face::Methods | Face::States => true,
