@@ -10,9 +10,9 @@ use Rattle.ftp_base.specs.Command.{text_of, words_of}
 use Rattle.ftp_control.specs.declared.control.rule.ReplyRule.{ReplyRule}
 use Rattle.ftp_control.specs.declared.control.rule.ReplyRule.TheVariants.{Strict}
 use Rattle.ftp_transport.specs.declared.room.Room.TheVariants.{Any}
-use Rattle.ftp_dialogue.specs.Deals.{first_net, outcomes_of}
-use Rattle.ftp_dialogue.specs.declared.model.Dealings.{Dealings}
-use Rattle.ftp_dialogue.specs.declared.model.DealOutcome.{DealOutcome}
+use Rattle.ftp_dialogue.specs.NetEvents.{first_net, outcomes_of}
+use Rattle.ftp_dialogue.specs.declared.model.NetRecord.{NetRecord}
+use Rattle.ftp_dialogue.specs.declared.model.NetOutcome.{NetOutcome}
 use Rattle.ftp_transport.specs.Told.{IsFull, HasNoRoom}
 use Rattle.ftp_transport.specs.declared.room.Room.{Room}
 use Rattle.ftp_transport.specs.Memory.{IsGiven, fresh_memory, fed}
@@ -24,7 +24,7 @@ use Rattle.ftp_calls.specs.declared.call.Answer.{Answer}
 use Rattle.ftp_calls.specs.declared.call.Answer.TheVariants.{Unit as Done, Fault}
 use Rattle.ftp_calls.specs.declared.call.Call.{Call}
 use Rattle.ftp_calls.specs.declared.call.Call.TheVariants.{Drain, Greet, Noop}
-use Rattle.ftp_dialogue.specs.declared.model.Standing.{Standing}
+use Rattle.ftp_dialogue.specs.declared.model.PlayState.{PlayState}
 use Rattle.ftp_runs.specs.declared.model.Ran.{Ran}
 use Rattle.ftp_runs.specs.declared.model.Ran.TheVariants.{Finished, Waiting}
 use Rattle.ftp_dialogue.specs.Link.{Builds, Link}
@@ -34,11 +34,11 @@ use Rattle.ftp_dialogue.specs.State.{SessionValue, Begins}
 use Rattle.ftp_dialogue.specs.Dialogue.{Tree, Say, Hear, Look, Ask, Build, Move, Leaf, dialogue}
 use Rattle.ftp_dialogue.specs.Play.{play}
 use Rattle.ftp_runs.specs.Run.{run, OneView}
-use Rattle.ftp_dialogue.specs.Promises.{answer_at, begun_by, due_of, standing, Aborts, Completes, IsPlayed, Fails, LacksMemory, MayFailAt}
+use Rattle.ftp_dialogue.specs.Promises.{answer_at, begun_by, due_of, play_state, Aborts, Completes, IsPlayed, Fails, LacksMemory, MayFailAt}
 use Rattle.ftp_runs.specs.Runs.{BeginsAfter, Runs, RunsTo, RunAborts}
 use Rattle.ftp_runs.proofs.Running.{nothing_views}
 use Rattle.from_contracts.specs.Aborted.{MayAbort, WasAborted}
-use Rattle.ftp_dialogue.proofs.Deals.{letting_beside}
+use Rattle.ftp_dialogue.proofs.NetEvents.{letting_beside}
 
 -- `220 r` and `200 ok`
 abbrev pub server : List ℕ
@@ -57,9 +57,9 @@ answers_of (Finished answers s) = answers
 answers_of (Waiting answers wait s) = answers
 
 -- what the definition says of these bytes, where no transfer was opened
-played : (decode : List ℕ → List ℕ) (state : State) (said unsent : List ℕ) (local peer : SocketAddr) (dealings : Dealings) (outcomes : List DealOutcome) (ended : Bool) → answers_of (run Any (as_it_is decode) (Greet ∷ Noop ∷ []) (record { state = record state { settings = record state.settings { reply_rule = Strict }; counts = no_transfers }; failed = false; said = said; unsent = unsent; local = local; peer = peer; dealings = dealings; bytes = server; ended = ended; outcomes = outcomes })) ≡ Done ∷ Done ∷ []
+played : (decode : List ℕ → List ℕ) (state : State) (said unsent : List ℕ) (local peer : SocketAddr) (net_record : NetRecord) (outcomes : List NetOutcome) (ended : Bool) → answers_of (run Any (as_it_is decode) (Greet ∷ Noop ∷ []) (record { state = record state { settings = record state.settings { reply_rule = Strict }; counts = no_transfers }; failed = false; said = said; unsent = unsent; local = local; peer = peer; net_record = net_record; bytes = server; ended = ended; outcomes = outcomes })) ≡ Done ∷ Done ∷ []
 unfolding run play outcome text_of words_of
-played decode state said unsent local peer dealings outcomes ended = refl
+played decode state said unsent local peer net_record outcomes ended = refl
 
 same_fault : (one other : FtpError) → Fault one ≡ Fault other → one ≡ other
 same_fault one other is = cc is
@@ -69,8 +69,8 @@ module _ (builds : Builds) (decode : List ℕ → List ℕ) (old new : SessionVa
   calls = Greet ∷ Noop ∷ []
 
   -- where a run of these bytes begins
-  abbrev begin_at : List DealOutcome → Bool → List ℕ → Standing
-  begin_at outcomes failed bytes = record (standing old [] new.channel.ended outcomes) { failed = failed; bytes = bytes }
+  abbrev begin_at : List NetOutcome → Bool → List ℕ → PlayState
+  begin_at outcomes failed bytes = record (play_state old [] new.channel.ended outcomes) { failed = failed; bytes = bytes }
 
   -- all bytes that were fed came
   all_came : (runs : RunsTo (over_memory builds) (as_it_is decode) calls old new answers) → untaken old.channel ++ (runs.came ++ given.ahead) ≡ server
@@ -88,7 +88,7 @@ module _ (builds : Builds) (decode : List ℕ → List ℕ) (old new : SessionVa
       let one_view : old.channel.failed ≡ false → OneView old.channel.rule old.channel.kept coding calls old.state = λ going. (let P : List ℕ → Type 0 = λ k. OneView old.channel.rule k coding calls old.state in subst P (sym begins.idle.kept) (nothing_views coding old.channel.rule calls old.state)) in
       let on : GoesOn new.channel.ended given.ahead new.channel.ended = record { nothing = λ e. given.over (sound.ended tt ∙ e); over = λ e. e } in
       let there = runs.runs tt one_view Any given.ahead new.channel.ended [] tt on in
-      let F : Standing → List Answer = λ s. answers_of (run Any coding calls s) in
+      let F : PlayState → List Answer = λ s. answers_of (run Any coding calls s) in
       let B : Bool → List ℕ → List Answer = λ f b. F (begin_at outcomes f b) in
       let ruled : ReplyRule → State = λ r. record old.state { settings = record old.state.settings { reply_rule = r } } in
       let bytes = untaken old.channel ++ (runs.came ++ given.ahead) in

@@ -15,14 +15,14 @@ use Rattle.ftp_calls.specs.declared.exchange.Movement.TheVariants as movement
 use Rattle.ftp_calls.specs.declared.exchange.Turn.TheVariants.{First, Aborted}
 use Rattle.ftp_calls.specs.Exchanges.{aborts}
 use Rattle.ftp_control.specs.Refusal.{IsRefusalOf}
-use Rattle.ftp_dialogue.specs.declared.model.DealOutcome.{DealOutcome}
+use Rattle.ftp_dialogue.specs.declared.model.NetOutcome.{NetOutcome}
 use Rattle.ftp_dialogue.specs.declared.stage.Awaits.{Awaits}
 use Rattle.ftp_dialogue.specs.declared.stage.Stage.{Stage}
 use Rattle.ftp_dialogue.specs.declared.stage.Stage.TheVariants.{At, Saying, Aborting}
-use Rattle.ftp_dialogue.specs.declared.stage.Aborting.TheVariants.{Wording, Sending, Parting}
+use Rattle.ftp_dialogue.specs.declared.stage.Aborting.TheVariants.{Wording, Sending, ClosingData}
 use Rattle.ftp_dialogue.specs.declared.stage.Step.TheVariants.{Next, Pending, Done}
 use Rattle.ftp_dialogue.specs.Coding.{Coding}
-use Rattle.ftp_dialogue.specs.Deals.{MovementIs}
+use Rattle.ftp_dialogue.specs.NetEvents.{MovementIs}
 use Rattle.ftp_dialogue.specs.Dialogue.{Say, aborting, breaking_off, from_turn}
 use Rattle.ftp_dialogue.specs.Link.{Link}
 use Rattle.ftp_dialogue.specs.Promises.{Aborts}
@@ -82,7 +82,7 @@ module _ (link : Link) (coding : Coding) (call : Call) (is_abort : aborts call �
 
   module _ (line line' : Option (List ℕ)) (old new : SessionValue) where
     -- it has gone out
-    pub sent : TakesLine link line line' old new Next → SaysNode link line line' old new Next → BreaksOff link coding call (Aborting (Sending line)) (Aborting Parting) old new Next
+    pub sent : TakesLine link line line' old new Next → SaysNode link line line' old new Next → BreaksOff link coding call (Aborting (Sending line)) (Aborting ClosingData) old new Next
     sent takes says =
         let P : Bool → Type 0 = λ b. (b ≡ true) ⊎ BeginsHere link (abort_left coding call old.state (Sending line)) old new in
         record {
@@ -123,9 +123,9 @@ module _ (link : Link) (coding : Coding) (call : Call) (is_abort : aborts call �
         }
 
   -- the data connection is closed
-  pub parted_off : (old new : SessionValue) (outcome : DealOutcome) → new ≡ record old { net = new.net } → (link.tells → MovementIs movement.Close outcome old.net new.net) → BreaksOff link coding call (Aborting Parting) (At Aborted) old new Next
+  pub parted_off : (old new : SessionValue) (outcome : NetOutcome) → new ≡ record old { net = new.net } → (link.tells → MovementIs movement.Close outcome old.net new.net) → BreaksOff link coding call (Aborting ClosingData) (At Aborted) old new Next
   parted_off old new outcome beside tie =
-      let V : SessionValue → Type 0 = λ v. BreaksOff link coding call (Aborting Parting) (At Aborted) old v Next in
+      let V : SessionValue → Type 0 = λ v. BreaksOff link coding call (Aborting ClosingData) (At Aborted) old v Next in
       let still = moved_still link old new.net movement.Close outcome tie (λ came. from_turn coding call Aborted old.state) in
       subst V (sym beside) (record {
         steps = still.advances;

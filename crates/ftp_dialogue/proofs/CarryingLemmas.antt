@@ -18,27 +18,27 @@ use Rattle.ftp_calls.specs.declared.exchange.Row.{Row}
 use Rattle.ftp_calls.specs.declared.exchange.Row.TheVariants.{Exchanges, Arms, Resyncs, Sets, Moves}
 use Rattle.ftp_calls.specs.declared.exchange.Turn.TheVariants.{First, Second, Passive, ExtendedPassive, Active, Restart, Closed, Aborted}
 use Rattle.ftp_calls.specs.Exchanges.{drains, finishes, is_local, is_read, local_row, negotiates, of_transfer, only_reads, reads, row_of}
-use Rattle.ftp_dialogue.specs.declared.model.DealOutcome.{DealOutcome}
+use Rattle.ftp_dialogue.specs.declared.model.NetOutcome.{NetOutcome}
 use Rattle.ftp_dialogue.specs.declared.stage.Stage.{Stage}
-use Rattle.ftp_dialogue.specs.declared.stage.Stage.TheVariants.{At, Saying, Hearing, Arming, Resyncing, Agreeing, Closing, Aborting, Fetching}
+use Rattle.ftp_dialogue.specs.declared.stage.Stage.TheVariants.{At, Saying, Hearing, Arming, Resyncing, OpeningData, Closing, Aborting, Transferring}
 use Rattle.ftp_dialogue.specs.declared.stage.Step.TheVariants.{Next, Pending}
 use Rattle.ftp_dialogue.specs.declared.state.State.{State}
 use Rattle.ftp_dialogue.specs.Coding.{Coding}
 use Rattle.ftp_control.specs.Channel.{Channel}
 use Rattle.ftp_transport.specs.declared.room.Room.{Room}
 use Rattle.ftp_dialogue.specs.declared.model.Played.TheVariants.{Done}
-use Rattle.ftp_dialogue.specs.declared.model.Standing.{Standing}
-use Rattle.ftp_dialogue.proofs.Deals.{dealings_parted, letting_beside}
-use Rattle.ftp_dialogue.specs.Deals.{answers, Deal, Deals, MovedIs, MovementIs, Net, Parted, outcomes_of, traffic_of}
-use Rattle.ftp_dialogue.specs.Dialogue.{Tree, Move, Leaf, accepted, awaiting, carrying, concluded, dialogue, doing, entered, expected_of, from_turn, later, moved_answer, negotiating, opened_from, saying, set_to, told_of_close, with_left, parting}
+use Rattle.ftp_dialogue.specs.declared.model.PlayState.{PlayState}
+use Rattle.ftp_dialogue.proofs.NetEvents.{net_record_parted, letting_beside}
+use Rattle.ftp_dialogue.specs.NetEvents.{answers, NetEvent, NetEvents, MovedIs, MovementIs, Net, Parted, outcomes_of, traffic_of}
+use Rattle.ftp_dialogue.specs.Dialogue.{Tree, Move, Leaf, accepted, awaiting, carrying, concluded, dialogue, doing, entered, expected_of, from_turn, later, moved_answer, negotiating, opened_from, saying, set_to, told_of_close, with_left, closing_data}
 use Rattle.ftp_dialogue.specs.Link.{Link}
 use Rattle.ftp_dialogue.specs.Play.{Refusal, Taken, Lacking, Failing, finally, leaving, play, play_call, play_unless, lacks, refusal, refused_if_failed, needs_data}
-use Rattle.ftp_dialogue.specs.Promises.{Aborts, Goes, IsFault, IsRefusal, IsRefused, IsSuccess, standing, LeavesIf, Refuses, begun_by, lacks_of, refusal_of, IsApart}
+use Rattle.ftp_dialogue.specs.Promises.{Aborts, Goes, IsFault, IsRefusal, IsRefused, IsSuccess, play_state, LeavesIf, Refuses, begun_by, lacks_of, refusal_of, IsApart}
 use Rattle.ftp_dialogue.specs.Resuming.{Modes, Resumes}
 use Rattle.ftp_dialogue.specs.Sound.{Transfers, left_behind}
 use Rattle.ftp_dialogue.specs.State.{SessionValue, LetsGo}
 use Rattle.std.specs.declared.io.ErrorKind.{ErrorKind}
-use Rattle.ftp_dialogue.specs.declared.model.DealOutcome.TheVariants as came
+use Rattle.ftp_dialogue.specs.declared.model.NetOutcome.TheVariants as came
 use Rattle.ftp_dialogue.specs.Steps.Moving.{Apart, CarriedOut, Carries, CarriesBy, CarriesOut, DoesRow, Ends, Made, Sets as SetsTo, Walks, answer_moved, moves_nothing, needs_memory, nothing_moved, state_moved}
 use Rattle.ftp_dialogue.specs.Steps.Polls.{MayPollAt}
 use Rattle.ftp_dialogue.specs.Steps.Stages.{MayAnswer, StageOf}
@@ -113,16 +113,16 @@ may_go_on call (Saying line a) v undrained of going = going
 may_go_on call (Hearing a) v undrained of going = going
 may_go_on call (Arming turn offset) v undrained of going = going
 may_go_on call (Resyncing turn seeks) v undrained of going = going
-may_go_on call (Agreeing way) v undrained of going = going
+may_go_on call (OpeningData way) v undrained of going = going
 may_go_on call Closing v undrained of going = going
 may_go_on call (Aborting abort) v undrained of going = going
-may_go_on call (Fetching fetching) v undrained of going = going
+may_go_on call (Transferring fetching) v undrained of going = going
 
 -- Where a call begins
 
 pub plain_dialogue : (coding : Coding) (call : Call) (state : State) → negotiates call ≡ false → finishes call ≡ false → dialogue coding call state ≡ from_turn coding call First state
 plain_dialogue coding call state plain goes_on =
-    let F : Bool → Bool → Tree = λ b f. cond b (negotiating coding call state.settings.restart_offset (opened_from call state)) (cond f (parting coding call (with_left state)) (from_turn coding call First state)) in
+    let F : Bool → Bool → Tree = λ b f. cond b (negotiating coding call state.settings.restart_offset (opened_from call state)) (cond f (closing_data coding call (with_left state)) (from_turn coding call First state)) in
     ap (λ b. F b (finishes call)) plain ∙ ap (λ f. F false f) goes_on
 
 pub plain_entered : (call : Call) (state : State) → negotiates call ≡ false → finishes call ≡ false → entered call state ≡ state
@@ -130,9 +130,9 @@ plain_entered call state plain goes_on =
     let F : Bool → Bool → State = λ b f. cond b (opened_from call state) (cond f (with_left state) state) in
     ap (λ b. F b (finishes call)) plain ∙ ap (λ f. F false f) goes_on
 
-pub parting_dialogue : (coding : Coding) (call : Call) (state : State) → negotiates call ≡ false → finishes call ≡ true → dialogue coding call state ≡ parting coding call (with_left state)
-parting_dialogue coding call state plain ends =
-    let F : Bool → Bool → Tree = λ b f. cond b (negotiating coding call state.settings.restart_offset (opened_from call state)) (cond f (parting coding call (with_left state)) (from_turn coding call First state)) in
+pub closing_data_dialogue : (coding : Coding) (call : Call) (state : State) → negotiates call ≡ false → finishes call ≡ true → dialogue coding call state ≡ closing_data coding call (with_left state)
+closing_data_dialogue coding call state plain ends =
+    let F : Bool → Bool → Tree = λ b f. cond b (negotiating coding call state.settings.restart_offset (opened_from call state)) (cond f (closing_data coding call (with_left state)) (from_turn coding call First state)) in
     ap (λ b. F b (finishes call)) plain ∙ ap (λ f. F false f) ends
 
 pub local_dialogue : (coding : Coding) (call : Call) (state : State) → is_local call ≡ true → dialogue coding call state ≡ from_turn coding call First state
@@ -225,9 +225,9 @@ module _ (link : Link) (moves : Movement) (old new : SessionValue) where
   Carried_so answer = Ends link (carrying moves old.state) answer old new ⊎ Aborts link false (carrying moves old.state) answer old new
 
   -- bytes went over the data connection
-  moved_ends : (net' : Net) (outcome : DealOutcome) → moves_nothing moves ≡ false → (link.tells → MovementIs moves outcome old.net net') → Ends link (carrying moves old.state) (answer_moved moves outcome) old (record old { state = state_moved moves old.state; net = net' })
+  moved_ends : (net' : Net) (outcome : NetOutcome) → moves_nothing moves ≡ false → (link.tells → MovementIs moves outcome old.net net') → Ends link (carrying moves old.state) (answer_moved moves outcome) old (record old { state = state_moved moves old.state; net = net' })
   moved_ends net' outcome some tie =
-      let next : DealOutcome → Tree = λ came. Leaf (answer_moved moves came) (state_moved moves old.state) in
+      let next : NetOutcome → Tree = λ came. Leaf (answer_moved moves came) (state_moved moves old.state) in
       let still = moved_still link old net' moves outcome tie next in
       let is : carrying moves old.state ≡ Move moves next = carrying_is moves old.state ∙ ap (λ b. cond b (Leaf (nothing_moved moves) old.state) (Move moves next)) some in
       let T : Tree → Type 0 = λ t. Ends link t (answer_moved moves outcome) old (record old { state = state_moved moves old.state; net = net' }) in
@@ -237,7 +237,7 @@ module _ (link : Link) (moves : Movement) (old new : SessionValue) where
   carried_by answer made =
       let V : SessionValue → Type 0 = λ v. Ends link (carrying moves old.state) answer old v in
       let A : Answer → Type 0 = λ a. Ends link (carrying moves old.state) a old (record old { state = state_moved moves old.state; net = new.net }) in
-      inl (subst V (sym made.beside) (subst A (sym made.is) (moved_ends new.net made.outcome made.some made.deal)))
+      inl (subst V (sym made.beside) (subst A (sym made.is) (moved_ends new.net made.outcome made.some made.net_event)))
 
   nothing_carried : (answer : Answer) → (moves_nothing moves ≡ true) × (answer ≡ nothing_moved moves) × (new ≡ old) → Carried_so answer
   nothing_carried answer (none, is, same) =
@@ -296,9 +296,9 @@ sets_apart setting old new answer (inr lacks) = ap (λ v. v.channel) lacks.1
 
 -- The end of a transfer
 
-pub closes_walks : (link : Link) (coding : Coding) (call : Call) (old : SessionValue) (net' : Net) (outcome : DealOutcome) → finishes call ≡ true → (link.tells → MovementIs movement.Close outcome old.net net') → Walks link coding call Closing (At (Closed (told_of_close old.state.uploads outcome))) old (record old { net = net' }) Next
+pub closes_walks : (link : Link) (coding : Coding) (call : Call) (old : SessionValue) (net' : Net) (outcome : NetOutcome) → finishes call ≡ true → (link.tells → MovementIs movement.Close outcome old.net net') → Walks link coding call Closing (At (Closed (told_of_close old.state.uploads outcome))) old (record old { net = net' }) Next
 closes_walks link coding call old net' outcome ends tie =
-    let next : DealOutcome → Tree = λ came. from_turn coding call (Closed (told_of_close old.state.uploads came)) old.state in
+    let next : NetOutcome → Tree = λ came. from_turn coding call (Closed (told_of_close old.state.uploads came)) old.state in
     let still = moved_still link old net' movement.Close outcome tie next in
     record {
       steps = still.advances;
@@ -311,7 +311,7 @@ closes_walks link coding call old net' outcome ends tie =
     }
 
 -- the same of a session that is known by equations
-pub closed_walks : (link : Link) (coding : Coding) (call : Call) (old new : SessionValue) (outcome : DealOutcome) (told : Option ErrorKind) (stage' : Stage) → finishes call ≡ true → new ≡ record old { net = new.net } → (link.tells → MovementIs movement.Close outcome old.net new.net) → told ≡ told_of_close new.state.uploads outcome → stage' ≡ At (Closed told) → Walks link coding call Closing stage' old new Next
+pub closed_walks : (link : Link) (coding : Coding) (call : Call) (old new : SessionValue) (outcome : NetOutcome) (told : Option ErrorKind) (stage' : Stage) → finishes call ≡ true → new ≡ record old { net = new.net } → (link.tells → MovementIs movement.Close outcome old.net new.net) → told ≡ told_of_close new.state.uploads outcome → stage' ≡ At (Closed told) → Walks link coding call Closing stage' old new Next
 closed_walks link coding call old new outcome told stage' ends beside tie told_is at =
     let V : SessionValue → Type 0 = λ v. Walks link coding call Closing stage' old v Next in
     let S : Stage → Type 0 = λ s. Walks link coding call Closing s old (record old { net = new.net }) Next in
@@ -320,12 +320,12 @@ closed_walks link coding call old new outcome told stage' ends beside tie told_i
 
 -- What is carried out
 
-pub carried_through : (tells : Type 0) (moves : Movement) (outcome : DealOutcome) (view old : SessionValue) (net' : Net) → view ≡ old → moves_nothing moves ≡ false → answers moves outcome ≡ true → (tells → MovedIs moves outcome view.net net') → IsApart (answer_moved moves outcome) → Carries tells moves old (record view { state = state_moved moves view.state; net = net' }) (answer_moved moves outcome)
+pub carried_through : (tells : Type 0) (moves : Movement) (outcome : NetOutcome) (view old : SessionValue) (net' : Net) → view ≡ old → moves_nothing moves ≡ false → answers moves outcome ≡ true → (tells → MovedIs moves outcome view.net net') → IsApart (answer_moved moves outcome) → Carries tells moves old (record view { state = state_moved moves view.state; net = net' }) (answer_moved moves outcome)
 carried_through tells moves outcome view old net' is some fits tie apart =
     let P : SessionValue → Type 0 = λ v. Carries tells moves v (record view { state = state_moved moves view.state; net = net' }) (answer_moved moves outcome) in
-    subst P is (inl (record { outcome = outcome; some = some; is = refl; beside = refl; deal = λ h. (fits, tie h); apart = apart }))
+    subst P is (inl (record { outcome = outcome; some = some; is = refl; beside = refl; net_event = λ h. (fits, tie h); apart = apart }))
 
-pub read_apart_answer : (most : ℕ) (outcome : DealOutcome) → answers (movement.Read most) outcome ≡ true → IsApart (moved_answer outcome)
+pub read_apart_answer : (most : ℕ) (outcome : NetOutcome) → answers (movement.Read most) outcome ≡ true → IsApart (moved_answer outcome)
 read_apart_answer most (came.Answered outcome) is = tt
 read_apart_answer most (came.Built fault) is = tt
 read_apart_answer most (came.Read bytes) is = tt
@@ -334,7 +334,7 @@ read_apart_answer most came.Closed is = tt
 read_apart_answer most (came.Failed kind) is = inr (kind, refl)
 read_apart_answer most came.NoMemory is = inl refl
 
-pub write_apart_answer : (bytes : List ℕ) (outcome : DealOutcome) → answers (movement.Write bytes) outcome ≡ true → IsApart (moved_answer outcome)
+pub write_apart_answer : (bytes : List ℕ) (outcome : NetOutcome) → answers (movement.Write bytes) outcome ≡ true → IsApart (moved_answer outcome)
 write_apart_answer bytes (came.Answered outcome) is = tt
 write_apart_answer bytes (came.Built fault) is = tt
 write_apart_answer bytes (came.Read other) is = tt
@@ -371,11 +371,11 @@ did_leave tells call old mid last' last new answer' answer is taken same does =
     did_row tells call old mid last' last new answer' answer taken same (subst P (sym is) does)
 
 -- the data connection was closed, and the transfer is left
-pub left_so : (tells : Type 0) (outcome : DealOutcome) (counts : Transfers) (old view new : SessionValue) → view ≡ old → counts ≡ left_behind view.state.counts → new ≡ record view { state = record view.state { counts = counts }; net = new.net } → (tells → MovementIs movement.Close outcome view.net new.net) → Carries tells movement.Close old new Unit
+pub left_so : (tells : Type 0) (outcome : NetOutcome) (counts : Transfers) (old view new : SessionValue) → view ≡ old → counts ≡ left_behind view.state.counts → new ≡ record view { state = record view.state { counts = counts }; net = new.net } → (tells → MovementIs movement.Close outcome view.net new.net) → Carries tells movement.Close old new Unit
 left_so tells outcome counts old view new is left beside tie =
     let P : SessionValue → Type 0 = λ v. Carries tells movement.Close v new Unit in
     let N : Transfers → SessionValue = λ t. record view { state = record view.state { counts = t }; net = new.net } in
-    subst P is (inl (record { outcome = outcome; some = refl; is = refl; beside = beside ∙ ap N left; deal = tie; apart = tt }))
+    subst P is (inl (record { outcome = outcome; some = refl; is = refl; beside = beside ∙ ap N left; net_event = tie; apart = tt }))
 
 -- a row that was carried out is played
 row_done : (link : Link) (coding : Coding) (r : Row) (later : State → Tree) (old new : SessionValue) (answer : Answer) → DoesRow r link.tells old new answer → Ends link (doing coding r old.state later) answer old new ⊎ Aborts link false (doing coding r old.state later) answer old new
@@ -455,8 +455,8 @@ lacks_alike f None = refl
 lacks_alike f (Some conn) = refl
 
 -- nothing but what stands beside the control connection has changed, and the state
-pub beside_goes : (link : Link) (answered : List Deal) (v w : SessionValue) → w.channel ≡ v.channel → (link.tells → Deals link.builds answered v.net w.net) → Goes link [] answered v w
-beside_goes link answered v w same deals =
+pub beside_goes : (link : Link) (answered : List NetEvent) (v w : SessionValue) → w.channel ≡ v.channel → (link.tells → NetEvents link.builds answered v.net w.net) → Goes link [] answered v w
+beside_goes link answered v w same net_events =
     let P : Channel → Type 0 = λ c. Goes link [] answered v (record { channel = c; state = w.state; net = w.net }) in
     subst P (sym same) (record {
       over = record { nothing = λ e. refl; over = λ e. e };
@@ -467,20 +467,20 @@ beside_goes link answered v w same deals =
       said = λ h. omega arith;
       untaken = omega arith;
       at_hand = λ h is. is;
-      deals = deals;
+      net_events = net_events;
     })
 
 -- a call that was refused is refused by the definition, too
 pub record RefusedSo (builds : Builds) (tells : Type 0) (coding : Coding) (call : Call) (v w : SessionValue) (answer : Answer) : Type 0 where
-  pub answered : List Deal
+  pub answered : List NetEvent
   pub none : outcomes_of answered ≡ []
-  pub deals : tells → Deals builds answered v.net w.net
+  pub net_events : tells → NetEvents builds answered v.net w.net
   pub channel : w.channel ≡ v.channel
   pub refusal_is : IsRefusal answer
   pub goes_on : w.channel.failed ≡ false → (w ≡ v) × (of_transfer call ≡ true)
   pub unsuccessful : IsSuccess answer → ⊥
   pub fails : w.channel.failed ≡ true → (v.channel.failed ≡ true) ⊎ IsFault answer
-  pub plays : tells → (room : Room) (more : List ℕ) (ended : Bool) (outcomes : List DealOutcome) → play_call room coding call (standing v more ended outcomes) ≡ Done answer (standing w more ended outcomes)
+  pub plays : tells → (room : Room) (more : List ℕ) (ended : Bool) (outcomes : List NetOutcome) → play_call room coding call (play_state v more ended outcomes) ≡ Done answer (play_state w more ended outcomes)
 
 pub lacking_transfer : (call : Call) (v : SessionValue) → refusal_of call v ≡ Lacking → of_transfer call ≡ true
 lacking_transfer call v is = go (of_transfer call) refl is
@@ -496,9 +496,9 @@ lacking_transfer call v is = go (of_transfer call) refl is
 
 module _ (builds : Builds) (tells : Type 0) (coding : Coding) (call : Call) (v w : SessionValue) (answer : Answer) where
   -- the definition refuses it
-  refused_by : (r : Refusal) → refusal_of call v ≡ r → (room : Room) (more : List ℕ) (ended : Bool) (outcomes : List DealOutcome) → play_call room coding call (standing v more ended outcomes) ≡ play_unless r room coding call (standing v more ended outcomes)
+  refused_by : (r : Refusal) → refusal_of call v ≡ r → (room : Room) (more : List ℕ) (ended : Bool) (outcomes : List NetOutcome) → play_call room coding call (play_state v more ended outcomes) ≡ play_unless r room coding call (play_state v more ended outcomes)
   refused_by r is room more ended outcomes =
-      let s : Standing = standing v more ended outcomes in
+      let s : PlayState = play_state v more ended outcomes in
       ap (λ x. play_unless x room coding call s) (ap (λ n. refusal call v.channel.failed (lacks call n v.state.counts.owed)) (lacks_alike traffic_of v.net.data_conn) ∙ is)
 
   failing_failed : refusal_of call v ≡ Failing → v.channel.failed ≡ true
@@ -519,7 +519,7 @@ module _ (builds : Builds) (tells : Type 0) (coding : Coding) (call : Call) (v w
       record {
         answered = [];
         none = refl;
-        deals = λ h. ap (λ x. x.net) same;
+        net_events = λ h. ap (λ x. x.net) same;
         channel = ap (λ x. x.channel) same;
         refusal_is = inr is;
         goes_on = λ going. (same, lacking_transfer call v r);
@@ -527,8 +527,8 @@ module _ (builds : Builds) (tells : Type 0) (coding : Coding) (call : Call) (v w
         fails = λ failed. inl (sym (ap (λ x. x.channel.failed) same) ∙ failed);
         plays = λ h room more ended outcomes.
             refused_by Lacking r room more ended outcomes
-            ∙ ap (λ a. Done a (standing v more ended outcomes)) (sym is)
-            ∙ ap (λ x. Done answer (standing x more ended outcomes)) (sym same);
+            ∙ ap (λ a. Done a (play_state v more ended outcomes)) (sym is)
+            ∙ ap (λ x. Done answer (play_state x more ended outcomes)) (sym same);
       }
 
   failing_so : (ends : Bool) → refusal_of call v ≡ Failing → finishes call ≡ ends → answer ≡ Fault SessionFailed → LeavesIf ends tells v w → RefusedSo builds tells coding call v w answer
@@ -539,20 +539,20 @@ module _ (builds : Builds) (tells : Type 0) (coding : Coding) (call : Call) (v w
       record {
         answered = Parted ∷ [];
         none = refl;
-        deals = λ h. (w.net, leaves.1 h, refl);
+        net_events = λ h. (w.net, leaves.1 h, refl);
         channel = channel;
         refusal_is = inl is;
         goes_on = λ going. (let clash : true ≡ false = sym (failing_failed r) ∙ sym (ap (λ c. c.failed) channel) ∙ going in cc);
         unsuccessful = λ success. absurd (subst S is success);
         fails = λ failed. inr (subst F (sym is) tt);
         plays = λ h room more ended outcomes.
-            let s : Standing = standing v more ended outcomes in
+            let s : PlayState = play_state v more ended outcomes in
             let parts = leaves.1 h in
             refused_by Failing r room more ended outcomes
             ∙ ap (λ b. Done (Fault SessionFailed) (cond b (leaving s) s)) ends
             ∙ ap (λ a. Done a (leaving s)) (sym is)
-            ∙ ap (λ d. Done answer (record s { state = with_left s.state; dealings = d })) (sym (dealings_parted parts.0 v.net w.net parts.1))
-            ∙ ap (λ x. Done answer (standing x more ended outcomes)) (sym leaves.0);
+            ∙ ap (λ d. Done answer (record s { state = with_left s.state; net_record = d })) (sym (net_record_parted parts.0 v.net w.net parts.1))
+            ∙ ap (λ x. Done answer (play_state x more ended outcomes)) (sym leaves.0);
       }
   failing_so false r ends is same =
       let S : Answer → Type 0 = IsSuccess in
@@ -560,18 +560,18 @@ module _ (builds : Builds) (tells : Type 0) (coding : Coding) (call : Call) (v w
       record {
         answered = [];
         none = refl;
-        deals = λ h. ap (λ x. x.net) same;
+        net_events = λ h. ap (λ x. x.net) same;
         channel = ap (λ x. x.channel) same;
         refusal_is = inl is;
         goes_on = λ going. (let clash : true ≡ false = sym (failing_failed r) ∙ sym (ap (λ x. x.channel.failed) same) ∙ going in cc);
         unsuccessful = λ success. absurd (subst S is success);
         fails = λ failed. inr (subst F (sym is) tt);
         plays = λ h room more ended outcomes.
-            let s : Standing = standing v more ended outcomes in
+            let s : PlayState = play_state v more ended outcomes in
             refused_by Failing r room more ended outcomes
             ∙ ap (λ b. Done (Fault SessionFailed) (cond b (leaving s) s)) ends
             ∙ ap (λ a. Done a s) (sym is)
-            ∙ ap (λ x. Done answer (standing x more ended outcomes)) (sym same);
+            ∙ ap (λ x. Done answer (play_state x more ended outcomes)) (sym same);
       }
 
   pub refused_so : IsRefused tells call v w answer → RefusedSo builds tells coding call v w answer
@@ -583,9 +583,9 @@ module _ (builds : Builds) (tells : Type 0) (coding : Coding) (call : Call) (v w
       go Failing r refused = failing_so (finishes call) r refl refused.0 refused.1
 
 -- a call that is taken is played by the definition
-pub taken_plays : (coding : Coding) (room : Room) (call : Call) (v : SessionValue) (more : List ℕ) (ended : Bool) (outcomes : List DealOutcome) → refusal_of call v ≡ Taken → (let s : Standing = standing v more ended outcomes in play_call room coding call s ≡ finally (play room (dialogue coding call s.state) (record s { state = entered call s.state })))
+pub taken_plays : (coding : Coding) (room : Room) (call : Call) (v : SessionValue) (more : List ℕ) (ended : Bool) (outcomes : List NetOutcome) → refusal_of call v ≡ Taken → (let s : PlayState = play_state v more ended outcomes in play_call room coding call s ≡ finally (play room (dialogue coding call s.state) (record s { state = entered call s.state })))
 taken_plays coding room call v more ended outcomes taken =
-    let s : Standing = standing v more ended outcomes in
+    let s : PlayState = play_state v more ended outcomes in
     ap (λ x. play_unless x room coding call s) (ap (λ n. refusal call v.channel.failed (lacks call n v.state.counts.owed)) (lacks_alike traffic_of v.net.data_conn) ∙ taken)
 
 -- what is left of a reply is resumed by a call that is taken

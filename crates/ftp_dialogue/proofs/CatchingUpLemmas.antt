@@ -18,7 +18,7 @@ use Rattle.ftp_calls.specs.declared.exchange.Turn.TheVariants.{First}
 use Rattle.ftp_calls.specs.declared.call.Call.{Call}
 use Rattle.ftp_dialogue.specs.CatchingUp.{After, CatchesUp, Flushes, InStepIf, MakesThen, FlushesReadIf, PollsReadInStep, ReadsDue, ReadsIf, PlaysInStep, TellsFault, ReadsThen, fault_told, flushing, is_behind, is_late, is_plain_read, opens_beside, told_by, told_of_line}
 use Rattle.ftp_dialogue.specs.Coding.{Coding}
-use Rattle.ftp_dialogue.specs.Deals.{Net}
+use Rattle.ftp_dialogue.specs.NetEvents.{Net}
 use Rattle.ftp_dialogue.specs.Dialogue.{Expected, Say, Leaf, expecting}
 use Rattle.ftp_calls.specs.declared.call.Call.TheVariants.{Drain}
 use Rattle.ftp_dialogue.specs.Play.{Refusal, Taken, Lacking, Failing, refused_if_failed}

@@ -44,17 +44,17 @@ use Rattle.ftp_transport.specs.declared.request.RequestOutcome.TheVariants.{Done
 use Rattle.ftp_transport.specs.declared.room.Room.{Room}
 use Rattle.ftp_dialogue.proofs.Sorts.{finishing_opens, opens_drains_none, opens_no_local, unheld_call}
 use Rattle.ftp_dialogue.specs.Coding.{Coding}
-use Rattle.ftp_dialogue.specs.Deals.{answers, constructed, constructing, dealing, dealt, moved, settled}
-use Rattle.ftp_dialogue.specs.Dialogue.{Here, There, Tree, Say, Hear, Look, Ask, Build, Move, Leaf, accepting, admitting, agreeing, at_port, awaiting, closed_as, concluded, connecting_to, connecting_to_peer, dialogue, doing, entered, expected_of, fetch_concluded, fetch_parting, fetched, from_turn, gathering, last_turn, later, lets_in, most_bytes, most_reads, negotiating, negotiating_unless, on_address, on_built, on_connection, on_data, on_sent, opened_answer, opened_from, opening, performing, restart_turn, saying, sending, sending_all, size_to_send, strangers, to_address, to_port, told_of_close, too_long, unfetched, wire_data, with_left, with_transfer, parting, wants_memory, with_abandoned, with_fetched}
+use Rattle.ftp_dialogue.specs.NetEvents.{answers, constructed, constructing, during_request, after_request, moved, settled}
+use Rattle.ftp_dialogue.specs.Dialogue.{Here, There, Tree, Say, Hear, Look, Ask, Build, Move, Leaf, accepting, admitting, opening_data, at_port, awaiting, closed_as, concluded, connecting_to, connecting_to_peer, dialogue, doing, entered, expected_of, fetch_concluded, fetch_closing_data, fetched, from_turn, gathering, last_turn, later, lets_in, most_bytes, most_reads, negotiating, negotiating_unless, on_address, on_built, on_connection, on_data, on_sent, opened_answer, opened_from, opening, performing, restart_turn, saying, sending, sending_all, size_to_send, strangers, to_address, to_port, told_of_close, too_long, unfetched, wire_data, with_left, with_transfer, closing_data, wants_memory, with_abandoned, with_fetched}
 use Rattle.ftp_dialogue.specs.Laws.{AsksPeerAlone, LeadsTo, UsesPeerHost, offset_after, reached}
 use Rattle.ftp_dialogue.specs.Play.{Lacking, asked_then, built_then, finally, fits, heard_then, lacks, leaving, moved_then, play, play_call, play_unless, refusal, refused_if_failed, taken}
 use Rattle.ftp_dialogue.specs.Sound.{cannot_beside, cannot_open}
-use Rattle.ftp_dialogue.specs.declared.model.Dealings.{Dealings}
-use Rattle.ftp_dialogue.specs.declared.model.DealOutcome.{DealOutcome}
-use Rattle.ftp_dialogue.specs.declared.model.DealOutcome.TheVariants as came
+use Rattle.ftp_dialogue.specs.declared.model.NetRecord.{NetRecord}
+use Rattle.ftp_dialogue.specs.declared.model.NetOutcome.{NetOutcome}
+use Rattle.ftp_dialogue.specs.declared.model.NetOutcome.TheVariants as came
 use Rattle.ftp_dialogue.specs.declared.model.Played.{Played}
 use Rattle.ftp_dialogue.specs.declared.model.Played.TheVariants.{Done, Pending}
-use Rattle.ftp_dialogue.specs.declared.model.Standing.{Standing}
+use Rattle.ftp_dialogue.specs.declared.model.PlayState.{PlayState}
 use Rattle.ftp_dialogue.specs.declared.model.Wait.TheVariants as wait
 use Rattle.ftp_dialogue.specs.declared.state.Owed.{Owed}
 use Rattle.ftp_dialogue.specs.declared.state.Owed.TheVariants.{Nothing as NoneOwed, Live, Left}
@@ -72,7 +72,7 @@ Keeps peer Sort (Look Here next) = (address : SocketAddr) → Keeps peer Sort (n
 Keeps peer Sort (Look There next) = Keeps peer Sort (next peer)
 Keeps peer Sort (Ask request next) = Sort request × ((outcome : RequestOutcome) → Keeps peer Sort (next outcome))
 Keeps peer Sort (Build address next) = Sort (BuildAt address) × ((fault : Option FtpError) → Keeps peer Sort (next fault))
-Keeps peer Sort (Move moves next) = (outcome : DealOutcome) → Keeps peer Sort (next outcome)
+Keeps peer Sort (Move moves next) = (outcome : NetOutcome) → Keeps peer Sort (next outcome)
 Keeps peer Sort (Leaf answer state) = NoOffset state
 
 -- the requests of the modes are of this sort; a connection to another host is asked for in the passive mode alone
@@ -129,8 +129,8 @@ module _ (peer : SocketAddr) (Sort : Request → Type 0) (state : State) (admits
     opening_keeps mode.ExtendedPassive = first
 
   -- a whole data connection is read
-  parting_keeps : (form : Fetch) (answer : Answer) → Keeps peer Sort (fetch_parting form answer state)
-  parting_keeps form answer = λ came heard. concluded_keeps (closed_as (told_of_close state.uploads came) answer) heard
+  closing_data_keeps : (form : Fetch) (answer : Answer) → Keeps peer Sort (fetch_closing_data form answer state)
+  closing_data_keeps form answer = λ came heard. concluded_keeps (closed_as (told_of_close state.uploads came) answer) heard
     where
       concluded_keeps : (told : Answer) (heard : Result Response FtpError) → Keeps peer Sort (fetch_concluded form told state heard)
       concluded_keeps told (Ok reply) = none
@@ -139,28 +139,28 @@ module _ (peer : SocketAddr) (Sort : Request → Type 0) (state : State) (admits
         | false ↦ none
       ]
 
-  data_keeps : (coding : Coding) (form : Fetch) (all : List ℕ) (on : List ℕ → Tree) → ((more : List ℕ) → Keeps peer Sort (on more)) → (outcome : DealOutcome) → Keeps peer Sort (on_data coding form all on (λ answer. fetch_parting form answer state) outcome)
-  data_keeps coding form all on keeps (came.Read []) = parting_keeps form (fetched coding form all)
+  data_keeps : (coding : Coding) (form : Fetch) (all : List ℕ) (on : List ℕ → Tree) → ((more : List ℕ) → Keeps peer Sort (on more)) → (outcome : NetOutcome) → Keeps peer Sort (on_data coding form all on (λ answer. fetch_closing_data form answer state) outcome)
+  data_keeps coding form all on keeps (came.Read []) = closing_data_keeps form (fetched coding form all)
   data_keeps coding form all on keeps (came.Read (byte ∷ bytes)) = grown_keeps (all ++ byte ∷ bytes) (nat_le (length (all ++ byte ∷ bytes)) most_bytes)
     where
-      grown_keeps : (more : List ℕ) (b : Bool) → Keeps peer Sort (cond b (on more) (fetch_parting form (too_long form) state))
+      grown_keeps : (more : List ℕ) (b : Bool) → Keeps peer Sort (cond b (on more) (fetch_closing_data form (too_long form) state))
       grown_keeps more true = keeps more
-      grown_keeps more false = parting_keeps form (too_long form)
-  data_keeps coding form all on keeps (came.Failed kind) = parting_keeps form (unfetched form kind)
-  data_keeps coding form all on keeps came.NoMemory = parting_keeps form (Fault OutOfMemory)
-  data_keeps coding form all on keeps (came.Answered outcome) = parting_keeps form (too_long form)
-  data_keeps coding form all on keeps (came.Built fault) = parting_keeps form (too_long form)
-  data_keeps coding form all on keeps (came.Wrote count) = parting_keeps form (too_long form)
-  data_keeps coding form all on keeps came.Closed = parting_keeps form (too_long form)
+      grown_keeps more false = closing_data_keeps form (too_long form)
+  data_keeps coding form all on keeps (came.Failed kind) = closing_data_keeps form (unfetched form kind)
+  data_keeps coding form all on keeps came.NoMemory = closing_data_keeps form (Fault OutOfMemory)
+  data_keeps coding form all on keeps (came.Answered outcome) = closing_data_keeps form (too_long form)
+  data_keeps coding form all on keeps (came.Built fault) = closing_data_keeps form (too_long form)
+  data_keeps coding form all on keeps (came.Wrote count) = closing_data_keeps form (too_long form)
+  data_keeps coding form all on keeps came.Closed = closing_data_keeps form (too_long form)
 
   gathering_keeps : (coding : Coding) (form : Fetch) (left : ℕ) (all : List ℕ) → Keeps peer Sort (gathering coding form left all state)
   unfolding gathering
-  gathering_keeps coding form zero all = parting_keeps form (too_long form)
+  gathering_keeps coding form zero all = closing_data_keeps form (too_long form)
   gathering_keeps coding form (suc left) all = data_keeps coding form all (λ more. gathering coding form left more state) (λ more. gathering_keeps coding form left more)
 
   -- a whole upload
   module _ (rest : List ℕ) (on : List ℕ → Tree) (keeps : (more : List ℕ) → Keeps peer Sort (on more)) where
-    sent_keeps : (outcome : DealOutcome) → Keeps peer Sort (on_sent rest on state outcome)
+    sent_keeps : (outcome : NetOutcome) → Keeps peer Sort (on_sent rest on state outcome)
     sent_keeps (came.Wrote count) = keeps (drop count rest)
     sent_keeps (came.Failed kind) = none
     sent_keeps came.NoMemory = none
@@ -171,9 +171,9 @@ module _ (peer : SocketAddr) (Sort : Request → Type 0) (state : State) (admits
 
   sending_keeps : (left total : ℕ) (rest : List ℕ) → Keeps peer Sort (sending left total rest state)
   unfolding sending
-  sending_keeps zero total [] = parting_keeps WholeFile (answer.Count total)
+  sending_keeps zero total [] = closing_data_keeps WholeFile (answer.Count total)
   sending_keeps zero total (byte ∷ rest) = none
-  sending_keeps (suc left) total [] = parting_keeps WholeFile (answer.Count total)
+  sending_keeps (suc left) total [] = closing_data_keeps WholeFile (answer.Count total)
   sending_keeps (suc left) total (byte ∷ rest) = sent_keeps (byte ∷ rest) (λ more. sending left total more state) (λ more. sending_keeps left total more)
 
   sending_all_keeps : (size : Option ℕ) (bytes : List ℕ) → Keeps peer Sort (sending_all size bytes state)
@@ -253,18 +253,18 @@ module _ (peer : SocketAddr) (Sort : Request → Type 0) (state : State) (admits
     abbrev told_at : SocketAddr → SocketAddr → Turn
     told_at local bound = Active (at_port (socket_port bound) local) offset
 
-    agreeing_keeps : (m : Mode) → state.settings.mode ≡ m → Keeps peer Sort (agreeing m coding call offset state)
-    agreeing_keeps mode.Active is = λ local.
+    opening_data_keeps : (m : Mode) → state.settings.mode ≡ m → Keeps peer Sort (opening_data m coding call offset state)
+    opening_data_keeps mode.Active is = λ local.
         (admits.listens (at_port 0 local), address_keeps (λ bound. from_turn coding call (told_at local bound) state) (λ bound. continued_keeps (later coding call (told_at local bound)) restart_keeps))
-    agreeing_keeps mode.Passive is = passive_keeps is
-    agreeing_keeps mode.ExtendedPassive is = extended_keeps
+    opening_data_keeps mode.Passive is = passive_keeps is
+    opening_data_keeps mode.ExtendedPassive is = extended_keeps
 
     negotiating_keeps : Keeps peer Sort (negotiating coding call offset state)
     negotiating_keeps = go (cannot_open state.counts)
       where
         go : (fault : Option FtpError) → Keeps peer Sort (negotiating_unless fault coding call offset state)
         go (Some fault) = none
-        go None = agreeing_keeps state.settings.mode refl
+        go None = opening_data_keeps state.settings.mode refl
 
 -- What a tree comes to
 
@@ -272,12 +272,12 @@ module _ (peer : SocketAddr) (Sort : Request → Type 0) (state : State) (admits
 pub record Reaches (Sort : Request → Type 0) (before : List Request) (played : Played) : Type 0 where
   pub none : offset_after played ≡ 0
   pub more : List Request
-  pub asked : (reached played).dealings.asked ≡ before ++ more
+  pub asked : (reached played).net_record.asked ≡ before ++ more
   pub sorted : AllByRecursion Sort more
 
 module _ (Sort : Request → Type 0) where
   -- nothing was asked
-  stays : (before : List Request) (played : Played) → offset_after played ≡ 0 → (reached played).dealings.asked ≡ before → Reaches Sort before played
+  stays : (before : List Request) (played : Played) → offset_after played ≡ 0 → (reached played).net_record.asked ≡ before → Reaches Sort before played
   stays before played none same = record { none = none; more = []; asked = same ∙ sym (append-nil before); sorted = tt }
 
   -- one request was made first
@@ -290,42 +290,42 @@ module _ (Sort : Request → Type 0) where
   }
 
   -- what is done on the data connection is no request
-  moved_asks : (moves : Movement) (outcome : DealOutcome) (d : Dealings) → (moved moves outcome d).asked ≡ d.asked
+  moved_asks : (moves : Movement) (outcome : NetOutcome) (d : NetRecord) → (moved moves outcome d).asked ≡ d.asked
   moved_asks (movement.Read most) outcome d = refl
   moved_asks (movement.Write bytes) outcome d = refl
   moved_asks movement.Close outcome d = refl
 
   -- a request waits for its outcome
-  abbrev waiting : Request → Standing → Played
-  waiting request s = Pending wait.Outcome (record s { dealings = dealing request s.dealings })
+  abbrev waiting : Request → PlayState → Played
+  waiting request s = Pending wait.Outcome (record s { net_record = during_request request s.net_record })
 
-  play_reaches : (room : Room) (tree : Tree) (s : Standing) → NoOffset s.state → Keeps s.peer Sort tree → Reaches Sort s.dealings.asked (play room tree s)
+  play_reaches : (room : Room) (tree : Tree) (s : PlayState) → NoOffset s.state → Keeps s.peer Sort tree → Reaches Sort s.net_record.asked (play room tree s)
   unfolding play
   play_reaches room (Say (Ok line) next) s none keeps =
       let all : List ℕ = s.said ++ s.unsent ++ line in
-      let here : Standing = record s { said = all; unsent = [] } in
-      elim (fits room all) as (λ f. Reaches Sort s.dealings.asked (cond f (play room next here) (Pending wait.Room here))) [
+      let here : PlayState = record s { said = all; unsent = [] } in
+      elim (fits room all) as (λ f. Reaches Sort s.net_record.asked (cond f (play room next here) (Pending wait.Room here))) [
         | true ↦ play_reaches room next here none keeps
-        | false ↦ stays s.dealings.asked (Pending wait.Room here) none refl
+        | false ↦ stays s.net_record.asked (Pending wait.Room here) none refl
       ]
-  play_reaches room (Say (Err cause) next) s none keeps = stays s.dealings.asked (Done (Fault (ConnectionError cause)) s) none refl
+  play_reaches room (Say (Err cause) next) s none keeps = stays s.net_record.asked (Done (Fault (ConnectionError cause)) s) none refl
   play_reaches room (Hear expected next) s none keeps =
-      let k : Result Response FtpError → Standing → Played = λ heard t. play room (next heard) t in
-      elim (outcome s.state.settings.reply_rule expected.form s.bytes s.ended) as (λ o. Reaches Sort s.dealings.asked (heard_then o expected s k)) [
+      let k : Result Response FtpError → PlayState → Played = λ heard t. play room (next heard) t in
+      elim (outcome s.state.settings.reply_rule expected.form s.bytes s.ended) as (λ o. Reaches Sort s.net_record.asked (heard_then o expected s k)) [
         | Whole reply code ↦ (let heard = expected_reply expected.statuses (record { status = status_of code; body = reply }) in play_reaches room (next heard) (taken (left_by (Whole reply code) s.bytes) s) none (keeps heard))
         | Bad line ↦ play_reaches room (next (Err BadResponse)) (taken (left_by (Bad line) s.bytes) s) none (keeps (Err BadResponse))
         | TooLarge ↦ play_reaches room (next (Err (ConnectionError ReplyTooLarge))) (record (taken (left_by TooLarge s.bytes) s) { failed = true }) none (keeps (Err (ConnectionError ReplyTooLarge)))
         | Ended ↦ play_reaches room (next (Err (ConnectionError UnexpectedEof))) (record (taken (left_by Ended s.bytes) s) { failed = true }) none (keeps (Err (ConnectionError UnexpectedEof)))
-        | Waits ↦ stays s.dealings.asked (Pending (wait.Bytes expected.form) s) none refl
+        | Waits ↦ stays s.net_record.asked (Pending (wait.Bytes expected.form) s) none refl
       ]
   play_reaches room (Look Here next) s none keeps = play_reaches room (next s.local) s none (keeps s.local)
   play_reaches room (Look There next) s none keeps = play_reaches room (next s.peer) s none keeps
   play_reaches room (Ask request next) s none keeps =
-      let k : RequestOutcome → Standing → Played = λ answer t. play room (next answer) t in
-      let waits : Reaches Sort s.dealings.asked (waiting request s) = asks s.dealings.asked request (waiting request s) keeps.0 (stays (s.dealings.asked ++ request ∷ []) (waiting request s) none refl) in
-      elim s.outcomes as (λ o. Reaches Sort s.dealings.asked (asked_then o request s k)) [
+      let k : RequestOutcome → PlayState → Played = λ answer t. play room (next answer) t in
+      let waits : Reaches Sort s.net_record.asked (waiting request s) = asks s.net_record.asked request (waiting request s) keeps.0 (stays (s.net_record.asked ++ request ∷ []) (waiting request s) none refl) in
+      elim s.outcomes as (λ o. Reaches Sort s.net_record.asked (asked_then o request s k)) [
         | [] ↦ waits
-        | came.Answered outcome ∷ outcomes ↦ (let after : Standing = record s { dealings = dealt request outcome s.dealings; outcomes = outcomes } in asks s.dealings.asked request (play room (next outcome) after) keeps.0 (play_reaches room (next outcome) after none (keeps.1 outcome)))
+        | came.Answered outcome ∷ outcomes ↦ (let after : PlayState = record s { net_record = after_request request outcome s.net_record; outcomes = outcomes } in asks s.net_record.asked request (play room (next outcome) after) keeps.0 (play_reaches room (next outcome) after none (keeps.1 outcome)))
         | came.Built fault ∷ outcomes ↦ waits
         | came.Read bytes ∷ outcomes ↦ waits
         | came.Wrote count ∷ outcomes ↦ waits
@@ -334,13 +334,13 @@ module _ (Sort : Request → Type 0) where
         | came.NoMemory ∷ outcomes ↦ waits
       ]
   play_reaches room (Build address next) s none keeps =
-      let k : Option FtpError → Standing → Played = λ fault t. play room (next fault) t in
-      let later : Played = Pending wait.Outcome (record s { dealings = constructing address s.dealings }) in
-      let waits : Reaches Sort s.dealings.asked later = asks s.dealings.asked (BuildAt address) later keeps.0 (stays (s.dealings.asked ++ BuildAt address ∷ []) later none refl) in
-      elim s.outcomes as (λ o. Reaches Sort s.dealings.asked (built_then o address s k)) [
+      let k : Option FtpError → PlayState → Played = λ fault t. play room (next fault) t in
+      let later : Played = Pending wait.Outcome (record s { net_record = constructing address s.net_record }) in
+      let waits : Reaches Sort s.net_record.asked later = asks s.net_record.asked (BuildAt address) later keeps.0 (stays (s.net_record.asked ++ BuildAt address ∷ []) later none refl) in
+      elim s.outcomes as (λ o. Reaches Sort s.net_record.asked (built_then o address s k)) [
         | [] ↦ waits
         | came.Answered outcome ∷ outcomes ↦ waits
-        | came.Built fault ∷ outcomes ↦ (let after : Standing = record s { dealings = constructed address fault s.dealings; outcomes = outcomes } in asks s.dealings.asked (BuildAt address) (play room (next fault) after) keeps.0 (play_reaches room (next fault) after none (keeps.1 fault)))
+        | came.Built fault ∷ outcomes ↦ (let after : PlayState = record s { net_record = constructed address fault s.net_record; outcomes = outcomes } in asks s.net_record.asked (BuildAt address) (play room (next fault) after) keeps.0 (play_reaches room (next fault) after none (keeps.1 fault)))
         | came.Read bytes ∷ outcomes ↦ waits
         | came.Wrote count ∷ outcomes ↦ waits
         | came.Closed ∷ outcomes ↦ waits
@@ -348,26 +348,26 @@ module _ (Sort : Request → Type 0) where
         | came.NoMemory ∷ outcomes ↦ waits
       ]
   play_reaches room (Move moves next) s none keeps =
-      let k : DealOutcome → Standing → Played = λ outcome t. play room (next outcome) t in
-      let waits : Reaches Sort s.dealings.asked (Pending wait.Outcome s) = stays s.dealings.asked (Pending wait.Outcome s) none refl in
-      elim s.outcomes as (λ o. Reaches Sort s.dealings.asked (moved_then o moves s k)) [
+      let k : NetOutcome → PlayState → Played = λ outcome t. play room (next outcome) t in
+      let waits : Reaches Sort s.net_record.asked (Pending wait.Outcome s) = stays s.net_record.asked (Pending wait.Outcome s) none refl in
+      elim s.outcomes as (λ o. Reaches Sort s.net_record.asked (moved_then o moves s k)) [
         | [] ↦ waits
         | outcome ∷ outcomes ↦ (
-            let after : Standing = record s { dealings = moved moves outcome s.dealings; outcomes = outcomes } in
+            let after : PlayState = record s { net_record = moved moves outcome s.net_record; outcomes = outcomes } in
             let From : List Request → Type 0 = λ before. Reaches Sort before (play room (next outcome) after) in
-            elim (answers moves outcome) as (λ b. Reaches Sort s.dealings.asked (cond b (play room (next outcome) after) (Pending wait.Outcome s))) [
-              | true ↦ subst From (moved_asks moves outcome s.dealings) (play_reaches room (next outcome) after none (keeps outcome))
+            elim (answers moves outcome) as (λ b. Reaches Sort s.net_record.asked (cond b (play room (next outcome) after) (Pending wait.Outcome s))) [
+              | true ↦ subst From (moved_asks moves outcome s.net_record) (play_reaches room (next outcome) after none (keeps outcome))
               | false ↦ waits
             ]
             )
       ]
-  play_reaches room (Leaf answer state) s none keeps = stays s.dealings.asked (Done answer (record s { state = state })) keeps refl
+  play_reaches room (Leaf answer state) s none keeps = stays s.net_record.asked (Done answer (record s { state = state })) keeps refl
 
   -- the data connection that is let go was not asked for
   finally_reaches : (before : List Request) (played : Played) → Reaches Sort before played → Reaches Sort before (finally played)
   finally_reaches before (Done answer s) r = go s.state.counts.owed
     where
-      go : (owed : Owed) → Reaches Sort before (Done answer (record s { dealings = settled owed s.dealings }))
+      go : (owed : Owed) → Reaches Sort before (Done answer (record s { net_record = settled owed s.net_record }))
       go NoneOwed = record { none = r.none; more = r.more; asked = r.asked; sorted = r.sorted }
       go (Live number) = record { none = r.none; more = r.more; asked = r.asked; sorted = r.sorted }
       go (Left number) = record { none = r.none; more = r.more; asked = r.asked; sorted = r.sorted }
@@ -395,40 +395,40 @@ module _ (coding : Coding) (call : Call) (opens_is : negotiates call ≡ true) w
 
   data_dialogue : (state : State) → dialogue coding call state ≡ negotiating coding call state.settings.restart_offset (opened_from call state)
   data_dialogue state =
-      ap (λ b. cond b (negotiating coding call state.settings.restart_offset (opened_from call state)) (cond (finishes call) (parting coding call (with_left state)) (from_turn coding call First state))) opens_is
+      ap (λ b. cond b (negotiating coding call state.settings.restart_offset (opened_from call state)) (cond (finishes call) (closing_data coding call (with_left state)) (from_turn coding call First state))) opens_is
 
   data_entered : (state : State) → entered call state ≡ opened_from call state
   data_entered state = ap (λ b. cond b (opened_from call state) (cond (finishes call) (with_left state) state)) opens_is
 
   -- it is made where the session goes on
-  goes_on : (room : Room) (s : Standing) → s.failed ≡ false → play_call room coding call s ≡ finally (play room (negotiating coding call s.state.settings.restart_offset (opened_from call s.state)) (record s { state = opened_from call s.state }))
+  goes_on : (room : Room) (s : PlayState) → s.failed ≡ false → play_call room coding call s ≡ finally (play room (negotiating coding call s.state.settings.restart_offset (opened_from call s.state)) (record s { state = opened_from call s.state }))
   goes_on room s going =
-      ap (λ r. play_unless r room coding call s) (refused_as s.failed (lacks call (is_none s.dealings.data_conn) s.state.counts.owed) ∙ ap (refused_if_failed false) going)
+      ap (λ r. play_unless r room coding call s) (refused_as s.failed (lacks call (is_none s.net_record.data_conn) s.state.counts.owed) ∙ ap (refused_if_failed false) going)
       ∙ ap (λ tree. finally (play room tree (record s { state = entered call s.state }))) (data_dialogue s.state)
       ∙ ap (λ state. finally (play room (negotiating coding call s.state.settings.restart_offset (opened_from call s.state)) (record s { state = state }))) (data_entered s.state)
 
   -- beside a live transfer nothing is said, taken or asked
-  pub live_refuses : (room : Room) (s : Standing) (number : ℕ) → s.failed ≡ false → s.state.counts.owed ≡ Live number → play_call room coding call s ≡ Done (Fault DataConnectionAlreadyOpen) (record s { state = opened_from call s.state })
+  pub live_refuses : (room : Room) (s : PlayState) (number : ℕ) → s.failed ≡ false → s.state.counts.owed ≡ Live number → play_call room coding call s ≡ Done (Fault DataConnectionAlreadyOpen) (record s { state = opened_from call s.state })
   unfolding play
   live_refuses room s number going live =
       let start : State = opened_from call s.state in
-      let here : Standing = record s { state = start } in
+      let here : PlayState = record s { state = start } in
       let refusal_is : Answer = Fault DataConnectionAlreadyOpen in
       goes_on room s going
       ∙ ap (λ owed. finally (play room (negotiating_unless (cannot_beside owed s.state.counts.opened) coding call s.state.settings.restart_offset start) here)) live
-      ∙ ap (λ owed. Done refusal_is (record here { dealings = settled owed s.dealings })) live
+      ∙ ap (λ owed. Done refusal_is (record here { net_record = settled owed s.net_record })) live
 
-  going_reaches : (Sort : Request → Type 0) (room : Room) (s : Standing) → s.failed ≡ false → Admits s.peer Sort (opened_from call s.state) → Reaches Sort s.dealings.asked (play_call room coding call s)
+  going_reaches : (Sort : Request → Type 0) (room : Room) (s : PlayState) → s.failed ≡ false → Admits s.peer Sort (opened_from call s.state) → Reaches Sort s.net_record.asked (play_call room coding call s)
   going_reaches Sort room s going admits =
       let start : State = opened_from call s.state in
-      let P : Played → Type 0 = λ played. Reaches Sort s.dealings.asked played in
+      let P : Played → Type 0 = λ played. Reaches Sort s.net_record.asked played in
       let tree : Tree = negotiating coding call s.state.settings.restart_offset start in
-      let here : Standing = record s { state = start } in
+      let here : PlayState = record s { state = start } in
       let keeps : Keeps s.peer Sort tree = negotiating_keeps s.peer Sort start admits refl coding call opens_is s.state.settings.restart_offset in
-      subst P (sym (goes_on room s going)) (finally_reaches Sort s.dealings.asked (play room tree here) (play_reaches Sort room tree here refl keeps))
+      subst P (sym (goes_on room s going)) (finally_reaches Sort s.net_record.asked (play room tree here) (play_reaches Sort room tree here refl keeps))
 
   -- the offset is gone
-  pub takes_offset : (room : Room) (s : Standing) → s.failed ≡ false → offset_after (play_call room coding call s) ≡ 0
+  pub takes_offset : (room : Room) (s : PlayState) → s.failed ≡ false → offset_after (play_call room coding call s) ≡ 0
   takes_offset room s going =
       let all : Admits s.peer (λ request. Unit {0}) (opened_from call s.state) = record {
         listens = λ address. tt;
@@ -446,7 +446,7 @@ module _ (coding : Coding) (call : Call) (opens_is : negotiates call ≡ true) w
   same_ip port (V6 address) = refl
 
   -- where the host is the peer's, the transport is asked for no other
-  pub asks_peer : (room : Room) (s : Standing) → UsesPeerHost s.state.settings → AsksPeerAlone s (play_call room coding call s)
+  pub asks_peer : (room : Room) (s : PlayState) → UsesPeerHost s.state.settings → AsksPeerAlone s (play_call room coding call s)
   asks_peer room s passes = go s.failed refl
     where
       others : UsesPeerHost s.state.settings → s.state.settings.mode ≡ mode.Passive → s.state.settings.passive_nat_workaround ≡ false → (address : SocketAddr) → LeadsTo s.peer (Connect address None)
@@ -463,17 +463,17 @@ module _ (coding : Coding) (call : Call) (opens_is : negotiates call ≡ true) w
         builds_to_others = others passes;
       }
 
-      alone : Reaches (LeadsTo s.peer) s.dealings.asked (play_call room coding call s) → AsksPeerAlone s (play_call room coding call s)
+      alone : Reaches (LeadsTo s.peer) s.net_record.asked (play_call room coding call s) → AsksPeerAlone s (play_call room coding call s)
       alone r = record { more = r.more; asked = r.asked; to_peer = All-from_recursion (LeadsTo s.peer) r.more r.sorted }
 
       -- a session that has failed asks for nothing
       failing : s.failed ≡ true → play_call room coding call s ≡ Done (Fault SessionFailed) s
       failing is =
-          ap (λ r. play_unless r room coding call s) (refused_as s.failed (lacks call (is_none s.dealings.data_conn) s.state.counts.owed) ∙ ap (refused_if_failed false) is)
+          ap (λ r. play_unless r room coding call s) (refused_as s.failed (lacks call (is_none s.net_record.data_conn) s.state.counts.owed) ∙ ap (refused_if_failed false) is)
           ∙ ap (λ ends. Done (Fault SessionFailed) (cond ends (leaving s) s)) ends_none
 
       go : (f : Bool) → s.failed ≡ f → AsksPeerAlone s (play_call room coding call s)
       go true is =
           let P : Played → Type 0 = λ played. AsksPeerAlone s played in
-          subst P (sym (failing is)) (record { more = []; asked = sym (append-nil s.dealings.asked); to_peer = All-from_recursion (LeadsTo s.peer) [] tt })
+          subst P (sym (failing is)) (record { more = []; asked = sym (append-nil s.net_record.asked); to_peer = All-from_recursion (LeadsTo s.peer) [] tt })
       go false is = alone (going_reaches (LeadsTo s.peer) room s is admits)

@@ -12,7 +12,7 @@ use Rattle.ftp_calls.specs.declared.exchange.Turn.{Turn}
 use Rattle.ftp_calls.specs.declared.exchange.Turn.TheVariants.{First, Second, Passive, ExtendedPassive, Active, Restart, Closed, Aborted}
 use Rattle.ftp_calls.specs.Exchanges.{drained_row, drains_first, finishes, finishing_row, follows_reply, is_finishing, is_local, local_row, negotiates, given_by, row_of, Kind, Nothing, Replies, Texts, Times, Sizes, Lists, Connections, Movements, Listings}
 use Rattle.ftp_dialogue.specs.Coding.{Coding}
-use Rattle.ftp_dialogue.specs.Deals.{Deal}
+use Rattle.ftp_dialogue.specs.NetEvents.{NetEvent}
 use Rattle.ftp_dialogue.specs.Dialogue.{dialogue, entered, opened_from, with_left}
 use Rattle.ftp_dialogue.specs.Link.{Link}
 use Rattle.ftp_dialogue.specs.Play.{Lacking, Refusal, Taken, is_due, is_unit, refusal}
@@ -26,7 +26,7 @@ use Rattle.ftp_dialogue.specs.Steps.Polls.{entered_state, is_first}
 use Rattle.ftp_dialogue.specs.Steps.Stages.{AnswersKind, MayAnswer, TurnOf}
 use Rattle.ftp_dialogue.proofs.CarryingLemmas.{refused_so}
 use Rattle.ftp_dialogue.proofs.Wired.{wired}
-use Rattle.ftp_dialogue.proofs.Deals.{letting_beside}
+use Rattle.ftp_dialogue.proofs.NetEvents.{letting_beside}
 
 -- a call that is none of the control connection comes before that reply
 pub local_first : (call : Call) → is_local call ≡ true → drains_first call ≡ false
@@ -197,8 +197,8 @@ unit_is answers.NoTransfer is = let clash : false ≡ true = is in cc
 unit_is (answers.Fault fault) is = let clash : false ≡ true = is in cc
 
 -- what goes on from where a call begins goes on from before it
-pub goes_from : (link : Link) (came : List ℕ) (answered : List Deal) (call : Call) (old new : SessionValue) → Goes link came answered (begun_by call old) new → Goes link came answered old new
-goes_from link came answered call old new goes = record { over = goes.over; received = goes.received; given = goes.given; failures = goes.failures; sent = goes.sent; said = goes.said; untaken = goes.untaken; at_hand = goes.at_hand; deals = goes.deals }
+pub goes_from : (link : Link) (came : List ℕ) (answered : List NetEvent) (call : Call) (old new : SessionValue) → Goes link came answered (begun_by call old) new → Goes link came answered old new
+goes_from link came answered call old new goes = record { over = goes.over; received = goes.received; given = goes.given; failures = goes.failures; sent = goes.sent; said = goes.said; untaken = goes.untaken; at_hand = goes.at_hand; net_events = goes.net_events }
 
 -- what is made of a call is its dialogue
 pub made_plays : (link : Link) (coding : Coding) (call : Call) (old new : SessionValue) (answer : Answer) → Made link coding call old new answer → PlaysAlone link coding call old new answer

@@ -11,7 +11,7 @@ use Rattle.ftp_calls.specs.declared.exchange.Ending.{Ending}
 use Rattle.ftp_calls.specs.declared.exchange.Ending.TheVariants as ending
 use Rattle.ftp_calls.specs.declared.exchange.Turn.{Turn}
 use Rattle.ftp_calls.specs.Exchanges.{ending_of, is_draining, kind_of, row_of}
-use Rattle.ftp_dialogue.proofs.Agreeing.{row_answers}
+use Rattle.ftp_dialogue.proofs.OpeningData.{row_answers}
 use Rattle.ftp_dialogue.specs.Dialogue.{answer_to_fault, wants_memory}
 use Rattle.ftp_dialogue.specs.Promises.{IsFault}
 use Rattle.ftp_dialogue.specs.State.{SessionValue}

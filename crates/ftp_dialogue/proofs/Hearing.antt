@@ -10,7 +10,7 @@ use Rattle.ftp_base.specs.declared.types.fault.FtpError.{FtpError}
 use Rattle.ftp_base.specs.declared.types.fault.FtpError.TheVariants as fault
 use Rattle.ftp_base.specs.declared.types.fault.ConnectionError.TheVariants as connection
 use Rattle.ftp_transport.specs.declared.room.Room.{Room}
-use Rattle.ftp_dialogue.specs.declared.model.DealOutcome.{DealOutcome}
+use Rattle.ftp_dialogue.specs.declared.model.NetOutcome.{NetOutcome}
 use Rattle.ftp_control.specs.declared.control.rule.ReplyRule.{ReplyRule}
 use Rattle.ftp_control.specs.declared.control.rule.ReplyRule.TheVariants.{Strict, Lenient}
 use Rattle.ftp_control.specs.declared.control.broken.Broken.{Broken}
@@ -25,9 +25,9 @@ use Rattle.ftp_control.specs.Channel.{Channel, IsSound, ReadsReply, fails_by, ru
 use Rattle.ftp_control.proofs.Strict.{one_form}
 use Rattle.ftp_control.specs.Answer.{AnswersRead, answer_of, expected_reply, is_among}
 use Rattle.ftp_dialogue.specs.declared.state.State.{State}
-use Rattle.ftp_dialogue.specs.declared.model.Standing.{Standing}
+use Rattle.ftp_dialogue.specs.declared.model.PlayState.{PlayState}
 use Rattle.ftp_dialogue.specs.declared.model.Played.{Played}
-use Rattle.ftp_dialogue.specs.Deals.{Net}
+use Rattle.ftp_dialogue.specs.NetEvents.{Net}
 use Rattle.ftp_dialogue.specs.State.{SessionValue}
 use Rattle.ftp_calls.specs.declared.call.Call.{Call}
 use Rattle.ftp_calls.specs.Exchanges.{finishes, negotiates}
@@ -36,11 +36,11 @@ use Rattle.ftp_dialogue.specs.Play.{play, heard_then}
 use Rattle.ftp_dialogue.specs.Lenient.{SaysNothingYet}
 use Rattle.ftp_dialogue.specs.Resuming.{Resumes, modes_of}
 use Rattle.ftp_dialogue.proofs.Places.{here}
-use Rattle.ftp_dialogue.specs.Promises.{AbortsRead, begun_by, standing, Goes, Leads, Rests}
+use Rattle.ftp_dialogue.specs.Promises.{AbortsRead, begun_by, play_state, Goes, Leads, Rests}
 use Rattle.ftp_dialogue.specs.Steps.Moving.{Moves, Advances, WaitsFor, Hears, Takes}
 use Rattle.ftp_dialogue.specs.Link.{Link}
 
-pub play-Hear : (room : Room) (codes : Expected) (next : Result Response FtpError → Tree) (s : Standing) → play room (Hear codes next) s ≡ heard_then (outcome s.state.settings.reply_rule codes.form s.bytes s.ended) codes s (λ heard t. play room (next heard) t)
+pub play-Hear : (room : Room) (codes : Expected) (next : Result Response FtpError → Tree) (s : PlayState) → play room (Hear codes next) s ≡ heard_then (outcome s.state.settings.reply_rule codes.form s.bytes s.ended) codes s (λ heard t. play room (next heard) t)
 unfolding play
 play-Hear room codes next s = refl
 
@@ -136,7 +136,7 @@ module _ (link : Link) (state : State) (net : Net) (t : Told) (kept ahead unsent
     said = λ h. omega (arith, ap length (ap (λ s. s ++ unsent) (told h).3));
     untaken = fewer;
     at_hand = was;
-    deals = λ h. refl;
+    net_events = λ h. refl;
   }
 
   input_told : (u : Told) (came : List ℕ) → (link.tells → u ≡ after_input came ended t) → link.tells → (u.received ≡ t.received ++ came) × (u.given ≡ t.given) × NoneFailed t u × (u.sent ≡ t.sent)
@@ -155,7 +155,7 @@ module _ (link : Link) (state : State) (net : Net) (t : Told) (kept ahead unsent
     fewer_left none shrinks = omega (arith, shrinks, ap length (ap (λ k. k ++ ahead') none), length-append kept ahead)
 
     -- a settled outcome hands its answer on, and takes exactly its bytes, however the input goes on
-    settles : (failed : Bool) (heard : Outcome) (answer : Result Response FtpError) → (link.tells → u ≡ after_input came ended t) → kept' ≡ [] → length ahead' ≤ length ahead + length came → ((s : Standing) (k : Result Response FtpError → Standing → Played) → heard_then heard codes (record s { failed = false }) k ≡ k answer (record s { bytes = left_by heard s.bytes; failed = failed })) → (outcome by codes.form kept false ≡ Waits → (more : List ℕ) (e : Bool) → GoesOn ended more e → (outcome by codes.form (((kept ++ ahead) ++ came) ++ more) e ≡ heard) × (left_by heard (((kept ++ ahead) ++ came) ++ more) ≡ (kept' ++ ahead') ++ more)) → Moves link (Hear codes next) (next answer) old (new u failed)
+    settles : (failed : Bool) (heard : Outcome) (answer : Result Response FtpError) → (link.tells → u ≡ after_input came ended t) → kept' ≡ [] → length ahead' ≤ length ahead + length came → ((s : PlayState) (k : Result Response FtpError → PlayState → Played) → heard_then heard codes (record s { failed = false }) k ≡ k answer (record s { bytes = left_by heard s.bytes; failed = failed })) → (outcome by codes.form kept false ≡ Waits → (more : List ℕ) (e : Bool) → GoesOn ended more e → (outcome by codes.form (((kept ++ ahead) ++ came) ++ more) e ≡ heard) × (left_by heard (((kept ++ ahead) ++ came) ++ more) ≡ (kept' ++ ahead') ++ more)) → Moves link (Hear codes next) (next answer) old (new u failed)
     settles failed heard answer told none shrinks then_is stays = record {
       leads = record {
         within = inr (answer, here (next answer));
@@ -163,11 +163,11 @@ module _ (link : Link) (state : State) (net : Net) (t : Told) (kept ahead unsent
         answered = [];
         goes = goes u failed came was over (fewer_left none shrinks) (input_told u came told);
         plays = λ h resumes room more e outcomes fit on.
-            let s : Standing = standing old (came ++ more) e outcomes in
-            let k : Result Response FtpError → Standing → Played = λ a x. play room (next a) x in
+            let s : PlayState = play_state old (came ++ more) e outcomes in
+            let k : Result Response FtpError → PlayState → Played = λ a x. play room (next a) x in
             let is = stays (waits_by resumes) more e on in
             let at : ReplyRule → List ℕ → Played = λ r b. heard_then (outcome r codes.form b e) codes (record s { bytes = b }) k in
-            let there : Standing = record s { bytes = ((kept ++ ahead) ++ came) ++ more } in
+            let there : PlayState = record s { bytes = ((kept ++ ahead) ++ came) ++ more } in
             let said : u.sent ≡ t.sent = ap (λ x. x.sent) (told h) in
             play-Hear room codes next s
             ∙ ap (at state.settings.reply_rule) (bytes_after came more)
@@ -188,9 +188,9 @@ module _ (link : Link) (state : State) (net : Net) (t : Told) (kept ahead unsent
     }
 
     -- bytes came, and nothing was settled
-    stays_on : (link.tells → (u.received ≡ t.received ++ came) × (u.given ≡ t.given) × NoneFailed t u × (u.sent ≡ t.sent)) → kept' ++ ahead' ≡ (kept ++ ahead) ++ came → link.tells → (more : List ℕ) (e : Bool) (outcomes : List DealOutcome) → standing old (came ++ more) e outcomes ≡ standing (new u false) more e outcomes
+    stays_on : (link.tells → (u.received ≡ t.received ++ came) × (u.given ≡ t.given) × NoneFailed t u × (u.sent ≡ t.sent)) → kept' ++ ahead' ≡ (kept ++ ahead) ++ came → link.tells → (more : List ℕ) (e : Bool) (outcomes : List NetOutcome) → play_state old (came ++ more) e outcomes ≡ play_state (new u false) more e outcomes
     stays_on told all h more e outcomes =
-        let s : Standing = standing old (came ++ more) e outcomes in
+        let s : PlayState = play_state old (came ++ more) e outcomes in
         ap (λ b. record s { bytes = b }) (bytes_after came more ∙ ap (λ b. b ++ more) (sym all))
         ∙ ap (λ x. record s { bytes = (kept' ++ ahead') ++ more; said = x }) (sym (told h).3)
         ∙ ap (λ g. record s { bytes = (kept' ++ ahead') ++ more; said = u.sent; local = g.local; peer = g.peer }) (sym (told h).1)
@@ -254,7 +254,7 @@ module _ (link : Link) (state : State) (net : Net) (t : Told) (kept ahead unsent
           answered = [];
           goes = goes v false came at_hand over (none_left came all) (input_told v came same);
           plays = λ h resumes room more e outcomes fit on.
-              let s : Standing = standing old (came ++ more) e outcomes in
+              let s : PlayState = play_state old (came ++ more) e outcomes in
               ap (λ x. play room (Hear codes next) x)
               (ap (λ b. record s { bytes = b }) (bytes_after came more ∙ ap (λ b. b ++ more) (sym all))
               ∙ ap (λ x. record s { bytes = (kept' ++ ahead') ++ more; said = x }) (sym (ap (λ x. x.sent) (same h)))

@@ -1,10 +1,10 @@
 pub mod AbortingLemmas
-pub mod Agreeing
+pub mod OpeningData
 pub mod CarryingLemmas
 pub mod CatchingUpLemmas
 pub mod DataCommands
 pub mod DrainingLemmas
-pub mod Deals
+pub mod NetEvents
 pub mod Faults
 pub mod FetchingLemmas
 pub mod GatheringLemmas

@@ -7,9 +7,9 @@ use Rattle.ftp_base.specs.declared.types.fault.FtpError.TheVariants.{ConnectionE
 use Rattle.ftp_base.specs.declared.types.fault.ConnectionError.{ConnectionError as Cause}
 use Rattle.ftp_transport.specs.declared.room.Room.{Room}
 use Rattle.ftp_transport.specs.declared.room.Room.TheVariants.{Any, UpTo}
-use Rattle.ftp_dialogue.specs.declared.model.DealOutcome.{DealOutcome}
-use Rattle.ftp_dialogue.specs.Deals.{Deal, Net, outcomes_of}
-use Rattle.ftp_dialogue.proofs.Deals.{deals-append, drops, drops_none, outcomes-append, letting_beside, letting_deals, letting_settles}
+use Rattle.ftp_dialogue.specs.declared.model.NetOutcome.{NetOutcome}
+use Rattle.ftp_dialogue.specs.NetEvents.{NetEvent, Net, outcomes_of}
+use Rattle.ftp_dialogue.proofs.NetEvents.{net_events-append, drops, drops_none, outcomes-append, letting_beside, letting_net_events, letting_settles}
 use Rattle.futures.specs.declared.task.Poll.{Poll}
 use Rattle.futures.specs.declared.task.Poll.TheVariants as poll
 use Rattle.ftp_transport.specs.Memory.{IsGiven}
@@ -21,27 +21,27 @@ use Rattle.ftp_dialogue.specs.declared.state.State.{State}
 use Rattle.ftp_calls.specs.declared.call.Answer.{Answer}
 use Rattle.ftp_calls.specs.declared.call.Answer.TheVariants.{Fault}
 use Rattle.ftp_dialogue.specs.declared.stage.Step.TheVariants.{Next, Pending, Done}
-use Rattle.ftp_dialogue.specs.declared.model.Standing.{Standing}
+use Rattle.ftp_dialogue.specs.declared.model.PlayState.{PlayState}
 use Rattle.ftp_dialogue.specs.declared.model.Played.TheVariants as played
 use Rattle.ftp_dialogue.specs.State.{SessionValue, LetsGo}
 use Rattle.ftp_dialogue.specs.Dialogue.{Tree, Say, Hear, Look, Ask, Build, Move, Leaf}
 use Rattle.ftp_dialogue.specs.Play.{ended, finally, play, fits, said_then}
 use Rattle.ftp_dialogue.specs.Resuming.{Resumes, Silent, modes_of}
-use Rattle.ftp_dialogue.specs.Promises.{IsFault, IsOf, However, SaidOrTaken, standing, Rests, Goes, Leads, Fails, Touched, Untouched, LacksMemory, Aborts, KeepsNoReply, failed_from, lacking_at, state_at}
+use Rattle.ftp_dialogue.specs.Promises.{IsFault, IsOf, However, SaidOrTaken, play_state, Rests, Goes, Leads, Fails, Touched, Untouched, LacksMemory, Aborts, KeepsNoReply, failed_from, lacking_at, state_at}
 use Rattle.ftp_dialogue.specs.Within.{Within}
 use Rattle.ftp_dialogue.proofs.Places.{here, within_on}
 use Rattle.ftp_dialogue.specs.Steps.Moving.{NothingTouched, StillSays, HasGoneOut, Keeps, Shrinks, Calm, Moves, Advances, Ends, WaitsFor, Steps, TakesLine, after_line, step_of}
 use Rattle.ftp_dialogue.specs.Link.{Link}
 
-pub play-Say : (room : Room) (line : List ℕ) (next : Tree) (s : Standing) → play room (Say (Ok line) next) s ≡ said_then room line s (λ t. play room next t)
+pub play-Say : (room : Room) (line : List ℕ) (next : Tree) (s : PlayState) → play room (Say (Ok line) next) s ≡ said_then room line s (λ t. play room next t)
 unfolding play
 play-Say room line next s = refl
 
-pub play-Leaf : (room : Room) (answer : Answer) (state : State) (s : Standing) → play room (Leaf answer state) s ≡ played.Done answer (record s { state = state })
+pub play-Leaf : (room : Room) (answer : Answer) (state : State) (s : PlayState) → play room (Leaf answer state) s ≡ played.Done answer (record s { state = state })
 unfolding play
 play-Leaf room answer state s = refl
 
-pub play-Refused : (room : Room) (cause : Cause) (next : Tree) (s : Standing) → play room (Say (Err cause) next) s ≡ played.Done (Fault (ConnectionError cause)) s
+pub play-Refused : (room : Room) (cause : Cause) (next : Tree) (s : PlayState) → play room (Say (Err cause) next) s ≡ played.Done (Fault (ConnectionError cause)) s
 unfolding play
 play-Refused room cause next s = refl
 
@@ -65,7 +65,7 @@ nothing_goes link v = record {
   said = λ h. omega arith;
   untaken = omega arith;
   at_hand = λ h is. is;
-  deals = λ h. refl;
+  net_events = λ h. refl;
 }
 
 pub nothing_shrinks : (n : ℕ) → n ≤ n + 0
@@ -130,7 +130,7 @@ module _ (link : Link) (state : State) (net : Net) (a : Channel) (told : Told) (
     said = grows;
     untaken = omega arith;
     at_hand = λ h is. (let P : Told → Type 0 = IsGiven in subst P (sym (nothing h)) (record { ahead = is.ahead; front = is.front; over = is.over }));
-    deals = λ h. refl;
+    net_events = λ h. refl;
   }
 
   -- what was said stays said
@@ -290,10 +290,10 @@ leaf_ends link tree answer old mid new moves fails channel net =
         is_of = inr (new.state, moves.leads.within);
         came = moves.leads.came;
         answered = moves.leads.answered;
-        goes = record { over = moves.leads.goes.over; received = moves.leads.goes.received; given = moves.leads.goes.given; failures = moves.leads.goes.failures; sent = moves.leads.goes.sent; said = moves.leads.goes.said; untaken = moves.leads.goes.untaken; at_hand = moves.leads.goes.at_hand; deals = moves.leads.goes.deals };
+        goes = record { over = moves.leads.goes.over; received = moves.leads.goes.received; given = moves.leads.goes.given; failures = moves.leads.goes.failures; sent = moves.leads.goes.sent; said = moves.leads.goes.said; untaken = moves.leads.goes.untaken; at_hand = moves.leads.goes.at_hand; net_events = moves.leads.goes.net_events };
         keeps = kept_none (Silent old.state new.state tree) moves.leads.came old mid (moves.keeps old.state new.state refl);
         plays = λ h resumes room more ended outcomes fit on.
-            moves.leads.plays h resumes room more ended outcomes fit on ∙ play-Leaf room answer new.state (standing mid more ended outcomes);
+            moves.leads.plays h resumes room more ended outcomes fit on ∙ play-Leaf room answer new.state (play_state mid more ended outcomes);
       };
       fails = fails;
       keeps = moves.keeps old.state new.state refl;
@@ -357,7 +357,7 @@ lacks_memory_at link begun tree tree' old mid stays begins moves going = record 
 -- One after another
 
 -- bytes that came after others
-pub joined_goes : (link : Link) (one two : List ℕ) (asked more : List Deal) (a b c : SessionValue) → Goes link one asked a b → Goes link two more b c → Goes link (one ++ two) (asked ++ more) a c
+pub joined_goes : (link : Link) (one two : List ℕ) (asked more : List NetEvent) (a b c : SessionValue) → Goes link one asked a b → Goes link two more b c → Goes link (one ++ two) (asked ++ more) a c
 joined_goes link one two asked more a b c first second = record {
   over = record {
     nothing = λ e. rw (first.over.nothing e) (second.over.nothing (first.over.over e));
@@ -370,7 +370,7 @@ joined_goes link one two asked more a b c first second = record {
   said = λ h. omega (arith, first.said h, second.said h);
   untaken = omega (arith, first.untaken, second.untaken, length-append one two);
   at_hand = λ h is. second.at_hand h (first.at_hand h is);
-  deals = λ h. deals-append link.builds asked more a.net b.net c.net (first.deals h) (second.deals h);
+  net_events = λ h. net_events-append link.builds asked more a.net b.net c.net (first.net_events h) (second.net_events h);
 }
 
 -- what came first, and what comes after it
@@ -415,16 +415,16 @@ rests_untouched link old new rests = λ h.
     (rests.came, rests.goes.received h, sym (ap (λ s. s.said ++ s.unsent) same), whole)
 
 -- what was said or taken stays so
-pub said_or_taken_on : (link : Link) (a b c : SessionValue) (came : List ℕ) (answered : List Deal) → Goes link came answered b c → link.tells → SaidOrTaken a b → SaidOrTaken a c
+pub said_or_taken_on : (link : Link) (a b c : SessionValue) (came : List ℕ) (answered : List NetEvent) → Goes link came answered b c → link.tells → SaidOrTaken a b → SaidOrTaken a c
 said_or_taken_on link a b c came answered goes h (inl more) = inl (omega (arith, more, goes.said h))
 said_or_taken_on link a b c came answered goes h (inr fewer) = inr (omega (arith, fewer, goes.untaken, ap length (goes.received h), length-append b.channel.told.received came))
 
-touched_on : (link : Link) (tree : Tree) (a b c : SessionValue) (came : List ℕ) (answered : List Deal) → Goes link came answered b c → Touched link tree a b → Touched link tree a c
+touched_on : (link : Link) (tree : Tree) (a b c : SessionValue) (came : List ℕ) (answered : List NetEvent) → Goes link came answered b c → Touched link tree a b → Touched link tree a c
 touched_on link tree a b c came answered goes here = λ h resumes. said_or_taken_on link a b c came answered goes h (here h resumes)
 
 module _ (link : Link) (tree tree' : Tree) (a b c : SessionValue) (first : Moves link tree tree' a b) where
   -- the first part of two
-  pub first_plays : (two : List ℕ) (asked : List Deal) → Goes link two asked b c → link.tells → However a first.leads.came first.leads.answered b (λ room s t. play room tree s ≡ play room tree' t) → (room : Room) (more : List ℕ) (ended : Bool) (outcomes : List DealOutcome) → HasRoomFor room (length c.channel.told.sent) → GoesOn c.channel.ended more ended → play room tree (standing a ((first.leads.came ++ two) ++ more) ended (outcomes_of (first.leads.answered ++ asked) ++ outcomes)) ≡ play room tree' (standing b (two ++ more) ended (outcomes_of asked ++ outcomes))
+  pub first_plays : (two : List ℕ) (asked : List NetEvent) → Goes link two asked b c → link.tells → However a first.leads.came first.leads.answered b (λ room s t. play room tree s ≡ play room tree' t) → (room : Room) (more : List ℕ) (ended : Bool) (outcomes : List NetOutcome) → HasRoomFor room (length c.channel.told.sent) → GoesOn c.channel.ended more ended → play room tree (play_state a ((first.leads.came ++ two) ++ more) ended (outcomes_of (first.leads.answered ++ asked) ++ outcomes)) ≡ play room tree' (play_state b (two ++ more) ended (outcomes_of asked ++ outcomes))
   first_plays two asked goes h plays room more ended outcomes fit on =
       rw (append_assoc first.leads.came two more, outcomes-append first.leads.answered asked, append_assoc (outcomes_of first.leads.answered) (outcomes_of asked) outcomes)
       (plays room (two ++ more) ended (outcomes_of asked ++ outcomes) (fitted room _ _ (goes.sent h) fit) (goes_after b.channel.ended two more c.channel.ended ended goes.over on))
@@ -560,7 +560,7 @@ advances_on link tree tree' last a b c first second = record {
 -- a tree comes to its answer, and what isn't needed is let go
 pub record Finishes (link : Link) (tree : Tree) (answer : Answer) (old new : SessionValue) : Type 0 where
   pub came : List ℕ
-  pub answered : List Deal
+  pub answered : List NetEvent
   pub goes : Goes link came answered old new
   pub plays : link.tells → Resumes (modes_of old) old.channel.kept tree → However old came answered new (λ room s t. finally (play room tree s) ≡ played.Done answer t)
   pub fails : new.channel.failed ≡ true → (old.channel.failed ≡ true) ⊎ IsFault answer
@@ -570,11 +570,11 @@ pub record Finishes (link : Link) (tree : Tree) (answer : Answer) (old new : Ses
   pub gone : (line : List ℕ) (next : Tree) → tree ≡ Say (Ok line) next → link.tells → HasGoneOut line old new
 
 -- what is let go is let go where a run stands
-pub ended_standing : (tells : Type 0) (v w : SessionValue) → tells → LetsGo tells v w → (more : List ℕ) (over : Bool) (outcomes : List DealOutcome) → ended (standing v more over outcomes) ≡ standing w more over outcomes
-ended_standing tells v w h is more over outcomes =
-    let s : Standing = standing v more over outcomes in
-    ap (λ d. record s { dealings = d }) (sym (letting_settles tells v w h is))
-    ∙ sym (ap (λ x. standing x more over outcomes) (letting_beside tells v w is))
+pub ended_play_state : (tells : Type 0) (v w : SessionValue) → tells → LetsGo tells v w → (more : List ℕ) (over : Bool) (outcomes : List NetOutcome) → ended (play_state v more over outcomes) ≡ play_state w more over outcomes
+ended_play_state tells v w h is more over outcomes =
+    let s : PlayState = play_state v more over outcomes in
+    ap (λ d. record s { net_record = d }) (sym (letting_settles tells v w h is))
+    ∙ sym (ap (λ x. play_state x more over outcomes) (letting_beside tells v w is))
 
 pub letting_goes : (link : Link) (v w : SessionValue) → LetsGo link.tells v w → Goes link [] (drops v.state.counts.owed) v w
 letting_goes link v w is =
@@ -588,10 +588,10 @@ letting_goes link v w is =
       said = λ h. omega arith;
       untaken = omega arith;
       at_hand = λ h is. is;
-      deals = λ h. letting_deals link.tells v w link.builds h is;
+      net_events = λ h. letting_net_events link.tells v w link.builds h is;
     })
 
-pub goes_letting : (link : Link) (came : List ℕ) (answered : List Deal) (old last new : SessionValue) → Goes link came answered old last → LetsGo link.tells last new → Goes link came (answered ++ drops last.state.counts.owed) old new
+pub goes_letting : (link : Link) (came : List ℕ) (answered : List NetEvent) (old last new : SessionValue) → Goes link came answered old last → LetsGo link.tells last new → Goes link came (answered ++ drops last.state.counts.owed) old new
 goes_letting link came answered old last new goes is =
     let P : List ℕ → Type 0 = λ c. Goes link c (answered ++ drops last.state.counts.owed) old new in
     subst P (append-nil came) (joined_goes link came [] answered (drops last.state.counts.owed) old last new goes (letting_goes link last new is))
@@ -604,7 +604,7 @@ finishes link tree answer old last new lets ends =
     let there : SessionValue = record last { net = new.net } in
     let is : LetsGo link.tells last there = subst L beside lets in
     let done = ends.completes in
-    let dropped : List Deal = drops last.state.counts.owed in
+    let dropped : List NetEvent = drops last.state.counts.owed in
     subst P (sym beside) (record {
       came = done.came;
       answered = done.answered ++ dropped;
@@ -612,9 +612,9 @@ finishes link tree answer old last new lets ends =
       plays = λ h resumes room more over outcomes fit on.
           let same : outcomes_of (done.answered ++ dropped) ++ outcomes ≡ outcomes_of done.answered ++ outcomes =
           ap (λ o. o ++ outcomes) (outcomes-append done.answered dropped ∙ ap (λ o. outcomes_of done.answered ++ o) (drops_none last.state.counts.owed) ∙ append-nil (outcomes_of done.answered)) in
-          ap (λ o. finally (play room tree (standing old (done.came ++ more) over o))) same
+          ap (λ o. finally (play room tree (play_state old (done.came ++ more) over o))) same
           ∙ ap finally (done.plays h resumes room more over outcomes fit on)
-          ∙ ap (played.Done answer) (ended_standing link.tells last there h is more over outcomes);
+          ∙ ap (played.Done answer) (ended_play_state link.tells last there h is more over outcomes);
       fails = ends.fails;
       keeps = ends.keeps;
       calm = ends.calm;

@@ -12,9 +12,9 @@ use Rattle.ftp_transport.specs.Memory.{IsGiven}
 use Rattle.ftp_transport.specs.Told.{Told, AddressTells, HasFailed}
 use Rattle.ftp_transport.specs.declared.request.Request.{Request}
 use Rattle.ftp_transport.specs.declared.request.RequestOutcome.{RequestOutcome}
-use Rattle.ftp_dialogue.specs.declared.model.DealOutcome.{DealOutcome}
-use Rattle.ftp_dialogue.specs.declared.model.DealOutcome.TheVariants.{Answered, Built}
-use Rattle.ftp_dialogue.specs.declared.model.DealOutcome.TheVariants as came
+use Rattle.ftp_dialogue.specs.declared.model.NetOutcome.{NetOutcome}
+use Rattle.ftp_dialogue.specs.declared.model.NetOutcome.TheVariants.{Answered, Built}
+use Rattle.ftp_dialogue.specs.declared.model.NetOutcome.TheVariants as came
 use Rattle.ftp_transport.specs.declared.room.Room.{Room}
 use Rattle.ftp_calls.proofs.Openings.{read_opens_none}
 use Rattle.ftp_dialogue.proofs.Sorts.{opens_no_local}
@@ -22,15 +22,15 @@ use Rattle.ftp_calls.specs.declared.call.Answer.{Answer}
 use Rattle.ftp_calls.specs.declared.call.Answer.TheVariants.{Unit, Fault}
 use Rattle.ftp_calls.specs.declared.call.Call.{Call}
 use Rattle.ftp_calls.specs.Exchanges.{negotiates, next_turn, restarted, restarts, row_of}
-use Rattle.ftp_dialogue.specs.declared.model.Standing.{Standing}
-use Rattle.ftp_dialogue.specs.declared.stage.Agreeing.{Agreeing as Way}
+use Rattle.ftp_dialogue.specs.declared.model.PlayState.{PlayState}
+use Rattle.ftp_dialogue.specs.declared.stage.OpeningData.{OpeningData as Way}
 use Rattle.ftp_base.specs.declared.types.reply.Response.{Response}
 use Rattle.ftp_dialogue.specs.declared.nodes.Accepted.TheVariants as accepts
 use Rattle.ftp_dialogue.specs.declared.stage.Awaits.{Awaits}
 use Rattle.ftp_dialogue.specs.declared.stage.Stage.{Stage}
-use Rattle.ftp_dialogue.specs.declared.stage.Stage.TheVariants.{At, Agreeing, Fetching}
+use Rattle.ftp_dialogue.specs.declared.stage.Stage.TheVariants.{At, OpeningData, Transferring}
 use Rattle.ftp_calls.specs.declared.exchange.Task.{Task}
-use Rattle.ftp_dialogue.specs.declared.stage.Fetching.TheVariants.{Starting}
+use Rattle.ftp_dialogue.specs.declared.stage.Transferring.TheVariants.{Starting}
 use Rattle.ftp_dialogue.specs.declared.stage.Opened.{Opened as Opening}
 use Rattle.ftp_dialogue.specs.declared.stage.Opened.TheVariants.{Gives as GivesAnswer, Performs as PerformsAll}
 use Rattle.ftp_dialogue.specs.declared.stage.Step.{Step}
@@ -40,40 +40,40 @@ use Rattle.ftp_base.specs.declared.types.mode.Mode.{Mode}
 use Rattle.ftp_base.specs.declared.types.mode.Mode.TheVariants as mode
 use Rattle.ftp_calls.specs.declared.exchange.Turn.TheVariants.{First, Second, Passive, ExtendedPassive, Active, Restart, Closed, Aborted}
 use Rattle.ftp_dialogue.specs.Sound.{cannot_open}
-use Rattle.ftp_dialogue.specs.declared.stage.Agreeing.TheVariants.{Negotiating, Asking}
+use Rattle.ftp_dialogue.specs.declared.stage.OpeningData.TheVariants.{Negotiating, Asking}
 use Rattle.ftp_dialogue.specs.declared.stage.Asking.TheVariants.{Accepting, Connection}
 use Rattle.ftp_dialogue.specs.declared.state.State.{State}
 use Rattle.ftp_calls.specs.declared.exchange.Turn.{Turn}
 use Rattle.ftp_transport.specs.declared.request.Request.TheVariants.{Accept, Connect}
 use Rattle.ftp_transport.specs.declared.request.RequestOutcome.TheVariants.{Done as Made, Address, Refused}
-use Rattle.ftp_dialogue.specs.Dialogue.{End, Here, There, Tree, Say, Look, Ask, Build, Move, Leaf, accepting, admitting, agreeing, connecting_to, doing, from_turn, last_turn, later, lets_in, most_reads, negotiating, negotiating_unless, on_address, on_built, on_connection, restart_turn, strangers, with_transfer}
+use Rattle.ftp_dialogue.specs.Dialogue.{End, Here, There, Tree, Say, Look, Ask, Build, Move, Leaf, accepting, admitting, opening_data, connecting_to, doing, from_turn, last_turn, later, lets_in, most_reads, negotiating, negotiating_unless, on_address, on_built, on_connection, restart_turn, strangers, with_transfer}
 use Rattle.ftp_dialogue.specs.Link.{Link}
 use Rattle.ftp_calls.specs.declared.exchange.Movement.{Movement}
-use Rattle.ftp_dialogue.specs.Deals.{Deal, Deals, ConstructedIs, Constructed, Dropped, Moved, MovementIs, Net, RequestIs, Requested, answers, constructed, dealings_of, dealt, moved}
+use Rattle.ftp_dialogue.specs.NetEvents.{NetEvent, NetEvents, ConstructedIs, Constructed, Dropped, Moved, MovementIs, Net, RequestIs, Requested, answers, constructed, net_record_of, after_request, moved}
 use Rattle.ftp_dialogue.specs.declared.model.Played.{Played}
 use Rattle.ftp_dialogue.specs.declared.model.Traffic.{Traffic}
-use Rattle.ftp_dialogue.proofs.Deals.{dealings_constructed, dealings_dealt, dealings_moved}
+use Rattle.ftp_dialogue.proofs.NetEvents.{net_record_constructed, net_record_after_request, net_record_moved}
 use Rattle.ftp_dialogue.specs.Play.{asked_then, play, address_at}
 use Rattle.ftp_dialogue.proofs.Places.{here}
-use Rattle.ftp_dialogue.specs.Promises.{standing, Goes, Aborts, Untouched, failed_from, state_at}
+use Rattle.ftp_dialogue.specs.Promises.{play_state, Goes, Aborts, Untouched, failed_from, state_at}
 use Rattle.ftp_dialogue.specs.State.{SessionValue}
 use Rattle.ftp_dialogue.specs.Steps.Moving.{AsksFirst, LetsIn, dropped, Accepts, Concludes, ConnectsTo, Ends, LooksUp, Meets, MeetsIf, Moves, NothingTouched, Speaks, Still, TurnsAway, Walks}
 use Rattle.ftp_dialogue.specs.Steps.Stages.{GoesOnTo, MayPerform, OpeningOf, many, opened_by, StageOf, StepAnswers, TurnOf, is_later, begun_at, first_by, has_asked, nodes_from, nodes_left, nodes_of, remaining, way_of}
 use Rattle.ftp_dialogue.proofs.Moving.{advances_on, leads_on, moves_on, leaf_ends, lacks_memory_at, nothing_leads, nothing_shrinks, stays_put}
 
-pub play-Ask : (room : Room) (request : Request) (next : RequestOutcome → Tree) (outcome : RequestOutcome) (outcomes : List DealOutcome) (s : Standing) → play room (Ask request next) (record s { outcomes = Answered outcome ∷ outcomes }) ≡ play room (next outcome) (record s { dealings = dealt request outcome s.dealings; outcomes = outcomes })
+pub play-Ask : (room : Room) (request : Request) (next : RequestOutcome → Tree) (outcome : RequestOutcome) (outcomes : List NetOutcome) (s : PlayState) → play room (Ask request next) (record s { outcomes = Answered outcome ∷ outcomes }) ≡ play room (next outcome) (record s { net_record = after_request request outcome s.net_record; outcomes = outcomes })
 unfolding play
 play-Ask room request next outcome outcomes s = refl
 
-pub play-Build : (room : Room) (address : SocketAddr) (next : Option FtpError → Tree) (fault : Option FtpError) (outcomes : List DealOutcome) (s : Standing) → play room (Build address next) (record s { outcomes = Built fault ∷ outcomes }) ≡ play room (next fault) (record s { dealings = constructed address fault s.dealings; outcomes = outcomes })
+pub play-Build : (room : Room) (address : SocketAddr) (next : Option FtpError → Tree) (fault : Option FtpError) (outcomes : List NetOutcome) (s : PlayState) → play room (Build address next) (record s { outcomes = Built fault ∷ outcomes }) ≡ play room (next fault) (record s { net_record = constructed address fault s.net_record; outcomes = outcomes })
 unfolding play
 play-Build room address next fault outcomes s = refl
 
-pub play-Move : (room : Room) (moves : Movement) (next : DealOutcome → Tree) (outcome : DealOutcome) (outcomes : List DealOutcome) (s : Standing) → answers moves outcome ≡ true → play room (Move moves next) (record s { outcomes = outcome ∷ outcomes }) ≡ play room (next outcome) (record s { dealings = moved moves outcome s.dealings; outcomes = outcomes })
+pub play-Move : (room : Room) (moves : Movement) (next : NetOutcome → Tree) (outcome : NetOutcome) (outcomes : List NetOutcome) (s : PlayState) → answers moves outcome ≡ true → play room (Move moves next) (record s { outcomes = outcome ∷ outcomes }) ≡ play room (next outcome) (record s { net_record = moved moves outcome s.net_record; outcomes = outcomes })
 unfolding play
 play-Move room moves next outcome outcomes s is = rw is refl
 
-pub play-Look : (room : Room) (end : End) (next : SocketAddr → Tree) (s : Standing) → play room (Look end next) s ≡ play room (next (address_at end s)) s
+pub play-Look : (room : Room) (end : End) (next : SocketAddr → Tree) (s : PlayState) → play room (Look end next) s ≡ play room (next (address_at end s)) s
 unfolding play
 play-Look room end next s = refl
 
@@ -95,8 +95,8 @@ module _ (link : Link) (old : SessionValue) (net' : Net) where
   abbrev after : SessionValue
   after = record old { net = net' }
 
-  beside_goes : (answered : List Deal) → (link.tells → Deals link.builds answered old.net net') → Goes link [] answered old after
-  beside_goes answered deals = record {
+  beside_goes : (answered : List NetEvent) → (link.tells → NetEvents link.builds answered old.net net') → Goes link [] answered old after
+  beside_goes answered net_events = record {
     over = record { nothing = λ e. refl; over = λ e. e };
     received = λ h. sym (append-nil old.channel.told.received);
     given = λ h. refl;
@@ -105,7 +105,7 @@ module _ (link : Link) (old : SessionValue) (net' : Net) where
     said = λ h. omega arith;
     untaken = omega arith;
     at_hand = λ h is. is;
-    deals = deals;
+    net_events = net_events;
   }
 
   nothing_said : Untouched link [] old after
@@ -122,9 +122,9 @@ module _ (link : Link) (old : SessionValue) (net' : Net) where
           answered = Requested request outcome ∷ [];
           goes = beside_goes (Requested request outcome ∷ []) (λ h. (net', tie h, refl));
           plays = λ h resumes room more ended outcomes fit on.
-              let s : Standing = standing old more ended outcomes in
+              let s : PlayState = play_state old more ended outcomes in
               play-Ask room request next outcome outcomes s
-              ∙ ap (λ d. play room (next outcome) (record s { dealings = d })) (sym (dealings_dealt request outcome old.net net' (tie h)));
+              ∙ ap (λ d. play room (next outcome) (record s { net_record = d })) (sym (net_record_after_request request outcome old.net net' (tie h)));
         };
         state = refl;
         resumes = λ r. r outcome;
@@ -151,9 +151,9 @@ module _ (link : Link) (old : SessionValue) (net' : Net) where
           answered = Constructed address fault ∷ [];
           goes = beside_goes (Constructed address fault ∷ []) (λ h. (net', tie h, refl));
           plays = λ h resumes room more ended outcomes fit on.
-              let s : Standing = standing old more ended outcomes in
+              let s : PlayState = play_state old more ended outcomes in
               play-Build room address next fault outcomes s
-              ∙ ap (λ d. play room (next fault) (record s { dealings = d })) (sym (dealings_constructed link.builds address fault old.net net' (tie h)));
+              ∙ ap (λ d. play room (next fault) (record s { net_record = d })) (sym (net_record_constructed link.builds address fault old.net net' (tie h)));
         };
         state = refl;
         resumes = λ r. r fault;
@@ -170,7 +170,7 @@ module _ (link : Link) (old : SessionValue) (net' : Net) where
   }
 
   -- something was done on the data connection
-  pub moved_still : (moves : Movement) (outcome : DealOutcome) → (link.tells → MovementIs moves outcome old.net net') → (next : DealOutcome → Tree) → Still link (Move moves next) (next outcome) old after
+  pub moved_still : (moves : Movement) (outcome : NetOutcome) → (link.tells → MovementIs moves outcome old.net net') → (next : NetOutcome → Tree) → Still link (Move moves next) (next outcome) old after
   moved_still moves outcome tie next = record {
     advances = record {
       moves = record {
@@ -180,9 +180,9 @@ module _ (link : Link) (old : SessionValue) (net' : Net) where
           answered = Moved moves outcome ∷ [];
           goes = beside_goes (Moved moves outcome ∷ []) (λ h. (net', tie h, refl));
           plays = λ h resumes room more ended outcomes fit on.
-              let s : Standing = standing old more ended outcomes in
+              let s : PlayState = play_state old more ended outcomes in
               play-Move room moves next outcome outcomes s (tie h).0
-              ∙ ap (λ d. play room (next outcome) (record s { dealings = d })) (sym (dealings_moved moves outcome old.net net' (tie h)));
+              ∙ ap (λ d. play room (next outcome) (record s { net_record = d })) (sym (net_record_moved moves outcome old.net net' (tie h)));
         };
         state = refl;
         resumes = λ r. r outcome;
@@ -224,10 +224,10 @@ module _ (link : Link) (old : SessionValue) (net' : Net) where
     untouched = nothing_said;
   }
     where
-      same : link.tells → (room : Room) (more : List ℕ) (ended : Bool) (outcomes : List DealOutcome) → Rattle.ftp_transport.specs.Told.HasRoomFor room (length after.channel.told.sent) → Rattle.ftp_control.specs.Reading.GoesOn after.channel.ended more ended → play room tree (standing old more ended outcomes) ≡ play room tree (standing after more ended outcomes)
+      same : link.tells → (room : Room) (more : List ℕ) (ended : Bool) (outcomes : List NetOutcome) → Rattle.ftp_transport.specs.Told.HasRoomFor room (length after.channel.told.sent) → Rattle.ftp_control.specs.Reading.GoesOn after.channel.ended more ended → play room tree (play_state old more ended outcomes) ≡ play room tree (play_state after more ended outcomes)
       same h room more ended outcomes fit on =
-          let s : Standing = standing old more ended outcomes in
-          ap (λ d. play room tree (record s { dealings = d })) (ap dealings_of (sym (tie h)))
+          let s : PlayState = play_state old more ended outcomes in
+          ap (λ d. play room tree (record s { net_record = d })) (ap net_record_of (sym (tie h)))
 
 -- the same of a session that is known by an equation
 pub asked_through : (link : Link) (request : Request) (outcome : RequestOutcome) (view old : SessionValue) (net' : Net) → view ≡ old → (link.tells → RequestIs request outcome view.net net') → (next : RequestOutcome → Tree) → Still link (Ask request next) (next outcome) old (record view { net = net' })
@@ -240,7 +240,7 @@ built_through link address fault view old net' is tie next =
     let P : SessionValue → Type 0 = λ v. Still link (Build address next) (next fault) v (record view { net = net' }) in
     subst P is (built_still link view net' address fault tie next)
 
-pub moved_through : (link : Link) (moves : Movement) (outcome : DealOutcome) (view old : SessionValue) (net' : Net) → view ≡ old → (link.tells → MovementIs moves outcome view.net net') → (next : DealOutcome → Tree) → Still link (Move moves next) (next outcome) old (record view { net = net' })
+pub moved_through : (link : Link) (moves : Movement) (outcome : NetOutcome) (view old : SessionValue) (net' : Net) → view ≡ old → (link.tells → MovementIs moves outcome view.net net') → (next : NetOutcome → Tree) → Still link (Move moves next) (next outcome) old (record view { net = net' })
 moved_through link moves outcome view old net' is tie next =
     let P : SessionValue → Type 0 = λ v. Still link (Move moves next) (next outcome) v (record view { net = net' }) in
     subst P is (moved_still link view net' moves outcome tie next)
@@ -256,11 +256,11 @@ unasked_through link view old net' is tie tree =
     subst P is (unasked_still link view net' tie tree)
 
 -- a peer that is asked for takes the place of the data connection, whichever it is
-play-Accept : (room : Room) (deadline : Duration) (next : RequestOutcome → Tree) (conn : Option Traffic) (s : Standing) → play room (Ask (Accept deadline) next) s ≡ play room (Ask (Accept deadline) next) (record s { dealings = record s.dealings { data_conn = conn } })
+play-Accept : (room : Room) (deadline : Duration) (next : RequestOutcome → Tree) (conn : Option Traffic) (s : PlayState) → play room (Ask (Accept deadline) next) s ≡ play room (Ask (Accept deadline) next) (record s { net_record = record s.net_record { data_conn = conn } })
 unfolding play
 play-Accept room deadline next conn s =
-    let k : RequestOutcome → Standing → Played = λ answer t. play room (next answer) t in
-    elim s.outcomes as (λ o. asked_then o (Accept deadline) s k ≡ asked_then o (Accept deadline) (record s { dealings = record s.dealings { data_conn = conn } }) k) [
+    let k : RequestOutcome → PlayState → Played = λ answer t. play room (next answer) t in
+    elim s.outcomes as (λ o. asked_then o (Accept deadline) s k ≡ asked_then o (Accept deadline) (record s { net_record = record s.net_record { data_conn = conn } }) k) [
       | [] ↦ refl
       | Answered Made ∷ outcomes ↦ refl
       | Answered (Address from) ∷ outcomes ↦ refl
@@ -283,7 +283,7 @@ dropped_still link deadline next v = record {
         came = [];
         answered = Dropped ∷ [];
         goes = beside_goes link v (record v.net { data_conn = None }) (Dropped ∷ []) (λ h. (record v.net { data_conn = None }, refl, refl));
-        plays = λ h resumes room more ended outcomes fit on. play-Accept room deadline next None (standing v more ended outcomes);
+        plays = λ h resumes room more ended outcomes fit on. play-Accept room deadline next None (play_state v more ended outcomes);
       };
       state = refl;
       resumes = λ r. r;
@@ -308,7 +308,7 @@ module _ (link : Link) (old : SessionValue) (told' : Told) where
   abbrev with_told : Told → SessionValue
   with_told t = record old { channel = record old.channel { told = t } }
 
-  pub looked_still : (end : End) (address : SocketAddr) → (link.tells → (address ≡ address_at end (standing old [] false [])) × (told' ≡ old.channel.told)) → (next : SocketAddr → Tree) → Still link (Look end next) (next address) old there
+  pub looked_still : (end : End) (address : SocketAddr) → (link.tells → (address ≡ address_at end (play_state old [] false [])) × (told' ≡ old.channel.told)) → (next : SocketAddr → Tree) → Still link (Look end next) (next address) old there
   looked_still end address tie next = record {
     advances = record {
       moves = record {
@@ -325,13 +325,13 @@ module _ (link : Link) (old : SessionValue) (told' : Told) where
             said = λ h. omega (arith, ap length (ap (λ t. t.sent ++ old.channel.unsent) (tie h).1));
             untaken = omega arith;
             at_hand = λ h is. (let P : Told → Type 0 = IsGiven in subst P (sym (tie h).1) is);
-            deals = λ h. refl;
+            net_events = λ h. refl;
           };
           plays = λ h resumes room more ended outcomes fit on.
-              let s : Standing = standing old more ended outcomes in
+              let s : PlayState = play_state old more ended outcomes in
               play-Look room end next s
               ∙ ap (λ a. play room (next a) s) (known end more ended outcomes ∙ sym (tie h).0)
-              ∙ ap (λ t. play room (next address) (standing (with_told t) more ended outcomes)) (sym (tie h).1);
+              ∙ ap (λ t. play room (next address) (play_state (with_told t) more ended outcomes)) (sym (tie h).1);
         };
         state = refl;
         resumes = λ r. r address;
@@ -347,7 +347,7 @@ module _ (link : Link) (old : SessionValue) (told' : Told) where
     untouched = record { said = λ h. ap (λ t. t.sent ++ old.channel.unsent) (tie h).1; untaken = sym (append-nil (untaken old.channel)) };
   }
     where
-      known : (e : End) (more : List ℕ) (ended : Bool) (outcomes : List DealOutcome) → address_at e (standing old more ended outcomes) ≡ address_at e (standing old [] false [])
+      known : (e : End) (more : List ℕ) (ended : Bool) (outcomes : List NetOutcome) → address_at e (play_state old more ended outcomes) ≡ address_at e (play_state old [] false [])
       known Here more ended outcomes = refl
       known There more ended outcomes = refl
 
@@ -371,7 +371,7 @@ module _ (link : Link) (end : End) (view old : SessionValue) (channel : Channel)
   abbrev seen : SessionValue
   seen = record view { channel = channel }
 
-  pub looked_through : (address : SocketAddr) → (link.tells → (address ≡ address_at end (standing view [] false [])) × (channel.told ≡ view.channel.told)) → (next : SocketAddr → Tree) → Still link (Look end next) (next address) old seen
+  pub looked_through : (address : SocketAddr) → (link.tells → (address ≡ address_at end (play_state view [] false [])) × (channel.told ≡ view.channel.told)) → (next : SocketAddr → Tree) → Still link (Look end next) (next address) old seen
   looked_through address tie next =
       let P : SessionValue → Type 0 = λ v. Still link (Look end next) (next address) v seen in
       let Q : Channel → Type 0 = λ c. Still link (Look end next) (next address) view (record view { channel = c }) in
@@ -383,7 +383,7 @@ module _ (link : Link) (end : End) (view old : SessionValue) (channel : Channel)
       let Q : Channel → Type 0 = λ c. Aborts link begun (Look end next) (Fault (ConnectionError (Io kind))) view (record view { channel = c }) in
       subst P is (subst Q (sym same) (look_aborts link view channel.told end kind going may counts begun next))
 
-  pub looks_up : (result : Result SocketAddr ErrorKind) → view.channel.failed ≡ false → IfErr result (λ kind. link.ends kind) → (link.tells → AddressTells (address_at end (standing view [] false [])) result view.channel.told channel.told) → LooksUp link end old seen result
+  pub looks_up : (result : Result SocketAddr ErrorKind) → view.channel.failed ≡ false → IfErr result (λ kind. link.ends kind) → (link.tells → AddressTells (address_at end (play_state view [] false [])) result view.channel.told channel.told) → LooksUp link end old seen result
   looks_up (Ok address) going may told = looked_through address told
   looks_up (Err kind) going may told = look_fails kind going may told
 
@@ -452,7 +452,7 @@ still_fails link tree old mid stays going still = lacks_memory_at link true tree
 
 module _ (link : Link) (coding : Coding) (call : Call) (way : Way) (opens : negotiates call ≡ true) where
   -- the next node is reached
-  pub walks_on : (stage' : Stage) (old new : SessionValue) → Still link (way_of coding call old.state way) (remaining coding call old.state stage') old new → begun_at stage' ≡ has_asked way → (Speaks (way_of coding call old.state way) → Speaks (remaining coding call old.state stage')) → nodes_left stage' < nodes_of way → StageOf call stage' → Walks link coding call (Agreeing way) stage' old new Next
+  pub walks_on : (stage' : Stage) (old new : SessionValue) → Still link (way_of coding call old.state way) (remaining coding call old.state stage') old new → begun_at stage' ≡ has_asked way → (Speaks (way_of coding call old.state way) → Speaks (remaining coding call old.state stage')) → nodes_left stage' < nodes_of way → StageOf call stage' → Walks link coding call (OpeningData way) stage' old new Next
   walks_on stage' old new still same speaks fewer stage_of = record {
     steps = still.advances;
     quiet = λ none. record { still = still; begun = sym same ∙ none; speaks = speaks; read = λ read. let clash : true ≡ false = sym read ∙ read_opens_none call opens in cc };
@@ -464,7 +464,7 @@ module _ (link : Link) (coding : Coding) (call : Call) (way : Way) (opens : nego
   }
 
   -- the call has its answer
-  pub walks_end : (stage' : Stage) (answer : Answer) (old new : SessionValue) → Ends link (way_of coding call old.state way) answer old new ⊎ Aborts link (has_asked way) (way_of coding call old.state way) answer old new → StepAnswers call (Done answer) → Walks link coding call (Agreeing way) stage' old new (Done answer)
+  pub walks_end : (stage' : Stage) (answer : Answer) (old new : SessionValue) → Ends link (way_of coding call old.state way) answer old new ⊎ Aborts link (has_asked way) (way_of coding call old.state way) answer old new → StepAnswers call (Done answer) → Walks link coding call (OpeningData way) stage' old new (Done answer)
   walks_end stage' answer old new made answers = record {
     steps = made;
     quiet = tt;
@@ -476,7 +476,7 @@ module _ (link : Link) (coding : Coding) (call : Call) (way : Way) (opens : nego
   }
 
   -- the transport waits
-  pub walks_wait : (request : Request) (next : RequestOutcome → Tree) (old new : SessionValue) → way_of coding call old.state way ≡ Ask request next → ((tree : Tree) → Still link tree tree old new) → link.asks_wait → StageOf call (Agreeing way) → Walks link coding call (Agreeing way) (Agreeing way) old new Pending
+  pub walks_wait : (request : Request) (next : RequestOutcome → Tree) (old new : SessionValue) → way_of coding call old.state way ≡ Ask request next → ((tree : Tree) → Still link tree tree old new) → link.asks_wait → StageOf call (OpeningData way) → Walks link coding call (OpeningData way) (OpeningData way) old new Pending
   walks_wait request next old new is still may stage_of =
       let here = still (way_of coding call old.state way) in
       record {
@@ -498,18 +498,18 @@ cannot_ends link coding call offset view old fault same is =
     subst V same (subst P (sym is) (still_ends link leaf fault view view (unchanged_still link leaf leaf view view refl refl)))
 
 -- the first node, by who opens the data connection
-pub agrees_by : (link : Link) (coding : Coding) (call : Call) (offset : ℕ) (m : Mode) (stage' : Stage) (old new : SessionValue) → negotiates call ≡ true → cannot_open old.state.counts ≡ None → old.state.settings.mode ≡ m → stage' ≡ first_by m offset → ((tree : Tree) → Still link tree tree old new) → Walks link coding call (Agreeing (Negotiating offset)) stage' old new Next
+pub agrees_by : (link : Link) (coding : Coding) (call : Call) (offset : ℕ) (m : Mode) (stage' : Stage) (old new : SessionValue) → negotiates call ≡ true → cannot_open old.state.counts ≡ None → old.state.settings.mode ≡ m → stage' ≡ first_by m offset → ((tree : Tree) → Still link tree tree old new) → Walks link coding call (OpeningData (Negotiating offset)) stage' old new Next
 agrees_by link coding call offset m stage' old new opens none is at still =
-    let P : Stage → Type 0 = λ s. Walks link coding call (Agreeing (Negotiating offset)) s old new Next in
+    let P : Stage → Type 0 = λ s. Walks link coding call (OpeningData (Negotiating offset)) s old new Next in
     subst P (sym at) (go m is)
   where
     tree : Tree
     tree = negotiating coding call offset old.state
 
-    reached : (m : Mode) → old.state.settings.mode ≡ m → tree ≡ agreeing m coding call offset old.state
-    reached m is = ap (λ o. negotiating_unless o coding call offset old.state) none ∙ ap (λ x. agreeing x coding call offset old.state) is
+    reached : (m : Mode) → old.state.settings.mode ≡ m → tree ≡ opening_data m coding call offset old.state
+    reached m is = ap (λ o. negotiating_unless o coding call offset old.state) none ∙ ap (λ x. opening_data x coding call offset old.state) is
 
-    go : (m : Mode) → old.state.settings.mode ≡ m → Walks link coding call (Agreeing (Negotiating offset)) (first_by m offset) old new Next
+    go : (m : Mode) → old.state.settings.mode ≡ m → Walks link coding call (OpeningData (Negotiating offset)) (first_by m offset) old new Next
     go mode.Active is =
         let T : Tree → Type 0 = λ t. Still link tree t old new in
         let S : Tree → Type 0 = λ t. Speaks tree → Speaks t in
@@ -587,11 +587,11 @@ connecting_speaks_none address state next =
     ]
 
 -- a connection was made: the next turn begins
-pub connected_walks : (link : Link) (coding : Coding) (call : Call) (turn : Turn) (address : SocketAddr) (stage' : Stage) (old mid : SessionValue) (result : Step) → negotiates call ≡ true → Still link (connecting_to address old.state (later coding call turn old.state)) (later coding call turn old.state) old mid → GoesOnTo call turn stage' result → Walks link coding call (Agreeing (Asking turn (Connection address))) stage' old mid result
+pub connected_walks : (link : Link) (coding : Coding) (call : Call) (turn : Turn) (address : SocketAddr) (stage' : Stage) (old mid : SessionValue) (result : Step) → negotiates call ≡ true → Still link (connecting_to address old.state (later coding call turn old.state)) (later coding call turn old.state) old mid → GoesOnTo call turn stage' result → Walks link coding call (OpeningData (Asking turn (Connection address))) stage' old mid result
 connected_walks link coding call turn address stage' old mid Next opens still on =
     let fits = subst (λ o. NextFits coding call (nodes_from turn) (later coding call turn) o) on.1 (next_fits coding call turn) in
     let tree = connecting_to address old.state (later coding call turn old.state) in
-    let P : Stage → Type 0 = λ s. Walks link coding call (Agreeing (Asking turn (Connection address))) s old mid Next in
+    let P : Stage → Type 0 = λ s. Walks link coding call (OpeningData (Asking turn (Connection address))) s old mid Next in
     let T : Tree → Type 0 = λ t. Still link tree t old mid in
     subst P (sym on.2) (walks_on link coding call (Asking turn (Connection address)) opens (At on.0) old mid (subst T (fits.3 old.state) still) fits.1 (λ s. absurd (connecting_speaks_none address old.state (later coding call turn old.state) s)) fits.0 (fits.2 opens))
 connected_walks link coding call turn address stage' old mid Pending opens still on = absurd on
@@ -599,7 +599,7 @@ connected_walks link coding call turn address stage' old mid (Done last) opens s
     let none = subst (λ o. NextFits coding call (nodes_from turn) (later coding call turn) o) on.0 (next_fits coding call turn) in
     let tree = connecting_to address old.state (later coding call turn old.state) in
     let T : Tree → Type 0 = λ t. Still link tree t old mid in
-    let P : Answer → Type 0 = λ a. Walks link coding call (Agreeing (Asking turn (Connection address))) stage' old mid (Done a) in
+    let P : Answer → Type 0 = λ a. Walks link coding call (OpeningData (Asking turn (Connection address))) stage' old mid (Done a) in
     subst P (sym on.1) (walks_end link coding call (Asking turn (Connection address)) opens stage' Unit old mid (inl (done_ends link tree old mid (subst T (none old.state) still))) (Passive 0, inl opens, refl))
 
 -- a reply that goes on was accepted: the next turn begins, or the call is done
@@ -617,7 +617,7 @@ concludes_on coding call a reply stage' old new (Done last) same accepts on =
     })
 
 -- the transport was asked for a connection
-pub connects_walks : (link : Link) (coding : Coding) (call : Call) (turn : Turn) (address : SocketAddr) (outcome : RequestOutcome) (stage' : Stage) (old mid : SessionValue) (result : Step) → negotiates call ≡ true → old.state.settings.stream_builder ≡ false → ((next : RequestOutcome → Tree) → Still link (Ask (Connect address None) next) (next outcome) old mid) → ConnectsTo call turn outcome stage' result → Walks link coding call (Agreeing (Asking turn (Connection address))) stage' old mid result
+pub connects_walks : (link : Link) (coding : Coding) (call : Call) (turn : Turn) (address : SocketAddr) (outcome : RequestOutcome) (stage' : Stage) (old mid : SessionValue) (result : Step) → negotiates call ≡ true → old.state.settings.stream_builder ≡ false → ((next : RequestOutcome → Tree) → Still link (Ask (Connect address None) next) (next outcome) old mid) → ConnectsTo call turn outcome stage' result → Walks link coding call (OpeningData (Asking turn (Connection address))) stage' old mid result
 connects_walks link coding call turn address outcome stage' old mid result opens alone still on = go outcome (subst T (sym (dials address old.state next alone)) (still (on_connection old.state next))) on
   where
     next : Tree
@@ -626,29 +626,29 @@ connects_walks link coding call turn address outcome stage' old mid result opens
     T : Tree → Type 0
     T t = Still link t (on_connection old.state next outcome) old mid
 
-    go : (o : RequestOutcome) → Still link (connecting_to address old.state next) (on_connection old.state next o) old mid → ConnectsTo call turn o stage' result → Walks link coding call (Agreeing (Asking turn (Connection address))) stage' old mid result
+    go : (o : RequestOutcome) → Still link (connecting_to address old.state next) (on_connection old.state next o) old mid → ConnectsTo call turn o stage' result → Walks link coding call (OpeningData (Asking turn (Connection address))) stage' old mid result
     go Made here on = connected_walks link coding call turn address stage' old mid result opens here on
     go (Address other) here on = connected_walks link coding call turn address stage' old mid result opens here on
     go (Refused fault) here is =
         let way : Way = Asking turn (Connection address) in
-        let P : Step → Type 0 = λ r. Walks link coding call (Agreeing way) stage' old mid r in
+        let P : Step → Type 0 = λ r. Walks link coding call (OpeningData way) stage' old mid r in
         subst P (sym is) (walks_end link coding call way opens stage' (Fault (ConnectionError fault)) old mid (inl (still_ends link (connecting_to address old.state next) (ConnectionError fault) old mid here)) (First, inr tt, tt))
 
 -- it waits
-pub dial_waits : (link : Link) (coding : Coding) (call : Call) (turn : Turn) (address : SocketAddr) (old new : SessionValue) → negotiates call ≡ true → old.state.settings.stream_builder ≡ false → ((tree : Tree) → Still link tree tree old new) → link.asks_wait → Walks link coding call (Agreeing (Asking turn (Connection address))) (Agreeing (Asking turn (Connection address))) old new Pending
+pub dial_waits : (link : Link) (coding : Coding) (call : Call) (turn : Turn) (address : SocketAddr) (old new : SessionValue) → negotiates call ≡ true → old.state.settings.stream_builder ≡ false → ((tree : Tree) → Still link tree tree old new) → link.asks_wait → Walks link coding call (OpeningData (Asking turn (Connection address))) (OpeningData (Asking turn (Connection address))) old new Pending
 dial_waits link coding call turn address old new opens alone still may =
     let next : Tree = later coding call turn old.state in
     walks_wait link coding call (Asking turn (Connection address)) opens (Connect address None) (on_connection old.state next) old new (dials address old.state next alone) still may (opens, tt)
 
 -- the builder made a connection
-pub built_walks : (link : Link) (coding : Coding) (call : Call) (turn : Turn) (address : SocketAddr) (stage' : Stage) (old mid : SessionValue) (result : Step) → negotiates call ≡ true → old.state.settings.stream_builder ≡ true → ((next : Option FtpError → Tree) → Still link (Build address next) (next None) old mid) → GoesOnTo call turn stage' result → Walks link coding call (Agreeing (Asking turn (Connection address))) stage' old mid result
+pub built_walks : (link : Link) (coding : Coding) (call : Call) (turn : Turn) (address : SocketAddr) (stage' : Stage) (old mid : SessionValue) (result : Step) → negotiates call ≡ true → old.state.settings.stream_builder ≡ true → ((next : Option FtpError → Tree) → Still link (Build address next) (next None) old mid) → GoesOnTo call turn stage' result → Walks link coding call (OpeningData (Asking turn (Connection address))) stage' old mid result
 built_walks link coding call turn address stage' old mid result opens beside still on =
     let next : Tree = later coding call turn old.state in
     let T : Tree → Type 0 = λ t. Still link t next old mid in
     connected_walks link coding call turn address stage' old mid result opens (subst T (sym (constructs address old.state next beside)) (still (on_built old.state next))) on
 
 -- it gave a fault, which is the answer
-pub unbuilt_walks : (link : Link) (coding : Coding) (call : Call) (turn : Turn) (address : SocketAddr) (fault : FtpError) (stage' : Stage) (old mid : SessionValue) → negotiates call ≡ true → old.state.settings.stream_builder ≡ true → ((next : Option FtpError → Tree) → Still link (Build address next) (next (Some fault)) old mid) → Walks link coding call (Agreeing (Asking turn (Connection address))) stage' old mid (Done (Fault fault))
+pub unbuilt_walks : (link : Link) (coding : Coding) (call : Call) (turn : Turn) (address : SocketAddr) (fault : FtpError) (stage' : Stage) (old mid : SessionValue) → negotiates call ≡ true → old.state.settings.stream_builder ≡ true → ((next : Option FtpError → Tree) → Still link (Build address next) (next (Some fault)) old mid) → Walks link coding call (OpeningData (Asking turn (Connection address))) stage' old mid (Done (Fault fault))
 unbuilt_walks link coding call turn address fault stage' old mid opens beside still =
     let next : Tree = later coding call turn old.state in
     let T : Tree → Type 0 = λ t. Still link t (Leaf (Fault fault) old.state) old mid in
@@ -697,21 +697,21 @@ module _ (link : Link) (coding : Coding) (how : Opening) (peer from : SocketAddr
       subst P (sym same) (leaf_ends link waiting answer old mid (record mid { state = with_transfer mid.state }) (subst T (ap (λ o. opened_by coding o old.state) gives ∙ ap L (sym moves.state)) moves) (λ f. inl (sym here.advances.failed ∙ f)) refl refl)
 
   -- it is let in, and a whole file or listing goes over its connection
-  pub lets_in_performs : (call : Call) (turn : Turn) (task : Task) → how ≡ PerformsAll task → negotiates call ≡ true → MayPerform call task → lets_in old.state peer from ≡ true → Knocks → Walks link coding call (Agreeing (Asking turn (Accepting peer left how))) (Fetching (Starting task)) old mid Next
+  pub lets_in_performs : (call : Call) (turn : Turn) (task : Task) → how ≡ PerformsAll task → negotiates call ≡ true → MayPerform call task → lets_in old.state peer from ≡ true → Knocks → Walks link coding call (OpeningData (Asking turn (Accepting peer left how))) (Transferring (Starting task)) old mid Next
   lets_in_performs call turn task performs opens may is still =
       let T : Opening → Type 0 = λ o. Still link waiting (opened_by coding o old.state) old mid in
       let S : Tree → Type 0 = Speaks in
-      walks_on link coding call (Asking turn (Accepting peer left how)) opens (Fetching (Starting task)) old mid (subst T performs (knocked true is still)) refl (λ s. absurd (subst S (accepting_is opened peer left old.state) s)) (omega arith) may
+      walks_on link coding call (Asking turn (Accepting peer left how)) opens (Transferring (Starting task)) old mid (subst T performs (knocked true is still)) refl (λ s. absurd (subst S (accepting_is opened peer left old.state) s)) (omega arith) may
 
   -- it is turned away
-  pub turns_away : (call : Call) (turn : Turn) (stage' : Stage) (new : SessionValue) (result : Step) → negotiates call ≡ true → OpeningOf call how → lets_in old.state peer from ≡ false → Knocks → TurnsAway turn peer left how stage' mid new result → Walks link coding call (Agreeing (Asking turn (Accepting peer left how))) stage' old new result
+  pub turns_away : (call : Call) (turn : Turn) (stage' : Stage) (new : SessionValue) (result : Step) → negotiates call ≡ true → OpeningOf call how → lets_in old.state peer from ≡ false → Knocks → TurnsAway turn peer left how stage' mid new result → Walks link coding call (OpeningData (Asking turn (Accepting peer left how))) stage' old new result
   turns_away call turn stage' new Next opens may is still away =
       let way : Way = Asking turn (Accepting peer left how) in
-      let next : Stage = Agreeing (Asking turn (Accepting peer away.0 how)) in
+      let next : Stage = OpeningData (Asking turn (Accepting peer away.0 how)) in
       let T : ℕ → Type 0 = λ n. Still link waiting (others_of opened peer n old.state) old mid in
       let S : Tree → Type 0 = Speaks in
-      let P : Stage → Type 0 = λ s. Walks link coding call (Agreeing way) s old (dropped mid) Next in
-      let V : SessionValue → Type 0 = λ v. Walks link coding call (Agreeing way) stage' old v Next in
+      let P : Stage → Type 0 = λ s. Walks link coding call (OpeningData way) s old (dropped mid) Next in
+      let V : SessionValue → Type 0 = λ v. Walks link coding call (OpeningData way) stage' old v Next in
       let D : Tree → Type 0 = λ t. Still link t t mid (dropped mid) in
       let again : Still link (accepting opened peer away.0 old.state) (accepting opened peer away.0 old.state) mid (dropped mid) = subst D (sym (accepting_is opened peer away.0 old.state)) (dropped_still link old.state.settings.active_deadline (knocks opened peer away.0 old.state) mid) in
       subst V (sym away.3) (subst P (sym away.2) (walks_on link coding call way opens next old (dropped mid) (still_on link waiting (accepting opened peer away.0 old.state) (accepting opened peer away.0 old.state) old mid (dropped mid) (subst T away.1 (knocked false is still)) again) refl (λ s. absurd (subst S (accepting_is opened peer left old.state) s)) (omega (arith, away.1)) (opens, may)))
@@ -720,12 +720,12 @@ module _ (link : Link) (coding : Coding) (how : Opening) (peer from : SocketAddr
       let way : Way = Asking turn (Accepting peer left how) in
       let fault : FtpError = ConnectionError TimedOut in
       let T : ℕ → Type 0 = λ n. Still link waiting (others_of opened peer n old.state) old mid in
-      let P : Answer → Type 0 = λ a. Walks link coding call (Agreeing way) stage' old mid (Done a) in
-      let V : SessionValue → Type 0 = λ v. Walks link coding call (Agreeing way) stage' old v (Done last) in
+      let P : Answer → Type 0 = λ a. Walks link coding call (OpeningData way) stage' old mid (Done a) in
+      let V : SessionValue → Type 0 = λ v. Walks link coding call (OpeningData way) stage' old v (Done last) in
       subst V (sym away.2) (subst P (sym away.1) (walks_end link coding call way opens stage' (Fault fault) old mid (inl (still_ends link waiting fault old mid (subst T away.0 (knocked false is still)))) (First, inr tt, tt)))
 
   -- it waits for a peer
-  pub waits_for_peer : (call : Call) (turn : Turn) → negotiates call ≡ true → OpeningOf call how → ((tree : Tree) → Still link tree tree old mid) → link.asks_wait → Walks link coding call (Agreeing (Asking turn (Accepting peer left how))) (Agreeing (Asking turn (Accepting peer left how))) old mid Pending
+  pub waits_for_peer : (call : Call) (turn : Turn) → negotiates call ≡ true → OpeningOf call how → ((tree : Tree) → Still link tree tree old mid) → link.asks_wait → Walks link coding call (OpeningData (Asking turn (Accepting peer left how))) (OpeningData (Asking turn (Accepting peer left how))) old mid Pending
   waits_for_peer call turn opens may still waits =
       walks_wait link coding call (Asking turn (Accepting peer left how)) opens (Accept old.state.settings.active_deadline) (knocks opened peer left old.state) old mid (accepting_is opened peer left old.state) still waits (opens, may)
 
@@ -736,35 +736,35 @@ module _ (link : Link) (coding : Coding) (how : Opening) (peer from : SocketAddr
       subst P (sym (accepting_is opened peer left old.state)) (still_ends link _ fault old mid still)
 
 -- what a request for a peer came to
-pub meets_walks : (link : Link) (coding : Coding) (call : Call) (turn : Turn) (peer : SocketAddr) (left : ℕ) (how : Opening) (outcome : RequestOutcome) (stage' : Stage) (old mid new : SessionValue) (result : Step) → negotiates call ≡ true → OpeningOf call how → ((next : RequestOutcome → Tree) → Still link (Ask (Accept old.state.settings.active_deadline) next) (next outcome) old mid) → Meets outcome turn peer left how stage' mid new result → Walks link coding call (Agreeing (Asking turn (Accepting peer left how))) stage' old new result
+pub meets_walks : (link : Link) (coding : Coding) (call : Call) (turn : Turn) (peer : SocketAddr) (left : ℕ) (how : Opening) (outcome : RequestOutcome) (stage' : Stage) (old mid new : SessionValue) (result : Step) → negotiates call ≡ true → OpeningOf call how → ((next : RequestOutcome → Tree) → Still link (Ask (Accept old.state.settings.active_deadline) next) (next outcome) old mid) → Meets outcome turn peer left how stage' mid new result → Walks link coding call (OpeningData (Asking turn (Accepting peer left how))) stage' old new result
 meets_walks link coding call turn peer left how (Address from) stage' old mid new result opens may still meets =
     let here = still (knocks (opened_by coding how old.state) peer left old.state) in
     let way : Way = Asking turn (Accepting peer left how) in
     let state : lets_in mid.state peer from ≡ lets_in old.state peer from = ap (λ s. lets_in s peer from) here.advances.moves.state in
     go (lets_in old.state peer from) refl (let M : Bool → Type 0 = λ b. MeetsIf b turn peer left how stage' mid new result in subst M state meets)
   where
-    go : (b : Bool) → lets_in old.state peer from ≡ b → MeetsIf b turn peer left how stage' mid new result → Walks link coding call (Agreeing (Asking turn (Accepting peer left how))) stage' old new result
+    go : (b : Bool) → lets_in old.state peer from ≡ b → MeetsIf b turn peer left how stage' mid new result → Walks link coding call (OpeningData (Asking turn (Accepting peer left how))) stage' old new result
     go true is lets = entered how refl lets
       where
-        entered : (o : Opening) → how ≡ o → LetsIn o stage' mid new result → Walks link coding call (Agreeing (Asking turn (Accepting peer left how))) stage' old new result
+        entered : (o : Opening) → how ≡ o → LetsIn o stage' mid new result → Walks link coding call (OpeningData (Asking turn (Accepting peer left how))) stage' old new result
         entered (GivesAnswer answer) gives (done, same) =
-            let P : Step → Type 0 = λ r. Walks link coding call (Agreeing (Asking turn (Accepting peer left how))) stage' old new r in
+            let P : Step → Type 0 = λ r. Walks link coding call (OpeningData (Asking turn (Accepting peer left how))) stage' old new r in
             let O : Opening → Type 0 = λ x. OpeningOf call x in
             subst P (sym done) (walks_end link coding call (Asking turn (Accepting peer left how)) opens stage' answer old new (inl (lets_in_ends link coding how peer from left old mid answer new gives is (still (knocks (opened_by coding how old.state) peer left old.state)) same)) (subst O gives may))
         entered (PerformsAll task) performs (on, at, same) =
-            let P : Step → Type 0 = λ r. Walks link coding call (Agreeing (Asking turn (Accepting peer left how))) stage' old new r in
-            let Q : Stage → Type 0 = λ s. Walks link coding call (Agreeing (Asking turn (Accepting peer left how))) s old new Next in
-            let V : SessionValue → Type 0 = λ v. Walks link coding call (Agreeing (Asking turn (Accepting peer left how))) (Fetching (Starting task)) old v Next in
+            let P : Step → Type 0 = λ r. Walks link coding call (OpeningData (Asking turn (Accepting peer left how))) stage' old new r in
+            let Q : Stage → Type 0 = λ s. Walks link coding call (OpeningData (Asking turn (Accepting peer left how))) s old new Next in
+            let V : SessionValue → Type 0 = λ v. Walks link coding call (OpeningData (Asking turn (Accepting peer left how))) (Transferring (Starting task)) old v Next in
             let O : Opening → Type 0 = λ x. OpeningOf call x in
             subst P (sym on) (subst Q (sym at) (subst V (sym same) (lets_in_performs link coding how peer from left old mid call turn task performs opens (subst O performs may) is (still (knocks (opened_by coding how old.state) peer left old.state)))))
     go false is away = turns_away link coding how peer from left old mid call turn stage' new result opens may is (still (knocks (opened_by coding how old.state) peer left old.state)) away
 meets_walks link coding call turn peer left how (Refused fault) stage' old mid new result opens may still (same, is) =
     let way : Way = Asking turn (Accepting peer left how) in
-    let V : SessionValue → Type 0 = λ v. Walks link coding call (Agreeing way) stage' old v result in
-    let P : Step → Type 0 = λ r. Walks link coding call (Agreeing way) stage' old mid r in
+    let V : SessionValue → Type 0 = λ v. Walks link coding call (OpeningData way) stage' old v result in
+    let P : Step → Type 0 = λ r. Walks link coding call (OpeningData way) stage' old mid r in
     subst V (sym same) (subst P (sym is) (walks_end link coding call way opens stage' (Fault (ConnectionError fault)) old mid (inl (none_comes link coding how peer peer left old mid (ConnectionError fault) (still (knocks (opened_by coding how old.state) peer left old.state)))) (First, inr tt, tt)))
 meets_walks link coding call turn peer left how Made stage' old mid new result opens may still (same, is) =
     let way : Way = Asking turn (Accepting peer left how) in
-    let V : SessionValue → Type 0 = λ v. Walks link coding call (Agreeing way) stage' old v result in
-    let P : Step → Type 0 = λ r. Walks link coding call (Agreeing way) stage' old mid r in
+    let V : SessionValue → Type 0 = λ v. Walks link coding call (OpeningData way) stage' old v result in
+    let P : Step → Type 0 = λ r. Walks link coding call (OpeningData way) stage' old mid r in
     subst V (sym same) (subst P (sym is) (walks_end link coding call way opens stage' (Fault (ConnectionError NoAddress)) old mid (inl (none_comes link coding how peer peer left old mid (ConnectionError NoAddress) (still (knocks (opened_by coding how old.state) peer left old.state)))) (First, inr tt, tt)))

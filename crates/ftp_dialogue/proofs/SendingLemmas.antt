@@ -15,18 +15,18 @@ use Rattle.ftp_calls.specs.declared.exchange.Fetch.TheVariants.{Whole}
 use Rattle.ftp_calls.specs.declared.exchange.Movement.TheVariants as movement
 use Rattle.ftp_calls.specs.declared.exchange.Task.TheVariants as task
 use Rattle.ftp_calls.specs.declared.exchange.Turn.TheVariants.{First}
-use Rattle.ftp_dialogue.specs.declared.model.DealOutcome.{DealOutcome}
-use Rattle.ftp_dialogue.specs.declared.model.DealOutcome.TheVariants as came
-use Rattle.ftp_dialogue.specs.declared.stage.Fetching.{Fetching as Fetched}
-use Rattle.ftp_dialogue.specs.declared.stage.Fetching.TheVariants.{Starting, Sending, Parting}
+use Rattle.ftp_dialogue.specs.declared.model.NetOutcome.{NetOutcome}
+use Rattle.ftp_dialogue.specs.declared.model.NetOutcome.TheVariants as came
+use Rattle.ftp_dialogue.specs.declared.stage.Transferring.{Transferring as Fetched}
+use Rattle.ftp_dialogue.specs.declared.stage.Transferring.TheVariants.{Starting, Sending, ClosingData}
 use Rattle.ftp_dialogue.specs.declared.stage.Stage.{Stage}
-use Rattle.ftp_dialogue.specs.declared.stage.Stage.TheVariants.{Fetching}
+use Rattle.ftp_dialogue.specs.declared.stage.Stage.TheVariants.{Transferring}
 use Rattle.ftp_dialogue.specs.declared.stage.Step.TheVariants.{Next, Pending, Done}
 use Rattle.ftp_dialogue.specs.declared.state.State.{State}
 use Rattle.ftp_dialogue.specs.Coding.{Coding}
-use Rattle.ftp_dialogue.specs.Deals.{Net, WriteIs, answers}
+use Rattle.ftp_dialogue.specs.NetEvents.{Net, WriteIs, answers}
 use Rattle.ftp_dialogue.specs.Sending.{SendsBy}
-use Rattle.ftp_dialogue.specs.Dialogue.{Tree, Move, Leaf, fetch_parting, giving_up, most_bytes, on_sent, sending, sending_all, size_to_send, storing, wire_data, with_abandoned}
+use Rattle.ftp_dialogue.specs.Dialogue.{Tree, Move, Leaf, fetch_closing_data, giving_up, most_bytes, on_sent, sending, sending_all, size_to_send, storing, wire_data, with_abandoned}
 use Rattle.ftp_dialogue.specs.Link.{Link}
 use Rattle.ftp_dialogue.specs.State.{SessionValue}
 use Rattle.ftp_dialogue.specs.Steps.Moving.{AsksFirst, BreaksOff, Moves, MovesBy, Sends, Still}
@@ -36,7 +36,7 @@ use Rattle.ftp_dialogue.proofs.NegotiationLemmas.{moved_through, unasked_through
 use Rattle.ftp_dialogue.proofs.FetchingLemmas.{fetch_on}
 
 -- what is left where all bytes have gone out, where no other write is made, and after a write
-pub sending_over : (left total : ℕ) (state : State) → sending left total [] state ≡ fetch_parting Whole (Count total) state
+pub sending_over : (left total : ℕ) (state : State) → sending left total [] state ≡ fetch_closing_data Whole (Count total) state
 unfolding sending
 sending_over zero total state = refl
 sending_over (suc left) total state = refl
@@ -65,7 +65,7 @@ size_within bytes total is = go (nat_le (length bytes) most_bytes) refl is
 
 module _ (link : Link) (coding : Coding) (call : Call) where
   -- the upload can't go on
-  pub gives_up : (f : Fetched) (stage' : Stage) (fault : FtpError) (old mid new : SessionValue) → Still link (fetch_left coding old.state f) (giving_up fault old.state) old mid → new ≡ record mid { state = with_abandoned mid.state } → BreaksOff link coding call (Fetching f) stage' old new (Done (Fault fault))
+  pub gives_up : (f : Fetched) (stage' : Stage) (fault : FtpError) (old mid new : SessionValue) → Still link (fetch_left coding old.state f) (giving_up fault old.state) old mid → new ≡ record mid { state = with_abandoned mid.state } → BreaksOff link coding call (Transferring f) stage' old new (Done (Fault fault))
   gives_up f stage' fault old mid new still same =
       let tree : Tree = fetch_left coding old.state f in
       let moves = still.advances.moves in
@@ -81,13 +81,13 @@ module _ (link : Link) (coding : Coding) (call : Call) where
       }
 
   -- no byte was written yet
-  pub store_starts : (bytes : List ℕ) (total : ℕ) (v : SessionValue) → MayFetch call Whole → size_to_send (wire_data v.state.settings.text bytes) ≡ Some total → BreaksOff link coding call (Fetching (Starting (task.Store bytes))) (Fetching (Sending total total (wire_data v.state.settings.text bytes))) v v Next
+  pub store_starts : (bytes : List ℕ) (total : ℕ) (v : SessionValue) → MayFetch call Whole → size_to_send (wire_data v.state.settings.text bytes) ≡ Some total → BreaksOff link coding call (Transferring (Starting (task.Store bytes))) (Transferring (Sending total total (wire_data v.state.settings.text bytes))) v v Next
   store_starts bytes total v may size =
       let bytes_sent : List ℕ = wire_data v.state.settings.text bytes in
       let led : storing bytes v.state ≡ sending total total bytes_sent v.state = ap (λ s. sending_all s bytes_sent v.state) size in
       fetch_on link coding call (Starting (task.Store bytes)) (Sending total total bytes_sent) v v (unchanged_still link (storing bytes v.state) (sending total total bytes_sent v.state) v v refl (sym led)) (omega (arith, size_within bytes_sent total size)) may
 
-  pub store_too_large : (bytes : List ℕ) (stage' : Stage) (old new : SessionValue) → size_to_send (wire_data old.state.settings.text bytes) ≡ None → new ≡ record old { state = with_abandoned old.state } → BreaksOff link coding call (Fetching (Starting (task.Store bytes))) stage' old new (Done (Fault (ConnectionError SourceTooLarge)))
+  pub store_too_large : (bytes : List ℕ) (stage' : Stage) (old new : SessionValue) → size_to_send (wire_data old.state.settings.text bytes) ≡ None → new ≡ record old { state = with_abandoned old.state } → BreaksOff link coding call (Transferring (Starting (task.Store bytes))) stage' old new (Done (Fault (ConnectionError SourceTooLarge)))
   store_too_large bytes stage' old new size same =
       let bytes_sent : List ℕ = wire_data old.state.settings.text bytes in
       let fault : FtpError = ConnectionError SourceTooLarge in
@@ -95,17 +95,17 @@ module _ (link : Link) (coding : Coding) (call : Call) where
       gives_up (Starting (task.Store bytes)) stage' fault old old new (unchanged_still link (storing bytes old.state) (giving_up fault old.state) old old refl (sym led)) same
 
   -- all bytes have gone out
-  pub all_sent : (left total : ℕ) (rest : List ℕ) (v : SessionValue) → rest ≡ [] → MayFetch call Whole → BreaksOff link coding call (Fetching (Sending left total rest)) (Fetching (Parting Whole (Count total))) v v Next
+  pub all_sent : (left total : ℕ) (rest : List ℕ) (v : SessionValue) → rest ≡ [] → MayFetch call Whole → BreaksOff link coding call (Transferring (Sending left total rest)) (Transferring (ClosingData Whole (Count total))) v v Next
   all_sent left total rest v none may =
-      let B : List ℕ → Type 0 = λ l. BreaksOff link coding call (Fetching (Sending left total l)) (Fetching (Parting Whole (Count total))) v v Next in
-      subst B (sym none) (fetch_on link coding call (Sending left total []) (Parting Whole (Count total)) v v (unchanged_still link (sending left total [] v.state) (fetch_parting Whole (Count total) v.state) v v refl (sym (sending_over left total v.state))) (omega arith) (may, refl))
+      let B : List ℕ → Type 0 = λ l. BreaksOff link coding call (Transferring (Sending left total l)) (Transferring (ClosingData Whole (Count total))) v v Next in
+      subst B (sym none) (fetch_on link coding call (Sending left total []) (ClosingData Whole (Count total)) v v (unchanged_still link (sending left total [] v.state) (fetch_closing_data Whole (Count total) v.state) v v refl (sym (sending_over left total v.state))) (omega arith) (may, refl))
 
   -- no other write is made
-  pub none_sent : (left total : ℕ) (rest : List ℕ) (stage' : Stage) (old new : SessionValue) → left ≡ 0 → (rest ≡ [] → ⊥) → new ≡ record old { state = with_abandoned old.state } → BreaksOff link coding call (Fetching (Sending left total rest)) stage' old new (Done (Fault (ConnectionError (Io WriteZero))))
+  pub none_sent : (left total : ℕ) (rest : List ℕ) (stage' : Stage) (old new : SessionValue) → left ≡ 0 → (rest ≡ [] → ⊥) → new ≡ record old { state = with_abandoned old.state } → BreaksOff link coding call (Transferring (Sending left total rest)) stage' old new (Done (Fault (ConnectionError (Io WriteZero))))
   none_sent left total [] stage' old new none some same = absurd (some refl)
   none_sent left total (byte ∷ rest) stage' old new none some same =
       let fault : FtpError = ConnectionError (Io WriteZero) in
-      let B : ℕ → Type 0 = λ n. BreaksOff link coding call (Fetching (Sending n total (byte ∷ rest))) stage' old new (Done (Fault fault)) in
+      let B : ℕ → Type 0 = λ n. BreaksOff link coding call (Transferring (Sending n total (byte ∷ rest))) stage' old new (Done (Fault fault)) in
       subst B (sym none) (gives_up (Sending zero total (byte ∷ rest)) stage' fault old old new (unchanged_still link (sending zero total (byte ∷ rest) old.state) (giving_up fault old.state) old old refl (sym (sending_none total byte rest old.state))) same)
 
   module _ (n total byte : ℕ) (more : List ℕ) (old : SessionValue) where
@@ -119,22 +119,22 @@ module _ (link : Link) (coding : Coding) (call : Call) where
     here = Sending (suc n) total all
 
     -- a write led here
-    written : (outcome : DealOutcome) (mid : SessionValue) → MovesBy link (movement.Write all) old mid outcome → Still link (sending (suc n) total all old.state) (on_sent all on old.state outcome) old mid
+    written : (outcome : NetOutcome) (mid : SessionValue) → MovesBy link (movement.Write all) old mid outcome → Still link (sending (suc n) total all old.state) (on_sent all on old.state outcome) old mid
     written outcome mid moves =
         let S : Tree → Type 0 = λ t. Still link t (on_sent all on old.state outcome) old mid in
         subst S (sym (sending_is n total byte more old.state)) (moves (on_sent all on old.state))
 
-    wrote_some : (count : ℕ) (all' : List ℕ) (new : SessionValue) → MayFetch call Whole → all' ≡ drop count all → MovesBy link (movement.Write all) old new (came.Wrote count) → BreaksOff link coding call (Fetching here) (Fetching (Sending n total all')) old new Next
+    wrote_some : (count : ℕ) (all' : List ℕ) (new : SessionValue) → MayFetch call Whole → all' ≡ drop count all → MovesBy link (movement.Write all) old new (came.Wrote count) → BreaksOff link coding call (Transferring here) (Transferring (Sending n total all')) old new Next
     wrote_some count all' new may is moves =
-        let B : List ℕ → Type 0 = λ l. BreaksOff link coding call (Fetching here) (Fetching (Sending n total l)) old new Next in
+        let B : List ℕ → Type 0 = λ l. BreaksOff link coding call (Transferring here) (Transferring (Sending n total l)) old new Next in
         subst B (sym is) (fetch_on link coding call here (Sending n total (drop count all)) old new (written (came.Wrote count) new moves) (omega arith) may)
 
-    wrote_none : (kind : ErrorKind) (stage' : Stage) (mid new : SessionValue) → MovesBy link (movement.Write all) old mid (came.Failed kind) → new ≡ record mid { state = with_abandoned mid.state } → BreaksOff link coding call (Fetching here) stage' old new (Done (Fault (ConnectionError (Io kind))))
+    wrote_none : (kind : ErrorKind) (stage' : Stage) (mid new : SessionValue) → MovesBy link (movement.Write all) old mid (came.Failed kind) → new ≡ record mid { state = with_abandoned mid.state } → BreaksOff link coding call (Transferring here) stage' old new (Done (Fault (ConnectionError (Io kind))))
     wrote_none kind stage' mid new moves same = gives_up here stage' (ConnectionError (Io kind)) old mid new (written (came.Failed kind) mid moves) same
 
-    writes_later : (all' : List ℕ) (new : SessionValue) → MayFetch call Whole → all' ≡ all → ((tree : Tree) → Still link tree tree old new) → link.asks_wait → BreaksOff link coding call (Fetching here) (Fetching (Sending (suc n) total all')) old new Pending
+    writes_later : (all' : List ℕ) (new : SessionValue) → MayFetch call Whole → all' ≡ all → ((tree : Tree) → Still link tree tree old new) → link.asks_wait → BreaksOff link coding call (Transferring here) (Transferring (Sending (suc n) total all')) old new Pending
     writes_later all' new may same still waits =
-        let P : List ℕ → Type 0 = λ l. BreaksOff link coding call (Fetching here) (Fetching (Sending (suc n) total l)) old new Pending in
+        let P : List ℕ → Type 0 = λ l. BreaksOff link coding call (Transferring here) (Transferring (Sending (suc n) total l)) old new Pending in
         let A : Tree → Type 0 = AsksFirst in
         subst P (sym same) (record {
           steps = ((still (sending (suc n) total all old.state)).advances, inr (inr (record { asks = subst A (sym (sending_is n total byte more old.state)) tt; may = waits })));
@@ -146,20 +146,20 @@ module _ (link : Link) (coding : Coding) (call : Call) where
         })
 
   -- the same of bytes of which some are left, by a write of several that may be made
-  pub sent_some : (left total : ℕ) (rest rest' : List ℕ) (old new : SessionValue) → MayFetch call Whole → (left ≡ 0 → ⊥) → (rest ≡ [] → ⊥) → Sends link rest rest' old new (Ok (poll.Ready tt)) → BreaksOff link coding call (Fetching (Sending left total rest)) (Fetching (Sending (left - 1) total rest')) old new Next
+  pub sent_some : (left total : ℕ) (rest rest' : List ℕ) (old new : SessionValue) → MayFetch call Whole → (left ≡ 0 → ⊥) → (rest ≡ [] → ⊥) → Sends link rest rest' old new (Ok (poll.Ready tt)) → BreaksOff link coding call (Transferring (Sending left total rest)) (Transferring (Sending (left - 1) total rest')) old new Next
   sent_some zero total rest rest' old new may several some sends = absurd (several refl)
   sent_some (suc n) total [] rest' old new may several some sends = absurd (some refl)
   sent_some (suc n) total (byte ∷ more) rest' old new may several some sends =
       let e : suc n - 1 ≡ n = omega arith in
-      let B : ℕ → Type 0 = λ k. BreaksOff link coding call (Fetching (Sending (suc n) total (byte ∷ more))) (Fetching (Sending k total rest')) old new Next in
+      let B : ℕ → Type 0 = λ k. BreaksOff link coding call (Transferring (Sending (suc n) total (byte ∷ more))) (Transferring (Sending k total rest')) old new Next in
       subst B (sym e) (wrote_some n total byte more old sends.0 rest' new may sends.1 sends.2)
 
-  pub sent_none : (left total : ℕ) (rest rest' : List ℕ) (kind : ErrorKind) (stage' : Stage) (old mid new : SessionValue) → (left ≡ 0 → ⊥) → (rest ≡ [] → ⊥) → Sends link rest rest' old mid (Err kind) → new ≡ record mid { state = with_abandoned mid.state } → BreaksOff link coding call (Fetching (Sending left total rest)) stage' old new (Done (Fault (ConnectionError (Io kind))))
+  pub sent_none : (left total : ℕ) (rest rest' : List ℕ) (kind : ErrorKind) (stage' : Stage) (old mid new : SessionValue) → (left ≡ 0 → ⊥) → (rest ≡ [] → ⊥) → Sends link rest rest' old mid (Err kind) → new ≡ record mid { state = with_abandoned mid.state } → BreaksOff link coding call (Transferring (Sending left total rest)) stage' old new (Done (Fault (ConnectionError (Io kind))))
   sent_none zero total rest rest' kind stage' old mid new several some sends same = absurd (several refl)
   sent_none (suc n) total [] rest' kind stage' old mid new several some sends same = absurd (some refl)
   sent_none (suc n) total (byte ∷ more) rest' kind stage' old mid new several some sends same = wrote_none n total byte more old kind stage' mid new sends same
 
-  pub sends_later : (left total : ℕ) (rest rest' : List ℕ) (old new : SessionValue) → MayFetch call Whole → (left ≡ 0 → ⊥) → (rest ≡ [] → ⊥) → Sends link rest rest' old new (Ok poll.Pending) → BreaksOff link coding call (Fetching (Sending left total rest)) (Fetching (Sending left total rest')) old new Pending
+  pub sends_later : (left total : ℕ) (rest rest' : List ℕ) (old new : SessionValue) → MayFetch call Whole → (left ≡ 0 → ⊥) → (rest ≡ [] → ⊥) → Sends link rest rest' old new (Ok poll.Pending) → BreaksOff link coding call (Transferring (Sending left total rest)) (Transferring (Sending left total rest')) old new Pending
   sends_later zero total rest rest' old new may several some sends = absurd (several refl)
   sends_later (suc n) total [] rest' old new may several some sends = absurd (some refl)
   sends_later (suc n) total (byte ∷ more) rest' old new may several some (same, still, waits) = writes_later n total byte more old rest' new may same still waits
@@ -171,7 +171,7 @@ sends_so link view old t u rest rest' r same held sends waits = go r sends waits
     net' : Net
     net' = record view.net { data_conn = Some u }
 
-    by : (outcome : DealOutcome) → answers (movement.Write rest) outcome ≡ true → (link.tells → WriteIs rest outcome t u) → MovesBy link (movement.Write rest) old (record view { net = net' }) outcome
+    by : (outcome : NetOutcome) → answers (movement.Write rest) outcome ≡ true → (link.tells → WriteIs rest outcome t u) → MovesBy link (movement.Write rest) old (record view { net = net' }) outcome
     by outcome fits tie next = moved_through link (movement.Write rest) outcome view old net' same (λ h. (fits, (t, u, held, refl, tie h))) next
 
     go : (r : Result (Poll (Unit {0})) ErrorKind) → SendsBy link.tells rest rest' t u r → (r ≡ Ok poll.Pending → link.asks_wait) → Sends link rest rest' old (record view { net = net' }) r

@@ -10,9 +10,9 @@ use Rattle.ftp_calls.specs.declared.exchange.Turn.{Turn}
 use Rattle.ftp_calls.specs.declared.exchange.Turn.TheVariants.{First, Second, Passive, ExtendedPassive, Active, Restart, Closed, Aborted}
 use Rattle.ftp_calls.specs.Exchanges.{draining_row, drains, finishes, finishing_row, is_draining, is_finishing, is_local, is_opening, is_read, local_row, moving_row, negotiates, of_transfer, only_reads, opens, reads, row_of, aborting_row, aborts, is_aborting}
 use Rattle.ftp_dialogue.specs.declared.stage.Stage.{Stage}
-use Rattle.ftp_dialogue.specs.declared.stage.Stage.TheVariants.{At, Saying, Hearing, Arming, Resyncing, Agreeing, Closing, Aborting, Fetching}
-use Rattle.ftp_dialogue.specs.declared.stage.Fetching.{Fetching as Fetched}
-use Rattle.ftp_dialogue.specs.declared.stage.Fetching.TheVariants.{Starting, Gathering, Sending as SendingData, Parting, Ending as LastReply}
+use Rattle.ftp_dialogue.specs.declared.stage.Stage.TheVariants.{At, Saying, Hearing, Arming, Resyncing, OpeningData, Closing, Aborting, Transferring}
+use Rattle.ftp_dialogue.specs.declared.stage.Transferring.{Transferring as Fetched}
+use Rattle.ftp_dialogue.specs.declared.stage.Transferring.TheVariants.{Starting, Gathering, Sending as SendingData, ClosingData, Ending as LastReply}
 use Rattle.ftp_dialogue.specs.Steps.Stages.{FetchOf, StageOf, TurnOf}
 
 -- Endings
@@ -286,7 +286,7 @@ pub fetch_opens : (call : Call) (fetching : Fetched) → FetchOf call fetching �
 fetch_opens call (Starting task) of = of.0
 fetch_opens call (Gathering form left all) of = of.0
 fetch_opens call (SendingData left total rest) of = of.0
-fetch_opens call (Parting form answer) of = of.0.0
+fetch_opens call (ClosingData form answer) of = of.0.0
 fetch_opens call (LastReply form answer) of = of.0.0
 
 pub stage_no_local : (call : Call) (stage : Stage) → StageOf call stage → is_local call ≡ false
@@ -295,10 +295,10 @@ stage_no_local call (Saying line a) of = turn_no_local call a.turn of.2
 stage_no_local call (Hearing a) of = turn_no_local call a.turn of.2
 stage_no_local call (Arming turn offset) of = turn_no_local call turn of.1
 stage_no_local call (Resyncing turn seeks) of = turn_no_local call turn of.1
-stage_no_local call (Agreeing way) of = opens_no_local call of.0
+stage_no_local call (OpeningData way) of = opens_no_local call of.0
 stage_no_local call Closing of = finishing_no_local call of
 stage_no_local call (Aborting abort) of = finishing_no_local call (aborts_finish call of)
-stage_no_local call (Fetching fetching) of = opens_no_local call (fetch_opens call fetching of)
+stage_no_local call (Transferring fetching) of = opens_no_local call (fetch_opens call fetching of)
 
 -- Rows of calls that are none of the control connection
 

@@ -8,7 +8,7 @@ use Rattle.ftp_calls.specs.declared.exchange.Turn.{Turn}
 use Rattle.ftp_calls.specs.declared.exchange.Turn.TheVariants.{First, Second, Passive, ExtendedPassive, Active, Restart, Closed, Aborted}
 use Rattle.ftp_dialogue.specs.declared.stage.Awaits.{Awaits}
 use Rattle.ftp_dialogue.specs.declared.stage.Stage.{Stage}
-use Rattle.ftp_dialogue.specs.declared.stage.Stage.TheVariants.{At, Saying, Hearing, Arming, Resyncing, Agreeing, Closing, Aborting, Fetching}
+use Rattle.ftp_dialogue.specs.declared.stage.Stage.TheVariants.{At, Saying, Hearing, Arming, Resyncing, OpeningData, Closing, Aborting, Transferring}
 use Rattle.ftp_dialogue.specs.Coding.{Coding}
 use Rattle.ftp_calls.specs.declared.exchange.Exchange.{Exchange}
 use Rattle.ftp_calls.specs.declared.exchange.Row.TheVariants.{Exchanges, Arms, Resyncs}
@@ -87,10 +87,10 @@ pub node_begins : (coding : Coding) (call : Call) (turn : Turn) (e : Exchange) (
 node_begins coding call turn e (At other) row read node = absurd node
 node_begins coding call turn e (Arming other offset) row read node = absurd node
 node_begins coding call turn e (Resyncing other seeks) row read node = absurd node
-node_begins coding call turn e (Agreeing agreeing) row read node = absurd node
+node_begins coding call turn e (OpeningData opening_data) row read node = absurd node
 node_begins coding call turn e Closing row read node = absurd node
 node_begins coding call turn e (Aborting abort) row read node = absurd node
-node_begins coding call turn e (Fetching fetching) row read node = absurd node
+node_begins coding call turn e (Transferring fetching) row read node = absurd node
 node_begins coding call turn e (Saying line a) row read node =
     let P : Awaits → Type 0 = λ x. Begun coding call turn (Saying line x) in
     subst P (sym node.3) (record {

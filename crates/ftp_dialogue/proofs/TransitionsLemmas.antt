@@ -23,7 +23,7 @@ use Rattle.ftp_calls.specs.declared.exchange.Turn.{Turn}
 use Rattle.ftp_calls.specs.declared.exchange.Turn.TheVariants.{First, Second, Passive, ExtendedPassive, Active, Restart, Closed, Aborted}
 use Rattle.ftp_dialogue.specs.declared.stage.Awaits.{Awaits}
 use Rattle.ftp_dialogue.specs.declared.stage.Stage.{Stage}
-use Rattle.ftp_dialogue.specs.declared.stage.Stage.TheVariants.{At, Saying, Hearing, Arming, Resyncing, Agreeing, Closing, Aborting, Fetching}
+use Rattle.ftp_dialogue.specs.declared.stage.Stage.TheVariants.{At, Saying, Hearing, Arming, Resyncing, OpeningData, Closing, Aborting, Transferring}
 use Rattle.ftp_dialogue.specs.declared.stage.Step.{Step}
 use Rattle.ftp_dialogue.specs.declared.stage.Step.TheVariants.{Next, Pending, Done}
 use Rattle.ftp_dialogue.specs.State.{SessionValue, LetsGo}
@@ -405,11 +405,11 @@ read_is_quiet call (At (Closed close)) stage_of read = refl
 read_is_quiet call Closing stage_of read = refl
 read_is_quiet call (At Aborted) stage_of read = let clash : true ≡ false = sym read ∙ finishing_no_read call (aborts_finish call stage_of) in cc
 read_is_quiet call (Aborting abort) stage_of read = let clash : true ≡ false = sym read ∙ finishing_no_read call (aborts_finish call stage_of) in cc
-read_is_quiet call (Fetching fetching) stage_of read = let clash : true ≡ false = sym read ∙ read_opens_none call (fetch_opens call fetching stage_of) in cc
+read_is_quiet call (Transferring fetching) stage_of read = let clash : true ≡ false = sym read ∙ read_opens_none call (fetch_opens call fetching stage_of) in cc
 read_is_quiet call (Saying line a) stage_of read = let clash : true ≡ false = sym read ∙ stage_of.1 in cc
 read_is_quiet call (Arming turn offset) stage_of read = later_none call turn (λ later. later_is_no_read call turn stage_of.1 later) read
 read_is_quiet call (Resyncing turn seeks) stage_of read = let clash : true ≡ false = sym read ∙ resync_unread call turn stage_of.0 stage_of.1 in cc
-read_is_quiet call (Agreeing way) stage_of read = let clash : true ≡ false = sym read ∙ read_opens_none call stage_of.0 in cc
+read_is_quiet call (OpeningData way) stage_of read = let clash : true ≡ false = sym read ∙ read_opens_none call stage_of.0 in cc
 read_is_quiet call (Hearing a) stage_of read = go a.begun refl
   where
     go : (b : Bool) → a.begun ≡ b → a.begun ≡ false
@@ -617,10 +617,10 @@ is_at_first (Saying line a) is = let clash : false ≡ true = is in cc
 is_at_first (Hearing a) is = let clash : false ≡ true = is in cc
 is_at_first (Arming turn offset) is = let clash : false ≡ true = is in cc
 is_at_first (Resyncing turn seeks) is = let clash : false ≡ true = is in cc
-is_at_first (Agreeing way) is = let clash : false ≡ true = is in cc
+is_at_first (OpeningData way) is = let clash : false ≡ true = is in cc
 is_at_first Closing is = let clash : false ≡ true = is in cc
 is_at_first (Aborting abort) is = let clash : false ≡ true = is in cc
-is_at_first (Fetching fetching) is = let clash : false ≡ true = is in cc
+is_at_first (Transferring fetching) is = let clash : false ≡ true = is in cc
 
 pub stage_in_later : (call : Call) (stage : Stage) → is_first stage ≡ false → StageIn (Some call) stage → StageOf call stage
 stage_in_later call stage later (inl stage_of) = stage_of

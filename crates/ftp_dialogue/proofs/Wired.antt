@@ -10,8 +10,8 @@ use Rattle.ftp_base.specs.declared.types.fault.FtpError.TheVariants as fault
 use Rattle.ftp_base.specs.declared.types.fault.ConnectionError.{ConnectionError as Cause}
 use Rattle.ftp_base.specs.declared.types.fault.ConnectionError.TheVariants as connection
 use Rattle.ftp_transport.specs.declared.room.Room.TheVariants.{Any}
-use Rattle.ftp_dialogue.specs.Deals.{outcomes_of}
-use Rattle.ftp_dialogue.specs.declared.model.DealOutcome.{DealOutcome}
+use Rattle.ftp_dialogue.specs.NetEvents.{outcomes_of}
+use Rattle.ftp_dialogue.specs.declared.model.NetOutcome.{NetOutcome}
 use Rattle.ftp_control.specs.declared.control.outcome.Outcome.{Outcome}
 use Rattle.ftp_control.specs.declared.control.outcome.Outcome.TheVariants.{Whole, Bad, TooLarge, Ended, Waits}
 use Rattle.ftp_control.specs.Grammar.{outcome, left_by}
@@ -24,7 +24,7 @@ use Rattle.ftp_calls.specs.declared.exchange.Turn.TheVariants.{First, Second}
 use Rattle.ftp_calls.specs.declared.exchange.Ending.{Ending}
 use Rattle.ftp_calls.specs.declared.exchange.Ending.TheVariants as ending
 use Rattle.ftp_calls.specs.declared.exchange.Exchange.{Exchange}
-use Rattle.ftp_dialogue.specs.declared.model.Standing.{Standing}
+use Rattle.ftp_dialogue.specs.declared.model.PlayState.{PlayState}
 use Rattle.ftp_dialogue.specs.declared.model.Played.{Played}
 use Rattle.ftp_dialogue.specs.declared.model.Played.TheVariants.{Done, Pending}
 use Rattle.ftp_dialogue.specs.State.{SessionValue, LetsGo}
@@ -34,16 +34,16 @@ use Rattle.ftp_calls.specs.declared.exchange.Row.TheVariants.{Exchanges, Arms, R
 use Rattle.ftp_calls.specs.Exchanges.{draining_row, drains, ending_of, finishes, is_draining, negotiates, row_of}
 use Rattle.ftp_dialogue.proofs.Faults.{told_undrained}
 use Rattle.ftp_calls.proofs.Openings.{drains_alike}
-use Rattle.ftp_dialogue.proofs.Agreeing.{first_plain, row_agrees, second_plain}
+use Rattle.ftp_dialogue.proofs.OpeningData.{first_plain, row_agrees, second_plain}
 use Rattle.ftp_dialogue.specs.Steps.Moving.{agrees}
 use Rattle.ftp_calls.specs.declared.exchange.Movement.{Movement}
 use Rattle.ftp_dialogue.specs.declared.model.Wait.TheVariants as wait
-use Rattle.ftp_dialogue.specs.Deals.{answers, moved as beside}
+use Rattle.ftp_dialogue.specs.NetEvents.{answers, moved as beside}
 use Rattle.ftp_dialogue.proofs.CarryingLemmas.{carrying_is}
 use Rattle.ftp_dialogue.specs.Steps.Moving.{answer_moved, moves_nothing, nothing_moved, state_moved}
-use Rattle.ftp_dialogue.specs.Dialogue.{Expected, expected_of, Tree, Say, Move, Leaf, saying, after_fault_of, answer_to_fault, awaiting, carrying, concluded, accepted, exchanging, armed, doing, entered, finish_answer, from_turn, later, negotiating, opened_from, set_to, with_drained, with_finished, with_left, dialogue, parting, with_aborted}
+use Rattle.ftp_dialogue.specs.Dialogue.{Expected, expected_of, Tree, Say, Move, Leaf, saying, after_fault_of, answer_to_fault, awaiting, carrying, concluded, accepted, exchanging, armed, doing, entered, finish_answer, from_turn, later, negotiating, opened_from, set_to, with_drained, with_finished, with_left, dialogue, closing_data, with_aborted}
 use Rattle.ftp_dialogue.specs.Play.{play, heard_then, moved_then}
-use Rattle.ftp_dialogue.specs.Promises.{standing, begun_by, Completes, IsSuccess, Says, Exchanged, ExchangedIf, IsSilent, Succeeds, SucceedsBy, SucceedsUnless, Wired, goes_on_with}
+use Rattle.ftp_dialogue.specs.Promises.{play_state, begun_by, Completes, IsSuccess, Says, Exchanged, ExchangedIf, IsSilent, Succeeds, SucceedsBy, SucceedsUnless, Wired, goes_on_with}
 use Rattle.ftp_dialogue.proofs.Moving.{play-Say, play-Leaf, play-Refused}
 use Rattle.ftp_control.specs.declared.control.rule.ReplyRule.{ReplyRule}
 use Rattle.ftp_dialogue.proofs.Hearing.{begun_resumes, entered_rule, play-Hear}
@@ -51,20 +51,20 @@ use Rattle.ftp_dialogue.specs.Link.{Link}
 use Rattle.ftp_base.specs.declared.status.Status.TheVariants.{TransferAborted}
 
 -- a fault is no success
-no_success : (found : FtpError) (answer : Answer) (s t : Standing) → Done (Fault found) s ≡ Done answer t → IsSuccess answer → ⊥
+no_success : (found : FtpError) (answer : Answer) (s t : PlayState) → Done (Fault found) s ≡ Done answer t → IsSuccess answer → ⊥
 no_success found answer s t is success =
     let same : answer ≡ Fault found = cc in
     let P : Answer → Type 0 = IsSuccess in
     subst P same success
 
 -- a tree whose last node gave this answer ends where it is
-leaf_at : (answer answer' : Answer) (state : State) (s t : Standing) → play Any (Leaf answer state) s ≡ Done answer' t → t ≡ record s { state = state }
+leaf_at : (answer answer' : Answer) (state : State) (s t : PlayState) → play Any (Leaf answer state) s ≡ Done answer' t → t ≡ record s { state = state }
 leaf_at answer answer' state s t is =
     let both : Done answer (record s { state = state }) ≡ Done answer' t = sym (play-Leaf Any answer state s) ∙ is in
     cc
 
 -- a reply that was heard
-pub record HeardOne (coding : Coding) (codes : Expected) (how : Ending) (state : State) (next : State → Tree) (answer : Answer) (s t : Standing) : Type 0 where
+pub record HeardOne (coding : Coding) (codes : Expected) (how : Ending) (state : State) (next : State → Tree) (answer : Answer) (s t : PlayState) : Type 0 where
   pub reply : Response
   pub code : ℕ
   pub whole : outcome s.state.settings.reply_rule codes.form s.bytes s.ended ≡ Whole reply.body code
@@ -72,11 +72,11 @@ pub record HeardOne (coding : Coding) (codes : Expected) (how : Ending) (state :
   pub among : is_among codes.statuses reply.status ≡ true
   pub goes : play Any (accepted coding how state reply next) (record s { bytes = left_by (Whole reply.body code) s.bytes }) ≡ Done answer t
 
-module _ (coding : Coding) (codes : Expected) (how : Ending) (state : State) (next : State → Tree) (answer : Answer) (s t : Standing) (undrained : is_draining how ≡ false) (success : IsSuccess answer) where
-  abbrev k : Result Response FtpError → Standing → Played
+module _ (coding : Coding) (codes : Expected) (how : Ending) (state : State) (next : State → Tree) (answer : Answer) (s t : PlayState) (undrained : is_draining how ≡ false) (success : IsSuccess answer) where
+  abbrev k : Result Response FtpError → PlayState → Played
   k a x = play Any (concluded coding how state next a) x
 
-  found : (fault : FtpError) (x : Standing) → k (Err fault) x ≡ Done answer t → ⊥
+  found : (fault : FtpError) (x : PlayState) → k (Err fault) x ≡ Done answer t → ⊥
   found fault x is =
       let told = told_undrained how fault undrained in
       let D : Answer → Type 0 = λ a. Done a (record x { state = after_fault_of how fault state }) ≡ Done answer t in
@@ -88,7 +88,7 @@ module _ (coding : Coding) (codes : Expected) (how : Ending) (state : State) (ne
       go : (o : Outcome) → outcome s.state.settings.reply_rule codes.form s.bytes s.ended ≡ o → heard_then o codes s (λ a x. play Any (concluded coding how state next a) x) ≡ Done answer t → HeardOne coding codes how state next answer s t
       go (Whole body code) whole done =
           let reply : Response = record { status = status_of code; body = body } in
-          let here : Standing = record s { bytes = left_by (Whole body code) s.bytes } in
+          let here : PlayState = record s { bytes = left_by (Whole body code) s.bytes } in
           elim (is_among codes.statuses (status_of code)) as (λ b. is_among codes.statuses (status_of code) ≡ b → k (cond b (Ok reply) (Err (fault.UnexpectedResponse reply))) here ≡ Done answer t → HeardOne coding codes how state next answer s t) [
             | true ↦ λ among done. record { reply = reply; code = code; whole = whole; status = refl; among = among; goes = done }
             | false ↦ λ among done. absurd (found (fault.UnexpectedResponse reply) here done)
@@ -99,19 +99,19 @@ module _ (coding : Coding) (codes : Expected) (how : Ending) (state : State) (ne
       go Waits whole done = cc done
 
 -- an exchange that succeeded
-pub record ExchangedOne (coding : Coding) (exchange : Exchange) (state : State) (next : State → Tree) (answer : Answer) (s t : Standing) : Type 0 where
+pub record ExchangedOne (coding : Coding) (exchange : Exchange) (state : State) (next : State → Tree) (answer : Answer) (s t : PlayState) : Type 0 where
   pub reply : Response
-  pub between : Standing
+  pub between : PlayState
   pub exchanged : Exchanged coding exchange reply s between
   pub goes : play Any (accepted coding exchange.ending state reply next) between ≡ Done answer t
 
-pub one_exchange : (coding : Coding) (exchange : Exchange) (state : State) (next : State → Tree) (answer : Answer) (s t : Standing) → is_draining exchange.ending ≡ false → IsSuccess answer → play Any (exchanging coding exchange state next) s ≡ Done answer t → ExchangedOne coding exchange state next answer s t
+pub one_exchange : (coding : Coding) (exchange : Exchange) (state : State) (next : State → Tree) (answer : Answer) (s t : PlayState) → is_draining exchange.ending ≡ false → IsSuccess answer → play Any (exchanging coding exchange state next) s ≡ Done answer t → ExchangedOne coding exchange state next answer s t
 one_exchange coding exchange state next answer s t undrained success is = go exchange.says refl is
   where
     go : (command : Option Command) → exchange.says ≡ command → play Any (saying coding command (awaiting coding (expected_of exchange.hears) exchange.ending state next)) s ≡ Done answer t → ExchangedOne coding exchange state next answer s t
     go None says done =
         let one = one_reply coding (expected_of exchange.hears) exchange.ending state next answer s t undrained success done in
-        let here : Standing = record s { bytes = left_by (Whole one.reply.body one.code) s.bytes } in
+        let here : PlayState = record s { bytes = left_by (Whole one.reply.body one.code) s.bytes } in
         let P : Option Command → Type 0 = λ c. Says coding c s here in
         record {
           reply = one.reply;
@@ -124,9 +124,9 @@ one_exchange coding exchange state next answer s t undrained success is = go exc
         line : (l : Result (List ℕ) Cause) → wire coding.encode (text_of command) ≡ l → play Any (Say l (awaiting coding (expected_of exchange.hears) exchange.ending state next)) s ≡ Done answer t → ExchangedOne coding exchange state next answer s t
         line (Err cause) refused done = absurd (no_success (fault.ConnectionError cause) answer s t (sym (play-Refused Any cause (awaiting coding (expected_of exchange.hears) exchange.ending state next) s) ∙ done) success)
         line (Ok bytes) wired done =
-            let there : Standing = record s { said = s.said ++ s.unsent ++ bytes; unsent = [] } in
+            let there : PlayState = record s { said = s.said ++ s.unsent ++ bytes; unsent = [] } in
             let one = one_reply coding (expected_of exchange.hears) exchange.ending state next answer there t undrained success (sym (play-Say Any bytes (awaiting coding (expected_of exchange.hears) exchange.ending state next) s) ∙ done) in
-            let here : Standing = record there { bytes = left_by (Whole one.reply.body one.code) s.bytes } in
+            let here : PlayState = record there { bytes = left_by (Whole one.reply.body one.code) s.bytes } in
             let P : Option Command → Type 0 = λ c. Says coding c s here in
             record {
               reply = one.reply;
@@ -165,36 +165,36 @@ accepted_leaf coding (ending.GoesOn status) state reply plain = (Unit, state, sa
     same true = refl
     same false = refl
 
-says_state : (coding : Coding) (command : Option Command) (s t : Standing) (state : State) → Says coding command s t → Says coding command s (record t { state = state })
+says_state : (coding : Coding) (command : Option Command) (s t : PlayState) (state : State) → Says coding command s t → Says coding command s (record t { state = state })
 says_state coding None s t state says = says
 says_state coding (Some command) s t state says = says
 
 -- a call that succeeded
-module _ (coding : Coding) (call : Call) (answer : Answer) (s t : Standing) (state : State) (success : IsSuccess answer) (none : negotiates call ≡ false) (undrained : drains call ≡ false) where
+module _ (coding : Coding) (call : Call) (answer : Answer) (s t : PlayState) (state : State) (success : IsSuccess answer) (none : negotiates call ≡ false) (undrained : drains call ≡ false) where
   -- nothing was said or heard
-  stays : (m : Standing) (a : Answer) (new : State) → play Any (Leaf a new) m ≡ Done answer t → IsSilent m t
+  stays : (m : PlayState) (a : Answer) (new : State) → play Any (Leaf a new) m ≡ Done answer t → IsSilent m t
   stays m a new done =
       let same = leaf_at a answer new m t done in
       (ap (λ x. x.said) same, ap (λ x. x.unsent) same, ap (λ x. x.bytes) same)
 
   -- bytes went over the data connection
-  moved : (moves : Movement) (m : Standing) → play Any (Move moves (λ came. Leaf (answer_moved moves came) (state_moved moves state))) m ≡ Done answer t → IsSilent m t
+  moved : (moves : Movement) (m : PlayState) → play Any (Move moves (λ came. Leaf (answer_moved moves came) (state_moved moves state))) m ≡ Done answer t → IsSilent m t
   unfolding play
   moved moves m done = go m.outcomes done
     where
-      k : DealOutcome → Standing → Played
+      k : NetOutcome → PlayState → Played
       k = λ came u. play Any (Leaf (answer_moved moves came) (state_moved moves state)) u
 
-      go : (o : List DealOutcome) → moved_then o moves m k ≡ Done answer t → IsSilent m t
+      go : (o : List NetOutcome) → moved_then o moves m k ≡ Done answer t → IsSilent m t
       go [] e = let clash : Pending wait.Outcome m ≡ Done answer t = e in cc
       go (outcome ∷ outcomes) e =
-          let after : Standing = record m { dealings = beside moves outcome m.dealings; outcomes = outcomes } in
+          let after : PlayState = record m { net_record = beside moves outcome m.net_record; outcomes = outcomes } in
           elim (answers moves outcome) as (λ b. cond b (k outcome after) (Pending wait.Outcome m) ≡ Done answer t → IsSilent m t) [
             | true ↦ λ f. (let same = leaf_at (answer_moved moves outcome) answer (state_moved moves state) after t f in (ap (λ x. x.said) same, ap (λ x. x.unsent) same, ap (λ x. x.bytes) same))
             | false ↦ λ f. (let clash : Pending wait.Outcome m ≡ Done answer t = f in cc)
           ] e
 
-  carried : (moves : Movement) (m : Standing) → play Any (carrying moves state) m ≡ Done answer t → IsSilent m t
+  carried : (moves : Movement) (m : PlayState) → play Any (carrying moves state) m ≡ Done answer t → IsSilent m t
   carried moves m done =
       let next : Tree = Move moves (λ came. Leaf (answer_moved moves came) (state_moved moves state)) in
       let P : Tree → Type 0 = λ x. play Any x m ≡ Done answer t in
@@ -204,7 +204,7 @@ module _ (coding : Coding) (call : Call) (answer : Answer) (s t : Standing) (sta
       ] (subst P (carrying_is moves state) done)
 
   -- the second row
-  last : (r : Row) (m : Standing) → row_agrees (ending_of r) ≡ false → draining_row r ≡ false → play Any (doing coding r state (λ x. Leaf Unit x)) m ≡ Done answer t → ExchangedIf true coding r m t
+  last : (r : Row) (m : PlayState) → row_agrees (ending_of r) ≡ false → draining_row r ≡ false → play Any (doing coding r state (λ x. Leaf Unit x)) m ≡ Done answer t → ExchangedIf true coding r m t
   last (Arms offset) m plain undrained' done = stays m Unit (armed offset state) done
   last Resyncs m plain undrained' done = tt
   last (Sets setting) m plain undrained' done = stays m Unit (set_to setting state) done
@@ -214,7 +214,7 @@ module _ (coding : Coding) (call : Call) (answer : Answer) (s t : Standing) (sta
       let leaf = accepted_leaf coding e.ending state two.reply plain in
       let L : Tree → Type 0 = λ x. play Any x two.between ≡ Done answer t in
       let same = leaf_at leaf.0 answer leaf.1 two.between t (subst L leaf.2 two.goes) in
-      let P : Standing → Type 0 = λ x. Exchanged coding e two.reply m x in (
+      let P : PlayState → Type 0 = λ x. Exchanged coding e two.reply m x in (
         two.reply,
         subst P (sym same) (record {
           says = says_state coding e.says m two.between leaf.1 two.exchanged.says;
@@ -227,7 +227,7 @@ module _ (coding : Coding) (call : Call) (answer : Answer) (s t : Standing) (sta
       )
 
   -- what comes after the first exchange
-  next : (how : Ending) (reply : Response) (m : Standing) → agrees how ≡ false → play Any (accepted coding how state reply (later coding call First)) m ≡ Done answer t → ExchangedIf (goes_on_with how reply) coding (row_of call Second) m t
+  next : (how : Ending) (reply : Response) (m : PlayState) → agrees how ≡ false → play Any (accepted coding how state reply (later coding call First)) m ≡ Done answer t → ExchangedIf (goes_on_with how reply) coding (row_of call Second) m t
   next ending.Done reply m plain done = stays m _ _ done
   next ending.GivesReply reply m plain done = stays m _ _ done
   next ending.TakesReply reply m plain done = stays m _ _ done
@@ -266,11 +266,11 @@ module _ (coding : Coding) (call : Call) (answer : Answer) (s t : Standing) (sta
       let one = one_exchange coding e state (later coding call First) answer s t undrained' success done in
       record { reply = one.reply; between = one.between; first = one.exchanged; second = next e.ending one.reply one.between plain one.goes }
 
-pub call_succeeds : (coding : Coding) (call : Call) (answer : Answer) (s t : Standing) (state : State) → IsSuccess answer → play Any (dialogue coding call state) s ≡ Done answer t → Succeeds coding call s t
+pub call_succeeds : (coding : Coding) (call : Call) (answer : Answer) (s t : PlayState) (state : State) → IsSuccess answer → play Any (dialogue coding call state) s ≡ Done answer t → Succeeds coding call s t
 call_succeeds coding call answer s t state success is =
-    elim (negotiates call) as (λ b. negotiates call ≡ b → play Any (cond b (negotiating coding call state.settings.restart_offset (opened_from call state)) (cond (finishes call) (parting coding call (with_left state)) (from_turn coding call First state))) s ≡ Done answer t → SucceedsUnless (b || finishes call || drains call) coding call s t) [
+    elim (negotiates call) as (λ b. negotiates call ≡ b → play Any (cond b (negotiating coding call state.settings.restart_offset (opened_from call state)) (cond (finishes call) (closing_data coding call (with_left state)) (from_turn coding call First state))) s ≡ Done answer t → SucceedsUnless (b || finishes call || drains call) coding call s t) [
       | true ↦ λ opens e. tt
-      | false ↦ λ none e. (elim (finishes call) as (λ f. play Any (cond f (parting coding call (with_left state)) (from_turn coding call First state)) s ≡ Done answer t → SucceedsUnless (f || drains call) coding call s t) [
+      | false ↦ λ none e. (elim (finishes call) as (λ f. play Any (cond f (closing_data coding call (with_left state)) (from_turn coding call First state)) s ≡ Done answer t → SucceedsUnless (f || drains call) coding call s t) [
         | true ↦ λ e. tt
         | false ↦ λ e. (elim (drains call) as (λ d. drains call ≡ d → SucceedsUnless d coding call s t) [
           | true ↦ λ d. tt
@@ -280,14 +280,14 @@ call_succeeds coding call answer s t state success is =
     ] refl is
 
 -- where a call began doesn't matter to what it did on the wire
-begun_succeeds : (coding : Coding) (call : Call) (s t : Standing) (state : State) → state.settings.reply_rule ≡ s.state.settings.reply_rule → Succeeds coding call (record s { state = state }) t → Succeeds coding call s t
+begun_succeeds : (coding : Coding) (call : Call) (s t : PlayState) (state : State) → state.settings.reply_rule ≡ s.state.settings.reply_rule → Succeeds coding call (record s { state = state }) t → Succeeds coding call s t
 begun_succeeds coding call s t state rule =
     elim (negotiates call || finishes call || drains call) as (λ b. SucceedsUnless b coding call (record s { state = state }) t → SucceedsUnless b coding call s t) [
       | true ↦ λ e. tt
       | false ↦ λ e. by_row (row_of call First) e
     ]
   where
-    says : (command : Option Command) (u : Standing) → Says coding command (record s { state = state }) u → Says coding command s u
+    says : (command : Option Command) (u : PlayState) → Says coding command (record s { state = state }) u → Says coding command s u
     says None u told = told
     says (Some command) u told = told
 
@@ -317,10 +317,10 @@ wired link coding call old last new lets_go answer done success = record {
   succeeds = λ h resumes.
       let ended = last.channel.ended in
       let played = done.plays h (begun_resumes call old (dialogue coding call old.state) resumes) Any [] ended [] tt (record { nothing = λ e. refl; over = λ e. e }) in
-      let F : List ℕ → Standing = λ c. standing (begun_by call old) c ended (outcomes_of done.answered ++ []) in
-      let G : List DealOutcome → Standing = λ o. standing (begun_by call old) done.came ended o in
-      let same : standing (begun_by call old) (done.came ++ []) ended (outcomes_of done.answered ++ []) ≡ standing (begun_by call old) done.came ended (outcomes_of done.answered) = ap F (append-nil done.came) ∙ ap G (append-nil (outcomes_of done.answered)) in
-      let P : Standing → Type 0 = λ s. play Any (dialogue coding call old.state) s ≡ Done answer (standing last [] ended []) in
-      begun_succeeds coding call (standing old done.came ended (outcomes_of done.answered)) (standing last [] ended []) (entered call old.state) (entered_rule call old.state)
-      (call_succeeds coding call answer (standing (begun_by call old) done.came ended (outcomes_of done.answered)) (standing last [] ended []) old.state success (subst P same played));
+      let F : List ℕ → PlayState = λ c. play_state (begun_by call old) c ended (outcomes_of done.answered ++ []) in
+      let G : List NetOutcome → PlayState = λ o. play_state (begun_by call old) done.came ended o in
+      let same : play_state (begun_by call old) (done.came ++ []) ended (outcomes_of done.answered ++ []) ≡ play_state (begun_by call old) done.came ended (outcomes_of done.answered) = ap F (append-nil done.came) ∙ ap G (append-nil (outcomes_of done.answered)) in
+      let P : PlayState → Type 0 = λ s. play Any (dialogue coding call old.state) s ≡ Done answer (play_state last [] ended []) in
+      begun_succeeds coding call (play_state old done.came ended (outcomes_of done.answered)) (play_state last [] ended []) (entered call old.state) (entered_rule call old.state)
+      (call_succeeds coding call answer (play_state (begun_by call old) done.came ended (outcomes_of done.answered)) (play_state last [] ended []) old.state success (subst P same played));
 }

@@ -43,8 +43,8 @@ use Rattle.ftp_calls.specs.declared.call.Setting.{Setting}
 use Rattle.ftp_calls.specs.declared.call.Setting.TheVariants as setting
 use Rattle.ftp_calls.specs.declared.exchange.Movement.{Movement}
 use Rattle.ftp_calls.specs.declared.exchange.Movement.TheVariants as movement
-use Rattle.ftp_dialogue.specs.declared.model.DealOutcome.{DealOutcome}
-use Rattle.ftp_dialogue.specs.declared.model.DealOutcome.TheVariants as came
+use Rattle.ftp_dialogue.specs.declared.model.NetOutcome.{NetOutcome}
+use Rattle.ftp_dialogue.specs.declared.model.NetOutcome.TheVariants as came
 use Rattle.ftp_dialogue.specs.declared.state.Settings.{Settings}
 use Rattle.ftp_dialogue.specs.declared.state.Owed.{Owed}
 use Rattle.ftp_dialogue.specs.declared.state.Owed.TheVariants as owed
@@ -103,7 +103,7 @@ pub data Tree : Type 0 where
   Look : End → (SocketAddr → Tree) → Tree
   Ask : Request → (RequestOutcome → Tree) → Tree
   Build : SocketAddr → (Option FtpError → Tree) → Tree
-  Move : Movement → (DealOutcome → Tree) → Tree
+  Move : Movement → (NetOutcome → Tree) → Tree
   Leaf : Answer → State → Tree
 
 -- what a greeting's bytes say in an encoding
@@ -216,7 +216,7 @@ opened_answer gives_reply reply = if gives_reply then OpenedWith reply else Open
 -- A transfer
 
 -- what was done on a data connection is the answer
-abbrev pub moved_answer : DealOutcome → Answer
+abbrev pub moved_answer : NetOutcome → Answer
 moved_answer (came.Answered outcome) = Unit
 moved_answer (came.Built fault) = Unit
 moved_answer (came.Read bytes) = answer.Bytes bytes
@@ -250,12 +250,12 @@ abbrev pub with_aborted : State → State
 with_aborted state = record state { counts = one_aborted state.counts }
 
 -- the fault of a close
-abbrev pub fault_of_close : DealOutcome → Option ErrorKind
+abbrev pub fault_of_close : NetOutcome → Option ErrorKind
 fault_of_close (came.Failed kind) = Some kind
 fault_of_close other = None
 
 -- the fault of an upload's close is told before the reply's
-abbrev pub told_of_close : Bool → DealOutcome → Option ErrorKind
+abbrev pub told_of_close : Bool → NetOutcome → Option ErrorKind
 told_of_close uploads outcome = if uploads then fault_of_close outcome else None
 
 abbrev pub finish_answer : Option ErrorKind → Answer
@@ -347,8 +347,8 @@ abbrev pub closed_as : Option ErrorKind → Answer → Answer
 closed_as None answer = answer
 closed_as (Some kind) answer = Fault (Connection (Io kind))
 
-abbrev pub fetch_parting : Fetch → Answer → State → Tree
-fetch_parting form answer state = Move movement.Close (λ came. fetch_ending form (closed_as (told_of_close state.uploads came) answer) state)
+abbrev pub fetch_closing_data : Fetch → Answer → State → Tree
+fetch_closing_data form answer state = Move movement.Close (λ came. fetch_ending form (closed_as (told_of_close state.uploads came) answer) state)
 
 -- so many bytes one read asks for; more than so many can't be held; so many reads are enough, since each gives a byte
 -- but the last
@@ -366,7 +366,7 @@ abbrev pub grown : Fetch → List ℕ → (List ℕ → Tree) → (Answer → Tr
 grown form all on over = if nat_le (length all) most_bytes then on all else over (too_long form)
 
 -- what a read came to: bytes, the end, a failure, or that there was no memory
-abbrev pub on_data : Coding → Fetch → List ℕ → (List ℕ → Tree) → (Answer → Tree) → DealOutcome → Tree
+abbrev pub on_data : Coding → Fetch → List ℕ → (List ℕ → Tree) → (Answer → Tree) → NetOutcome → Tree
 on_data coding form all on over (came.Read []) = over (fetched coding form all)
 on_data coding form all on over (came.Read (byte ∷ bytes)) = grown form (all ++ byte ∷ bytes) on over
 on_data coding form all on over (came.Failed kind) = over (unfetched form kind)
@@ -375,9 +375,9 @@ on_data coding form all on over other = over (too_long form)
 
 -- the data connection is read to its end, by so many reads at most, after these bytes
 unfoldable pub gathering : Coding → Fetch → ℕ → List ℕ → State → Tree
-gathering coding form zero all state = fetch_parting form (too_long form) state
+gathering coding form zero all state = fetch_closing_data form (too_long form) state
 gathering coding form (suc left) all state =
-    Move (movement.Read chunk) (on_data coding form all (λ more. gathering coding form left more state) (λ answer. fetch_parting form answer state))
+    Move (movement.Read chunk) (on_data coding form all (λ more. gathering coding form left more state) (λ answer. fetch_closing_data form answer state))
 
 -- all that it carries is read; it is closed; and the transfer's last reply is heard
 abbrev pub fetching : Coding → Fetch → State → Tree
@@ -394,7 +394,7 @@ abbrev pub giving_up : FtpError → State → Tree
 giving_up fault state = Leaf (Fault fault) (with_abandoned state)
 
 -- what a write of bytes came to: so many of them have gone out, or a failure
-abbrev pub on_sent : List ℕ → (List ℕ → Tree) → State → DealOutcome → Tree
+abbrev pub on_sent : List ℕ → (List ℕ → Tree) → State → NetOutcome → Tree
 on_sent rest on state (came.Wrote count) = on (drop count rest)
 on_sent rest on state (came.Failed kind) = giving_up (Connection (Io kind)) state
 on_sent rest on state other = giving_up (Connection (Io WriteZero)) state
@@ -402,7 +402,7 @@ on_sent rest on state other = giving_up (Connection (Io WriteZero)) state
 -- bytes are sent, by so many writes at most, and then the answer is the number of all; as many writes as bytes are
 -- enough, since each takes one
 unfoldable pub sending : ℕ → ℕ → List ℕ → State → Tree
-sending left total [] state = fetch_parting Whole (answer.Count total) state
+sending left total [] state = fetch_closing_data Whole (answer.Count total) state
 sending zero total (byte ∷ rest) state = giving_up (Connection (Io WriteZero)) state
 sending (suc left) total (byte ∷ rest) state =
     Move (movement.Write (byte ∷ rest)) (on_sent (byte ∷ rest) (λ more. sending left total more state) state)
@@ -556,15 +556,15 @@ abbrev pub listening : Coding → Call → ℕ → State → Tree
 listening coding call offset state = Look Here (listening_at coding call offset state)
 
 -- who opens the data connection, and how it is asked for
-abbrev pub agreeing : Mode → Coding → Call → ℕ → State → Tree
-agreeing mode.Active coding call offset state = listening coding call offset state
-agreeing mode.Passive coding call offset state = from_turn coding call (Passive offset) state
-agreeing mode.ExtendedPassive coding call offset state = from_turn coding call (ExtendedPassive offset) state
+abbrev pub opening_data : Mode → Coding → Call → ℕ → State → Tree
+opening_data mode.Active coding call offset state = listening coding call offset state
+opening_data mode.Passive coding call offset state = from_turn coding call (Passive offset) state
+opening_data mode.ExtendedPassive coding call offset state = from_turn coding call (ExtendedPassive offset) state
 
 -- a data connection is negotiated, for a transfer that begins at this offset, where it can be opened
 abbrev pub negotiating_unless : Option FtpError → Coding → Call → ℕ → State → Tree
 negotiating_unless (Some fault) coding call offset state = Leaf (Fault fault) state
-negotiating_unless None coding call offset state = agreeing state.settings.mode coding call offset state
+negotiating_unless None coding call offset state = opening_data state.settings.mode coding call offset state
 
 abbrev pub negotiating : Coding → Call → ℕ → State → Tree
 negotiating coding call offset state = negotiating_unless (cannot_open state.counts) coding call offset state
@@ -581,8 +581,8 @@ abbrev pub aborting : Coding → Call → State → Tree
 aborting coding call state = saying coding (Some command.Abor) (breaking_off coding call state)
 
 -- how a transfer is brought to its end
-abbrev pub parting : Coding → Call → State → Tree
-parting coding call state = if aborts call then aborting coding call state else closing coding call state
+abbrev pub closing_data : Coding → Call → State → Tree
+closing_data coding call state = if aborts call then aborting coding call state else closing coding call state
 
 -- whether a transfer is an upload, of the one that is opened, or of the one that is owed
 abbrev pub uploads_beside : Owed → Bool → Bool → Bool
@@ -602,5 +602,5 @@ entered call state = if negotiates call then opened_from call state else if fini
 abbrev pub dialogue : Coding → Call → State → Tree
 dialogue coding call state =
     if negotiates call then negotiating coding call state.settings.restart_offset (opened_from call state)
-    else if finishes call then parting coding call (with_left state)
+    else if finishes call then closing_data coding call (with_left state)
     else from_turn coding call First state

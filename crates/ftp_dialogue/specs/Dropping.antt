@@ -8,19 +8,19 @@ use Rattle.ftp_dialogue.specs.Steps.Stages.{has_sent, is_out}
 use Rattle.ftp_dialogue.specs.Unanswered.{missed}
 use Rattle.ftp_calls.specs.declared.exchange.Turn.{Turn}
 use Rattle.ftp_calls.specs.declared.exchange.Turn.TheVariants.{Aborted}
-use Rattle.ftp_dialogue.specs.declared.stage.Aborting.TheVariants.{Wording, Sending, Parting}
-use Rattle.ftp_dialogue.specs.declared.stage.Agreeing.{Agreeing}
-use Rattle.ftp_dialogue.specs.declared.stage.Agreeing.TheVariants.{Negotiating, Locating, Binding, Asking}
+use Rattle.ftp_dialogue.specs.declared.stage.Aborting.TheVariants.{Wording, Sending, ClosingData}
+use Rattle.ftp_dialogue.specs.declared.stage.OpeningData.{OpeningData}
+use Rattle.ftp_dialogue.specs.declared.stage.OpeningData.TheVariants.{Negotiating, Locating, Binding, Asking}
 use Rattle.ftp_dialogue.specs.declared.stage.Resyncing.{Resyncing as Resync}
 use Rattle.ftp_dialogue.specs.declared.stage.Resyncing.TheVariants as resync
 use Rattle.ftp_dialogue.specs.declared.stage.Asking.TheVariants.{PeerPort, Connection, Peer, Accepting}
 use Rattle.ftp_dialogue.specs.declared.stage.Stage.{Stage}
-use Rattle.ftp_dialogue.specs.declared.stage.Stage.TheVariants.{At, Saying, Hearing, Arming, Resyncing, Closing, Aborting, Fetching}
+use Rattle.ftp_dialogue.specs.declared.stage.Stage.TheVariants.{At, Saying, Hearing, Arming, Resyncing, Closing, Aborting, Transferring}
 use Rattle.ftp_dialogue.specs.declared.stage.Stage.TheVariants as stages
 use Rattle.ftp_dialogue.specs.declared.state.State.{State}
 
 -- a data command was accepted, and its peer is waited for
-abbrev pub awaits_peer : Agreeing → Bool
+abbrev pub awaits_peer : OpeningData → Bool
 awaits_peer (Asking turn (Peer opened)) = true
 awaits_peer (Asking turn (Accepting address left opened)) = true
 awaits_peer (Asking turn (PeerPort port)) = false
@@ -32,8 +32,8 @@ awaits_peer (Binding address offset) = false
 -- a data command was accepted, so that the server owes the last reply of its transfer, which isn't counted yet: its peer is
 -- waited for, or a whole file or listing is under way
 abbrev pub owes_last_reply : Stage → Bool
-owes_last_reply (Fetching fetching) = true
-owes_last_reply (stages.Agreeing agreeing) = awaits_peer agreeing
+owes_last_reply (Transferring fetching) = true
+owes_last_reply (stages.OpeningData opening_data) = awaits_peer opening_data
 owes_last_reply (At turn) = false
 owes_last_reply (Saying line awaits) = false
 owes_last_reply (Hearing awaits) = false
@@ -83,7 +83,7 @@ awaits_abort (At turn) = is_abort_turn turn
 awaits_abort (Hearing awaits) = is_abort_turn awaits.turn
 awaits_abort (Aborting Wording) = false
 awaits_abort (Aborting (Sending line)) = false
-awaits_abort (Aborting Parting) = true
+awaits_abort (Aborting ClosingData) = true
 awaits_abort other = false
 
 -- the reply of a command that was begun is due from now on

@@ -9,11 +9,11 @@ use Rattle.ftp_transport.specs.declared.request.Request.{Request}
 use Rattle.ftp_transport.specs.declared.request.Request.TheVariants.{Connect, Listen, Accept, Build}
 use Rattle.ftp_dialogue.specs.declared.model.Played.{Played}
 use Rattle.ftp_dialogue.specs.declared.model.Played.TheVariants.{Done, Pending}
-use Rattle.ftp_dialogue.specs.declared.model.Standing.{Standing}
+use Rattle.ftp_dialogue.specs.declared.model.PlayState.{PlayState}
 use Rattle.ftp_dialogue.specs.declared.state.Settings.{Settings}
 
 -- where the run stands when a call is done, or while it waits
-abbrev pub reached : Played → Standing
+abbrev pub reached : Played → PlayState
 reached (Done answer s) = s
 reached (Pending wait s) = s
 
@@ -36,7 +36,7 @@ LeadsTo peer (Accept deadline) = Unit {0}
 LeadsTo peer (Build address) = socket_ip address ≡ socket_ip peer
 
 -- each connection that a call asks for, from here, leads to the host of the control connection's peer
-pub record AsksPeerAlone (s : Standing) (played : Played) : Type 0 where
+pub record AsksPeerAlone (s : PlayState) (played : Played) : Type 0 where
   pub more : List Request
-  pub asked : (reached played).dealings.asked ≡ s.dealings.asked ++ more
+  pub asked : (reached played).net_record.asked ≡ s.net_record.asked ++ more
   pub to_peer : All (LeadsTo s.peer) more

@@ -1,6 +1,6 @@
 pub mod CatchingUp
 pub mod Coding
-pub mod Deals
+pub mod NetEvents
 pub mod Dialogue
 pub mod Dropping
 pub mod Gathering

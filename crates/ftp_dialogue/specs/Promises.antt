@@ -17,7 +17,7 @@ use Rattle.ftp_base.specs.declared.types.fault.FtpError.{FtpError}
 use Rattle.ftp_base.specs.declared.types.fault.FtpError.TheVariants.{ConnectionError, OutOfMemory, SessionFailed}
 use Rattle.ftp_base.specs.declared.types.fault.ConnectionError.TheVariants.{Io}
 use Rattle.ftp_transport.specs.declared.room.Room.{Room}
-use Rattle.ftp_dialogue.specs.declared.model.DealOutcome.{DealOutcome}
+use Rattle.ftp_dialogue.specs.declared.model.NetOutcome.{NetOutcome}
 use Rattle.ftp_transport.specs.Told.{Told, HasRoomFor, HasFailed, NoneFailed}
 use Rattle.ftp_transport.specs.Memory.{IsGiven}
 use Rattle.ftp_control.specs.Reading.{GoesOn as GoesBeyond}
@@ -34,11 +34,11 @@ use Rattle.ftp_calls.specs.declared.exchange.Row.{Row}
 use Rattle.ftp_calls.specs.declared.exchange.Row.TheVariants.{Exchanges, Arms, Resyncs, Sets, Moves}
 use Rattle.ftp_calls.specs.declared.call.Call.{Call}
 use Rattle.ftp_calls.specs.declared.call.Call.TheVariants.{Drain}
-use Rattle.ftp_dialogue.specs.declared.model.Standing.{Standing}
+use Rattle.ftp_dialogue.specs.declared.model.PlayState.{PlayState}
 use Rattle.ftp_dialogue.specs.declared.model.Played.TheVariants as played
 use Rattle.ftp_dialogue.specs.State.{SessionValue, LetsGo}
 use Rattle.ftp_dialogue.specs.Coding.{Coding}
-use Rattle.ftp_dialogue.specs.Deals.{Deal, Deals, PartedIs, dealings_of, outcomes_of}
+use Rattle.ftp_dialogue.specs.NetEvents.{NetEvent, NetEvents, PartedIs, net_record_of, outcomes_of}
 use Rattle.ftp_dialogue.specs.declared.state.State.{State}
 use Rattle.ftp_calls.specs.Exchanges.{row_of, drains, finishes, is_local, negotiates}
 use Rattle.ftp_dialogue.specs.Dialogue.{Expected, expected_of, Tree, Say, Hear, Look, Ask, Build, Move, Leaf, dialogue, entered, with_left}
@@ -65,12 +65,12 @@ IsSuccess answers.NoTransfer = ⊥
 IsSuccess (Fault fault) = ⊥
 
 -- a command's line was said after what was unsent, or nothing was
-abbrev pub Says : Coding → Option Command → Standing → Standing → Type 0
+abbrev pub Says : Coding → Option Command → PlayState → PlayState → Type 0
 Says coding None s t = (t.said ≡ s.said) × (t.unsent ≡ s.unsent)
 Says coding (Some command) s t = (line : List ℕ) × (wire coding.encode (text_of command) ≡ Ok line) × (t.said ≡ s.said ++ s.unsent ++ line) × (t.unsent ≡ [])
 
 -- one exchange: its line was said, if it has one, and then one reply of an accepted status was consumed
-pub record Exchanged (coding : Coding) (exchange : Exchange) (reply : Response) (s t : Standing) : Type 0 where
+pub record Exchanged (coding : Coding) (exchange : Exchange) (reply : Response) (s t : PlayState) : Type 0 where
   pub says : Says coding exchange.says s t
   pub code : ℕ
   pub whole : outcome s.state.settings.reply_rule (expected_of exchange.hears).form s.bytes s.ended ≡ Whole reply.body code
@@ -101,11 +101,11 @@ goes_on_with Drains reply = false
 goes_on_with Stops reply = code_of reply.status == code_of TransferAborted
 
 -- nothing was said or consumed
-abbrev pub IsSilent : Standing → Standing → Type 0
+abbrev pub IsSilent : PlayState → PlayState → Type 0
 IsSilent s t = (t.said ≡ s.said) × (t.unsent ≡ s.unsent) × (t.bytes ≡ s.bytes)
 
 -- an exchange where a row is one and it was made, else nothing
-abbrev pub ExchangedIf : Bool → Coding → Row → Standing → Standing → Type 0
+abbrev pub ExchangedIf : Bool → Coding → Row → PlayState → PlayState → Type 0
 ExchangedIf true coding (Exchanges exchange) s t = (reply : Response) × Exchanged coding exchange reply s t
 ExchangedIf true coding (Arms offset) s t = IsSilent s t
 ExchangedIf true coding Resyncs s t = Unit {0}
@@ -114,14 +114,14 @@ ExchangedIf true coding (Moves movement) s t = IsSilent s t
 ExchangedIf false coding row s t = IsSilent s t
 
 -- an exchange, and the next row where its reply goes on
-pub record ExchangesTwo (coding : Coding) (exchange : Exchange) (next : Row) (s t : Standing) : Type 0 where
+pub record ExchangesTwo (coding : Coding) (exchange : Exchange) (next : Row) (s t : PlayState) : Type 0 where
   pub reply : Response
-  pub between : Standing
+  pub between : PlayState
   pub first : Exchanged coding exchange reply s between
   pub second : ExchangedIf (goes_on_with exchange.ending reply) coding next between t
 
 -- a call that succeeded: its first row, and its second where the first is an exchange whose reply goes on
-abbrev pub SucceedsBy : Coding → Row → Row → Standing → Standing → Type 0
+abbrev pub SucceedsBy : Coding → Row → Row → PlayState → PlayState → Type 0
 SucceedsBy coding (Exchanges exchange) next s t = ExchangesTwo coding exchange next s t
 SucceedsBy coding (Arms offset) next s t = IsSilent s t
 SucceedsBy coding Resyncs next s t = Unit {0}
@@ -129,11 +129,11 @@ SucceedsBy coding (Sets setting) next s t = IsSilent s t
 SucceedsBy coding (Moves movement) next s t = IsSilent s t
 
 -- of a call that opens a data connection, or hears the end of a transfer, the dialogue alone says what it did
-abbrev pub SucceedsUnless : Bool → Coding → Call → Standing → Standing → Type 0
+abbrev pub SucceedsUnless : Bool → Coding → Call → PlayState → PlayState → Type 0
 SucceedsUnless true coding call s t = Unit {0}
 SucceedsUnless false coding call s t = SucceedsBy coding (row_of call First) (row_of call Second) s t
 
-abbrev pub Succeeds : Coding → Call → Standing → Standing → Type 0
+abbrev pub Succeeds : Coding → Call → PlayState → PlayState → Type 0
 Succeeds coding call s t = SucceedsUnless (negotiates call || finishes call || drains call) coding call s t
 
 -- a call failed
@@ -161,15 +161,15 @@ IsApart (Fault fault) = (fault ≡ OutOfMemory) ⊎ ((kind : ErrorKind) × (faul
 IsApart other = ⊥
 
 -- where a run stands in a session, where these bytes are still to come, and these outcomes
-abbrev pub standing : SessionValue → List ℕ → Bool → List DealOutcome → Standing
-standing v more ended outcomes = record {
+abbrev pub play_state : SessionValue → List ℕ → Bool → List NetOutcome → PlayState
+play_state v more ended outcomes = record {
   state = v.state;
   failed = v.channel.failed;
   said = v.channel.told.sent;
   unsent = v.channel.unsent;
   local = v.channel.told.given.local;
   peer = v.channel.told.given.peer;
-  dealings = dealings_of v.net;
+  net_record = net_record_of v.net;
   bytes = untaken v.channel ++ more;
   ended = ended;
   outcomes = outcomes;
@@ -177,15 +177,15 @@ standing v more ended outcomes = record {
 
 -- whatever still comes, and whatever room there is, this holds of where a run stood in a session and where it
 -- stands now, where these bytes came between and this happened beside the control connection
-abbrev pub However : SessionValue → List ℕ → List Deal → SessionValue → (Room → Standing → Standing → Type 0) → Type 0
+abbrev pub However : SessionValue → List ℕ → List NetEvent → SessionValue → (Room → PlayState → PlayState → Type 0) → Type 0
 However old came answered new Holds =
-    (room : Room) (more : List ℕ) (ended : Bool) (outcomes : List DealOutcome)
+    (room : Room) (more : List ℕ) (ended : Bool) (outcomes : List NetOutcome)
     → HasRoomFor room (length new.channel.told.sent) → GoesBeyond new.channel.ended more ended
-    → Holds room (standing old (came ++ more) ended (outcomes_of answered ++ outcomes)) (standing new more ended outcomes)
+    → Holds room (play_state old (came ++ more) ended (outcomes_of answered ++ outcomes)) (play_state new more ended outcomes)
 
 -- these bytes came, this happened beside the control connection, other bytes may have gone out, and no call failed;
 -- what was said stays said, no more is untaken than was and came, and what is received was at hand, if it was before
-pub record Goes (link : Link) (came : List ℕ) (answered : List Deal) (old new : SessionValue) : Type 0 where
+pub record Goes (link : Link) (came : List ℕ) (answered : List NetEvent) (old new : SessionValue) : Type 0 where
   pub over : GoesBeyond old.channel.ended came new.channel.ended
   pub received : link.tells → new.channel.told.received ≡ old.channel.told.received ++ came
   pub given : link.tells → new.channel.told.given ≡ old.channel.told.given
@@ -194,13 +194,13 @@ pub record Goes (link : Link) (came : List ℕ) (answered : List Deal) (old new 
   pub said : link.tells → length (said old.channel) ≤ length (said new.channel)
   pub untaken : length (untaken new.channel) ≤ length (untaken old.channel) + length came
   pub at_hand : link.tells → IsGiven old.channel.told → IsGiven new.channel.told
-  pub deals : link.tells → Deals link.builds answered old.net new.net
+  pub net_events : link.tells → NetEvents link.builds answered old.net new.net
 
 -- one tree is left of another, and is a place of it
 pub record Leads (link : Link) (tree tree' : Tree) (old new : SessionValue) : Type 0 where
   pub within : Within tree' tree
   pub came : List ℕ
-  pub answered : List Deal
+  pub answered : List NetEvent
   pub goes : Goes link came answered old new
   pub plays : link.tells → Resumes (modes_of old) old.channel.kept tree → However old came answered new (λ room s t. play room tree s ≡ play room tree' t)
 
@@ -216,7 +216,7 @@ IsOf answer tree = IsFault answer ⊎ ((state : State) × Within (Leaf answer st
 pub record Completes (link : Link) (tree : Tree) (answer : Answer) (old new : SessionValue) : Type 0 where
   pub is_of : IsOf answer tree
   pub came : List ℕ
-  pub answered : List Deal
+  pub answered : List NetEvent
   pub goes : Goes link came answered old new
   pub keeps : KeepsNoReply came old new
   pub plays : link.tells → Resumes (modes_of old) old.channel.kept tree → However old came answered new (λ room s t. play room tree s ≡ played.Done answer t)
@@ -351,9 +351,9 @@ pub record Wired (link : Link) (coding : Coding) (call : Call) (old new : Sessio
   pub last : SessionValue
   pub lets_go : LetsGo link.tells last new
   pub came : List ℕ
-  pub answered : List Deal
+  pub answered : List NetEvent
   pub goes : Goes link came answered (begun_by call old) last
-  pub succeeds : link.tells → Resumes (modes_of old) old.channel.kept (dialogue coding call old.state) → Succeeds coding call (standing old came last.channel.ended (outcomes_of answered)) (standing last [] last.channel.ended [])
+  pub succeeds : link.tells → Resumes (modes_of old) old.channel.kept (dialogue coding call old.state) → Succeeds coding call (play_state old came last.channel.ended (outcomes_of answered)) (play_state last [] last.channel.ended [])
 
 pub record PlaysAlone (link : Link) (coding : Coding) (call : Call) (old new : SessionValue) (answer : Answer) : Type 0 where
   pub wired : IsSuccess answer → Wired link coding call old new
@@ -388,7 +388,7 @@ pub record Rests (link : Link) (old new : SessionValue) : Type 0 where
   pub came : List ℕ
   pub goes : Goes link came [] old new
   pub failed : new.channel.failed ≡ old.channel.failed
-  pub stays : link.tells → (more : List ℕ) (ended : Bool) (outcomes : List DealOutcome) → standing old (came ++ more) ended outcomes ≡ standing new more ended outcomes
+  pub stays : link.tells → (more : List ℕ) (ended : Bool) (outcomes : List NetOutcome) → play_state old (came ++ more) ended outcomes ≡ play_state new more ended outcomes
 
 -- the connection failed in a read, which was counted
 pub record FailsRead (link : Link) (fault : FtpError) (at new : SessionValue) : Type 0 where

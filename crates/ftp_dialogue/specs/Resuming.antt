@@ -6,7 +6,7 @@ use Rattle.ftp_control.specs.declared.control.rule.ReplyRule.{ReplyRule}
 use Rattle.ftp_control.specs.Channel.{rule_left}
 use Rattle.ftp_base.specs.declared.types.fault.FtpError.{FtpError}
 use Rattle.ftp_transport.specs.declared.request.RequestOutcome.{RequestOutcome}
-use Rattle.ftp_dialogue.specs.declared.model.DealOutcome.{DealOutcome}
+use Rattle.ftp_dialogue.specs.declared.model.NetOutcome.{NetOutcome}
 use Rattle.ftp_dialogue.specs.declared.state.State.{State}
 use Rattle.ftp_dialogue.specs.Lenient.{SaysNothingYet}
 use Rattle.ftp_dialogue.specs.State.{SessionValue}
@@ -32,7 +32,7 @@ Silent from to (Hear codes next) = ⊥
 Silent from to (Look end next) = (address : SocketAddr) × Silent from to (next address)
 Silent from to (Ask request next) = (answer : RequestOutcome) × Silent from to (next answer)
 Silent from to (Build address next) = (fault : Option FtpError) × Silent from to (next fault)
-Silent from to (Move movement next) = (came : DealOutcome) × Silent from to (next came)
+Silent from to (Move movement next) = (came : NetOutcome) × Silent from to (next came)
 Silent from to (Leaf answer state) = to ≡ state
 
 -- where the tree hears first, what is kept of a reply goes on in the mode in which it began, and says nothing yet
@@ -43,5 +43,5 @@ Resumes modes kept (Hear codes next) = (modes.under ≡ modes.setting) × SaysNo
 Resumes modes kept (Look end next) = (address : SocketAddr) → Resumes modes kept (next address)
 Resumes modes kept (Ask request next) = (answer : RequestOutcome) → Resumes modes kept (next answer)
 Resumes modes kept (Build address next) = (fault : Option FtpError) → Resumes modes kept (next fault)
-Resumes modes kept (Move movement next) = (came : DealOutcome) → Resumes modes kept (next came)
+Resumes modes kept (Move movement next) = (came : NetOutcome) → Resumes modes kept (next came)
 Resumes modes kept (Leaf answer state) = Unit {0}

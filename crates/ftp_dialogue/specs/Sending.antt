@@ -5,8 +5,8 @@ use Rattle.futures.specs.declared.task.Poll.{Poll}
 use Rattle.futures.specs.declared.task.Poll.TheVariants as poll
 use Rattle.ftp_base.specs.Ascii.{converted}
 use Rattle.ftp_transport.specs.Told.{HasFailed, Told}
-use Rattle.ftp_dialogue.specs.Deals.{WriteIs}
-use Rattle.ftp_dialogue.specs.declared.model.DealOutcome.TheVariants as came
+use Rattle.ftp_dialogue.specs.NetEvents.{WriteIs}
+use Rattle.ftp_dialogue.specs.declared.model.NetOutcome.TheVariants as came
 
 -- what goes out for bytes that come after CR or not
 abbrev pub on_wire : Bool → Bool → List ℕ → List ℕ

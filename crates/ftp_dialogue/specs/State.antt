@@ -12,7 +12,7 @@ use Rattle.ftp_dialogue.specs.declared.state.Owed.{Owed}
 use Rattle.ftp_dialogue.specs.declared.state.Owed.TheVariants.{Nothing, Live, Left}
 use Rattle.ftp_dialogue.specs.declared.state.State.{State}
 use Rattle.ftp_dialogue.specs.declared.state.Settings.{Settings}
-use Rattle.ftp_dialogue.specs.Deals.{Net, PartedIs}
+use Rattle.ftp_dialogue.specs.NetEvents.{Net, PartedIs}
 
 -- its control channel, what it keeps beside it, and what stands beside the control connection
 pub record SessionValue : Type 0 where

@@ -54,7 +54,7 @@ impl<Tr: Network> Machine<Tr> {
         match aborting {
             Aborting::Wording => self.word(asker, alloc, encoding, call, stage),
             Aborting::Sending(line) => self.send(asker, call, line, stage, w),
-            Aborting::Parting => self.part(asker, call, stage, w),
+            Aborting::ClosingData => self.part(asker, call, stage, w),
         }
     }
 
@@ -107,7 +107,7 @@ impl<Tr: Network> Machine<Tr> {
     {
         match self.say(asker, &mut line, w) {
             Step::Next => {
-                go_to(stage, Stage::Aborting(Aborting::Parting));
+                go_to(stage, Stage::Aborting(Aborting::ClosingData));
                 Step::Next
             }
             Step::Pending => {
@@ -134,7 +134,7 @@ impl<Tr: Network> Machine<Tr> {
         ensures end { self.new.channel.ended ≡ self.old.channel.ended }
         ensures breaks { (coding : Coding) →
             BreaksOff (asking (A.builds _asker.now) A.may_wait (polling Tr.Conn.PollConn)) coding _call.now
-            (Stage.Aborting Aborting.Parting) stage.new self.old self.new result }
+            (Stage.Aborting Aborting.ClosingData) stage.new self.old self.new result }
     {
         pass_over(self.close_data());
         go_to(stage, Stage::At(Turn::Aborted));

@@ -6,7 +6,7 @@ ghost use Rattle.std.specs.Prelude.{◌≡◌, ◌<◌, ℕ, length, None, Some,
 ghost use Rattle.ftp_calls.specs.Exchanges.{finishes, is_local};
 ghost use Rattle.ftp_calls.specs.declared.exchange.Movement.TheVariants as movement;
 ghost use Rattle.ftp_dialogue.specs.Coding.{Coding};
-ghost use Rattle.ftp_dialogue.specs.Deals.{MovementIs, ReadIs, WriteIs, answers};
+ghost use Rattle.ftp_dialogue.specs.NetEvents.{MovementIs, ReadIs, WriteIs, answers};
 ghost use Rattle.ftp_dialogue.specs.Dialogue.{moved_answer, told_of_close};
 ghost use Rattle.ftp_dialogue.specs.Link.{asking, polling};
 ghost use Rattle.ftp_dialogue.specs.Play.{Taken, lacks};
@@ -17,7 +17,7 @@ use super::asks::Asks;
 use super::machine::Machine;
 use super::stage::{Stage, Step, go_to};
 use super::{Answer, Call, Owed, Setting, rule_by};
-use crate::model::DealOutcome;
+use crate::model::NetOutcome;
 use ftp_base::types::{Bytes, ConnectionError, FtpError};
 use ftp_calls::exchange::{Turn, drains, finishes, is_local, of_transfer};
 use ftp_transport::{Conn, Network, PollConn, Tells};
@@ -65,19 +65,19 @@ impl<Tr: Network> Machine<Tr> {
     }
 
     /// Closes the data connection, where there is one, and hands it back to the transport.
-    pub(super) fn close_data(&mut self) -> DealOutcome
+    pub(super) fn close_data(&mut self) -> NetOutcome
         ensures beside { self.new ≡ record self.old { net = self.new.net } }
         ensures closes { Tr.Conn.tells →
             MovementIs movement.Close result self.old.net self.new.net }
     {
         let Some(mut conn) = self.data_conn.take() else {
-            return DealOutcome::Closed;
+            return NetOutcome::Closed;
         };
         let outcome = match conn.close() {
-            Ok(()) => DealOutcome::Closed,
+            Ok(()) => NetOutcome::Closed,
             Err(kind) => {
                 self.failures.note_data(true);
-                DealOutcome::Failed(kind)
+                NetOutcome::Failed(kind)
             }
         };
         self.transport.closed(conn);
@@ -110,16 +110,16 @@ impl<Tr: Network> Machine<Tr> {
 }
 
 /// What a close came to is told to nobody.
-pub(super) fn pass_over(outcome: DealOutcome) {
+pub(super) fn pass_over(outcome: NetOutcome) {
     drop(outcome);
 }
 
 /// The fault of a close that is told before the reply's: that of an upload.
-pub(super) fn told_of_close(uploads: bool, outcome: &DealOutcome) -> Option<ErrorKind>
+pub(super) fn told_of_close(uploads: bool, outcome: &NetOutcome) -> Option<ErrorKind>
     ensures { result ≡ told_of_close uploads outcome.now }
 {
     match outcome {
-        DealOutcome::Failed(kind) if uploads => Some(*kind),
+        NetOutcome::Failed(kind) if uploads => Some(*kind),
         _ => None,
     }
 }
@@ -212,7 +212,7 @@ where
 }
 
 /// One read, of as many bytes as the buffer has at most.
-fn read_once<C: Conn>(conn: &mut C, mut buffer: Vec<u8>) -> DealOutcome
+fn read_once<C: Conn>(conn: &mut C, mut buffer: Vec<u8>) -> NetOutcome
     requires some { 0 < length buffer.items }
     ensures reads { C.tells →
         ReadIs (length buffer.items) result (C.told conn.old) (C.told conn.new) }
@@ -221,37 +221,37 @@ fn read_once<C: Conn>(conn: &mut C, mut buffer: Vec<u8>) -> DealOutcome
     match conn.read(&mut buffer) {
         Ok(count) => {
             buffer.truncate(count);
-            DealOutcome::Read(Bytes::from_vec(buffer))
+            NetOutcome::Read(Bytes::from_vec(buffer))
         }
-        Err(kind) => DealOutcome::Failed(kind),
+        Err(kind) => NetOutcome::Failed(kind),
     }
 }
 
 /// One write.
-fn write_once<C: Conn>(conn: &mut C, bytes: &[u8]) -> DealOutcome
+fn write_once<C: Conn>(conn: &mut C, bytes: &[u8]) -> NetOutcome
     requires some { 0 < length bytes.now }
     ensures writes { C.tells → WriteIs bytes.now result (C.told conn.old) (C.told conn.new) }
     ensures answers { answers (movement.Write bytes.now) result ≡ true }
 {
     match conn.write(bytes) {
-        Ok(count) => DealOutcome::Wrote(count),
-        Err(kind) => DealOutcome::Failed(kind),
+        Ok(count) => NetOutcome::Wrote(count),
+        Err(kind) => NetOutcome::Failed(kind),
     }
 }
 
 /// What was done on the data connection is the answer.
-fn moved_answer(outcome: DealOutcome) -> Answer
+fn moved_answer(outcome: NetOutcome) -> Answer
     ensures { result ≡ moved_answer outcome }
 {
     match outcome {
-        DealOutcome::Answered(_outcome) => Answer::Unit,
-        DealOutcome::Built(_fault) => Answer::Unit,
-        DealOutcome::Read(bytes) => Answer::Bytes(bytes),
-        DealOutcome::Wrote(count) => Answer::Count(count as u64),
-        DealOutcome::Closed => Answer::Unit,
-        DealOutcome::Failed(kind) => {
+        NetOutcome::Answered(_outcome) => Answer::Unit,
+        NetOutcome::Built(_fault) => Answer::Unit,
+        NetOutcome::Read(bytes) => Answer::Bytes(bytes),
+        NetOutcome::Wrote(count) => Answer::Count(count as u64),
+        NetOutcome::Closed => Answer::Unit,
+        NetOutcome::Failed(kind) => {
             Answer::Fault(FtpError::ConnectionError(ConnectionError::Io(kind)))
         }
-        DealOutcome::NoMemory => Answer::Fault(FtpError::OutOfMemory),
+        NetOutcome::NoMemory => Answer::Fault(FtpError::OutOfMemory),
     }
 }

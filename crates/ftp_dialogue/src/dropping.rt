@@ -9,7 +9,7 @@ ghost use Rattle.ftp_dialogue.specs.Dropping.{DropsCall, abort_unanswered, abort
 use super::Call;
 use super::aborting::is_out;
 use super::machine::Machine;
-use super::stage::{Aborting, Agreeing, Asking, Resyncing, Stage};
+use super::stage::{Aborting, Asking, OpeningData, Resyncing, Stage};
 use ftp_calls::exchange::{Turn, aborts, finishes, says_at};
 use ftp_transport::Network;
 
@@ -91,7 +91,7 @@ fn abort_unanswered(stage: &Stage) -> bool
 {
     match stage {
         Stage::Aborting(Aborting::Sending(line)) => line.is_none(),
-        Stage::Aborting(Aborting::Parting) => true,
+        Stage::Aborting(Aborting::ClosingData) => true,
         _ => is_out(stage),
     }
 }
@@ -103,7 +103,7 @@ fn awaits_abort(stage: &Stage) -> bool
     match stage {
         Stage::At(turn) => matches!(turn, Turn::Aborted),
         Stage::Hearing(awaits) => matches!(awaits.turn, Turn::Aborted),
-        Stage::Aborting(aborting) => matches!(aborting, Aborting::Parting),
+        Stage::Aborting(aborting) => matches!(aborting, Aborting::ClosingData),
         _ => false,
     }
 }
@@ -114,8 +114,8 @@ fn owes_last_reply(stage: &Stage) -> bool
     ensures { result ≡ owes_last_reply stage.now }
 {
     match stage {
-        Stage::Fetching(_) => true,
-        Stage::Agreeing(Agreeing::Asking(_, asking)) => {
+        Stage::Transferring(_) => true,
+        Stage::OpeningData(OpeningData::Asking(_, asking)) => {
             matches!(asking, Asking::Peer(_) | Asking::Accepting(..))
         }
         _ => false,

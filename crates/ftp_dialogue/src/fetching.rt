@@ -20,7 +20,7 @@ use super::carrying::told_of_close;
 use super::gathered::{Gathered, More};
 use super::machine::Machine;
 use super::nodes::wants_memory;
-use super::stage::{Fetching, Stage, Step, go_to};
+use super::stage::{Stage, Step, Transferring, go_to};
 use super::{Answer, Call};
 use ftp_answers::read_listing;
 use ftp_base::encoding::Encoding;
@@ -47,7 +47,7 @@ impl<Tr: Network> Machine<Tr> {
         alloc: Global,
         encoding: &E,
         call: &Call,
-        fetching: Fetching,
+        fetching: Transferring,
         stage: &mut Stage,
         w: &mut W,
     ) -> Step
@@ -60,25 +60,25 @@ impl<Tr: Network> Machine<Tr> {
         ensures end { Tr.Conn.tells → Tr.Conn.may_wait →
             EndsAsTold self.old.channel.ended self.new.channel.ended self.old.channel.told }
         ensures breaks { BreaksOff (asking (A.builds asker.now) A.may_wait (polling Tr.Conn.PollConn)) (coding_of E.decoded E.encoded encoding.now) call.now
-            (Stage.Fetching fetching) stage.new self.old self.new result }
+            (Stage.Transferring fetching) stage.new self.old self.new result }
     {
         match fetching {
-            Fetching::Starting(Task::Fetch(form)) => self.start_fetch(
+            Transferring::Starting(Task::Fetch(form)) => self.start_fetch(
                 asker, alloc, call, form, stage, w,
             ),
-            Fetching::Starting(Task::Store(bytes)) => self.start_store(
+            Transferring::Starting(Task::Store(bytes)) => self.start_store(
                 asker, call, bytes, stage, w,
             ),
-            Fetching::Gathering(form, left, gathered) => self.gather(
+            Transferring::Gathering(form, left, gathered) => self.gather(
                 asker, alloc, encoding, call, form, left, gathered, stage, w,
             ),
-            Fetching::Sending(left, total, unsent) => self.send_more(
+            Transferring::Sending(left, total, unsent) => self.send_more(
                 asker, call, left, total, unsent, stage, w,
             ),
-            Fetching::Parting(form, answer) => self.part_fetched(
+            Transferring::ClosingData(form, answer) => self.part_fetched(
                 asker, call, form, answer, stage, w,
             ),
-            Fetching::Ending(form, answer) => self.end_fetched(
+            Transferring::Ending(form, answer) => self.end_fetched(
                 asker, alloc, call, form, answer, stage, w,
             ),
         }
@@ -100,12 +100,12 @@ impl<Tr: Network> Machine<Tr> {
         ensures moves { result ≡ Step.Pending → ⊥ }
         ensures end { self.new.channel.ended ≡ self.old.channel.ended }
         ensures breaks { (coding : Coding) → BreaksOff (asking (A.builds _asker.now) A.may_wait (polling Tr.Conn.PollConn)) coding _call.now
-            (Stage.Fetching (Fetching.Starting (tasks.Fetch form))) stage.new self.old self.new result }
+            (Stage.Transferring (Transferring.Starting (tasks.Fetch form))) stage.new self.old self.new result }
     {
         let none = Gathered::new(alloc);
         go_to(
             stage,
-            Stage::Fetching(Fetching::Gathering(form, MOST_READS, none)),
+            Stage::Transferring(Transferring::Gathering(form, MOST_READS, none)),
         );
         Step::Next
     }
@@ -131,12 +131,12 @@ impl<Tr: Network> Machine<Tr> {
         ensures waits { result ≡ Step.Pending → A.may_wait }
         ensures end { self.new.channel.ended ≡ self.old.channel.ended }
         ensures breaks { BreaksOff (asking (A.builds asker.now) A.may_wait (polling Tr.Conn.PollConn)) (coding_of E.decoded E.encoded encoding.now) _call.now
-            (Stage.Fetching (Fetching.Gathering form left gathered)) stage.new self.old self.new result }
+            (Stage.Transferring (Transferring.Gathering form left gathered)) stage.new self.old self.new result }
     {
         if left == 0 {
             go_to(
                 stage,
-                Stage::Fetching(Fetching::Parting(form, too_long(form))),
+                Stage::Transferring(Transferring::ClosingData(form, too_long(form))),
             );
             return Step::Next;
         }
@@ -146,13 +146,13 @@ impl<Tr: Network> Machine<Tr> {
         match self.read_more(asker, &mut gathered, w) {
             Poll::Ready(more) => {
                 let next = follow(alloc, encoding, form, left - 1, gathered, more);
-                go_to(stage, Stage::Fetching(next));
+                go_to(stage, Stage::Transferring(next));
                 Step::Next
             }
             Poll::Pending => {
                 go_to(
                     stage,
-                    Stage::Fetching(Fetching::Gathering(form, left, gathered)),
+                    Stage::Transferring(Transferring::Gathering(form, left, gathered)),
                 );
                 Step::Pending
             }
@@ -200,18 +200,18 @@ impl<Tr: Network> Machine<Tr> {
     ) -> Step
     where
         Tr::Conn: PollConn<W>,
-        requires of { FetchOf _call.now (Fetching.Parting form answer) }
+        requires of { FetchOf _call.now (Transferring.ClosingData form answer) }
         ensures moves { result ≡ Step.Pending → ⊥ }
         ensures end { self.new.channel.ended ≡ self.old.channel.ended }
         ensures breaks { (coding : Coding) → BreaksOff (asking (A.builds _asker.now) A.may_wait (polling Tr.Conn.PollConn)) coding _call.now
-            (Stage.Fetching (Fetching.Parting form answer)) stage.new self.old self.new result }
+            (Stage.Transferring (Transferring.ClosingData form answer)) stage.new self.old self.new result }
     {
         let outcome = self.close_data();
         let told = told_of_close(self.state.uploads, &outcome);
         drop(outcome);
         go_to(
             stage,
-            Stage::Fetching(Fetching::Ending(form, closed_as(told, answer))),
+            Stage::Transferring(Transferring::Ending(form, closed_as(told, answer))),
         );
         Step::Next
     }
@@ -230,12 +230,12 @@ impl<Tr: Network> Machine<Tr> {
     where
         Tr::Conn: PollConn<W>,
         requires going { self.old.channel.failed ≡ false }
-        requires of { FetchOf _call.now (Fetching.Ending form answer) }
+        requires of { FetchOf _call.now (Transferring.Ending form answer) }
         ensures waits { result ≡ Step.Pending → Tr.Conn.may_wait }
         ensures end { Tr.Conn.tells → Tr.Conn.may_wait →
             EndsAsTold self.old.channel.ended self.new.channel.ended self.old.channel.told }
         ensures breaks { (coding : Coding) → BreaksOff (asking (A.builds asker.now) A.may_wait (polling Tr.Conn.PollConn)) coding _call.now
-            (Stage.Fetching (Fetching.Ending form answer)) stage.new self.old self.new result }
+            (Stage.Transferring (Transferring.Ending form answer)) stage.new self.old self.new result }
     {
         let codes = [Status::ClosingDataConnection, Status::RequestedFileActionOk];
         match self.hear(asker, alloc, &codes, w) {
@@ -246,7 +246,10 @@ impl<Tr: Network> Machine<Tr> {
             }
             Poll::Ready(Err(fault)) => Step::Done(self.fail_fetch(form, answer, fault)),
             Poll::Pending => {
-                go_to(stage, Stage::Fetching(Fetching::Ending(form, answer)));
+                go_to(
+                    stage,
+                    Stage::Transferring(Transferring::Ending(form, answer)),
+                );
                 Step::Pending
             }
         }
@@ -281,20 +284,20 @@ fn follow<E: Encoding>(
     left: u64,
     gathered: Gathered,
     more: More,
-) -> Fetching
+) -> Transferring
     ensures { Follows (coding_of E.decoded E.encoded encoding.now) form left gathered more result }
 {
     match more {
         More::Grew => {
             if gathered.len() <= MOST_BYTES {
-                Fetching::Gathering(form, left, gathered)
+                Transferring::Gathering(form, left, gathered)
             } else {
-                Fetching::Parting(form, too_long(form))
+                Transferring::ClosingData(form, too_long(form))
             }
         }
-        More::Ended => Fetching::Parting(form, answer_of(alloc, encoding, form, gathered)),
-        More::Failed(kind) => Fetching::Parting(form, unfetched(form, kind)),
-        More::NoMemory => Fetching::Parting(form, Answer::Fault(FtpError::OutOfMemory)),
+        More::Ended => Transferring::ClosingData(form, answer_of(alloc, encoding, form, gathered)),
+        More::Failed(kind) => Transferring::ClosingData(form, unfetched(form, kind)),
+        More::NoMemory => Transferring::ClosingData(form, Answer::Fault(FtpError::OutOfMemory)),
     }
 }
 

@@ -15,7 +15,7 @@ ghost use Rattle.ftp_dialogue.specs.Dialogue.{opened_from};
 ghost use Rattle.ftp_dialogue.specs.Laws.{AsksPeerAlone, UsesPeerHost, offset_after};
 ghost use Rattle.ftp_dialogue.specs.Play.{play_call};
 ghost use Rattle.ftp_dialogue.specs.declared.model.Played.TheVariants.{Done};
-ghost use Rattle.ftp_dialogue.specs.declared.model.Standing.{Standing};
+ghost use Rattle.ftp_dialogue.specs.declared.model.PlayState.{PlayState};
 ghost use Rattle.ftp_dialogue.specs.declared.state.Owed.TheVariants.{Live};
 
 use crate::Call;
@@ -25,7 +25,7 @@ use crate::Call;
 /// as it is, and of what the session keeps the offset alone is taken away (RFC 959, section 3.2).
 pub fn a_live_transfer_refuses_another(call: &Call)
     requires { negotiates call.now ≡ true }
-    ensures refused { (coding : Coding) (room : Room) (s : Standing) (number : ℕ) →
+    ensures refused { (coding : Coding) (room : Room) (s : PlayState) (number : ℕ) →
         s.failed ≡ false → s.state.counts.owed ≡ Live number →
         play_call room coding call.now s
         ≡ Done (Fault DataConnectionAlreadyOpen) (record s { state = opened_from call.now s.state }) }
@@ -35,7 +35,7 @@ pub fn a_live_transfer_refuses_another(call: &Call)
 /// offset is left for the one after it, unless the session had failed before (RFC 3659, section 5).
 pub fn a_data_command_takes_the_offset_away(call: &Call)
     requires { negotiates call.now ≡ true }
-    ensures none_left { (coding : Coding) (room : Room) (s : Standing) →
+    ensures none_left { (coding : Coding) (room : Room) (s : PlayState) →
         s.failed ≡ false → offset_after (play_call room coding call.now s) ≡ 0 }
 {}
 
@@ -44,6 +44,6 @@ pub fn a_data_command_takes_the_offset_away(call: &Call)
 /// RFC 959, section 3.2). So a server can't turn its client against a third host, as in the bounce attack of RFC 2577.
 pub fn a_data_connection_leads_to_the_control_peer(call: &Call)
     requires { negotiates call.now ≡ true }
-    ensures to_peer { (coding : Coding) (room : Room) (s : Standing) →
+    ensures to_peer { (coding : Coding) (room : Room) (s : PlayState) →
         UsesPeerHost s.state.settings → AsksPeerAlone s (play_call room coding call.now s) }
 {}

@@ -51,7 +51,7 @@ impl<Tr: Network> Model for Machine<Tr> {
 impl<Tr: Network> Machine<Tr> {
     ghost use Rattle.std.specs.Prelude.{◌≡◌, is_none};
     ghost use Rattle.ftp_control.specs.Channel.{IsSound};
-    ghost use Rattle.ftp_dialogue.specs.Deals.{first_net};
+    ghost use Rattle.ftp_dialogue.specs.NetEvents.{first_net};
     ghost use Rattle.ftp_dialogue.specs.Sound.{Sound, holds};
     ghost use Rattle.ftp_dialogue.specs.State.{Begins, LetsGo};
 

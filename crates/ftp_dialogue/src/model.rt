@@ -22,7 +22,7 @@ pub struct Traffic {
 
 /// What stands beside the control connection.
 #[derive(Clone, Drop)]
-pub struct Dealings {
+pub struct NetRecord {
     /// What the transport and the builder were asked, in order.
     pub asked: Items<Request>,
     /// What went over the data connections that were closed and handed back, in order.
@@ -33,7 +33,7 @@ pub struct Dealings {
 
 /// What the transport or the builder was asked for, or what was done on the data connection, came to.
 #[derive(Clone, Drop)]
-pub enum DealOutcome {
+pub enum NetOutcome {
     /// A request of the transport came to this.
     Answered(RequestOutcome),
     /// The caller's builder made a connection; or gave this fault.
@@ -53,7 +53,7 @@ pub enum DealOutcome {
 /// Where a run stands.
 // Its largest parts come last: a clone that runs out of memory drops what it has made so far.
 #[derive(Clone, Drop)]
-pub struct Standing {
+pub struct PlayState {
     /// Whether the session has failed.
     pub failed: bool,
     /// All that was said: it goes out as far as there is room.
@@ -69,9 +69,9 @@ pub struct Standing {
     /// Whether no others come.
     pub ended: bool,
     /// The outcomes to come of the transport's requests, and of what is done on the data connection.
-    pub outcomes: Items<DealOutcome>,
+    pub outcomes: Items<NetOutcome>,
     /// What stands beside the control connection.
-    pub dealings: Dealings,
+    pub net_record: NetRecord,
     /// What the session keeps beside its channel.
     pub state: State,
 }
@@ -91,7 +91,7 @@ pub enum Wait {
 #[derive(Drop)]
 pub enum Played {
     /// Its answer, and where the run stands then.
-    Done(Answer, Standing),
+    Done(Answer, PlayState),
     /// It waits for this, here.
-    Pending(Wait, Standing),
+    Pending(Wait, PlayState),
 }

@@ -15,7 +15,7 @@ ghost use Rattle.ftp_dialogue.specs.Steps.Stages.{OpeningOf, WayOf, first_by};
 
 use super::asks::Asks;
 use super::machine::Machine;
-use super::stage::{Agreeing, Asking, Fetching, Opened, Stage, Step, go_on, go_to};
+use super::stage::{Asking, Opened, OpeningData, Stage, Step, Transferring, go_on, go_to};
 use super::{Answer, Call};
 use ftp_base::types::{ConnectionError, FtpError, Mode};
 use ftp_calls::exchange::Turn;
@@ -34,7 +34,7 @@ impl<Tr: Network> Machine<Tr> {
         &mut self,
         asker: &A,
         call: &Call,
-        agreeing: Agreeing,
+        opening_data: OpeningData,
         stage: &mut Stage,
         w: &mut W,
     ) -> Step
@@ -43,26 +43,26 @@ impl<Tr: Network> Machine<Tr> {
         requires going { self.old.channel.failed ≡ false }
         requires opens { negotiates call.now ≡ true }
         requires may { A.may_ask }
-        requires way { WayOf call.now agreeing }
+        requires way { WayOf call.now opening_data }
         ensures end { self.new.channel.ended ≡ self.old.channel.ended }
         ensures walks { (coding : Coding) →
             Walks (asking (A.builds asker.now) A.may_wait (polling Tr.Conn.PollConn)) coding call.now
-            (Stage.Agreeing agreeing) stage.new self.old self.new result }
+            (Stage.OpeningData opening_data) stage.new self.old self.new result }
     {
-        match agreeing {
-            Agreeing::Negotiating(offset) => self.negotiate(asker, call, offset, stage, w),
-            Agreeing::Locating(offset) => self.locate(asker, call, offset, stage, w),
-            Agreeing::Binding(local, offset) => self.bind(asker, call, local, offset, stage, w),
-            Agreeing::Asking(turn, Asking::PeerPort(port)) => {
+        match opening_data {
+            OpeningData::Negotiating(offset) => self.negotiate(asker, call, offset, stage, w),
+            OpeningData::Locating(offset) => self.locate(asker, call, offset, stage, w),
+            OpeningData::Binding(local, offset) => self.bind(asker, call, local, offset, stage, w),
+            OpeningData::Asking(turn, Asking::PeerPort(port)) => {
                 self.find_peer(asker, call, turn, port, stage, w)
             }
-            Agreeing::Asking(turn, Asking::Connection(address)) => {
+            OpeningData::Asking(turn, Asking::Connection(address)) => {
                 self.reach(asker, call, turn, address, stage, w)
             }
-            Agreeing::Asking(turn, Asking::Peer(opened)) => {
+            OpeningData::Asking(turn, Asking::Peer(opened)) => {
                 self.know_peer(asker, call, turn, opened, stage, w)
             }
-            Agreeing::Asking(turn, Asking::Accepting(peer, left, opened)) => {
+            OpeningData::Asking(turn, Asking::Accepting(peer, left, opened)) => {
                 self.let_in(asker, call, turn, peer, left, opened, stage, w)
             }
         }
@@ -84,7 +84,7 @@ impl<Tr: Network> Machine<Tr> {
         ensures end { self.new.channel.ended ≡ self.old.channel.ended }
         ensures walks { (coding : Coding) →
             Walks (asking (A.builds _asker.now) A.may_wait (polling Tr.Conn.PollConn)) coding call.now
-            (Stage.Agreeing (Agreeing.Negotiating offset)) stage.new self.old self.new result }
+            (Stage.OpeningData (OpeningData.Negotiating offset)) stage.new self.old self.new result }
     {
         match self.state.counts.cannot_open() {
             Some(fault) => return Step::Done(Answer::Fault(fault)),
@@ -113,11 +113,14 @@ impl<Tr: Network> Machine<Tr> {
         ensures end { self.new.channel.ended ≡ self.old.channel.ended }
         ensures walks { (coding : Coding) →
             Walks (asking (A.builds asker.now) A.may_wait (polling Tr.Conn.PollConn)) coding _call.now
-            (Stage.Agreeing (Agreeing.Locating offset)) stage.new self.old self.new result }
+            (Stage.OpeningData (OpeningData.Locating offset)) stage.new self.old self.new result }
     {
         match self.look_here(asker, w) {
             Ok(local) => {
-                go_to(stage, Stage::Agreeing(Agreeing::Binding(local, offset)));
+                go_to(
+                    stage,
+                    Stage::OpeningData(OpeningData::Binding(local, offset)),
+                );
                 Step::Next
             }
             Err(kind) => Step::Done(Answer::Fault(FtpError::ConnectionError(ConnectionError::Io(
@@ -144,7 +147,7 @@ impl<Tr: Network> Machine<Tr> {
         ensures end { self.new.channel.ended ≡ self.old.channel.ended }
         ensures walks { (coding : Coding) →
             Walks (asking (A.builds asker.now) A.may_wait (polling Tr.Conn.PollConn)) coding _call.now
-            (Stage.Agreeing (Agreeing.Binding local offset)) stage.new self.old self.new result }
+            (Stage.OpeningData (OpeningData.Binding local offset)) stage.new self.old self.new result }
     {
         match self.ask_to_listen(asker, at_port(0, local), w) {
             Poll::Ready(Ok(RequestOutcome::Address(bound))) => {
@@ -156,7 +159,10 @@ impl<Tr: Network> Machine<Tr> {
             Poll::Ready(Ok(RequestOutcome::Done)) => refused(ConnectionError::NoAddress),
             Poll::Ready(Err(AllocError)) => Step::Done(Answer::Fault(FtpError::OutOfMemory)),
             Poll::Pending => {
-                go_to(stage, Stage::Agreeing(Agreeing::Binding(local, offset)));
+                go_to(
+                    stage,
+                    Stage::OpeningData(OpeningData::Binding(local, offset)),
+                );
                 Step::Pending
             }
         }
@@ -179,12 +185,12 @@ impl<Tr: Network> Machine<Tr> {
         ensures end { self.new.channel.ended ≡ self.old.channel.ended }
         ensures walks { (coding : Coding) →
             Walks (asking (A.builds asker.now) A.may_wait (polling Tr.Conn.PollConn)) coding _call.now
-            (Stage.Agreeing (Agreeing.Asking turn (Asking.PeerPort port))) stage.new self.old self.new result }
+            (Stage.OpeningData (OpeningData.Asking turn (Asking.PeerPort port))) stage.new self.old self.new result }
     {
         match self.look_there(asker, w) {
             Ok(peer) => {
                 let asking = Asking::Connection(at_port(port, peer));
-                go_to(stage, Stage::Agreeing(Agreeing::Asking(turn, asking)));
+                go_to(stage, Stage::OpeningData(OpeningData::Asking(turn, asking)));
                 Step::Next
             }
             Err(kind) => Step::Done(Answer::Fault(FtpError::ConnectionError(ConnectionError::Io(
@@ -211,7 +217,7 @@ impl<Tr: Network> Machine<Tr> {
         ensures end { self.new.channel.ended ≡ self.old.channel.ended }
         ensures walks { (coding : Coding) →
             Walks (asking (A.builds asker.now) A.may_wait (polling Tr.Conn.PollConn)) coding call.now
-            (Stage.Agreeing (Agreeing.Asking turn (Asking.Connection address))) stage.new self.old self.new result }
+            (Stage.OpeningData (OpeningData.Asking turn (Asking.Connection address))) stage.new self.old self.new result }
     {
         if self.state.settings.stream_builder {
             self.construct(asker, call, turn, address, stage, w)
@@ -239,7 +245,7 @@ impl<Tr: Network> Machine<Tr> {
         ensures end { self.new.channel.ended ≡ self.old.channel.ended }
         ensures walks { (coding : Coding) →
             Walks (asking (A.builds asker.now) A.may_wait (polling Tr.Conn.PollConn)) coding call.now
-            (Stage.Agreeing (Agreeing.Asking turn (Asking.Connection address))) stage.new self.old self.new result }
+            (Stage.OpeningData (OpeningData.Asking turn (Asking.Connection address))) stage.new self.old self.new result }
     {
         match self.ask_to_connect(asker, address, w) {
             Poll::Ready(Ok(outcome)) => connected(call, turn, outcome, stage),
@@ -247,7 +253,7 @@ impl<Tr: Network> Machine<Tr> {
             Poll::Pending => {
                 go_to(
                     stage,
-                    Stage::Agreeing(Agreeing::Asking(turn, Asking::Connection(address))),
+                    Stage::OpeningData(OpeningData::Asking(turn, Asking::Connection(address))),
                 );
                 Step::Pending
             }
@@ -273,7 +279,7 @@ impl<Tr: Network> Machine<Tr> {
         ensures end { self.new.channel.ended ≡ self.old.channel.ended }
         ensures walks { (coding : Coding) →
             Walks (asking (A.builds asker.now) A.may_wait (polling Tr.Conn.PollConn)) coding call.now
-            (Stage.Agreeing (Agreeing.Asking turn (Asking.Connection address))) stage.new self.old self.new result }
+            (Stage.OpeningData (OpeningData.Asking turn (Asking.Connection address))) stage.new self.old self.new result }
     {
         match self.ask_to_build(asker, address, w) {
             Ok(None) => go_on(call, turn, stage),
@@ -300,12 +306,12 @@ impl<Tr: Network> Machine<Tr> {
         ensures end { self.new.channel.ended ≡ self.old.channel.ended }
         ensures walks { (coding : Coding) →
             Walks (asking (A.builds asker.now) A.may_wait (polling Tr.Conn.PollConn)) coding _call.now
-            (Stage.Agreeing (Agreeing.Asking turn (Asking.Peer opened))) stage.new self.old self.new result }
+            (Stage.OpeningData (OpeningData.Asking turn (Asking.Peer opened))) stage.new self.old self.new result }
     {
         match self.look_there(asker, w) {
             Ok(peer) => {
                 let asking = Asking::Accepting(peer, STRANGERS, opened);
-                go_to(stage, Stage::Agreeing(Agreeing::Asking(turn, asking)));
+                go_to(stage, Stage::OpeningData(OpeningData::Asking(turn, asking)));
                 Step::Next
             }
             Err(kind) => {
@@ -336,7 +342,7 @@ impl<Tr: Network> Machine<Tr> {
         ensures end { self.new.channel.ended ≡ self.old.channel.ended }
         ensures walks { (coding : Coding) →
             Walks (asking (A.builds asker.now) A.may_wait (polling Tr.Conn.PollConn)) coding _call.now
-            (Stage.Agreeing (Agreeing.Asking turn (Asking.Accepting peer left opened))) stage.new self.old self.new result }
+            (Stage.OpeningData (OpeningData.Asking turn (Asking.Accepting peer left opened))) stage.new self.old self.new result }
     {
         match self.ask_to_accept(asker, w) {
             Poll::Ready(Ok(outcome)) => self.meet(outcome, turn, peer, left, opened, stage),
@@ -346,7 +352,7 @@ impl<Tr: Network> Machine<Tr> {
             }
             Poll::Pending => {
                 let asking = Asking::Accepting(peer, left, opened);
-                go_to(stage, Stage::Agreeing(Agreeing::Asking(turn, asking)));
+                go_to(stage, Stage::OpeningData(OpeningData::Asking(turn, asking)));
                 Step::Pending
             }
         }
@@ -400,7 +406,7 @@ impl<Tr: Network> Machine<Tr> {
                 Step::Done(answer)
             }
             Opened::Performs(task) => {
-                go_to(stage, Stage::Fetching(Fetching::Starting(task)));
+                go_to(stage, Stage::Transferring(Transferring::Starting(task)));
                 Step::Next
             }
         }
@@ -424,7 +430,7 @@ impl<Tr: Network> Machine<Tr> {
         }
         let _stranger = self.data_conn.take();
         let asking = Asking::Accepting(peer, left - 1, opened);
-        go_to(stage, Stage::Agreeing(Agreeing::Asking(turn, asking)));
+        go_to(stage, Stage::OpeningData(OpeningData::Asking(turn, asking)));
         Step::Next
     }
 
@@ -477,7 +483,7 @@ fn first_by(mode: Mode, offset: u64) -> Stage
     ensures { result ≡ first_by mode offset }
 {
     match mode {
-        Mode::Active => Stage::Agreeing(Agreeing::Locating(offset)),
+        Mode::Active => Stage::OpeningData(OpeningData::Locating(offset)),
         Mode::Passive => Stage::At(Turn::Passive(offset)),
         Mode::ExtendedPassive => Stage::At(Turn::ExtendedPassive(offset)),
     }

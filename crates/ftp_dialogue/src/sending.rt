@@ -13,7 +13,7 @@ ghost use Rattle.ftp_dialogue.specs.Steps.Stages.{MayFetch};
 
 use super::asks::Asks;
 use super::machine::Machine;
-use super::stage::{Fetching, Stage, Step, go_to};
+use super::stage::{Stage, Step, Transferring, go_to};
 use super::unsent::{Unsent, size_to_send};
 use super::{Answer, Call};
 use ftp_base::types::{ConnectionError, FtpError, Items};
@@ -39,7 +39,7 @@ impl<Tr: Network> Machine<Tr> {
         ensures moves { result ≡ Step.Pending → ⊥ }
         ensures end { self.new.channel.ended ≡ self.old.channel.ended }
         ensures breaks { (coding : Coding) → BreaksOff (asking (A.builds _asker.now) A.may_wait (polling Tr.Conn.PollConn)) coding _call.now
-            (Stage.Fetching (Fetching.Starting (Store bytes))) stage.new self.old self.new result }
+            (Stage.Transferring (Transferring.Starting (Store bytes))) stage.new self.old self.new result }
     {
         let text = self.state.settings.text;
         match size_to_send(text, bytes.as_slice()) {
@@ -47,7 +47,7 @@ impl<Tr: Network> Machine<Tr> {
                 let unsent = Unsent::new(text, bytes);
                 go_to(
                     stage,
-                    Stage::Fetching(Fetching::Sending(total, total, unsent)),
+                    Stage::Transferring(Transferring::Sending(total, total, unsent)),
                 );
                 Step::Next
             }
@@ -74,13 +74,13 @@ impl<Tr: Network> Machine<Tr> {
         ensures waits { result ≡ Step.Pending → A.may_wait }
         ensures end { self.new.channel.ended ≡ self.old.channel.ended }
         ensures breaks { (coding : Coding) → BreaksOff (asking (A.builds asker.now) A.may_wait (polling Tr.Conn.PollConn)) coding _call.now
-            (Stage.Fetching (Fetching.Sending left total unsent)) stage.new self.old self.new result }
+            (Stage.Transferring (Transferring.Sending left total unsent)) stage.new self.old self.new result }
     {
         if unsent.is_empty() {
             let answer = Answer::Count(total);
             go_to(
                 stage,
-                Stage::Fetching(Fetching::Parting(Fetch::Whole, answer)),
+                Stage::Transferring(Transferring::ClosingData(Fetch::Whole, answer)),
             );
             return Step::Next;
         }
@@ -94,14 +94,14 @@ impl<Tr: Network> Machine<Tr> {
             Ok(Poll::Ready(())) => {
                 go_to(
                     stage,
-                    Stage::Fetching(Fetching::Sending(left - 1, total, unsent)),
+                    Stage::Transferring(Transferring::Sending(left - 1, total, unsent)),
                 );
                 Step::Next
             }
             Ok(Poll::Pending) => {
                 go_to(
                     stage,
-                    Stage::Fetching(Fetching::Sending(left, total, unsent)),
+                    Stage::Transferring(Transferring::Sending(left, total, unsent)),
                 );
                 Step::Pending
             }

@@ -38,18 +38,18 @@ pub enum Stage {
     /// The reply to `NOOP` is sought among those that come before it.
     Resyncing(Turn, Resyncing),
     /// The way to a data connection, beside the exchanges.
-    Agreeing(Agreeing),
+    OpeningData(OpeningData),
     /// The transfer's data connection is closed.
     Closing,
     /// The transfer is aborted.
     Aborting(Aborting),
     /// A whole file or listing goes over the data connection.
-    Fetching(Fetching),
+    Transferring(Transferring),
 }
 
 /// How far a whole file or listing has gone over the data connection, and the end of its transfer.
 #[derive(Drop)]
-pub enum Fetching {
+pub enum Transferring {
     /// It begins.
     Starting(Task),
     /// It is read, by so many reads more at most, after these bytes.
@@ -57,7 +57,7 @@ pub enum Fetching {
     /// It is written, by so many writes more at most: the number of all its bytes, and those that haven't gone out.
     Sending(u64, u64, Unsent),
     /// The data connection is closed. This is the answer, by what came of the data.
-    Parting(Fetch, Answer),
+    ClosingData(Fetch, Answer),
     /// The transfer's last reply is read.
     Ending(Fetch, Answer),
 }
@@ -79,7 +79,7 @@ pub enum Aborting {
     /// The line goes out, whole; none once it has begun to.
     Sending(Option<WireLine>),
     /// The data connection is closed.
-    Parting,
+    ClosingData,
 }
 
 /// How far a call has come that reads replies until that to its `NOOP`.
@@ -95,7 +95,7 @@ pub enum Resyncing {
 
 /// How far the way to a data connection was gone.
 #[derive(Drop)]
-pub enum Agreeing {
+pub enum OpeningData {
     /// It begins, for a transfer at this offset.
     Negotiating(u64),
     /// The address of this end of the control connection is looked up.

@@ -20,7 +20,7 @@ use super::asks::Asks;
 use super::machine::Machine;
 use super::nodes::{Accepted, accept, conclude_fault, wants_memory};
 use super::stage::{
-    Aborting, Agreeing, Awaits, Fetching, Stage, Step, begin, go_on, go_to, is_later,
+    Aborting, Awaits, OpeningData, Stage, Step, Transferring, begin, go_on, go_to, is_later,
 };
 use super::{Answer, Call, Owed};
 use ftp_base::encoding::Encoding;
@@ -77,12 +77,12 @@ impl<Tr: Network> Machine<Tr> {
             Stage::Resyncing(turn, resyncing) => self.resync(
                 asker, alloc, encoding, call, turn, resyncing, stage, w,
             ),
-            Stage::Agreeing(agreeing) => self.walk(asker, call, agreeing, stage, w),
+            Stage::OpeningData(opening_data) => self.walk(asker, call, opening_data, stage, w),
             Stage::Closing => self.close(asker, call, stage, w),
             Stage::Aborting(aborting) => self.abort(
                 asker, alloc, encoding, call, aborting, stage, w,
             ),
-            Stage::Fetching(fetching) => self.fetch(
+            Stage::Transferring(fetching) => self.fetch(
                 asker, alloc, encoding, call, fetching, stage, w,
             ),
         }
@@ -249,12 +249,12 @@ impl<Tr: Network> Machine<Tr> {
             Accepted::Asks(asking) => {
                 go_to(
                     stage,
-                    Stage::Agreeing(Agreeing::Asking(awaits.turn, asking)),
+                    Stage::OpeningData(OpeningData::Asking(awaits.turn, asking)),
                 );
                 Step::Next
             }
             Accepted::Performs(task) => {
-                go_to(stage, Stage::Fetching(Fetching::Starting(task)));
+                go_to(stage, Stage::Transferring(Transferring::Starting(task)));
                 Step::Next
             }
             Accepted::NoMemory => {
@@ -373,7 +373,7 @@ impl<Tr: Network> Machine<Tr> {
             if matches!(self.state.counts.owed(), Owed::Nothing) {
                 self.state.uploads = uploads(call);
             }
-            Stage::Agreeing(Agreeing::Negotiating(offset))
+            Stage::OpeningData(OpeningData::Negotiating(offset))
         } else if finishes(call) {
             self.state.counts.leave();
             if aborts(call) {
@@ -521,9 +521,9 @@ fn is_first(stage: &Stage) -> bool
         | Stage::Hearing(_)
         | Stage::Arming(..)
         | Stage::Resyncing(..)
-        | Stage::Agreeing(_)
+        | Stage::OpeningData(_)
         | Stage::Closing
         | Stage::Aborting(_)
-        | Stage::Fetching(_) => false,
+        | Stage::Transferring(_) => false,
     }
 }

@@ -5,9 +5,9 @@ use Rattle.std.proofs.lemmas.List.{take_all}
 use Rattle.std.proofs.Math.Seq.{drop-append_seam, take-append_seam}
 use Rattle.ftp_transport.specs.declared.room.Room.{Room}
 use Rattle.ftp_transport.specs.declared.room.Room.TheVariants.{Any, UpTo}
-use Rattle.ftp_dialogue.specs.Deals.{Deal, Deals, outcomes_of}
-use Rattle.ftp_dialogue.proofs.Deals.{outcomes-append}
-use Rattle.ftp_dialogue.specs.declared.model.DealOutcome.{DealOutcome}
+use Rattle.ftp_dialogue.specs.NetEvents.{NetEvent, NetEvents, outcomes_of}
+use Rattle.ftp_dialogue.proofs.NetEvents.{outcomes-append}
+use Rattle.ftp_dialogue.specs.declared.model.NetOutcome.{NetOutcome}
 use Rattle.ftp_transport.specs.Told.{Told, HasRoomFor, HasNoRoom, EndsAsTold}
 use Rattle.ftp_transport.specs.Memory.{IsGiven}
 use Rattle.ftp_control.specs.declared.control.rule.ReplyRule.{ReplyRule}
@@ -70,7 +70,7 @@ same_over t u same grows told =
 
 -- what was asked
 
-pub outcomes_on : (a b : List Deal) (later : List DealOutcome) → outcomes_of (a ++ b) ++ later ≡ outcomes_of a ++ (outcomes_of b ++ later)
+pub outcomes_on : (a b : List NetEvent) (later : List NetOutcome) → outcomes_of (a ++ b) ++ later ≡ outcomes_of a ++ (outcomes_of b ++ later)
 outcomes_on a b later = ap (λ l. l ++ later) (outcomes-append a b) ∙ append_assoc (outcomes_of a) (outcomes_of b) later
 
 -- What is read
@@ -124,8 +124,8 @@ full_room (UpTo most) sent unsent line fit full some =
     (lt-leb _ _ (omega (arith, count, positive unsent some, fit, full)), rw (same, append_assoc sent unsent line) (take-append_seam sent (unsent ++ line)))
 
 -- what a poll leaves of a connection
-pub record Carried (builds : Builds) (v w : SessionValue) (came : List ℕ) (asked : List Deal) : Type 0 where
-  pub deals : Deals builds asked v.net w.net
+pub record Carried (builds : Builds) (v w : SessionValue) (came : List ℕ) (asked : List NetEvent) : Type 0 where
+  pub net_events : NetEvents builds asked v.net w.net
   pub received : w.channel.told.received ≡ v.channel.told.received ++ came
   pub failures : w.channel.told.failures ≡ v.channel.told.failures
   pub split : unread v.channel.told ≡ came ++ unread w.channel.told
@@ -134,9 +134,9 @@ pub record Carried (builds : Builds) (v w : SessionValue) (came : List ℕ) (ask
   pub has : IsGiven w.channel.told
   pub sound : IsSound (Unit {0}) w.channel
 
-pub carried : (builds : Builds) (v w : SessionValue) (state : State) (came : List ℕ) (answered : List Deal) → Goes (over_memory builds) came answered (record v { state = state }) w → IsSound (Unit {0}) v.channel → EndsAsTold v.channel.ended w.channel.ended v.channel.told → IsGiven w.channel.told → IsSound (Unit {0}) w.channel → Carried builds v w came answered
+pub carried : (builds : Builds) (v w : SessionValue) (state : State) (came : List ℕ) (answered : List NetEvent) → Goes (over_memory builds) came answered (record v { state = state }) w → IsSound (Unit {0}) v.channel → EndsAsTold v.channel.ended w.channel.ended v.channel.told → IsGiven w.channel.told → IsSound (Unit {0}) w.channel → Carried builds v w came answered
 carried builds v w state came answered goes sound end given sound' = record {
-  deals = goes.deals tt;
+  net_events = goes.net_events tt;
   received = goes.received tt;
   failures = (goes.failures tt).failures;
   split = unread_split v.channel.told w.channel.told came given (goes.given tt) (goes.received tt);
@@ -151,7 +151,7 @@ carried builds v w state came answered goes sound end given sound' = record {
     go (inr e) = inr e
 
 pub carried_none : (builds : Builds) (v : SessionValue) → IsGiven v.channel.told → IsSound (Unit {0}) v.channel → Carried builds v v [] []
-carried_none builds v given sound = record { deals = refl; received = sym (append-nil v.channel.told.received); failures = refl; split = refl; given = refl; over = refl; has = given; sound = sound }
+carried_none builds v given sound = record { net_events = refl; received = sym (append-nil v.channel.told.received); failures = refl; split = refl; given = refl; over = refl; has = given; sound = sound }
 
 -- what went out and is unsent begins what is said with the next line
 pub line_front : (c : Channel) (line : List ℕ) → (c.unsent ≡ [] → ⊥) → SaysFrontOf c ((c.told.sent ++ c.unsent ++ line) ++ [])

@@ -23,24 +23,24 @@ use Rattle.ftp_calls.specs.declared.exchange.Ending.TheVariants.{Drains}
 use Rattle.ftp_calls.specs.declared.exchange.Turn.TheVariants.{First}
 use Rattle.ftp_calls.specs.Exchanges.{drains_first}
 use Rattle.ftp_dialogue.specs.Coding.{Coding}
-use Rattle.ftp_dialogue.specs.Deals.{Deal, Deals, outcomes_of}
+use Rattle.ftp_dialogue.specs.NetEvents.{NetEvent, NetEvents, outcomes_of}
 use Rattle.ftp_dialogue.specs.Dialogue.{answer_to_fault, entered, expecting, later, Expected, Tree, Hear, Leaf, concluded, dialogue, wants_memory, with_drained}
 use Rattle.ftp_dialogue.specs.Link.{Builds, over_memory}
 use Rattle.ftp_dialogue.specs.Play.{Taken, finally, heard_then, is_due, is_unit, play, taken}
-use Rattle.ftp_dialogue.specs.Promises.{FailsWith, HasFault, IsFault, begun_by, due_of, refusal_of, standing}
+use Rattle.ftp_dialogue.specs.Promises.{FailsWith, HasFault, IsFault, begun_by, due_of, refusal_of, play_state}
 use Rattle.ftp_dialogue.specs.Resuming.{Resumes, Silent, modes_of}
 use Rattle.ftp_runs.specs.Script.{is_over, start_of, unread, draining, drained_as, drained_to, last_of, poll_if, poll_next, poll_script, polled_as, run_with, succeeded, without_call, MayPoll, MayPollIf, MayPollNext}
 use Rattle.ftp_runs.specs.Scripted.{AreRefused, IsDrained, IsPolledIf, IsPolled}
 use Rattle.ftp_dialogue.specs.Sound.{none_left}
 use Rattle.ftp_dialogue.specs.State.{SessionValue}
-use Rattle.ftp_dialogue.specs.declared.model.DealOutcome.{DealOutcome}
+use Rattle.ftp_dialogue.specs.declared.model.NetOutcome.{NetOutcome}
 use Rattle.ftp_dialogue.specs.declared.model.Played.{Played}
 use Rattle.ftp_dialogue.specs.declared.model.Played.TheVariants as played
 use Rattle.ftp_dialogue.specs.declared.model.Wait.TheVariants as wait
 use Rattle.ftp_runs.specs.declared.model.Ran.{Ran}
 use Rattle.ftp_runs.specs.declared.model.Ran.TheVariants.{Finished, Waiting}
 use Rattle.ftp_runs.specs.declared.model.Script.{Script}
-use Rattle.ftp_dialogue.specs.declared.model.Standing.{Standing}
+use Rattle.ftp_dialogue.specs.declared.model.PlayState.{PlayState}
 use Rattle.ftp_dialogue.specs.declared.stage.Stage.{Stage}
 use Rattle.ftp_dialogue.specs.declared.stage.Stage.TheVariants.{At}
 use Rattle.ftp_dialogue.specs.declared.state.Owed.{Owed}
@@ -51,7 +51,7 @@ use Rattle.ftp_dialogue.specs.Steps.Polls.{polled_answer}
 use Rattle.ftp_dialogue.specs.Steps.Moving.{Keeps, PollsTo}
 use Rattle.ftp_dialogue.specs.Steps.Stages.{remaining}
 use Rattle.ftp_runs.proofs.Carried.{outcomes_on}
-use Rattle.ftp_dialogue.proofs.Deals.{deals-append}
+use Rattle.ftp_dialogue.proofs.NetEvents.{net_events-append}
 use Rattle.ftp_dialogue.proofs.DrainingLemmas.{due_taken, failed_undue, not_first, unit_is}
 use Rattle.ftp_runs.proofs.EventLemmas.{begins_call, cancels, polls_here_fail}
 use Rattle.ftp_runs.proofs.Following.{Goes_on, Kept, PollFollows, here, placed, poll_happens}
@@ -95,16 +95,16 @@ remembered statuses reply = elim (is_among statuses reply.status) as (λ b. Reme
   | false ↦ refl
 ]
 
-drained_state : (coding : Coding) (room : Room) (expected : Expected) (state : State) (later : State → Tree) (s t : Standing) (answer : Answer) → finally (play room (Hear expected (concluded coding Drains state later)) s) ≡ played.Done answer t → t.state ≡ with_drained state
+drained_state : (coding : Coding) (room : Room) (expected : Expected) (state : State) (later : State → Tree) (s t : PlayState) (answer : Answer) → finally (play room (Hear expected (concluded coding Drains state later)) s) ≡ played.Done answer t → t.state ≡ with_drained state
 drained_state coding room expected state later s t answer is = go (outcome s.state.settings.reply_rule expected.form s.bytes s.ended) (sym (ap finally (play-Hear room expected (concluded coding Drains state later) s)) ∙ is)
   where
     next : Result Response FtpError → Tree
     next = concluded coding Drains state later
 
-    leaf : (u : Standing) (told : Answer) → finally (play room (Leaf told (with_drained state)) u) ≡ played.Done answer t → t.state ≡ with_drained state
+    leaf : (u : PlayState) (told : Answer) → finally (play room (Leaf told (with_drained state)) u) ≡ played.Done answer t → t.state ≡ with_drained state
     leaf u told done = sym (ap state_in (sym (ap finally (play-Leaf room told (with_drained state) u)) ∙ done))
 
-    heard : (u : Standing) (result : Result Response FtpError) → Remembered result → finally (play room (next result) u) ≡ played.Done answer t → t.state ≡ with_drained state
+    heard : (u : PlayState) (result : Result Response FtpError) → Remembered result → finally (play room (next result) u) ≡ played.Done answer t → t.state ≡ with_drained state
     heard u (Ok reply) had done = leaf u Nothing done
     heard u (Err fault) had done = leaf u (answer_to_fault Drains fault) (sym (ap (λ b. finally (play room (Leaf (answer_to_fault Drains fault) (cond b state (with_drained state))) u)) had) ∙ done)
 
@@ -115,10 +115,10 @@ drained_state coding room expected state later s t answer is = go (outcome s.sta
     go Ended done = heard (record (taken (left_by Ended s.bytes) s) { failed = true }) (Err (faults.ConnectionError connection.UnexpectedEof)) refl done
     go Waits done = let clash : played.Pending (wait.Bytes expected.form) s ≡ played.Done answer t = done in cc
 
-module _ (builds : Builds) (coding : Coding) (outcomes : List DealOutcome) where
+module _ (builds : Builds) (coding : Coding) (outcomes : List NetOutcome) where
   -- a drain is due before the call under way
-  module _ (due : List DealOutcome) (old : SessionValue) (s : Script) (v : SessionValue) (call : Call) (stage : Stage) (answers : List Answer) (f : Follows builds coding outcomes due old s v (Some call) stage answers) (is_due' : due_of call v ≡ true) where
-    abbrev start : Standing
+  module _ (due : List NetOutcome) (old : SessionValue) (s : Script) (v : SessionValue) (call : Call) (stage : Stage) (answers : List Answer) (f : Follows builds coding outcomes due old s v (Some call) stage answers) (is_due' : due_of call v ≡ true) where
+    abbrev start : PlayState
     start = start_of old outcomes
 
     started : Started coding old s f.came f.answered v call stage
@@ -152,16 +152,16 @@ module _ (builds : Builds) (coding : Coding) (outcomes : List DealOutcome) where
         let Q : Bool → Type 0 = λ b. IsPolledIf b coding start call s here in
         subst P (sym f.call_is) (subst Q (sym due_in) is)
 
-    abbrev Next : SessionValue → Option Call → Stage → List Answer → List DealOutcome → Type 0
+    abbrev Next : SessionValue → Option Call → Stage → List Answer → List NetOutcome → Type 0
     Next w call' stage' answers' left = Follows builds coding outcomes left old (poll_next coding start s.call s) w call' stage' answers'
 
-    to_next : (w : SessionValue) (call' : Option Call) (stage' : Stage) (answers' : List Answer) (left : List DealOutcome) → Follows builds coding outcomes left old (drained_as coding start call s (run_with coding start Drain (draining s))) w call' stage' answers' → Next w call' stage' answers' left
+    to_next : (w : SessionValue) (call' : Option Call) (stage' : Stage) (answers' : List Answer) (left : List NetOutcome) → Follows builds coding outcomes left old (drained_as coding start call s (run_with coding start Drain (draining s))) w call' stage' answers' → Next w call' stage' answers' left
     to_next w call' stage' answers' left there =
         let P : Script → Type 0 = λ x. Follows builds coding outcomes left old x w call' stage' answers' in
         subst P (sym next_is) there
 
     -- the drain waits, and so does the call
-    waits_too : (left : List DealOutcome) (w : SessionValue) (at : Stage) → Follows builds coding outcomes left old (poll_script coding start (Some Drain) (draining s)) w (Some Drain) at answers → Next w (Some call) (At First) answers left × ((poll_next coding start s.call s).polled ≡ false)
+    waits_too : (left : List NetOutcome) (w : SessionValue) (at : Stage) → Follows builds coding outcomes left old (poll_script coding start (Some Drain) (draining s)) w (Some Drain) at answers → Next w (Some call) (At First) answers left × ((poll_next coding start s.call s).polled ≡ false)
     waits_too left w at there =
         let P : Script → Type 0 = Waits_at in
         subst P (sym next_is) (go (run_with coding start Drain (draining s)) there)
@@ -176,7 +176,7 @@ module _ (builds : Builds) (coding : Coding) (outcomes : List DealOutcome) where
             (begins_call builds coding outcomes left old (without_call after) w call at answers (cancels builds coding outcomes left old after w (Some Drain) at at answers g (inr refl)), refl)
 
     -- its fault is the call's answer
-    fails_too : (left : List DealOutcome) (w : SessionValue) (at stage' : Stage) (first : Answer) → is_unit first ≡ false → Follows builds coding outcomes left old (poll_script coding start (Some Drain) (draining s)) w None at (answers ++ first ∷ []) → Next w None stage' (answers ++ first ∷ []) left
+    fails_too : (left : List NetOutcome) (w : SessionValue) (at stage' : Stage) (first : Answer) → is_unit first ≡ false → Follows builds coding outcomes left old (poll_script coding start (Some Drain) (draining s)) w None at (answers ++ first ∷ []) → Next w None stage' (answers ++ first ∷ []) left
     fails_too left w at stage' first fault there = to_next w None stage' (answers ++ first ∷ []) left (go (run_with coding start Drain (draining s)) there)
       where
         go : (r : Ran) → Follows builds coding outcomes left old (polled_as r Drain (draining s)) w None at (answers ++ first ∷ []) → Follows builds coding outcomes left old (drained_as coding start call s r) w None stage' (answers ++ first ∷ [])
@@ -191,11 +191,11 @@ module _ (builds : Builds) (coding : Coding) (outcomes : List DealOutcome) where
     aborts_too w result aborts = record { here = draining s; polled = polled_is (draining s) (inl refl); leaving = refl; left = due; middle = v; part = Drain; stage = At First; follows = drains; aborts = aborts }
 
   -- the drain is over, and the call is polled
-  module _ (left : List DealOutcome) (old : SessionValue) (s : Script) (v w : SessionValue) (call : Call) (stage at : Stage) (answers : List Answer) (ends : Finishes (over_memory builds) (dialogue coding Drain v.state) Nothing (begun_by Drain v) w) (f : Follows builds coding outcomes (outcomes_of ends.answered ++ left) old s v (Some call) stage answers) (is_due' : due_of call v ≡ true) (may : MayPollNext coding (start_of old outcomes) s.call s) (polled : PollsHere builds coding Drain (At First) at v w (Ready Nothing)) where
-    abbrev due : List DealOutcome
+  module _ (left : List NetOutcome) (old : SessionValue) (s : Script) (v w : SessionValue) (call : Call) (stage at : Stage) (answers : List Answer) (ends : Finishes (over_memory builds) (dialogue coding Drain v.state) Nothing (begun_by Drain v) w) (f : Follows builds coding outcomes (outcomes_of ends.answered ++ left) old s v (Some call) stage answers) (is_due' : due_of call v ≡ true) (may : MayPollNext coding (start_of old outcomes) s.call s) (polled : PollsHere builds coding Drain (At First) at v w (Ready Nothing)) where
+    abbrev due : List NetOutcome
     due = outcomes_of ends.answered ++ left
 
-    abbrev from_here : Standing
+    abbrev from_here : PlayState
     from_here = start_of old outcomes
 
     d : Follows builds coding outcomes due old (draining s) v (Some Drain) (At First) answers
@@ -214,7 +214,7 @@ module _ (builds : Builds) (coding : Coding) (outcomes : List DealOutcome) where
     abbrev done : Script
     done = done_hidden builds coding outcomes left Drain Nothing old s v w at answers ends d takes resumes polled
 
-    ran : run_with coding from_here Drain (draining s) ≡ Finished (s.answers ++ Nothing ∷ []) (standing w (unread w.channel.told) (is_over w.channel.told) left)
+    ran : run_with coding from_here Drain (draining s) ≡ Finished (s.answers ++ Nothing ∷ []) (play_state w (unread w.channel.told) (is_over w.channel.told) left)
     ran = hidden_ran builds coding outcomes left Drain Nothing old s v w at answers ends d takes resumes polled
 
     over : Follows builds coding outcomes left old (drained_to call s done) w (Some call) (At First) answers
@@ -250,7 +250,7 @@ module _ (builds : Builds) (coding : Coding) (outcomes : List DealOutcome) where
         left_none : none_left w.state.counts.owed ≡ true
         left_none =
             let plays = ends.plays tt resumes Any [] w.channel.ended [] tt (record { nothing = λ e. refl; over = λ e. e }) in
-            let state = drained_state coding Any (expecting (ClosingDataConnection ∷ RequestedFileActionOk ∷ [])) v.state (later coding Drain First) (standing (begun_by Drain v) (ends.came ++ []) w.channel.ended (outcomes_of ends.answered ++ [])) (standing w [] w.channel.ended []) Nothing plays in
+            let state = drained_state coding Any (expecting (ClosingDataConnection ∷ RequestedFileActionOk ∷ [])) v.state (later coding Drain First) (play_state (begun_by Drain v) (ends.came ++ []) w.channel.ended (outcomes_of ends.answered ++ [])) (play_state w [] w.channel.ended []) Nothing plays in
             ap (λ x. none_left x.counts.owed) state ∙ drained_owed v.state.counts.owed v.state refl
 
         go : (b : Bool) → none_left w.state.counts.owed ≡ b → due_of call w ≡ false
@@ -266,7 +266,7 @@ module _ (builds : Builds) (coding : Coding) (outcomes : List DealOutcome) where
             stop false is = let clash : false ≡ true = is in cc
 
 -- what a poll makes of a script, the drain before it included
-abbrev pub NextFollows : Builds → Coding → List DealOutcome → List DealOutcome → SessionValue → Script → SessionValue → Call → Stage → Bool → List Answer → Poll Answer → Type 0
+abbrev pub NextFollows : Builds → Coding → List NetOutcome → List NetOutcome → SessionValue → Script → SessionValue → Call → Stage → Bool → List Answer → Poll Answer → Type 0
 NextFollows builds coding outcomes left old s w call stage' polled' answers (Ready answer) =
     Follows builds coding outcomes left old (poll_next coding (start_of old outcomes) s.call s) w None stage' (answers ++ answer ∷ []) ⊎ AbortsAt builds coding outcomes old s answers w (Some answer)
 NextFollows builds coding outcomes left old s w call stage' polled' answers Pending =
@@ -274,11 +274,11 @@ NextFollows builds coding outcomes left old s w call stage' polled' answers Pend
 
 abbrev pub NextHappens : Builds → Coding → Call → Stage → Stage → Bool → SessionValue → SessionValue → Poll Answer → Type 0
 NextHappens builds coding call stage stage' polled' v w result =
-    (answered : List Deal) × Deals builds answered v.net w.net × ((outcomes left : List DealOutcome) (old : SessionValue) (s : Script) (answers : List Answer) → Follows builds coding outcomes (outcomes_of answered ++ left) old s v (Some call) stage answers → MayPollNext coding (start_of old outcomes) s.call s → NextFollows builds coding outcomes left old s w call stage' polled' answers result)
+    (answered : List NetEvent) × NetEvents builds answered v.net w.net × ((outcomes left : List NetOutcome) (old : SessionValue) (s : Script) (answers : List Answer) → Follows builds coding outcomes (outcomes_of answered ++ left) old s v (Some call) stage answers → MayPollNext coding (start_of old outcomes) s.call s → NextFollows builds coding outcomes left old s w call stage' polled' answers result)
 
 module _ (builds : Builds) (coding : Coding) (call : Call) where
   -- a call that waits was polled
-  polled_on : (outcomes left : List DealOutcome) (old : SessionValue) (s : Script) (w : SessionValue) (stage' : Stage) (answers : List Answer) → Follows builds coding outcomes left old (poll_script coding (start_of old outcomes) (Some call) s) w (Some call) stage' answers → (poll_script coding (start_of old outcomes) (Some call) s).polled ≡ true
+  polled_on : (outcomes left : List NetOutcome) (old : SessionValue) (s : Script) (w : SessionValue) (stage' : Stage) (answers : List Answer) → Follows builds coding outcomes left old (poll_script coding (start_of old outcomes) (Some call) s) w (Some call) stage' answers → (poll_script coding (start_of old outcomes) (Some call) s).polled ≡ true
   polled_on outcomes left old s w stage' answers follows = go (run_with coding (start_of old outcomes) call s) follows
     where
       go : (r : Ran) → Follows builds coding outcomes left old (polled_as r call s) w (Some call) stage' answers → (polled_as r call s).polled ≡ true
@@ -286,7 +286,7 @@ module _ (builds : Builds) (coding : Coding) (call : Call) where
       go (Waiting all wait t) f = refl
 
   -- no drain is due
-  module _ (outcomes left due : List DealOutcome) (old : SessionValue) (s : Script) (v w : SessionValue) (stage stage' : Stage) (answers : List Answer) (f : Follows builds coding outcomes due old s v (Some call) stage answers) (undue : due_of call v ≡ false) where
+  module _ (outcomes left due : List NetOutcome) (old : SessionValue) (s : Script) (v w : SessionValue) (stage stage' : Stage) (answers : List Answer) (f : Follows builds coding outcomes due old s v (Some call) stage answers) (undue : due_of call v ≡ false) where
     undue_in : is_due call s.failed s.state.counts.owed ≡ false
     undue_in = ap (λ b. is_due call b s.state.counts.owed) f.failed ∙ ap (λ x. is_due call v.channel.failed x.counts.owed) f.state ∙ undue
 
@@ -320,7 +320,7 @@ module _ (builds : Builds) (coding : Coding) (call : Call) where
         happens.0,
         happens.1,
         λ outcomes left old s answers f may.
-            let due : List DealOutcome = outcomes_of happens.0 ++ left in
+            let due : List NetOutcome = outcomes_of happens.0 ++ left in
             undue_follows outcomes left due old s v w stage stage' answers f undue polled' is result (happens.2 outcomes left old s answers f (may_call outcomes left due old s v w stage stage' answers f undue may) undue),
       )
 
@@ -335,7 +335,7 @@ module _ (builds : Builds) (coding : Coding) (call : Call) where
           happens.0,
           happens.1,
           λ outcomes left old s answers f may.
-              let due : List DealOutcome = outcomes_of happens.0 ++ left in
+              let due : List NetOutcome = outcomes_of happens.0 ++ left in
               let P : Stage → Type 0 = λ x. Follows builds coding outcomes left old (poll_next coding (start_of old outcomes) s.call s) w (Some call) x answers × ((poll_next coding (start_of old outcomes) s.call s).polled ≡ false) in
               subst P (sym (started builds coding outcomes due old s v call stage answers f is_due').at) (waits_too builds coding outcomes due old s v call stage answers f is_due' left w at (happens.2 outcomes left old (draining s) answers (drains builds coding outcomes due old s v call stage answers f is_due') (may_drain builds coding outcomes due old s v call stage answers f is_due' may) drain_undue)),
         )
@@ -346,11 +346,11 @@ module _ (builds : Builds) (coding : Coding) (call : Call) where
           happens.0,
           happens.1,
           λ outcomes left old s answers f may.
-              let due : List DealOutcome = outcomes_of happens.0 ++ left in
+              let due : List NetOutcome = outcomes_of happens.0 ++ left in
               go outcomes left due old s answers f (happens.2 outcomes left old (draining s) answers (drains builds coding outcomes due old s v call stage answers f is_due') (may_drain builds coding outcomes due old s v call stage answers f is_due' may) drain_undue),
         )
       where
-        go : (outcomes left due : List DealOutcome) (old : SessionValue) (s : Script) (answers : List Answer) → (f : Follows builds coding outcomes due old s v (Some call) stage answers) → PollFollows builds coding outcomes left old (draining s) v w Drain (At First) at answers (Ready first) → NextFollows builds coding outcomes left old s w call stage' polled' answers (Ready first)
+        go : (outcomes left due : List NetOutcome) (old : SessionValue) (s : Script) (answers : List Answer) → (f : Follows builds coding outcomes due old s v (Some call) stage answers) → PollFollows builds coding outcomes left old (draining s) v w Drain (At First) at answers (Ready first) → NextFollows builds coding outcomes left old s w call stage' polled' answers (Ready first)
         go outcomes left due old s answers f (inl follows) = inl (fails_too builds coding outcomes due old s v call stage answers f is_due' left w at stage' first fault follows)
         go outcomes left due old s answers f (inr aborts) = inr (aborts_too builds coding outcomes due old s v call stage answers f is_due' w (Some first) aborts)
 
@@ -371,10 +371,10 @@ module _ (builds : Builds) (coding : Coding) (call : Call) where
         let ends = drain_ends in
         let happens = poll_happens builds coding call stage stage' middle w result here in (
           ends.answered ++ happens.0,
-          deals-append builds ends.answered happens.0 v.net middle.net w.net (ends.goes.deals tt) happens.1,
+          net_events-append builds ends.answered happens.0 v.net middle.net w.net (ends.goes.net_events tt) happens.1,
           λ outcomes left old s answers f may.
-              let rest : List DealOutcome = outcomes_of happens.0 ++ left in
-              let F : List DealOutcome → Type 0 = λ o. Follows builds coding outcomes o old s v (Some call) stage answers in
+              let rest : List NetOutcome = outcomes_of happens.0 ++ left in
+              let F : List NetOutcome → Type 0 = λ o. Follows builds coding outcomes o old s v (Some call) stage answers in
               let f' = subst F (outcomes_on ends.answered happens.0 left) f in
               let first = (started builds coding outcomes (outcomes_of ends.answered ++ rest) old s v call stage answers f' is_due').at in
               let S : Stage → Type 0 = λ x. Follows builds coding outcomes rest old (drained_to call s (done builds coding outcomes rest old s v middle call stage at answers ends f' is_due' may drained)) middle (Some call) x answers in
@@ -383,7 +383,7 @@ module _ (builds : Builds) (coding : Coding) (call : Call) where
               follows outcomes left rest old s answers (drained_to call s (done builds coding outcomes rest old s v middle call stage at answers ends f' is_due' may drained)) begun (over_is builds coding outcomes rest old s v middle call stage at answers ends f' is_due' may drained) (is_drained builds coding outcomes rest old s v middle call stage at answers ends f' is_due' may drained) refl result polled,
         )
       where
-        follows : (outcomes left rest : List DealOutcome) (old : SessionValue) (s : Script) (answers : List Answer) (then : Script) → Follows builds coding outcomes rest old then middle (Some call) stage answers → poll_next coding (start_of old outcomes) s.call s ≡ poll_script coding (start_of old outcomes) (Some call) then → IsPolled coding (start_of old outcomes) s.call s then → then.leaving ≡ s.leaving → (r : Poll Answer) → PollFollows builds coding outcomes left old then middle w call stage stage' answers r → NextFollows builds coding outcomes left old s w call stage' polled' answers r
+        follows : (outcomes left rest : List NetOutcome) (old : SessionValue) (s : Script) (answers : List Answer) (then : Script) → Follows builds coding outcomes rest old then middle (Some call) stage answers → poll_next coding (start_of old outcomes) s.call s ≡ poll_script coding (start_of old outcomes) (Some call) then → IsPolled coding (start_of old outcomes) s.call s then → then.leaving ≡ s.leaving → (r : Poll Answer) → PollFollows builds coding outcomes left old then middle w call stage stage' answers r → NextFollows builds coding outcomes left old s w call stage' polled' answers r
         follows outcomes left rest old s answers then begun next polled keeps (Ready answer) (inl f) =
             let S : Script → Type 0 = λ x. Follows builds coding outcomes left old x w None stage' (answers ++ answer ∷ []) in
             inl (subst S (sym next) f)

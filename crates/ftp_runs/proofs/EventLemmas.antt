@@ -18,8 +18,8 @@ use Rattle.ftp_dialogue.specs.declared.stage.Stage.TheVariants.{At}
 use Rattle.ftp_calls.specs.declared.exchange.Turn.TheVariants.{First}
 use Rattle.ftp_runs.specs.declared.events.Course.{Course}
 use Rattle.futures.specs.declared.task.Poll.TheVariants.{Ready, Pending}
-use Rattle.ftp_dialogue.specs.Deals.{Deal, Net}
-use Rattle.ftp_dialogue.specs.declared.model.DealOutcome.{DealOutcome}
+use Rattle.ftp_dialogue.specs.NetEvents.{NetEvent, Net}
+use Rattle.ftp_dialogue.specs.declared.model.NetOutcome.{NetOutcome}
 use Rattle.ftp_dialogue.specs.declared.state.State.{State}
 use Rattle.ftp_runs.specs.declared.model.Item.{Item}
 use Rattle.ftp_runs.specs.declared.model.Item.TheVariants.{Hidden}
@@ -29,14 +29,14 @@ use Rattle.ftp_dialogue.specs.Coding.{Coding}
 use Rattle.ftp_runs.specs.Script.{unread, is_over, start_of, script_of, after_event, start_script, idle, with_call, without_call, MayCancel}
 use Rattle.ftp_runs.specs.Following.{Attended, Attends, Grows, Place, Follows, Starts, PollsHere}
 use Rattle.ftp_dialogue.specs.Steps.Polls.{polled_answer}
-use Rattle.ftp_dialogue.specs.Promises.{HasFault, FailsWith, standing}
+use Rattle.ftp_dialogue.specs.Promises.{HasFault, FailsWith, play_state}
 use Rattle.ftp_runs.specs.Runs.{before_all}
 use Rattle.ftp_control.specs.Saying.{said}
 use Rattle.ftp_runs.specs.Scripted.{Stands, Reaches}
 use Rattle.ftp_runs.specs.Run.{replay, and_then}
 use Rattle.ftp_dialogue.specs.Play.{finally, needs_data, play}
 use Rattle.ftp_dialogue.specs.Dialogue.{Tree}
-use Rattle.ftp_dialogue.specs.declared.model.Standing.{Standing}
+use Rattle.ftp_dialogue.specs.declared.model.PlayState.{PlayState}
 use Rattle.futures.specs.declared.task.Poll.{Poll}
 use Rattle.ftp_dialogue.specs.Steps.Stages.{remaining}
 use Rattle.ftp_dialogue.proofs.TransitionsLemmas.{given_by}
@@ -53,13 +53,13 @@ may_cancel None polled none = tt
 may_cancel (Some call) polled (inl new) = inl new
 may_cancel (Some call) polled (inr read) = inr (inl read)
 
-module _ (builds : Builds) (coding : Coding) (outcomes left : List DealOutcome) where
+module _ (builds : Builds) (coding : Coding) (outcomes left : List NetOutcome) where
   -- what is given to a connection
   abbrev pub with_given : SessionValue → Given → SessionValue
   with_given v given = record v { channel = record v.channel { told = record v.channel.told { given = given } } }
 
   -- a place doesn't change with what is given, nor with what is fed of a script
-  place_given : (old : SessionValue) (s t : Script) (came : List ℕ) (answered : List Deal) (v : SessionValue) (given : Given) (call : Option Call) (stage : Stage) → given.local ≡ v.channel.told.given.local → given.peer ≡ v.channel.told.given.peer → t.items ≡ s.items → t.answers ≡ s.answers → t.polled ≡ s.polled → t.heard ≡ s.heard → Place coding old s came answered v call stage → Place coding old t came answered (with_given v given) call stage
+  place_given : (old : SessionValue) (s t : Script) (came : List ℕ) (answered : List NetEvent) (v : SessionValue) (given : Given) (call : Option Call) (stage : Stage) → given.local ≡ v.channel.told.given.local → given.peer ≡ v.channel.told.given.peer → t.items ≡ s.items → t.answers ≡ s.answers → t.polled ≡ s.polled → t.heard ≡ s.heard → Place coding old s came answered v call stage → Place coding old t came answered (with_given v given) call stage
   place_given old s t came answered v given call stage local peer items answers polled heard place =
       let same : Place coding old s came answered (with_given v given) call stage = go call stage place in
       let P : List Item → List Answer → Bool → Bool → Type 0 = λ i a p h. Place coding old (record s { items = i; answers = a; polled = p; heard = h }) came answered (with_given v given) call stage in
@@ -70,16 +70,16 @@ module _ (builds : Builds) (coding : Coding) (outcomes left : List DealOutcome) 
       back call stage (subst Q (sym items) (subst R (sym answers) (subst S (sym polled) (subst H (sym heard) same))))
     where
       -- the ends of the connection stay, and so does all that a run sees
-      same_standing : (more : List ℕ) (ended : Bool) (outcomes : List DealOutcome) → standing v more ended outcomes ≡ standing (with_given v given) more ended outcomes
-      same_standing more ended outcomes =
-          let s : Standing = standing v more ended outcomes in
+      same_play_state : (more : List ℕ) (ended : Bool) (outcomes : List NetOutcome) → play_state v more ended outcomes ≡ play_state (with_given v given) more ended outcomes
+      same_play_state more ended outcomes =
+          let s : PlayState = play_state v more ended outcomes in
           ap (λ a. record s { local = a }) (sym local) ∙ ap (λ a. record s { local = given.local; peer = a }) (sym peer)
 
       stands_given : (items : List Item) → Stands coding old items came answered v s.answers → Stands coding old items came answered (with_given v given) s.answers
-      stands_given items stands = λ later room more ended outcomes fit on. stands later room more ended outcomes fit on ∙ ap (λ x. before_all s.answers (replay room coding later x)) (same_standing more ended outcomes)
+      stands_given items stands = λ later room more ended outcomes fit on. stands later room more ended outcomes fit on ∙ ap (λ x. before_all s.answers (replay room coding later x)) (same_play_state more ended outcomes)
 
       reaches_given : (call : Call) (tree : Tree) → Reaches coding old s.items came answered v s.answers call tree → Reaches coding old s.items came answered (with_given v given) s.answers call tree
-      reaches_given call tree reaches = λ later room more ended outcomes fit on. reaches later room more ended outcomes fit on ∙ ap (λ x. before_all s.answers (and_then (finally (play room tree x)) (λ t. replay room coding later t))) (same_standing more ended outcomes)
+      reaches_given call tree reaches = λ later room more ended outcomes fit on. reaches later room more ended outcomes fit on ∙ ap (λ x. before_all s.answers (and_then (finally (play room tree x)) (λ t. replay room coding later t))) (same_play_state more ended outcomes)
 
       go : (call : Option Call) (stage : Stage) → Place coding old s came answered v call stage → Place coding old s came answered (with_given v given) call stage
       go None stage place = stands_given s.items place
@@ -110,9 +110,9 @@ module _ (builds : Builds) (coding : Coding) (outcomes left : List DealOutcome) 
         record {
           came = f.came;
           answered = f.answered;
-          deals = f.deals;
+          net_events = f.net_events;
           outcomes_are = f.outcomes_are;
-          dealings = f.dealings;
+          net_record = f.net_record;
           place = place_given old s (record s { bytes = s.bytes ++ more; untaken = s.untaken ++ more }) f.came f.answered v given call stage (ap (λ g. g.local) is) (ap (λ g. g.peer) is) refl refl refl refl f.place;
           rule = f.rule;
           failures = f.failures;
@@ -156,9 +156,9 @@ module _ (builds : Builds) (coding : Coding) (outcomes left : List DealOutcome) 
         let ended : IsGiven (with_given v given).channel.told → IsSound (Unit {0}) (with_given v given).channel → Follows builds coding outcomes left old after (with_given v given) call stage answers = λ has sound. record {
           came = f.came;
           answered = f.answered;
-          deals = f.deals;
+          net_events = f.net_events;
           outcomes_are = f.outcomes_are;
-          dealings = f.dealings;
+          net_record = f.net_record;
           place = place_given old s after f.came f.answered v given call stage refl refl refl refl refl refl f.place;
           rule = f.rule;
           failures = f.failures;
@@ -190,9 +190,9 @@ module _ (builds : Builds) (coding : Coding) (outcomes left : List DealOutcome) 
         let wide : IsGiven (with_given v given).channel.told → IsSound (Unit {0}) (with_given v given).channel → Follows builds coding outcomes left old after (with_given v given) call stage answers = λ has sound. record {
           came = f.came;
           answered = f.answered;
-          deals = f.deals;
+          net_events = f.net_events;
           outcomes_are = f.outcomes_are;
-          dealings = f.dealings;
+          net_record = f.net_record;
           place = place_given old s after f.came f.answered v given call stage refl refl refl refl refl refl f.place;
           rule = f.rule;
           failures = f.failures;
@@ -221,9 +221,9 @@ module _ (builds : Builds) (coding : Coding) (outcomes left : List DealOutcome) 
     with_known items under call' polled heard leaving stage' call_is place may = record {
       came = f.came;
       answered = f.answered;
-      deals = f.deals;
+      net_events = f.net_events;
       outcomes_are = f.outcomes_are;
-      dealings = f.dealings;
+      net_record = f.net_record;
       place = place;
       rule = f.rule;
       failures = f.failures;
@@ -305,9 +305,9 @@ module _ (builds : Builds) (coding : Coding) (outcomes left : List DealOutcome) 
   begins v form stage all given sound waits = record {
     came = [];
     answered = [];
-    deals = refl;
+    net_events = refl;
     outcomes_are = all;
-    dealings = refl;
+    net_record = refl;
     place = λ later room more ended outcomes' fit on. refl;
     rule = inr refl;
     failures = refl;

@@ -16,10 +16,10 @@ use Rattle.ftp_control.specs.declared.control.rule.ReplyRule.TheVariants.{Strict
 use Rattle.ftp_transport.specs.declared.room.Room.{Room}
 use Rattle.ftp_transport.specs.declared.room.Room.TheVariants.{Any, UpTo}
 use Rattle.ftp_transport.specs.declared.request.RequestOutcome.{RequestOutcome}
-use Rattle.ftp_dialogue.specs.declared.model.DealOutcome.{DealOutcome}
+use Rattle.ftp_dialogue.specs.declared.model.NetOutcome.{NetOutcome}
 use Rattle.ftp_transport.specs.declared.request.RequestOutcome.TheVariants as asked
 use Rattle.ftp_control.specs.declared.control.form.ReplyForm.TheVariants.{Plain}
-use Rattle.ftp_dialogue.specs.Deals.{Deal, Deals, Net, dealings_of, outcomes_of}
+use Rattle.ftp_dialogue.specs.NetEvents.{NetEvent, NetEvents, Net, net_record_of, outcomes_of}
 use Rattle.ftp_base.specs.declared.types.mode.Mode.{Mode}
 use Rattle.ftp_base.specs.declared.types.mode.Mode.TheVariants as mode
 use Rattle.std.specs.declared.net.socket_addr.SocketAddr.{SocketAddr}
@@ -36,8 +36,8 @@ use Rattle.ftp_calls.specs.declared.call.Call.TheVariants.{Finish, Leave}
 use Rattle.ftp_calls.specs.declared.exchange.Turn.{Turn}
 use Rattle.ftp_calls.specs.declared.exchange.Turn.TheVariants.{First, Second, Passive, ExtendedPassive, Active, Restart, Closed, Aborted}
 use Rattle.ftp_dialogue.specs.declared.stage.Stage.{Stage}
-use Rattle.ftp_dialogue.specs.declared.stage.Stage.TheVariants.{At, Saying, Hearing, Arming, Resyncing, Agreeing, Closing, Aborting, Fetching}
-use Rattle.ftp_dialogue.specs.declared.model.Standing.{Standing}
+use Rattle.ftp_dialogue.specs.declared.stage.Stage.TheVariants.{At, Saying, Hearing, Arming, Resyncing, OpeningData, Closing, Aborting, Transferring}
+use Rattle.ftp_dialogue.specs.declared.model.PlayState.{PlayState}
 use Rattle.ftp_dialogue.specs.declared.model.Wait.{Wait}
 use Rattle.ftp_dialogue.specs.declared.model.Wait.TheVariants as wait
 use Rattle.ftp_dialogue.specs.declared.model.Played.TheVariants as played
@@ -62,13 +62,13 @@ use Rattle.ftp_dialogue.proofs.ResyncLemmas.{seeking_is}
 use Rattle.ftp_calls.specs.declared.call.Answer.TheVariants.{Fault}
 use Rattle.ftp_dialogue.specs.Dialogue.{Leaf}
 use Rattle.ftp_dialogue.specs.Sound.{cannot_open}
-use Rattle.ftp_dialogue.specs.Dialogue.{agreeing, at_port, closing, entered, opened_from, told_of_close, with_left, from_turn, negotiating, negotiating_unless, on_address, Expected, expected_of, Tree, Say, Hear, saying, awaiting, doing, later, dialogue, parting, aborting, breaking_off}
+use Rattle.ftp_dialogue.specs.Dialogue.{opening_data, at_port, closing, entered, opened_from, told_of_close, with_left, from_turn, negotiating, negotiating_unless, on_address, Expected, expected_of, Tree, Say, Hear, saying, awaiting, doing, later, dialogue, closing_data, aborting, breaking_off}
 use Rattle.ftp_dialogue.specs.Play.{ended, finally, play, fits, heard_then, needs_data}
 use Rattle.ftp_dialogue.specs.declared.model.Played.{Played}
 use Rattle.ftp_dialogue.specs.Lenient.{SameForm, SaysNothingYet, first_form, heard_form}
 use Rattle.ftp_dialogue.specs.Resuming.{Modes, Resumes, Silent, modes_in, modes_of}
 use Rattle.ftp_runs.specs.Run.{replay, before, and_then}
-use Rattle.ftp_dialogue.specs.Promises.{due_of, lacks_of, refusal_of, begun_by, failed_from, lacking_at, standing, However, Fails, LacksMemory, Touched, Untouched, Goes, Leads, Rests, Aborts}
+use Rattle.ftp_dialogue.specs.Promises.{due_of, lacks_of, refusal_of, begun_by, failed_from, lacking_at, play_state, However, Fails, LacksMemory, Touched, Untouched, Goes, Leads, Rests, Aborts}
 use Rattle.ftp_runs.specs.Runs.{before_all}
 use Rattle.ftp_runs.specs.Script.{unread, is_over, start_of, front, kept_in, modes_at, rule_at, seen_at, form_at, polled_as, run_with, poll_script, HearsNothing, MayCancel, MayPoll, SameMode}
 use Rattle.ftp_runs.specs.Scripted.{MayGoOn, SaysFrontOf, SaysNothing, Stands, SaysOrTakes, CallHasBegun, Reaches, LeftOf, entering}
@@ -76,7 +76,7 @@ use Rattle.ftp_dialogue.specs.Steps.Stages.{StageOf, remaining, begun_at}
 use Rattle.ftp_dialogue.specs.Steps.Moving.{Apart, BeginsHere, HasBegun, HasGoneOut, NothingTouched, Speaks, StillSays, Keeps, Shrinks, Calm, Advances, PollsTo, WaitsFor, WaitsToSay}
 use Rattle.ftp_runs.specs.Following.{Since, Started, UnderWay, Unheard, Place, Follows, PollsHere, AbortsCall}
 use Rattle.ftp_dialogue.specs.Steps.Polls.{MayPollAt, MayPollFrom, is_first, entered_at, entered_state, entered_tree}
-use Rattle.ftp_dialogue.proofs.Deals.{deals-append, drops, outcomes-append, letting_deals}
+use Rattle.ftp_dialogue.proofs.NetEvents.{net_events-append, drops, outcomes-append, letting_net_events}
 use Rattle.ftp_dialogue.proofs.Moving.{Finishes, finishes as finishes_by, goes_after, fitted, play-Say}
 use Rattle.ftp_dialogue.proofs.Hearing.{begun_resumes, kept_waits, play-Hear, set_waits}
 use Rattle.ftp_runs.proofs.Unheard.{LacksRoomFor, lacks_room, says_no_read}
@@ -85,7 +85,7 @@ use Rattle.ftp_dialogue.proofs.Sorts.{stage_no_local, unheld_drains_none}
 use Rattle.ftp_calls.proofs.Openings.{draining_reads}
 use Rattle.ftp_dialogue.specs.Play.{Refusal, Taken, Lacking, Failing}
 use Rattle.ftp_dialogue.proofs.DrainingLemmas.{undue_on}
-use Rattle.ftp_runs.proofs.Parting.{HasParted, began, end_waits, leaves_on, same_unsent}
+use Rattle.ftp_runs.proofs.ClosingData.{HasParted, began, end_waits, leaves_on, same_unsent}
 use Rattle.ftp_runs.proofs.Replay.{replay-nil, replay-shown, shown_on}
 use Rattle.ftp_runs.proofs.Running.{before_all-snoc, before_all-Finished, before_all-Waiting}
 use Rattle.ftp_dialogue.specs.Link.{Builds, over_memory}
@@ -93,65 +93,65 @@ use Rattle.ftp_runs.proofs.Carried.{front_fits, outcomes_on, over_at_end, seen_k
 use Rattle.ftp_base.specs.declared.command.Command.TheVariants.{Abor}
 
 -- what a poll comes to
-abbrev pub PollFollows : Builds → Coding → List DealOutcome → List DealOutcome → SessionValue → Script → SessionValue → SessionValue → Call → Stage → Stage → List Answer → Poll Answer → Type 0
+abbrev pub PollFollows : Builds → Coding → List NetOutcome → List NetOutcome → SessionValue → Script → SessionValue → SessionValue → Call → Stage → Stage → List Answer → Poll Answer → Type 0
 PollFollows builds coding outcomes left old s v w call stage stage' answers (Ready answer) =
     Follows builds coding outcomes left old (poll_script coding (start_of old outcomes) (Some call) s) w None stage' (answers ++ answer ∷ []) ⊎ AbortsCall builds coding call stage v w (Some answer)
 PollFollows builds coding outcomes left old s v w call stage stage' answers Pending = Follows builds coding outcomes left old (poll_script coding (start_of old outcomes) (Some call) s) w (Some call) stage' answers
 
-module _ (builds : Builds) (coding : Coding) (outcomes : List DealOutcome) where
+module _ (builds : Builds) (coding : Coding) (outcomes : List NetOutcome) where
   -- Runs
 
   -- the next call under way
-  pub stands_reaches : (old v : SessionValue) (items : List Item) (came : List ℕ) (answered : List Deal) (answers : List Answer) (call : Call) → refusal_of call v ≡ Taken → Stands coding old items came answered v answers → Reaches coding old items came answered (begun_by call v) answers call (dialogue coding call v.state)
+  pub stands_reaches : (old v : SessionValue) (items : List Item) (came : List ℕ) (answered : List NetEvent) (answers : List Answer) (call : Call) → refusal_of call v ≡ Taken → Stands coding old items came answered v answers → Reaches coding old items came answered (begun_by call v) answers call (dialogue coding call v.state)
   stands_reaches old v items came answered answers call going stands = λ later room more ended outcomes' fit on.
-      let s : Standing = standing v more ended outcomes' in
-      let next : Standing → Ran = λ t. replay room coding later t in
+      let s : PlayState = play_state v more ended outcomes' in
+      let next : PlayState → Ran = λ t. replay room coding later t in
       stands (Shown call ∷ later) room more ended outcomes' fit on
       ∙ ap (before_all answers) (replay-shown coding room call later s ∙ ap (λ p. and_then p next) (taken_plays coding room call v more ended outcomes' going))
 
-  module _ (old v w : SessionValue) (items : List Item) (came : List ℕ) (answered : List Deal) (answers : List Answer) (call : Call) where
+  module _ (old v w : SessionValue) (items : List Item) (came : List ℕ) (answered : List NetEvent) (answers : List Answer) (call : Call) where
     -- the call has its answer
     pub reaches_stands : (tree : Tree) (answer : Answer) → Reaches coding old items came answered v answers call tree → (ends : Finishes (over_memory builds) tree answer v w) → Resumes (modes_of v) v.channel.kept tree → Stands coding old (items ++ Shown call ∷ []) (came ++ ends.came) (answered ++ ends.answered) w (answers ++ answer ∷ [])
     reaches_stands tree answer reaches ends resumes = λ later room more ended outcomes' fit on.
         let done = ends in
-        let next : Standing → Ran = λ t. replay room coding later t in
+        let next : PlayState → Ran = λ t. replay room coding later t in
         let first = reaches later room (done.came ++ more) ended (outcomes_of done.answered ++ outcomes') (fitted room _ _ (done.goes.sent tt) fit) (goes_after v.channel.ended done.came more w.channel.ended ended done.goes.over on) in
         rw (append_assoc items (Shown call ∷ []) later, append_assoc came done.came more, outcomes_on answered done.answered outcomes')
         (first
         ∙ ap (λ p. before_all answers (and_then p next)) (done.plays tt resumes room more ended outcomes' fit on)
-        ∙ sym (before_all-snoc answers answer (replay room coding later (standing w more ended outcomes'))))
+        ∙ sym (before_all-snoc answers answer (replay room coding later (play_state w more ended outcomes'))))
 
     -- more of it is left
     reaches_on : (tree tree' : Tree) → Reaches coding old items came answered v answers call tree → (leads : Leads (over_memory builds) tree tree' v w) → However v leads.came leads.answered w (λ room s t. play room tree s ≡ play room tree' t) → Reaches coding old items (came ++ leads.came) (answered ++ leads.answered) w answers call tree'
     reaches_on tree tree' reaches leads plays = λ later room more ended outcomes' fit on.
-        let next : Standing → Ran = λ t. replay room coding later t in
+        let next : PlayState → Ran = λ t. replay room coding later t in
         let first = reaches later room (leads.came ++ more) ended (outcomes_of leads.answered ++ outcomes') (fitted room _ _ (leads.goes.sent tt) fit) (goes_after v.channel.ended leads.came more w.channel.ended ended leads.goes.over on) in
         rw (append_assoc came leads.came more, outcomes_on answered leads.answered outcomes')
         (first ∙ ap (λ p. before_all answers (and_then (finally p) next)) (plays room more ended outcomes' fit on))
 
   -- the call is refused
-  stands_refused : (old v w : SessionValue) (items : List Item) (came : List ℕ) (answered : List Deal) (answers : List Answer) (call : Call) (answer : Answer) → (so : RefusedSo builds (Unit {0}) coding call v w answer) → Stands coding old items came answered v answers → Stands coding old (items ++ Shown call ∷ []) (came ++ []) (answered ++ so.answered) w (answers ++ answer ∷ [])
+  stands_refused : (old v w : SessionValue) (items : List Item) (came : List ℕ) (answered : List NetEvent) (answers : List Answer) (call : Call) (answer : Answer) → (so : RefusedSo builds (Unit {0}) coding call v w answer) → Stands coding old items came answered v answers → Stands coding old (items ++ Shown call ∷ []) (came ++ []) (answered ++ so.answered) w (answers ++ answer ∷ [])
   stands_refused old v w items came answered answers call answer so stands = λ later room more ended outcomes' fit on.
-      let goes = beside_goes (over_memory builds) so.answered v w so.channel so.deals in
-      let R : List DealOutcome → Ran = λ o. replay room coding (items ++ Shown call ∷ later) (standing old (came ++ more) ended o) in
+      let goes = beside_goes (over_memory builds) so.answered v w so.channel so.net_events in
+      let R : List NetOutcome → Ran = λ o. replay room coding (items ++ Shown call ∷ later) (play_state old (came ++ more) ended o) in
       let same : outcomes_of (answered ++ so.answered) ++ outcomes' ≡ outcomes_of answered ++ outcomes' = ap (λ o. o ++ outcomes') (outcomes-append answered so.answered ∙ ap (λ o. outcomes_of answered ++ o) so.none ∙ append-nil (outcomes_of answered)) in
       rw (append_assoc items (Shown call ∷ []) later, append-nil came)
       (ap R same
       ∙ stands (Shown call ∷ later) room more ended outcomes' (fitted room _ _ (goes.sent tt) fit) (goes_after v.channel.ended [] more w.channel.ended ended goes.over on)
-      ∙ ap (before_all answers) (shown_on coding room call later (standing v more ended outcomes') (standing w more ended outcomes') answer (so.plays tt room more ended outcomes'))
-      ∙ sym (before_all-snoc answers answer (replay room coding later (standing w more ended outcomes'))))
+      ∙ ap (before_all answers) (shown_on coding room call later (play_state v more ended outcomes') (play_state w more ended outcomes') answer (so.plays tt room more ended outcomes'))
+      ∙ sym (before_all-snoc answers answer (replay room coding later (play_state w more ended outcomes'))))
 
   -- a plain read that waits leaves no trace
-  stands_rests : (old v w : SessionValue) (items : List Item) (came : List ℕ) (answered : List Deal) (answers : List Answer) → Stands coding old items came answered v answers → (rests : Rests (over_memory builds) v w) → Stands coding old items (came ++ rests.came) (answered ++ []) w answers
+  stands_rests : (old v w : SessionValue) (items : List Item) (came : List ℕ) (answered : List NetEvent) (answers : List Answer) → Stands coding old items came answered v answers → (rests : Rests (over_memory builds) v w) → Stands coding old items (came ++ rests.came) (answered ++ []) w answers
   stands_rests old v w items came answered answers stands rests = λ later room more ended outcomes' fit on.
       let first = stands later room (rests.came ++ more) ended outcomes' (fitted room _ _ (rests.goes.sent tt) fit) (goes_after v.channel.ended rests.came more w.channel.ended ended rests.goes.over on) in
       rw (append_assoc came rests.came more, append-nil answered)
       (first ∙ ap (λ s. before_all answers (replay room coding later s)) (rests.stays tt more ended outcomes'))
 
   -- a run depends on the outcomes alone
-  stands_same : (old v : SessionValue) (items : List Item) (came : List ℕ) (one two : List Deal) (answers : List Answer) → outcomes_of one ≡ outcomes_of two → Stands coding old items came one v answers → Stands coding old items came two v answers
+  stands_same : (old v : SessionValue) (items : List Item) (came : List ℕ) (one two : List NetEvent) (answers : List Answer) → outcomes_of one ≡ outcomes_of two → Stands coding old items came one v answers → Stands coding old items came two v answers
   stands_same old v items came one two answers same stands = λ later room more ended outcomes' fit on.
-      let R : List DealOutcome → Ran = λ o. replay room coding (items ++ later) (standing old (came ++ more) ended (o ++ outcomes')) in
+      let R : List NetOutcome → Ran = λ o. replay room coding (items ++ later) (play_state old (came ++ more) ended (o ++ outcomes')) in
       ap R (sym same) ∙ stands later room more ended outcomes' fit on
 
   -- a reply that says nothing yet as one of a call's form is resumed by the call, in one mode
@@ -189,7 +189,7 @@ module _ (builds : Builds) (coding : Coding) (outcomes : List DealOutcome) where
     resumes_bound offset state local waits (asked.Address bound) = resumes_row (Active (at_port (socket_port bound) local) offset) state waits
     resumes_bound offset state local waits (asked.Refused fault) = tt
 
-    resumes_mode : (m : Mode) (offset : ℕ) (state : State) → SaysNothingYet modes.setting Plain kept → Resumes modes kept (agreeing m coding call offset state)
+    resumes_mode : (m : Mode) (offset : ℕ) (state : State) → SaysNothingYet modes.setting Plain kept → Resumes modes kept (opening_data m coding call offset state)
     resumes_mode mode.Active offset state waits = λ local answer. resumes_bound offset state local waits answer
     resumes_mode mode.Passive offset state waits = resumes_row (Passive offset) state waits
     resumes_mode mode.ExtendedPassive offset state waits = resumes_row (ExtendedPassive offset) state waits
@@ -201,7 +201,7 @@ module _ (builds : Builds) (coding : Coding) (outcomes : List DealOutcome) where
     resumes_dialogue : (state : State) → SaysNothingYet modes.setting (first_form call) kept → Resumes modes kept (dialogue coding call state)
     resumes_dialogue state waits = go (negotiates call) (finishes call) waits
       where
-        go : (b f : Bool) → SaysNothingYet modes.setting (cond (b || f) Plain (heard_form (row_of call First))) kept → Resumes modes kept (cond b (negotiating coding call state.settings.restart_offset (opened_from call state)) (cond f (parting coding call (with_left state)) (from_turn coding call First state)))
+        go : (b f : Bool) → SaysNothingYet modes.setting (cond (b || f) Plain (heard_form (row_of call First))) kept → Resumes modes kept (cond b (negotiating coding call state.settings.restart_offset (opened_from call state)) (cond f (closing_data coding call (with_left state)) (from_turn coding call First state)))
         go true f waits = resumes_unless (cannot_open state.counts) state.settings.restart_offset (opened_from call state) waits
         go false true waits = (elim (aborts call) as (λ a. Resumes modes kept (cond a (aborting coding call (with_left state)) (closing coding call (with_left state)))) [
           | true ↦ said (wire coding.encode (text_of Abor))
@@ -220,7 +220,7 @@ module _ (builds : Builds) (coding : Coding) (outcomes : List DealOutcome) where
   settled_state call (At Aborted) state stage_of = refl
   settled_state call Closing state stage_of = refl
   settled_state call (Aborting abort) state stage_of = refl
-  settled_state call (Fetching fetching) state stage_of = refl
+  settled_state call (Transferring fetching) state stage_of = refl
   settled_state call (At Second) state stage_of = refl
   settled_state call (At (Passive offset)) state stage_of = refl
   settled_state call (At (ExtendedPassive offset)) state stage_of = refl
@@ -230,7 +230,7 @@ module _ (builds : Builds) (coding : Coding) (outcomes : List DealOutcome) where
   settled_state call (Hearing a) state stage_of = refl
   settled_state call (Arming turn offset) state stage_of = refl
   settled_state call (Resyncing turn seeks) state stage_of = refl
-  settled_state call (Agreeing way) state stage_of = refl
+  settled_state call (OpeningData way) state stage_of = refl
 
   settled_tree : (call : Call) (stage : Stage) (state : State) → StageOf call stage → entered_tree coding call stage state ≡ remaining coding call state stage
   settled_tree call (At First) state plain = plain_dialogue coding call state plain.0 plain.2
@@ -238,7 +238,7 @@ module _ (builds : Builds) (coding : Coding) (outcomes : List DealOutcome) where
   settled_tree call (At Aborted) state stage_of = refl
   settled_tree call Closing state stage_of = refl
   settled_tree call (Aborting abort) state stage_of = refl
-  settled_tree call (Fetching fetching) state stage_of = refl
+  settled_tree call (Transferring fetching) state stage_of = refl
   settled_tree call (At Second) state stage_of = refl
   settled_tree call (At (Passive offset)) state stage_of = refl
   settled_tree call (At (ExtendedPassive offset)) state stage_of = refl
@@ -248,10 +248,10 @@ module _ (builds : Builds) (coding : Coding) (outcomes : List DealOutcome) where
   settled_tree call (Hearing a) state stage_of = refl
   settled_tree call (Arming turn offset) state stage_of = refl
   settled_tree call (Resyncing turn seeks) state stage_of = refl
-  settled_tree call (Agreeing way) state stage_of = refl
+  settled_tree call (OpeningData way) state stage_of = refl
 
   -- what was fed, seen from after a poll
-  module _ (left : List DealOutcome) (asked : List Deal) (old : SessionValue) (s : Script) (v w : SessionValue) (call : Call) (stage : Stage) (answers : List Answer) (f : Follows builds coding outcomes (outcomes_of asked ++ left) old s v (Some call) stage answers) (came : List ℕ) (c : Carried builds v w came asked) where
+  module _ (left : List NetOutcome) (asked : List NetEvent) (old : SessionValue) (s : Script) (v w : SessionValue) (call : Call) (stage : Stage) (answers : List Answer) (f : Follows builds coding outcomes (outcomes_of asked ++ left) old s v (Some call) stage answers) (came : List ℕ) (c : Carried builds v w came asked) where
     fed_bytes : s.bytes ≡ untaken old.channel ++ (f.came ++ came) ++ unread w.channel.told
     fed_bytes =
         f.bytes
@@ -259,8 +259,8 @@ module _ (builds : Builds) (coding : Coding) (outcomes : List DealOutcome) where
         ∙ sym (append_assoc (untaken old.channel ++ f.came) came (unread w.channel.told))
         ∙ ap (λ k. k ++ unread w.channel.told) (append_assoc (untaken old.channel) f.came came)
 
-    abbrev pub here : Standing
-    here = standing w (unread w.channel.told) (is_over w.channel.told) left
+    abbrev pub here : PlayState
+    here = play_state w (unread w.channel.told) (is_over w.channel.told) left
 
     fits_here : HasRoomFor s.room (length w.channel.told.sent)
     fits_here = let P : Room → Type 0 = λ room. HasRoomFor room (length w.channel.told.sent) in subst P (sym (f.room ∙ ap (λ g. g.room) (sym c.given))) (c.sound.fits tt)
@@ -268,8 +268,8 @@ module _ (builds : Builds) (coding : Coding) (outcomes : List DealOutcome) where
     all_received : w.channel.told.received ≡ old.channel.told.received ++ (f.came ++ came)
     all_received = c.received ∙ ap (λ x. x ++ came) f.received ∙ append_assoc old.channel.told.received f.came came
 
-    all_deals : Deals builds (f.answered ++ asked) old.net w.net
-    all_deals = deals-append builds f.answered asked old.net v.net w.net f.deals c.deals
+    all_net_events : NetEvents builds (f.answered ++ asked) old.net w.net
+    all_net_events = net_events-append builds f.answered asked old.net v.net w.net f.net_events c.net_events
 
     all_outcomes : outcomes ≡ outcomes_of (f.answered ++ asked) ++ left
     all_outcomes = f.outcomes_are ∙ sym (outcomes_on f.answered asked left)
@@ -278,10 +278,10 @@ module _ (builds : Builds) (coding : Coding) (outcomes : List DealOutcome) where
     over_is = f.ended ∙ sym c.over
 
     -- the run from the script's beginning is the one that the session has made
-    from_start : (calls : List Item) → replay s.room coding calls (record (start_of old outcomes) { bytes = s.bytes; ended = s.ended }) ≡ replay s.room coding calls (standing old ((f.came ++ came) ++ unread w.channel.told) (is_over w.channel.told) (outcomes_of (f.answered ++ asked) ++ left))
+    from_start : (calls : List Item) → replay s.room coding calls (record (start_of old outcomes) { bytes = s.bytes; ended = s.ended }) ≡ replay s.room coding calls (play_state old ((f.came ++ came) ++ unread w.channel.told) (is_over w.channel.told) (outcomes_of (f.answered ++ asked) ++ left))
     from_start calls =
         let bytes : s.bytes ≡ untaken old.channel ++ ((f.came ++ came) ++ unread w.channel.told) = fed_bytes ∙ append_assoc (untaken old.channel) (f.came ++ came) (unread w.channel.told) in
-        let S : List DealOutcome → Standing = λ o. record (start_of old o) { bytes = s.bytes; ended = s.ended } in
+        let S : List NetOutcome → PlayState = λ o. record (start_of old o) { bytes = s.bytes; ended = s.ended } in
         ap (λ o. replay s.room coding calls (S o)) all_outcomes ∙ rw (bytes, over_is)
 
     going_on : GoesOn w.channel.ended (unread w.channel.told) (is_over w.channel.told)
@@ -292,9 +292,9 @@ module _ (builds : Builds) (coding : Coding) (outcomes : List DealOutcome) where
     done_with P stage' after items all told call' place are shrinks keeps = record {
       came = f.came ++ came;
       answered = f.answered ++ asked;
-      deals = all_deals;
+      net_events = all_net_events;
       outcomes_are = all_outcomes;
-      dealings = refl;
+      net_record = refl;
       place = place;
       rule = rule_kept P s.rule v w came f.rule keeps;
       failures = c.failures ∙ f.failures;
@@ -320,7 +320,7 @@ module _ (builds : Builds) (coding : Coding) (outcomes : List DealOutcome) where
     pub ran_done : (answer : Answer) → Stands coding old (s.items ++ Shown call ∷ []) (f.came ++ came) (f.answered ++ asked) w (s.answers ++ answer ∷ []) → run_with coding (start_of old outcomes) call s ≡ Finished (s.answers ++ answer ∷ []) here
     ran_done answer stands =
         from_start (s.items ++ Shown call ∷ [])
-        ∙ ap (λ items. replay s.room coding items (standing old ((f.came ++ came) ++ unread w.channel.told) (is_over w.channel.told) (outcomes_of (f.answered ++ asked) ++ left))) (sym (append-nil (s.items ++ Shown call ∷ [])))
+        ∙ ap (λ items. replay s.room coding items (play_state old ((f.came ++ came) ++ unread w.channel.told) (is_over w.channel.told) (outcomes_of (f.answered ++ asked) ++ left))) (sym (append-nil (s.items ++ Shown call ∷ [])))
         ∙ stands [] s.room (unread w.channel.told) (is_over w.channel.told) left fits_here going_on
         ∙ ap (before_all (s.answers ++ answer ∷ [])) (replay-nil coding s.room here)
         ∙ before_all-Finished (s.answers ++ answer ∷ []) [] here
@@ -333,9 +333,9 @@ module _ (builds : Builds) (coding : Coding) (outcomes : List DealOutcome) where
         subst Q (sym (ran_done answer stands)) (done_with P stage' (s.answers ++ answer ∷ []) (s.items ++ Shown call ∷ []) (s.answers ++ answer ∷ []) (answers ++ answer ∷ []) None stands (ap (λ a. a ++ answer ∷ []) f.answers_are) shrinks keeps)
 
     -- the run of all calls waits where the call does
-    waits_ran : (tree : Tree) (wait : Wait) (t : Standing) → Reaches coding old s.items (f.came ++ came) (f.answered ++ asked) w s.answers call tree → play s.room tree here ≡ played.Pending wait t → run_with coding (start_of old outcomes) call s ≡ Waiting s.answers wait t
+    waits_ran : (tree : Tree) (wait : Wait) (t : PlayState) → Reaches coding old s.items (f.came ++ came) (f.answered ++ asked) w s.answers call tree → play s.room tree here ≡ played.Pending wait t → run_with coding (start_of old outcomes) call s ≡ Waiting s.answers wait t
     waits_ran tree wait t reaches waits =
-        let next : Standing → Ran = λ u. replay s.room coding [] u in
+        let next : PlayState → Ran = λ u. replay s.room coding [] u in
         from_start (s.items ++ Shown call ∷ [])
         ∙ reaches [] s.room (unread w.channel.told) (is_over w.channel.told) left fits_here going_on
         ∙ ap (λ p. before_all s.answers (and_then (finally p) next)) waits
@@ -349,7 +349,7 @@ module _ (builds : Builds) (coding : Coding) (outcomes : List DealOutcome) where
         Nothing : Ran → Type 0
         Nothing = λ r. HearsNothing r s
 
-        next : Standing → Ran
+        next : PlayState → Ran
         next = λ u. replay s.room coding [] u
 
         ran : run_with coding (start_of old outcomes) call s ≡ before_all s.answers (and_then (finally (play s.room (remaining coding call state stage') here)) next)
@@ -378,16 +378,16 @@ module _ (builds : Builds) (coding : Coding) (outcomes : List DealOutcome) where
             cc
 
     -- the call waits
-    wait_on : (tree : Tree) (stage' : Stage) (wait : Wait) (t : Standing) → Reaches coding old s.items (f.came ++ came) (f.answered ++ asked) w s.answers call tree → play s.room tree here ≡ played.Pending wait t → front s.room t.said ≡ w.channel.told.sent → SaysFrontOf w.channel (t.said ++ t.unsent) → t.bytes ≡ untaken w.channel ++ unread w.channel.told → seen_at wait s t.bytes ≡ length w.channel.kept → outcome w.channel.rule (form_at wait s) w.channel.kept false ≡ Waits → (w.channel.kept ≡ []) ⊎ (w.channel.rule ≡ rule_at wait s t.state) → t.state ≡ w.state → t.failed ≡ w.channel.failed → t.dealings ≡ dealings_of w.net → (MayCancel (Some call) true → s.unsent ≡ w.channel.unsent) → Place coding old (polled_as (Waiting s.answers wait t) call s) (f.came ++ came) (f.answered ++ asked) w (Some call) stage' → Follows builds coding outcomes left old (poll_script coding (start_of old outcomes) (Some call) s) w (Some call) stage' answers
-    wait_on tree stage' wait t reaches waits sent begins bytes seen says_nothing by state failed dealings unsent place =
+    wait_on : (tree : Tree) (stage' : Stage) (wait : Wait) (t : PlayState) → Reaches coding old s.items (f.came ++ came) (f.answered ++ asked) w s.answers call tree → play s.room tree here ≡ played.Pending wait t → front s.room t.said ≡ w.channel.told.sent → SaysFrontOf w.channel (t.said ++ t.unsent) → t.bytes ≡ untaken w.channel ++ unread w.channel.told → seen_at wait s t.bytes ≡ length w.channel.kept → outcome w.channel.rule (form_at wait s) w.channel.kept false ≡ Waits → (w.channel.kept ≡ []) ⊎ (w.channel.rule ≡ rule_at wait s t.state) → t.state ≡ w.state → t.failed ≡ w.channel.failed → t.net_record ≡ net_record_of w.net → (MayCancel (Some call) true → s.unsent ≡ w.channel.unsent) → Place coding old (polled_as (Waiting s.answers wait t) call s) (f.came ++ came) (f.answered ++ asked) w (Some call) stage' → Follows builds coding outcomes left old (poll_script coding (start_of old outcomes) (Some call) s) w (Some call) stage' answers
+    wait_on tree stage' wait t reaches waits sent begins bytes seen says_nothing by state failed net_record unsent place =
         let ran = waits_ran tree wait t reaches waits in
         let Q : Ran → Type 0 = λ r. Follows builds coding outcomes left old (polled_as r call s) w (Some call) stage' answers in
         let follows : Follows builds coding outcomes left old (polled_as (Waiting s.answers wait t) call s) w (Some call) stage' answers = record {
           came = f.came ++ came;
           answered = f.answered ++ asked;
-          deals = all_deals;
+          net_events = all_net_events;
           outcomes_are = all_outcomes;
-          dealings = dealings;
+          net_record = net_record;
           place = place;
           rule = by;
           failures = c.failures ∙ f.failures;
@@ -439,7 +439,7 @@ module _ (builds : Builds) (coding : Coding) (outcomes : List DealOutcome) where
         play-Hear s.room codes next here ∙ ap (λ h. heard_then h codes here (λ heard u. play s.room (next heard) u)) more
 
   -- how a call goes on since the calls before it were done
-  since_start : (old : SessionValue) (items : List Item) (answers : List Answer) (came : List ℕ) (answered : List Deal) (v : SessionValue) (state : State) → Stands coding old items came answered v answers → Since coding old items answers came answered (record v { state = state }) false
+  since_start : (old : SessionValue) (items : List Item) (answers : List Answer) (came : List ℕ) (answered : List NetEvent) (v : SessionValue) (state : State) → Stands coding old items came answered v answers → Since coding old items answers came answered (record v { state = state }) false
   since_start old items answers came answered v state stands = record {
     start = v;
     before = came;
@@ -457,7 +457,7 @@ module _ (builds : Builds) (coding : Coding) (outcomes : List DealOutcome) where
     not_begun = λ none. (refl, sym (append-nil (untaken v.channel)));
   }
 
-  since_on : (old : SessionValue) (items : List Item) (answers : List Answer) (came : List ℕ) (asked : List Deal) (v w : SessionValue) (begun begun' : Bool) (tree : Tree) (since : Since coding old items answers came asked v begun) → Speaks tree ⊎ Resumes (modes_of v) v.channel.kept tree → (more : List ℕ) (answered : List Deal) → Goes (over_memory builds) more answered v w → HasBegun (over_memory builds) begun begun' tree v w → Since coding old items answers (came ++ more) (asked ++ answered) w begun'
+  since_on : (old : SessionValue) (items : List Item) (answers : List Answer) (came : List ℕ) (asked : List NetEvent) (v w : SessionValue) (begun begun' : Bool) (tree : Tree) (since : Since coding old items answers came asked v begun) → Speaks tree ⊎ Resumes (modes_of v) v.channel.kept tree → (more : List ℕ) (answered : List NetEvent) → Goes (over_memory builds) more answered v w → HasBegun (over_memory builds) begun begun' tree v w → Since coding old items answers (came ++ more) (asked ++ answered) w begun'
   since_on old items answers came asked v w begun begun' tree since resumes more answered goes here = record {
     start = since.start;
     before = since.before;
@@ -502,7 +502,7 @@ module _ (builds : Builds) (coding : Coding) (outcomes : List DealOutcome) where
       subst R (sym (settled_tree call stage v.state stage_of)) (subst Q (sym (settled_state call stage v.state stage_of)) holds)
 
   -- where a poll begins
-  pub record Resumed (old : SessionValue) (s : Script) (came : List ℕ) (asked : List Deal) (v : SessionValue) (call : Call) (begun : Bool) (e : SessionValue) (tree : Tree) : Type 0 where
+  pub record Resumed (old : SessionValue) (s : Script) (came : List ℕ) (asked : List NetEvent) (v : SessionValue) (call : Call) (begun : Bool) (e : SessionValue) (tree : Tree) : Type 0 where
     pub reaches : Reaches coding old s.items came asked e s.answers call tree
     pub resumes : Resumes (modes_of e) e.channel.kept tree
     pub apart : is_read call ≡ true → Apart tree
@@ -511,34 +511,34 @@ module _ (builds : Builds) (coding : Coding) (outcomes : List DealOutcome) where
     pub unsent : call ≡ Finish → v.channel.unsent ≡ since.start.channel.unsent
 
   -- where a poll begins that waits for room and hears nothing
-  pub record KeptWaiting (old : SessionValue) (s : Script) (came : List ℕ) (asked : List Deal) (v : SessionValue) (call : Call) (begun : Bool) (e : SessionValue) (state : State) (tree : Tree) : Type 0 where
+  pub record KeptWaiting (old : SessionValue) (s : Script) (came : List ℕ) (asked : List NetEvent) (v : SessionValue) (call : Call) (begun : Bool) (e : SessionValue) (state : State) (tree : Tree) : Type 0 where
     pub plain : needs_data call ≡ false
     pub no_read : is_read call ≡ false
     pub reaches : Reaches coding old s.items came asked e s.answers call tree
     pub resumes : (modes : Modes) (kept : List ℕ) → Resumes modes kept (dialogue coding call state) → Resumes modes kept tree
     pub since : Since coding old s.items s.answers came asked e begun
     pub nothing : HearsNothing (run_with coding (start_of old outcomes) call s) s
-    pub lacks : LacksRoomFor s.room (standing v (unread v.channel.told) (is_over v.channel.told) []) tree
+    pub lacks : LacksRoomFor s.room (play_state v (unread v.channel.told) (is_over v.channel.told) []) tree
 
   -- where the poll of a call at this stage begins
-  abbrev pub Goes_on : SessionValue → Script → List ℕ → List Deal → SessionValue → Call → Stage → Type 0
+  abbrev pub Goes_on : SessionValue → Script → List ℕ → List NetEvent → SessionValue → Call → Stage → Type 0
   Goes_on old s came asked v call stage =
       Resumed old s came asked v call (begun_at stage) (entered_at call stage v) (entered_tree coding call stage v.state)
 
-  abbrev pub Kept : SessionValue → Script → List ℕ → List Deal → SessionValue → Call → Stage → Type 0
+  abbrev pub Kept : SessionValue → Script → List ℕ → List NetEvent → SessionValue → Call → Stage → Type 0
   Kept old s came asked v call stage =
       KeptWaiting old s came asked v call (begun_at stage) (entered_at call stage v) (entered_state call stage v.state) (entered_tree coding call stage v.state)
 
-  module _ (left : List DealOutcome) (old : SessionValue) (s : Script) (v w : SessionValue) (call : Call) (stage : Stage) (answers : List Answer) (stage' : Stage) (advances : Advances (over_memory builds) (entered_tree coding call stage v.state) (remaining coding call (entered_state call stage v.state) stage') (entered_at call stage v) w) (f : Follows builds coding outcomes (outcomes_of advances.moves.leads.answered ++ left) old s v (Some call) stage answers) (c : Carried builds v w advances.moves.leads.came advances.moves.leads.answered) where
+  module _ (left : List NetOutcome) (old : SessionValue) (s : Script) (v w : SessionValue) (call : Call) (stage : Stage) (answers : List Answer) (stage' : Stage) (advances : Advances (over_memory builds) (entered_tree coding call stage v.state) (remaining coding call (entered_state call stage v.state) stage') (entered_at call stage v) w) (f : Follows builds coding outcomes (outcomes_of advances.moves.leads.answered ++ left) old s v (Some call) stage answers) (c : Carried builds v w advances.moves.leads.came advances.moves.leads.answered) where
     -- a poll that waits for room
-    room_waits : WaitsToSay (over_memory builds) (remaining coding call (entered_state call stage v.state) stage') w → Reaches coding old s.items (f.came ++ advances.moves.leads.came) (f.answered ++ advances.moves.leads.answered) w s.answers call (remaining coding call (entered_state call stage v.state) stage') → ((t : Standing) → run_with coding (start_of old outcomes) call s ≡ Waiting s.answers wait.Room t → MayCancel (Some call) true → s.unsent ≡ w.channel.unsent) → ((t : Standing) → run_with coding (start_of old outcomes) call s ≡ Waiting s.answers wait.Room t → Place coding old (polled_as (Waiting s.answers wait.Room t) call s) (f.came ++ advances.moves.leads.came) (f.answered ++ advances.moves.leads.answered) w (Some call) stage') → Follows builds coding outcomes left old (poll_script coding (start_of old outcomes) (Some call) s) w (Some call) stage' answers
+    room_waits : WaitsToSay (over_memory builds) (remaining coding call (entered_state call stage v.state) stage') w → Reaches coding old s.items (f.came ++ advances.moves.leads.came) (f.answered ++ advances.moves.leads.answered) w s.answers call (remaining coding call (entered_state call stage v.state) stage') → ((t : PlayState) → run_with coding (start_of old outcomes) call s ≡ Waiting s.answers wait.Room t → MayCancel (Some call) true → s.unsent ≡ w.channel.unsent) → ((t : PlayState) → run_with coding (start_of old outcomes) call s ≡ Waiting s.answers wait.Room t → Place coding old (polled_as (Waiting s.answers wait.Room t) call s) (f.came ++ advances.moves.leads.came) (f.answered ++ advances.moves.leads.answered) w (Some call) stage') → Follows builds coding outcomes left old (poll_script coding (start_of old outcomes) (Some call) s) w (Some call) stage' answers
     room_waits says reaches' unsent' place =
         let moves = advances.moves in
         let asked = moves.leads.answered in
         let before : Tree = entered_tree coding call stage v.state in
         let P : Tree → Type 0 = λ x. Reaches coding old s.items (f.came ++ moves.leads.came) (f.answered ++ asked) w s.answers call x in
         let C : Tree → Type 0 = Calm in
-        let t : Standing = record (here left asked old s v w call stage answers f moves.leads.came c) { said = w.channel.told.sent ++ w.channel.unsent ++ says.line; unsent = [] } in
+        let t : PlayState = record (here left asked old s v w call stage answers f moves.leads.came c) { said = w.channel.told.sent ++ w.channel.unsent ++ says.line; unsent = [] } in
         let stuck = say_waits left asked old s v w call stage answers f moves.leads.came c says.line says.next says.some (says.full tt) in
         let calm = moves.calm (subst C (sym says.is) tt) in
         let seen = seen_kept (Calm before) s v w moves.leads.came f.seen f.untaken c.split moves.shrinks calm in
@@ -569,7 +569,7 @@ module _ (builds : Builds) (coding : Coding) (outcomes : List DealOutcome) where
         speaks : Speaks before
         speaks = let P : Tree → Type 0 = Speaks in subst P (sym from.lacks.is) tt
 
-        place : (still : StillSays (over_memory builds) before tree' advances.moves.leads.came advances.moves.leads.answered from.lacks.line e w) → Reaches coding old s.items (f.came ++ advances.moves.leads.came) (f.answered ++ advances.moves.leads.answered) w s.answers call tree' → (t : Standing) → run_with coding (start_of old outcomes) call s ≡ Waiting s.answers wait.Room t → Place coding old (polled_as (Waiting s.answers wait.Room t) call s) (f.came ++ advances.moves.leads.came) (f.answered ++ advances.moves.leads.answered) w (Some call) stage'
+        place : (still : StillSays (over_memory builds) before tree' advances.moves.leads.came advances.moves.leads.answered from.lacks.line e w) → Reaches coding old s.items (f.came ++ advances.moves.leads.came) (f.answered ++ advances.moves.leads.answered) w s.answers call tree' → (t : PlayState) → run_with coding (start_of old outcomes) call s ≡ Waiting s.answers wait.Room t → Place coding old (polled_as (Waiting s.answers wait.Room t) call s) (f.came ++ advances.moves.leads.came) (f.answered ++ advances.moves.leads.answered) w (Some call) stage'
         place still reaches' t ran = inr (inr (record {
           plain = from.plain;
           stage_of = stage_of;
@@ -602,7 +602,7 @@ module _ (builds : Builds) (coding : Coding) (outcomes : List DealOutcome) where
         came' : List ℕ
         came' = f.came ++ advances.moves.leads.came
 
-        asked' : List Deal
+        asked' : List NetEvent
         asked' = f.answered ++ advances.moves.leads.answered
 
         before : Tree
@@ -637,15 +637,15 @@ module _ (builds : Builds) (coding : Coding) (outcomes : List DealOutcome) where
         on' : GoesOn w.channel.ended (unread w.channel.told) (is_over w.channel.told)
         on' = going_on left advances.moves.leads.answered old s v w call stage answers f advances.moves.leads.came c
 
-        Parts : Wait → Standing → Type 0
+        Parts : Wait → PlayState → Type 0
         Parts due t = HasParted (began coding old s.items s.answers came' asked' w (begun_at stage') since' s.room (unread w.channel.told) (is_over w.channel.told) left fits' on') due t
 
-        parts : (due : Wait) (t : Standing) → (due ≡ wait.Outcome → ⊥) → run_with coding (start_of old outcomes) call s ≡ Waiting s.answers due t → call ≡ Finish → Parts due t
+        parts : (due : Wait) (t : PlayState) → (due ≡ wait.Outcome → ⊥) → run_with coding (start_of old outcomes) call s ≡ Waiting s.answers due t → call ≡ Finish → Parts due t
         parts due t none ran is =
-            let R : Call → Type 0 = λ x. replay s.room coding (s.items ++ Shown x ∷ []) (standing old (came' ++ unread w.channel.told) (is_over w.channel.told) (outcomes_of asked' ++ left)) ≡ Waiting s.answers due t in
+            let R : Call → Type 0 = λ x. replay s.room coding (s.items ++ Shown x ∷ []) (play_state old (came' ++ unread w.channel.told) (is_over w.channel.told) (outcomes_of asked' ++ left)) ≡ Waiting s.answers due t in
             end_waits coding old s.items s.answers came' asked' w (begun_at stage') since' s.room (unread w.channel.told) (is_over w.channel.told) left fits' on' due t none (subst R is (sym (from_start left advances.moves.leads.answered old s v w call stage answers f advances.moves.leads.came c (s.items ++ Shown call ∷ [])) ∙ ran))
 
-        no_room : (t : Standing) → run_with coding (start_of old outcomes) call s ≡ Waiting s.answers wait.Room t → call ≡ Finish → ⊥
+        no_room : (t : PlayState) → run_with coding (start_of old outcomes) call s ≡ Waiting s.answers wait.Room t → call ≡ Finish → ⊥
         no_room t ran is =
             let found = parts wait.Room t (λ same. (let clash : wait.Room ≡ wait.Outcome = same in cc)) ran is in
             let clash : wait.Room ≡ wait.Bytes found.form = found.waits in
@@ -656,7 +656,7 @@ module _ (builds : Builds) (coding : Coding) (outcomes : List DealOutcome) where
         unsent' ends (inr (inl read)) = f.unsent (inr (inl read)) ∙ ap (λ t. t.unsent) ((rests read).stays tt [] false [])
         unsent' ends (inr (inr is)) = ends is
 
-        under_way : (t : Standing) (wait : Wait) → (call ≡ Finish → Stands coding old (s.items ++ Hidden Leave ∷ []) came' asked' w s.answers) → (call ≡ Finish → w.channel.unsent ≡ since'.start.channel.unsent) → UnderWay coding old (polled_as (Waiting s.answers wait t) call s) came' asked' w call stage'
+        under_way : (t : PlayState) (wait : Wait) → (call ≡ Finish → Stands coding old (s.items ++ Hidden Leave ∷ []) came' asked' w s.answers) → (call ≡ Finish → w.channel.unsent ≡ since'.start.channel.unsent) → UnderWay coding old (polled_as (Waiting s.answers wait t) call s) came' asked' w call stage'
         under_way t wait leaves unsent = record {
           stage_of = stage_of;
           polled = refl;
@@ -679,7 +679,7 @@ module _ (builds : Builds) (coding : Coding) (outcomes : List DealOutcome) where
             let asked = moves.leads.answered in
             let P : Tree → Type 0 = λ x. Reaches coding old s.items came' asked' w s.answers call x in
             let R : Tree → Type 0 = λ x. Resumes (modes_of w) w.channel.kept x in
-            let t : Standing = here left asked old s v w call stage answers f moves.leads.came c in
+            let t : PlayState = here left asked old s v w call stage answers f moves.leads.came c in
             let resumed = subst R hears.is resumes' in
             let says = kept_waits w.channel.kept w.channel.rule w.state.settings.reply_rule hears.codes.form c.sound.waits resumed.0 resumed.1 in
             let stuck = hear_waits left asked old s v w call stage answers f moves.leads.came c hears.codes hears.next (hears.dry tt) hears.none_ahead hears.unended resumed in
@@ -693,7 +693,7 @@ module _ (builds : Builds) (coding : Coding) (outcomes : List DealOutcome) where
             let leaves : call ≡ Finish → Stands coding old (s.items ++ Hidden Leave ∷ []) came' asked' w s.answers = λ is. leaves_on coding old s.items s.answers came' asked' w (begun_at stage') since' s.room (unread w.channel.told) (is_over w.channel.told) left fits' on' b (parted is) in
             wait_on left asked old s v w call stage answers f moves.leads.came c (Hear hears.codes hears.next) stage' b t there stuck sent (all_said w.channel) refl seen says.0 says.2 refl refl refl (unsent' (λ is. f.unsent (inr (inr is)) ∙ from.unsent is ∙ sym (unsent is))) (inr (inl (under_way t b leaves unsent)))
 
-  module _ (left : List DealOutcome) (old : SessionValue) (s : Script) (v w : SessionValue) (call : Call) (stage : Stage) (answers : List Answer) (answer : Answer) (ends : Finishes (over_memory builds) (entered_tree coding call stage v.state) answer (entered_at call stage v) w) (f : Follows builds coding outcomes (outcomes_of ends.answered ++ left) old s v (Some call) stage answers) (c : Carried builds v w ends.came ends.answered) where
+  module _ (left : List NetOutcome) (old : SessionValue) (s : Script) (v w : SessionValue) (call : Call) (stage : Stage) (answers : List Answer) (answer : Answer) (ends : Finishes (over_memory builds) (entered_tree coding call stage v.state) answer (entered_at call stage v) w) (f : Follows builds coding outcomes (outcomes_of ends.answered ++ left) old s v (Some call) stage answers) (c : Carried builds v w ends.came ends.answered) where
     -- a call that is kept waiting has no answer yet
     no_answer : Kept old s f.came f.answered v call stage → ⊥
     no_answer from = never_gone left ends.answered old s v w call stage answers f ends.came c from.lacks.line from.lacks.full (ends.gone from.lacks.line from.lacks.next from.lacks.is tt)
@@ -706,7 +706,7 @@ module _ (builds : Builds) (coding : Coding) (outcomes : List DealOutcome) where
         ends.shrinks ends.keeps
 
   -- the call is refused
-  refused_poll : (left : List DealOutcome) (old : SessionValue) (s : Script) (v w : SessionValue) (call : Call) (stage stage' : Stage) (answers : List Answer) (answer : Answer) → (so : RefusedSo builds (Unit {0}) coding call v w answer) → (f : Follows builds coding outcomes (outcomes_of so.answered ++ left) old s v (Some call) stage answers) → Carried builds v w [] so.answered → Stands coding old s.items f.came f.answered v s.answers → Follows builds coding outcomes left old (poll_script coding (start_of old outcomes) (Some call) s) w None stage' (answers ++ answer ∷ [])
+  refused_poll : (left : List NetOutcome) (old : SessionValue) (s : Script) (v w : SessionValue) (call : Call) (stage stage' : Stage) (answers : List Answer) (answer : Answer) → (so : RefusedSo builds (Unit {0}) coding call v w answer) → (f : Follows builds coding outcomes (outcomes_of so.answered ++ left) old s v (Some call) stage answers) → Carried builds v w [] so.answered → Stands coding old s.items f.came f.answered v s.answers → Follows builds coding outcomes left old (poll_script coding (start_of old outcomes) (Some call) s) w None stage' (answers ++ answer ∷ [])
   refused_poll left old s v w call stage stage' answers answer so f c stands =
       finish left so.answered old s v w call stage answers f [] c (Unit {0}) stage' answer
       (stands_refused old v w s.items f.came f.answered s.answers call answer so stands)
@@ -714,7 +714,7 @@ module _ (builds : Builds) (coding : Coding) (outcomes : List DealOutcome) where
       (inr (ap (λ x. x.kept) so.channel, ap (λ x. x.ahead) so.channel, refl, tt, ap (λ x. x.rule) so.channel))
 
   -- where a poll of the call under way begins
-  module _ (due : List DealOutcome) (old : SessionValue) (s : Script) (v : SessionValue) (call : Call) (stage : Stage) (answers : List Answer) (f : Follows builds coding outcomes due old s v (Some call) stage answers) (may : MayPoll coding (start_of old outcomes) (Some call) s) where
+  module _ (due : List NetOutcome) (old : SessionValue) (s : Script) (v : SessionValue) (call : Call) (stage : Stage) (answers : List Answer) (f : Follows builds coding outcomes due old s v (Some call) stage answers) (may : MayPoll coding (start_of old outcomes) (Some call) s) where
     -- the form of before goes on, or the call is kept waiting
     agreed : s.heard ≡ false → v.channel.failed ≡ false → Resumes (modes_of v) v.channel.kept (dialogue coding call v.state) ⊎ ((needs_data call ≡ false) × HearsNothing (run_with coding (start_of old outcomes) call s) s)
     agreed unheard going = pick (may unheard (f.failed ∙ going))
@@ -748,10 +748,10 @@ module _ (builds : Builds) (coding : Coding) (outcomes : List DealOutcome) where
         pick (inr (inr nothing)) = inr nothing
 
     -- the line that doesn't go out
-    lacking : (stage' : Stage) → needs_data call ≡ false → StageOf call stage' → Reaches coding old s.items f.came f.answered v s.answers call (remaining coding call v.state stage') → HearsNothing (run_with coding (start_of old outcomes) call s) s → LacksRoomFor s.room (standing v (unread v.channel.told) (is_over v.channel.told) []) (remaining coding call v.state stage')
+    lacking : (stage' : Stage) → needs_data call ≡ false → StageOf call stage' → Reaches coding old s.items f.came f.answered v s.answers call (remaining coding call v.state stage') → HearsNothing (run_with coding (start_of old outcomes) call s) s → LacksRoomFor s.room (play_state v (unread v.channel.told) (is_over v.channel.told) []) (remaining coding call v.state stage')
     lacking stage' plain stage_of reaches nothing =
         let P : List ℕ → Type 0 = λ x. Reaches coding old s.items x (f.answered ++ []) v s.answers call (remaining coding call v.state stage') in
-        let A : List Deal → Type 0 = λ a. Reaches coding old s.items f.came a v s.answers call (remaining coding call v.state stage') in
+        let A : List NetEvent → Type 0 = λ a. Reaches coding old s.items f.came a v s.answers call (remaining coding call v.state stage') in
         let lacks = unheard_lacks due [] old s v v call stage answers f [] (carried_none builds v f.given f.sound) v.state stage' plain stage_of (subst P (sym (append-nil f.came)) (subst A (sym (append-nil f.answered)) reaches)) nothing (sym f.untaken) in
         record { line = lacks.line; next = lacks.next; is = lacks.is; full = lacks.full }
 
@@ -775,7 +775,7 @@ module _ (builds : Builds) (coding : Coding) (outcomes : List DealOutcome) where
         let R : Tree → Type 0 = λ t. Reaches coding old s.items f.came f.answered v s.answers call t in
         let S : State → Type 0 = λ x. Reaches coding old s.items f.came f.answered (record v { state = x }) s.answers call (dialogue coding call v.state) in
         let D : State → Type 0 = λ x. (modes : Modes) (kept : List ℕ) → Resumes modes kept (dialogue coding call x) → Resumes modes kept (dialogue coding call v.state) in
-        let L : Tree → Type 0 = λ t. LacksRoomFor s.room (standing v (unread v.channel.told) (is_over v.channel.told) []) t in
+        let L : Tree → Type 0 = λ t. LacksRoomFor s.room (play_state v (unread v.channel.told) (is_over v.channel.told) []) t in
         let reaches = stands_reaches old v s.items f.came f.answered s.answers call going started.stands in
         let lacks = subst L (sym is) (lacking (At First) plain (none.0, nothing.0, ends) (subst R is (subst S same reaches)) nothing.2) in
         inr (record {
@@ -850,18 +850,18 @@ module _ (builds : Builds) (coding : Coding) (outcomes : List DealOutcome) where
         go (inr (inr u)) = absurd (none (may_go_on call stage v (unheld_drains_none call (needs_none call u.plain).1) u.stage_of u.going))
 
   -- where a poll ends
-  pub carry : (came : List ℕ) (answered : List Deal) (v w : SessionValue) (call : Call) (stage stage' : Stage) (result : Poll Answer) → IsSound (Unit {0}) v.channel → PollsHere builds coding call stage stage' v w result → Goes (over_memory builds) came answered (entered_at call stage v) w → Carried builds v w came answered
+  pub carry : (came : List ℕ) (answered : List NetEvent) (v w : SessionValue) (call : Call) (stage stage' : Stage) (result : Poll Answer) → IsSound (Unit {0}) v.channel → PollsHere builds coding call stage stage' v w result → Goes (over_memory builds) came answered (entered_at call stage v) w → Carried builds v w came answered
   carry came answered v w call stage stage' result sound here goes = carried builds v w (entered_state call stage v.state) came answered goes sound here.end here.given here.sound
 
   -- a poll of a call that is refused
-  pub poll_refused : (left : List DealOutcome) (old : SessionValue) (s : Script) (v w : SessionValue) (call : Call) (stage stage' : Stage) (answers : List Answer) (answer : Answer) → (so : RefusedSo builds (Unit {0}) coding call v w answer) → Follows builds coding outcomes (outcomes_of so.answered ++ left) old s v (Some call) stage answers → MayPoll coding (start_of old outcomes) (Some call) s → (MayPollAt stage call v → ⊥) → PollsHere builds coding call stage stage' v w (Ready answer) → PollFollows builds coding outcomes left old s v w call stage stage' answers (Ready answer)
+  pub poll_refused : (left : List NetOutcome) (old : SessionValue) (s : Script) (v w : SessionValue) (call : Call) (stage stage' : Stage) (answers : List Answer) (answer : Answer) → (so : RefusedSo builds (Unit {0}) coding call v w answer) → Follows builds coding outcomes (outcomes_of so.answered ++ left) old s v (Some call) stage answers → MayPoll coding (start_of old outcomes) (Some call) s → (MayPollAt stage call v → ⊥) → PollsHere builds coding call stage stage' v w (Ready answer) → PollFollows builds coding outcomes left old s v w call stage stage' answers (Ready answer)
   poll_refused left old s v w call stage stage' answers answer so f may none here =
-      let goes = beside_goes (over_memory builds) so.answered v w so.channel so.deals in
+      let goes = beside_goes (over_memory builds) so.answered v w so.channel so.net_events in
       let c = carried builds v w v.state [] so.answered goes f.sound here.end here.given here.sound in
       inl (refused_poll left old s v w call stage stage' answers answer so f c (stands_unpolled (outcomes_of so.answered ++ left) old s v call stage answers f may none))
 
   -- a poll that completes its call
-  pub poll_ready : (left : List DealOutcome) (old : SessionValue) (s : Script) (v w : SessionValue) (call : Call) (stage stage' : Stage) (answers : List Answer) (answer : Answer) → MayPollAt stage call v → (ends : Finishes (over_memory builds) (entered_tree coding call stage v.state) answer (entered_at call stage v) w) → Follows builds coding outcomes (outcomes_of ends.answered ++ left) old s v (Some call) stage answers → MayPoll coding (start_of old outcomes) (Some call) s → PollsHere builds coding call stage stage' v w (Ready answer) → Follows builds coding outcomes left old (poll_script coding (start_of old outcomes) (Some call) s) w None stage' (answers ++ answer ∷ [])
+  pub poll_ready : (left : List NetOutcome) (old : SessionValue) (s : Script) (v w : SessionValue) (call : Call) (stage stage' : Stage) (answers : List Answer) (answer : Answer) → MayPollAt stage call v → (ends : Finishes (over_memory builds) (entered_tree coding call stage v.state) answer (entered_at call stage v) w) → Follows builds coding outcomes (outcomes_of ends.answered ++ left) old s v (Some call) stage answers → MayPoll coding (start_of old outcomes) (Some call) s → PollsHere builds coding call stage stage' v w (Ready answer) → Follows builds coding outcomes left old (poll_script coding (start_of old outcomes) (Some call) s) w None stage' (answers ++ answer ∷ [])
   poll_ready left old s v w call stage stage' answers answer going ends f may here =
       pick (carry ends.came ends.answered v w call stage stage' (Ready answer) f.sound here ends.goes) (placed (outcomes_of ends.answered ++ left) old s v call stage answers f may going)
     where
@@ -870,7 +870,7 @@ module _ (builds : Builds) (coding : Coding) (outcomes : List DealOutcome) where
       pick c (inr from) = absurd (no_answer left old s v w call stage answers answer ends f c from)
 
   -- a poll that waits
-  pub poll_waits : (left : List DealOutcome) (old : SessionValue) (s : Script) (v w : SessionValue) (call : Call) (stage stage' : Stage) (answers : List Answer) → due_of call v ≡ false → MayPollAt stage call v → v.channel.failed ≡ false → (advances : Advances (over_memory builds) (entered_tree coding call stage v.state) (remaining coding call (entered_state call stage v.state) stage') (entered_at call stage v) w) → WaitsFor (over_memory builds) (remaining coding call (entered_state call stage v.state) stage') w → Follows builds coding outcomes (outcomes_of advances.moves.leads.answered ++ left) old s v (Some call) stage answers → MayPoll coding (start_of old outcomes) (Some call) s → PollsHere builds coding call stage stage' v w Pending → Follows builds coding outcomes left old (poll_script coding (start_of old outcomes) (Some call) s) w (Some call) stage' answers
+  pub poll_waits : (left : List NetOutcome) (old : SessionValue) (s : Script) (v w : SessionValue) (call : Call) (stage stage' : Stage) (answers : List Answer) → due_of call v ≡ false → MayPollAt stage call v → v.channel.failed ≡ false → (advances : Advances (over_memory builds) (entered_tree coding call stage v.state) (remaining coding call (entered_state call stage v.state) stage') (entered_at call stage v) w) → WaitsFor (over_memory builds) (remaining coding call (entered_state call stage v.state) stage') w → Follows builds coding outcomes (outcomes_of advances.moves.leads.answered ++ left) old s v (Some call) stage answers → MayPoll coding (start_of old outcomes) (Some call) s → PollsHere builds coding call stage stage' v w Pending → Follows builds coding outcomes left old (poll_script coding (start_of old outcomes) (Some call) s) w (Some call) stage' answers
   poll_waits left old s v w call stage stage' answers undue may_poll going advances waits f may here =
       pick (carry advances.moves.leads.came advances.moves.leads.answered v w call stage stage' Pending f.sound here advances.moves.leads.goes) (placed (outcomes_of advances.moves.leads.answered ++ left) old s v call stage answers f may may_poll)
     where
@@ -879,7 +879,7 @@ module _ (builds : Builds) (coding : Coding) (outcomes : List DealOutcome) where
       pick c (inr from) = still_waits left old s v w call stage answers stage' advances f c undue going from (here.left_at refl) waits (here.begun refl)
 
   -- the call under way begins where it wasn't polled
-  pub entering_is : (due : List DealOutcome) (old : SessionValue) (s : Script) (v : SessionValue) (call : Call) (stage : Stage) (answers : List Answer) → (f : Follows builds coding outcomes due old s v (Some call) stage answers) → entered_at call stage v ≡ entering s.polled call v
+  pub entering_is : (due : List NetOutcome) (old : SessionValue) (s : Script) (v : SessionValue) (call : Call) (stage : Stage) (answers : List Answer) → (f : Follows builds coding outcomes due old s v (Some call) stage answers) → entered_at call stage v ≡ entering s.polled call v
   entering_is due old s v call stage answers f = go f.place
     where
       polled : StageOf call stage → s.polled ≡ true → entered_at call stage v ≡ entering s.polled call v
@@ -891,14 +891,14 @@ module _ (builds : Builds) (coding : Coding) (outcomes : List DealOutcome) where
       go (inr (inr u)) = polled u.stage_of u.polled
 
   -- what is left of the call under way
-  pub left_of : (due : List DealOutcome) (old : SessionValue) (s : Script) (v : SessionValue) (call : Call) (stage : Stage) (answers : List Answer) → (f : Follows builds coding outcomes due old s v (Some call) stage answers) → MayPollAt stage call v → LeftOf builds coding old s v call (begun_at stage) (entered_tree coding call stage v.state)
+  pub left_of : (due : List NetOutcome) (old : SessionValue) (s : Script) (v : SessionValue) (call : Call) (stage : Stage) (answers : List Answer) → (f : Follows builds coding outcomes due old s v (Some call) stage answers) → MayPollAt stage call v → LeftOf builds coding old s v call (begun_at stage) (entered_tree coding call stage v.state)
   left_of due old s v call stage answers f may_poll = record {
     call_is = f.call_is;
     going = going f.place;
     came = f.came;
     bytes = f.bytes;
     answered = f.answered;
-    deals = f.deals;
+    net_events = f.net_events;
     reaches = let P : SessionValue → Type 0 = λ e. Reaches coding old s.items f.came f.answered e s.answers call (entered_tree coding call stage v.state) in subst P (entering_is due old s v call stage answers f) (reaches f.place);
     since = since f.place;
   }
@@ -940,13 +940,13 @@ module _ (builds : Builds) (coding : Coding) (outcomes : List DealOutcome) where
 -- what a poll makes of a script, with what happened beside the control connection
 abbrev pub PollHappens : Builds → Coding → Call → Stage → Stage → SessionValue → SessionValue → Poll Answer → Type 0
 PollHappens builds coding call stage stage' v w result =
-    (answered : List Deal) × Deals builds answered v.net w.net × ((outcomes left : List DealOutcome) (old : SessionValue) (s : Script) (answers : List Answer) → Follows builds coding outcomes (outcomes_of answered ++ left) old s v (Some call) stage answers → MayPoll coding (start_of old outcomes) (Some call) s → due_of call v ≡ false → PollFollows builds coding outcomes left old s v w call stage stage' answers result)
+    (answered : List NetEvent) × NetEvents builds answered v.net w.net × ((outcomes left : List NetOutcome) (old : SessionValue) (s : Script) (answers : List Answer) → Follows builds coding outcomes (outcomes_of answered ++ left) old s v (Some call) stage answers → MayPoll coding (start_of old outcomes) (Some call) s → due_of call v ≡ false → PollFollows builds coding outcomes left old s v w call stage stage' answers result)
 
 -- what an aborted call left beside the control connection
-aborted_deals : (builds : Builds) (begun : Bool) (tree : Tree) (answer : Answer) (v w : SessionValue) (aborts : Aborts (over_memory builds) begun tree answer v w) → Deals builds aborts.leads.answered v.net w.net
-aborted_deals builds begun tree answer v w aborts =
-    let P : Net → Type 0 = λ n. Deals builds aborts.leads.answered v.net n in
-    subst P (sym (go aborts.cause)) (aborts.leads.goes.deals tt)
+aborted_net_events : (builds : Builds) (begun : Bool) (tree : Tree) (answer : Answer) (v w : SessionValue) (aborts : Aborts (over_memory builds) begun tree answer v w) → NetEvents builds aborts.leads.answered v.net w.net
+aborted_net_events builds begun tree answer v w aborts =
+    let P : Net → Type 0 = λ n. NetEvents builds aborts.leads.answered v.net n in
+    subst P (sym (go aborts.cause)) (aborts.leads.goes.net_events tt)
   where
     lost : ((w ≡ aborts.at) × (begun ≡ false) × Untouched (over_memory builds) aborts.leads.came v aborts.at) ⊎ ((w ≡ failed_from (lacking_at aborts.place aborts.at)) × ((begun ≡ true) ⊎ Touched (over_memory builds) tree v aborts.at)) → w.net ≡ aborts.at.net
     lost (inl same) = ap (λ x. x.net) same.0
@@ -972,18 +972,18 @@ poll_happens builds coding call stage stage' v w result here =
     go : (r : Poll Answer) → PollsHere builds coding call stage stage' v w r → MayPollAt stage call v → PollsTo (over_memory builds) (begun_at stage) tree (remaining coding call (entered_state call stage v.state) stage') (entered_at call stage v) w r → PollHappens builds coding call stage stage' v w r
     go (Ready answer) here going (last, inl ends, lets_go) =
         let done : Finishes (over_memory builds) tree answer (entered_at call stage v) w = finishes_by (over_memory builds) tree answer (entered_at call stage v) last w lets_go ends in
-        (done.answered, done.goes.deals tt, λ outcomes left old s answers f may undue. inl (poll_ready builds coding outcomes left old s v w call stage stage' answers answer going done f may here))
+        (done.answered, done.goes.net_events tt, λ outcomes left old s answers f may undue. inl (poll_ready builds coding outcomes left old s v w call stage stage' answers answer going done f may here))
     go (Ready answer) here going (last, inr aborts, lets_go) =
         let P : Answer → Type 0 = λ a. Aborts (over_memory builds) (begun_at stage) tree a (entered_at call stage v) last in
-        let deals = deals-append builds aborts.leads.answered (drops last.state.counts.owed) v.net last.net w.net (aborted_deals builds (begun_at stage) tree answer (entered_at call stage v) last aborts) (letting_deals (Unit {0}) last w builds tt lets_go) in (
+        let net_events = net_events-append builds aborts.leads.answered (drops last.state.counts.owed) v.net last.net w.net (aborted_net_events builds (begun_at stage) tree answer (entered_at call stage v) last aborts) (letting_net_events (Unit {0}) last w builds tt lets_go) in (
           aborts.leads.answered ++ drops last.state.counts.owed,
-          deals,
+          net_events,
           λ outcomes left old s answers f may undue. inr (record { fault = aborts.fault; is = ap Some aborts.is; going = going; last = last; aborts = subst P aborts.is aborts; lets_go = lets_go; given = here.given; sound = here.sound }),
         )
     go Pending here going (last, polls, same) =
         let A : SessionValue → Type 0 = λ x. Advances (over_memory builds) tree (remaining coding call (entered_state call stage v.state) stage') (entered_at call stage v) x × WaitsFor (over_memory builds) (remaining coding call (entered_state call stage v.state) stage') x in
         let made = subst A (sym same) polls in
-        (made.0.moves.leads.answered, made.0.moves.leads.goes.deals tt, λ outcomes left old s answers f may undue. poll_waits builds coding outcomes left old s v w call stage stage' answers undue going (goes_on going) made.0 made.1 f may here)
+        (made.0.moves.leads.answered, made.0.moves.leads.goes.net_events tt, λ outcomes left old s answers f may undue. poll_waits builds coding outcomes left old s v w call stage stage' answers undue going (goes_on going) made.0 made.1 f may here)
       where
         goes_on : MayPollAt stage call v → v.channel.failed ≡ false
         goes_on may =
@@ -999,7 +999,7 @@ poll_happens builds coding call stage stage' v w result here =
         let P : Poll Answer → Type 0 = λ r. PollHappens builds coding call stage stage' v w r in
         let H : Poll Answer → Type 0 = λ r. PollsHere builds coding call stage stage' v w r in
         let there : PollsHere builds coding call stage stage' v w (Ready made.0) = subst H made.1 here in
-        subst P (sym made.1) (so.answered, so.deals tt, λ outcomes left old s answers f may undue. poll_refused builds coding outcomes left old s v w call stage stage' answers made.0 so f may (λ at. none (subst From first at)) there)
+        subst P (sym made.1) (so.answered, so.net_events tt, λ outcomes left old s answers f may undue. poll_refused builds coding outcomes left old s v w call stage stage' answers made.0 so f may (λ at. none (subst From first at)) there)
 
     by_refusal : (r : Refusal) → refusal_of call v ≡ r → is_first stage ≡ true → PollHappens builds coding call stage stage' v w result
     by_refusal Taken is first = go result here (subst From (sym first) is) (here.polls (subst From (sym first) is))
@@ -1013,7 +1013,7 @@ poll_happens builds coding call stage stage' v w result here =
         let P : Poll Answer → Type 0 = λ r. PollHappens builds coding call stage stage' v w r in
         subst P (sym lost.0) ([], ap (λ x. x.net) lost.1, λ outcomes left old s answers f may undue. absurd (never outcomes left old s answers f))
       where
-        never : (outcomes left : List DealOutcome) (old : SessionValue) (s : Script) (answers : List Answer) → Follows builds coding outcomes left old s v (Some call) stage answers → ⊥
+        never : (outcomes left : List NetOutcome) (old : SessionValue) (s : Script) (answers : List Answer) → Follows builds coding outcomes left old s v (Some call) stage answers → ⊥
         never outcomes left old s answers f = at f.place
           where
             at : Place coding old s f.came f.answered v (Some call) stage → ⊥

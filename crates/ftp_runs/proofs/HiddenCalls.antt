@@ -5,21 +5,21 @@ use Rattle.ftp_calls.specs.declared.call.Answer.{Answer}
 use Rattle.ftp_calls.specs.declared.call.Call.{Call}
 use Rattle.ftp_calls.specs.declared.exchange.Turn.TheVariants.{First}
 use Rattle.ftp_dialogue.specs.Coding.{Coding}
-use Rattle.ftp_dialogue.specs.Deals.{outcomes_of}
+use Rattle.ftp_dialogue.specs.NetEvents.{outcomes_of}
 use Rattle.ftp_dialogue.specs.Dialogue.{dialogue, entered}
 use Rattle.ftp_dialogue.specs.Link.{Builds, over_memory}
 use Rattle.ftp_dialogue.specs.Play.{Taken}
-use Rattle.ftp_dialogue.specs.Promises.{begun_by, refusal_of, standing}
+use Rattle.ftp_dialogue.specs.Promises.{begun_by, refusal_of, play_state}
 use Rattle.ftp_runs.specs.Runs.{before_all}
 use Rattle.ftp_dialogue.specs.Resuming.{Resumes, Silent, modes_of}
 use Rattle.ftp_runs.specs.Script.{hidden_to, polled_as, run_with, start_of, with_call}
 use Rattle.ftp_runs.specs.Scripted.{Stands}
 use Rattle.ftp_dialogue.specs.State.{SessionValue}
-use Rattle.ftp_dialogue.specs.declared.model.DealOutcome.{DealOutcome}
+use Rattle.ftp_dialogue.specs.declared.model.NetOutcome.{NetOutcome}
 use Rattle.ftp_runs.specs.declared.model.Item.TheVariants.{Shown, Hidden}
 use Rattle.ftp_runs.specs.declared.model.Ran.TheVariants.{Finished}
 use Rattle.ftp_runs.specs.declared.model.Script.{Script}
-use Rattle.ftp_dialogue.specs.declared.model.Standing.{Standing}
+use Rattle.ftp_dialogue.specs.declared.model.PlayState.{PlayState}
 use Rattle.ftp_dialogue.specs.declared.stage.Stage.{Stage}
 use Rattle.ftp_dialogue.specs.declared.stage.Stage.TheVariants.{At}
 use Rattle.ftp_runs.specs.Following.{Follows, Place, PollsHere}
@@ -31,7 +31,7 @@ use Rattle.ftp_dialogue.proofs.Hearing.{begun_resumes}
 use Rattle.ftp_runs.proofs.Replay.{hidden_on}
 
 -- the call is over
-module _ (builds : Builds) (coding : Coding) (outcomes left : List DealOutcome) (hidden : Call) (answer : Answer) (old : SessionValue) (s : Script) (v w : SessionValue) (at : Stage) (answers : List Answer) (ends : Finishes (over_memory builds) (dialogue coding hidden v.state) answer (begun_by hidden v) w) (d : Follows builds coding outcomes (outcomes_of ends.answered ++ left) old (with_call hidden s) v (Some hidden) (At First) answers) (takes : refusal_of hidden v ≡ Taken) (resumes : Resumes (modes_of v) v.channel.kept (dialogue coding hidden v.state)) (polled : PollsHere builds coding hidden (At First) at v w (Ready answer)) where
+module _ (builds : Builds) (coding : Coding) (outcomes left : List NetOutcome) (hidden : Call) (answer : Answer) (old : SessionValue) (s : Script) (v w : SessionValue) (at : Stage) (answers : List Answer) (ends : Finishes (over_memory builds) (dialogue coding hidden v.state) answer (begun_by hidden v) w) (d : Follows builds coding outcomes (outcomes_of ends.answered ++ left) old (with_call hidden s) v (Some hidden) (At First) answers) (takes : refusal_of hidden v ≡ Taken) (resumes : Resumes (modes_of v) v.channel.kept (dialogue coding hidden v.state)) (polled : PollsHere builds coding hidden (At First) at v w (Ready answer)) where
   pub carried : Carried builds v w ends.came ends.answered
   carried = carry builds coding outcomes ends.came ends.answered v w hidden (At First) at (Ready answer) d.sound polled ends.goes
 
@@ -51,9 +51,9 @@ module _ (builds : Builds) (coding : Coding) (outcomes left : List DealOutcome) 
       let plays = taken_plays coding room hidden v (ends.came ++ more) ended (outcomes_of ends.answered ++ outcomes') takes ∙ ends.plays tt (begun_resumes hidden v (dialogue coding hidden v.state) resumes) room more ended outcomes' fit on in
       rw (append_assoc s.items (Hidden hidden ∷ []) later, append_assoc d.came ends.came more, outcomes_on d.answered ends.answered outcomes')
       (stands (Hidden hidden ∷ later) room (ends.came ++ more) ended (outcomes_of ends.answered ++ outcomes') (fitted room _ _ (ends.goes.sent tt) fit) (goes_after v.channel.ended ends.came more w.channel.ended ended ends.goes.over on)
-      ∙ ap (before_all s.answers) (hidden_on coding room hidden later (standing v (ends.came ++ more) ended (outcomes_of ends.answered ++ outcomes')) (standing w more ended outcomes') answer plays))
+      ∙ ap (before_all s.answers) (hidden_on coding room hidden later (play_state v (ends.came ++ more) ended (outcomes_of ends.answered ++ outcomes')) (play_state w more ended outcomes') answer plays))
 
-  abbrev pub there : Standing
+  abbrev pub there : PlayState
   there = here builds coding outcomes left ends.answered old (with_call hidden s) v w hidden (At First) answers d ends.came carried
 
   abbrev pub done : Script

@@ -9,8 +9,8 @@ use Rattle.ftp_calls.specs.declared.call.Event.TheVariants as event
 use Rattle.ftp_calls.specs.declared.exchange.Turn.TheVariants.{First}
 use Rattle.ftp_calls.specs.Exchanges.{aborts, finishes}
 use Rattle.ftp_dialogue.specs.Coding.{Coding}
-use Rattle.ftp_dialogue.specs.Deals.{Deal, Deals, dealings_of, outcomes_of, parted, settled, traffic_of}
-use Rattle.ftp_dialogue.specs.declared.model.Dealings.{Dealings}
+use Rattle.ftp_dialogue.specs.NetEvents.{NetEvent, NetEvents, net_record_of, outcomes_of, parted, settled, traffic_of}
+use Rattle.ftp_dialogue.specs.declared.model.NetRecord.{NetRecord}
 use Rattle.ftp_dialogue.specs.Dialogue.{dialogue, entered}
 use Rattle.ftp_dialogue.specs.Link.{Builds, over_memory}
 use Rattle.ftp_dialogue.specs.Play.{Taken, Lacking, refused_if_failed, is_due}
@@ -18,11 +18,11 @@ use Rattle.ftp_dialogue.specs.Promises.{FailsWith, begun_by, refusal_of}
 use Rattle.ftp_dialogue.specs.Resuming.{Resumes, modes_of}
 use Rattle.ftp_dialogue.specs.Sound.{holds, left_of}
 use Rattle.ftp_dialogue.specs.State.{SessionValue}
-use Rattle.ftp_dialogue.specs.declared.model.DealOutcome.{DealOutcome}
+use Rattle.ftp_dialogue.specs.declared.model.NetOutcome.{NetOutcome}
 use Rattle.ftp_runs.specs.declared.model.Ran.{Ran}
 use Rattle.ftp_runs.specs.declared.model.Ran.TheVariants.{Finished, Waiting}
 use Rattle.ftp_runs.specs.declared.model.Script.{Script}
-use Rattle.ftp_dialogue.specs.declared.model.Standing.{Standing}
+use Rattle.ftp_dialogue.specs.declared.model.PlayState.{PlayState}
 use Rattle.ftp_dialogue.specs.declared.stage.Stage.{Stage}
 use Rattle.ftp_dialogue.specs.declared.stage.Stage.TheVariants.{At}
 use Rattle.ftp_dialogue.specs.declared.state.Owed.{Owed}
@@ -33,7 +33,7 @@ use Rattle.ftp_control.specs.Channel.{IsSound}
 use Rattle.ftp_transport.specs.Memory.{IsGiven}
 use Rattle.ftp_dialogue.specs.Steps.Stages.{remaining}
 use Rattle.ftp_dialogue.proofs.CarryingLemmas.{close_left, lacks_alike, local_resumes}
-use Rattle.ftp_dialogue.proofs.Deals.{dealings_moved, deals-append, drops as drops_of, letting_beside, letting_deals, letting_settles}
+use Rattle.ftp_dialogue.proofs.NetEvents.{net_record_moved, net_events-append, drops as drops_of, letting_beside, letting_net_events, letting_settles}
 use Rattle.ftp_dialogue.proofs.DrainingLemmas.{taken_unrefused}
 use Rattle.ftp_dialogue.proofs.Sorts.{read_finishes_none}
 use Rattle.ftp_dialogue.proofs.Moving.{Finishes, finishes as finishes_by}
@@ -53,25 +53,25 @@ left_keeps : (s : Script) (r : Ran) → s.polled ≡ false → (left_as s r).pol
 left_keeps s (Finished answers t) unpolled = (refl, refl, refl)
 left_keeps s (Waiting answers wait t) unpolled = (unpolled, refl, refl)
 
-leave_keeps : (b : Bool) (coding : Coding) (start : Standing) (s : Script) → s.polled ≡ false → (leave_if b coding start s).polled ≡ false × (leave_if b coding start s).leaving ≡ s.leaving × (leave_if b coding start s).call ≡ s.call
+leave_keeps : (b : Bool) (coding : Coding) (start : PlayState) (s : Script) → s.polled ≡ false → (leave_if b coding start s).polled ≡ false × (leave_if b coding start s).leaving ≡ s.leaving × (leave_if b coding start s).call ≡ s.call
 leave_keeps true coding start s unpolled = left_keeps s (run_with coding start Leave s) unpolled
 leave_keeps false coding start s unpolled = (unpolled, refl, refl)
 
 -- of one that wasn't polled nothing else is known after a transfer was left
-pub leave_attends : (coding : Coding) (start : Standing) (s : Script) (course : Course) → s.polled ≡ false → Attends s course → Attends (leave_held coding start s) course
+pub leave_attends : (coding : Coding) (start : PlayState) (s : Script) (course : Course) → s.polled ≡ false → Attends s course → Attends (leave_held coding start s) course
 leave_attends coding start s course unpolled a =
     let kept = leave_keeps (holds_in s) coding start s unpolled in
     record { polled = kept.0 ∙ sym unpolled ∙ a.polled; leaving = kept.1 ∙ a.leaving; resting = λ none. kept.0 }
 
 -- once it is over, none is under way
-pub over_attends : (coding : Coding) (start : Standing) (s : Script) → Attends (over coding start s) at_rest
+pub over_attends : (coding : Coding) (start : PlayState) (s : Script) → Attends (over coding start s) at_rest
 over_attends coding start s = go s.leaving
   where
     go : (b : Bool) → Attends (over_if b coding start s) at_rest
     go true = leave_attends coding start (idle s) at_rest refl (record { polled = refl; leaving = refl; resting = λ none. refl })
     go false = record { polled = refl; leaving = refl; resting = λ none. refl }
 
-over_without : (b : Bool) (coding : Coding) (start : Standing) (s : Script) → over_if b coding start (without_call s) ≡ over_if b coding start s
+over_without : (b : Bool) (coding : Coding) (start : PlayState) (s : Script) → over_if b coding start (without_call s) ≡ over_if b coding start s
 over_without true coding start s = refl
 over_without false coding start s = refl
 
@@ -80,7 +80,7 @@ polled_keeps : (r : Ran) (call : Call) (s : Script) → (polled_as r call s).lea
 polled_keeps (Finished answers t) call s = refl
 polled_keeps (Waiting answers wait t) call s = refl
 
-pub poll_keeps : (coding : Coding) (start : Standing) (call : Option Call) (s : Script) → (poll_next coding start call s).leaving ≡ s.leaving
+pub poll_keeps : (coding : Coding) (start : PlayState) (call : Option Call) (s : Script) → (poll_next coding start call s).leaving ≡ s.leaving
 poll_keeps coding start None s = refl
 poll_keeps coding start (Some call) s = go (is_due call s.failed s.state.counts.owed)
   where
@@ -123,18 +123,18 @@ or_false false = refl
 
 module _ (builds : Builds) (coding : Coding) where
   -- the script knows of it
-  held_in : (outcomes left : List DealOutcome) (old : SessionValue) (s : Script) (v : SessionValue) (call : Option Call) (stage : Stage) (answers : List Answer) → Follows builds coding outcomes left old s v call stage answers → holds_in s ≡ holds (is_none v.net.data_conn) v.state.counts.owed
+  held_in : (outcomes left : List NetOutcome) (old : SessionValue) (s : Script) (v : SessionValue) (call : Option Call) (stage : Stage) (answers : List Answer) → Follows builds coding outcomes left old s v call stage answers → holds_in s ≡ holds (is_none v.net.data_conn) v.state.counts.owed
   held_in outcomes left old s v call stage answers f =
-      ap (λ d. holds (is_none d.data_conn) s.state.counts.owed) f.dealings
-      ∙ ap (λ x. holds (is_none (dealings_of v.net).data_conn) x.counts.owed) f.state
+      ap (λ d. holds (is_none d.data_conn) s.state.counts.owed) f.net_record
+      ∙ ap (λ x. holds (is_none (net_record_of v.net).data_conn) x.counts.owed) f.state
       ∙ ap (λ n. holds n v.state.counts.owed) (lacks_alike traffic_of v.net.data_conn)
 
   -- where a call that wasn't polled is under way, or none is
-  stands_here : (outcomes left : List DealOutcome) (old : SessionValue) (s : Script) (v : SessionValue) (call : Option Call) (stage : Stage) (answers : List Answer) → Follows builds coding outcomes left old s v call stage answers → s.polled ≡ false → LeavesNoTrace call s.polled
+  stands_here : (outcomes left : List NetOutcome) (old : SessionValue) (s : Script) (v : SessionValue) (call : Option Call) (stage : Stage) (answers : List Answer) → Follows builds coding outcomes left old s v call stage answers → s.polled ≡ false → LeavesNoTrace call s.polled
   stands_here outcomes left old s v None stage answers f unpolled = tt
   stands_here outcomes left old s v (Some other) stage answers f unpolled = inl unpolled
 
-  first_stage : (outcomes left : List DealOutcome) (old : SessionValue) (s : Script) (v : SessionValue) (call : Call) (stage : Stage) (answers : List Answer) → Follows builds coding outcomes left old s v (Some call) stage answers → s.polled ≡ false → stage ≡ At First
+  first_stage : (outcomes left : List NetOutcome) (old : SessionValue) (s : Script) (v : SessionValue) (call : Call) (stage : Stage) (answers : List Answer) → Follows builds coding outcomes left old s v (Some call) stage answers → s.polled ≡ false → stage ≡ At First
   first_stage outcomes left old s v call stage answers f unpolled = go f.place
     where
       go : Place coding old s f.came f.answered v (Some call) stage → stage ≡ At First
@@ -145,7 +145,7 @@ module _ (builds : Builds) (coding : Coding) where
   -- what is made of it, whatever is under way, as long as that wasn't polled
   abbrev pub LeftHappens : SessionValue → SessionValue → Type 0
   LeftHappens v w =
-      (answered : List Deal) × Deals builds answered v.net w.net × ((outcomes left : List DealOutcome) (old : SessionValue) (s : Script) (call : Option Call) (stage : Stage) (answers : List Answer) → Follows builds coding outcomes (outcomes_of answered ++ left) old s v call stage answers → s.polled ≡ false → Follows builds coding outcomes left old (leave_held coding (start_of old outcomes) s) w call stage answers)
+      (answered : List NetEvent) × NetEvents builds answered v.net w.net × ((outcomes left : List NetOutcome) (old : SessionValue) (s : Script) (call : Option Call) (stage : Stage) (answers : List Answer) → Follows builds coding outcomes (outcomes_of answered ++ left) old s v call stage answers → s.polled ≡ false → Follows builds coding outcomes left old (leave_held coding (start_of old outcomes) s) w call stage answers)
 
   -- none is held
   unheld_happens : (v w : SessionValue) → holds (is_none v.net.data_conn) v.state.counts.owed ≡ false → w ≡ v → LeftHappens v w
@@ -161,7 +161,7 @@ module _ (builds : Builds) (coding : Coding) where
   held_happens : (v w : SessionValue) (at : Stage) → holds (is_none v.net.data_conn) v.state.counts.owed ≡ true → PollsHere builds coding Leave (At First) at v w (Ready Nothing) → LeftHappens v w
   held_happens v w at held polled = (
     ends.answered,
-    ends.goes.deals tt,
+    ends.goes.net_events tt,
     λ outcomes left old s call stage answers f unpolled. by outcomes left old s call stage answers f unpolled,
   )
     where
@@ -178,12 +178,12 @@ module _ (builds : Builds) (coding : Coding) where
           go (last, inr aborts, lets_go) = let clash : Nothing ≡ Fault aborts.fault = aborts.is in cc
           go (last, inl done, lets_go) = finishes_by (over_memory builds) (dialogue coding Leave v.state) Nothing (begun_by Leave v) last w lets_go done
 
-      by : (outcomes left : List DealOutcome) (old : SessionValue) (s : Script) (call : Option Call) (stage : Stage) (answers : List Answer) → Follows builds coding outcomes (outcomes_of ends.answered ++ left) old s v call stage answers → s.polled ≡ false → Follows builds coding outcomes left old (leave_held coding (start_of old outcomes) s) w call stage answers
+      by : (outcomes left : List NetOutcome) (old : SessionValue) (s : Script) (call : Option Call) (stage : Stage) (answers : List Answer) → Follows builds coding outcomes (outcomes_of ends.answered ++ left) old s v call stage answers → s.polled ≡ false → Follows builds coding outcomes left old (leave_held coding (start_of old outcomes) s) w call stage answers
       by outcomes left old s call stage answers f unpolled =
           let P : Bool → Type 0 = λ b. Follows builds coding outcomes left old (leave_if b coding (start_of old outcomes) s) w call stage answers in
           subst P (sym (held_in outcomes (outcomes_of ends.answered ++ left) old s v call stage answers f ∙ held)) under_way
         where
-          due : List DealOutcome
+          due : List NetOutcome
           due = outcomes_of ends.answered ++ left
 
           d : Follows builds coding outcomes due old (with_call Leave s) v (Some Leave) (At First) answers
@@ -211,7 +211,7 @@ module _ (builds : Builds) (coding : Coding) where
   -- a call is over, and a transfer is left that was to be left then
   abbrev pub OverHappens : Bool → SessionValue → SessionValue → Type 0
   OverHappens leaving v w =
-      (answered : List Deal) × Deals builds answered v.net w.net × ((outcomes left : List DealOutcome) (old : SessionValue) (s : Script) (stage : Stage) (answers : List Answer) → Follows builds coding outcomes (outcomes_of answered ++ left) old s v None stage answers → s.leaving ≡ leaving → Follows builds coding outcomes left old (over coding (start_of old outcomes) s) w None stage answers)
+      (answered : List NetEvent) × NetEvents builds answered v.net w.net × ((outcomes left : List NetOutcome) (old : SessionValue) (s : Script) (stage : Stage) (answers : List Answer) → Follows builds coding outcomes (outcomes_of answered ++ left) old s v None stage answers → s.leaving ≡ leaving → Follows builds coding outcomes left old (over coding (start_of old outcomes) s) w None stage answers)
 
   pub over_happens : (leaving : Bool) (v w : SessionValue) → HasLeftIf leaving v w → OverHappens leaving v w
   over_happens true v w has =
@@ -243,18 +243,18 @@ module _ (builds : Builds) (coding : Coding) where
   pub ready_happens : (call : Call) (stage stage' : Stage) (polled' : Bool) (course : Course) (v gone w : SessionValue) (answer : Answer) → NextHappens builds coding call stage stage' polled' v gone (Ready answer) → HasLeftIf course.leaving gone w → Happens builds coding v w (Some call) None stage stage' course at_rest event.Poll (Some answer)
   ready_happens call stage stage' polled' course v gone w answer happens has = (
     happens.0 ++ left.0,
-    deals-append builds happens.0 left.0 v.net gone.net w.net happens.1 left.1,
+    net_events-append builds happens.0 left.0 v.net gone.net w.net happens.1 left.1,
     λ outcomes rest old s answers f may.
-        let F : List DealOutcome → Type 0 = λ o. Follows builds coding outcomes o old s v (Some call) stage answers in
+        let F : List NetOutcome → Type 0 = λ o. Follows builds coding outcomes o old s v (Some call) stage answers in
         go outcomes rest old s answers f.1 f.0.call_is (happens.2 outcomes (outcomes_of left.0 ++ rest) old s answers (subst F (outcomes_on happens.0 left.0 rest) f.0) may),
   )
     where
       left : OverHappens course.leaving gone w
       left = over_happens course.leaving gone w has
 
-      go : (outcomes rest : List DealOutcome) (old : SessionValue) (s : Script) (answers : List Answer) → Attends s course → s.call ≡ Some call → NextFollows builds coding outcomes (outcomes_of left.0 ++ rest) old s gone call stage' polled' answers (Ready answer) → Attended builds coding outcomes rest old (after_event coding (start_of old outcomes) s event.Poll) w None stage' at_rest (answers ++ answer ∷ []) ⊎ (AbortsPart builds coding outcomes old s answers w (Some answer) × (no_call ≡ None) × (at_rest ≡ at_rest) × (event.Poll ≡ event.Poll))
+      go : (outcomes rest : List NetOutcome) (old : SessionValue) (s : Script) (answers : List Answer) → Attends s course → s.call ≡ Some call → NextFollows builds coding outcomes (outcomes_of left.0 ++ rest) old s gone call stage' polled' answers (Ready answer) → Attended builds coding outcomes rest old (after_event coding (start_of old outcomes) s event.Poll) w None stage' at_rest (answers ++ answer ∷ []) ⊎ (AbortsPart builds coding outcomes old s answers w (Some answer) × (no_call ≡ None) × (at_rest ≡ at_rest) × (event.Poll ≡ event.Poll))
       go outcomes rest old s answers attends is (inl f) =
-          let start : Standing = start_of old outcomes in
+          let start : PlayState = start_of old outcomes in
           let then : Script = poll_next coding start s.call s in
           let P : Option Call → Type 0 = λ c. Attended builds coding outcomes rest old (poll_event coding start c s) w None stage' at_rest (answers ++ answer ∷ []) in
           let N : Option Call → Type 0 = λ c. Attended builds coding outcomes rest old (after_poll coding start c (poll_next coding start (Some call) s)) w None stage' at_rest (answers ++ answer ∷ []) in
@@ -272,9 +272,9 @@ module _ (builds : Builds) (coding : Coding) where
     λ outcomes rest old s answers f may. inl (go outcomes rest old s answers f.1 f.0.call_is (happens.2 outcomes rest old s answers f.0 may)),
   )
     where
-      go : (outcomes rest : List DealOutcome) (old : SessionValue) (s : Script) (answers : List Answer) → Attends s course → s.call ≡ Some call → NextFollows builds coding outcomes rest old s w call stage' polled' answers Pending → Attended builds coding outcomes rest old (after_event coding (start_of old outcomes) s event.Poll) w (Some call) stage' (record course { polled = polled' }) (answers ++ [])
+      go : (outcomes rest : List NetOutcome) (old : SessionValue) (s : Script) (answers : List Answer) → Attends s course → s.call ≡ Some call → NextFollows builds coding outcomes rest old s w call stage' polled' answers Pending → Attended builds coding outcomes rest old (after_event coding (start_of old outcomes) s event.Poll) w (Some call) stage' (record course { polled = polled' }) (answers ++ [])
       go outcomes rest old s answers attends is (f, polled) =
-          let start : Standing = start_of old outcomes in
+          let start : PlayState = start_of old outcomes in
           let then : Script = poll_next coding start (Some call) s in
           let P : Option Call → Type 0 = λ c. Attended builds coding outcomes rest old (poll_event coding start c s) w (Some call) stage' (record course { polled = polled' }) (answers ++ []) in
           let N : Option Call → Type 0 = λ c. Attended builds coding outcomes rest old (after_poll coding start c then) w (Some call) stage' (record course { polled = polled' }) (answers ++ []) in
@@ -306,7 +306,7 @@ module _ (builds : Builds) (coding : Coding) where
   )
 
   -- none is under way any more
-  without : (outcomes rest : List DealOutcome) (old : SessionValue) (s : Script) (v : SessionValue) (call : Call) (stage : Stage) (answers : List Answer) → Follows builds coding outcomes rest old s v (Some call) stage answers → LeavesNoTrace (Some call) s.polled → Follows builds coding outcomes rest old (without_call s) v None stage answers
+  without : (outcomes rest : List NetOutcome) (old : SessionValue) (s : Script) (v : SessionValue) (call : Call) (stage : Stage) (answers : List Answer) → Follows builds coding outcomes rest old s v (Some call) stage answers → LeavesNoTrace (Some call) s.polled → Follows builds coding outcomes rest old (without_call s) v None stage answers
   without outcomes rest old s v call stage answers f may = cancels builds coding outcomes rest old s v (Some call) stage stage answers f may
 
   pub call_dropped : (call : Call) (stage : Stage) (course : Course) (v w : SessionValue) → finishes call ≡ false → HasLeftIf course.leaving v w → Happens builds coding v w (Some call) None stage stage course at_rest event.Cancel None
@@ -314,7 +314,7 @@ module _ (builds : Builds) (coding : Coding) where
     left.0,
     left.1,
     λ outcomes rest old s answers f may.
-        let start : Standing = start_of old outcomes in
+        let start : PlayState = start_of old outcomes in
         let P : Option Call → Type 0 = λ c. Attended builds coding outcomes rest old (dropped coding start c s) w None stage at_rest (answers ++ []) in
         let Q : Bool → Type 0 = λ b. Attended builds coding outcomes rest old (dropped_if b coding start s) w None stage at_rest (answers ++ []) in
         let A : List Answer → Type 0 = λ a. Follows builds coding outcomes rest old (over coding start s) w None stage a in
@@ -334,8 +334,8 @@ module _ (builds : Builds) (coding : Coding) where
 
   dropped_grows : (aborted : Bool) (stage : Stage) (v w : SessionValue) → DropsEnd true aborted stage v w → Grows builds v w
   dropped_grows true stage v w drops =
-      let N : SessionValue → Type 0 = λ x. Deals builds (drops_of v.state.counts.owed) v.net x.net in
-      (drops_of v.state.counts.owed, subst N (sym drops.counts) (letting_deals (Unit {0}) v drops.closed builds tt drops.lets_go))
+      let N : SessionValue → Type 0 = λ x. NetEvents builds (drops_of v.state.counts.owed) v.net x.net in
+      (drops_of v.state.counts.owed, subst N (sym drops.counts) (letting_net_events (Unit {0}) v drops.closed builds tt drops.lets_go))
   dropped_grows false stage v w same = ([], ap (λ x. x.net) same)
 
   -- one that brings a transfer to its end
@@ -363,7 +363,7 @@ module _ (builds : Builds) (coding : Coding) where
         [],
         ap (λ x. x.net) same,
         λ outcomes rest old s answers f may.
-            let start : Standing = start_of old outcomes in
+            let start : PlayState = start_of old outcomes in
             let M : Option Call → Type 0 = λ c. MayCancel c s.polled in
             let is = is_finish polled s f.1 (subst M f.0.call_is may) in
             let P : Option Call → Type 0 = λ c. Attended builds coding outcomes rest old (dropped coding start c s) w None stage at_rest (answers ++ []) in
@@ -382,12 +382,12 @@ module _ (builds : Builds) (coding : Coding) where
             left.0,
             left.1,
             λ outcomes rest old s answers f may.
-                let start : Standing = start_of old outcomes in
+                let start : PlayState = start_of old outcomes in
                 let P : Option Call → Type 0 = λ c. Attended builds coding outcomes rest old (dropped coding start c s) w None stage at_rest (answers ++ []) in
                 let Q : Bool → Type 0 = λ b. Attended builds coding outcomes rest old (dropped_if b coding start s) w None stage at_rest (answers ++ []) in
                 let R : Bool → Type 0 = λ b. Attended builds coding outcomes rest old (end_dropped b coding start s) w None stage at_rest (answers ++ []) in
                 let A : List Answer → Type 0 = λ a. Follows builds coding outcomes rest old (leave_held coding start (idle s)) w None stage a in
-                let due : List DealOutcome = outcomes_of left.0 ++ rest in
+                let due : List NetOutcome = outcomes_of left.0 ++ rest in
                 let g = left.2 outcomes rest old (idle s) None stage answers (idles builds coding outcomes due old (without_call s) v stage answers (without outcomes due old s v call stage answers f.0 (inl (f.1.polled ∙ is)))) refl in
                 inl (subst P (sym f.0.call_is) (subst Q (sym ends) (subst R (sym (f.1.polled ∙ is)) (subst A (sym (append-nil answers)) g, leave_attends coding start (idle s) at_rest refl (record { polled = refl; leaving = refl; resting = λ none. refl }))))),
           )
@@ -413,7 +413,7 @@ module _ (builds : Builds) (coding : Coding) where
         left.0,
         left.1,
         λ outcomes rest old s answers f may.
-            let start : Standing = start_of old outcomes in
+            let start : PlayState = start_of old outcomes in
             let unpolled = f.1.resting f.0.call_is in
             let P : Option Call → Type 0 = λ c. Attended builds coding outcomes rest old (leave_now coding start c s) w None stage course (answers ++ []) in
             let A : List Answer → Type 0 = λ a. Follows builds coding outcomes rest old (leave_held coding start s) w None stage a in
@@ -427,7 +427,7 @@ module _ (builds : Builds) (coding : Coding) where
         left.0,
         left.1,
         λ outcomes rest old s answers f may.
-            let start : Standing = start_of old outcomes in
+            let start : PlayState = start_of old outcomes in
             let unpolled = f.1.polled ∙ new in
             let P : Option Call → Type 0 = λ c. Attended builds coding outcomes rest old (leave_now coding start c s) w (Some call) stage course (answers ++ []) in
             let Q : Bool → Type 0 = λ b. Attended builds coding outcomes rest old (leave_beside b (finishes call) coding start s) w (Some call) stage course (answers ++ []) in
@@ -442,7 +442,7 @@ module _ (builds : Builds) (coding : Coding) where
     [],
     refl,
     λ outcomes rest old s answers f may.
-        let start : Standing = start_of old outcomes in
+        let start : PlayState = start_of old outcomes in
         let P : Option Call → Type 0 = λ c. Attended builds coding outcomes rest old (leave_now coding start c s) v (Some call) stage course (answers ++ []) in
         let Q : Bool → Type 0 = λ b. Attended builds coding outcomes rest old (leave_beside b (finishes call) coding start s) v (Some call) stage course (answers ++ []) in
         let R : Bool → Type 0 = λ b. Attended builds coding outcomes rest old (leave_beside false b coding start s) v (Some call) stage course (answers ++ []) in
@@ -456,7 +456,7 @@ module _ (builds : Builds) (coding : Coding) where
     [],
     refl,
     λ outcomes rest old s answers f may.
-        let start : Standing = start_of old outcomes in
+        let start : PlayState = start_of old outcomes in
         let P : Option Call → Type 0 = λ c. Attended builds coding outcomes rest old (leave_now coding start c s) v (Some call) stage course' (answers ++ []) in
         let Q : Bool → Type 0 = λ b. Attended builds coding outcomes rest old (leave_beside b (finishes call) coding start s) v (Some call) stage course' (answers ++ []) in
         let A : List Answer → Type 0 = λ a. Attended builds coding outcomes rest old (leave_beside true (finishes call) coding start s) v (Some call) stage course' a in
@@ -504,7 +504,7 @@ held_left owed.Nothing none is = let clash : false ≡ true = is in cc
 held_left (owed.Left number) none is = let clash : false ≡ true = is in cc
 held_left (owed.Live number) none is = (number, refl)
 
-parted_twice : (number : ℕ) (o : Owed) (d : Dealings) → o ≡ owed.Live number → settled (left_of o) (parted d) ≡ parted d
+parted_twice : (number : ℕ) (o : Owed) (d : NetRecord) → o ≡ owed.Live number → settled (left_of o) (parted d) ≡ parted d
 parted_twice number o d is = rw is refl
 
 module _ (v w : SessionValue) (answer : Answer) (held : holds (is_none v.net.data_conn) v.state.counts.owed ≡ true) where
@@ -518,7 +518,7 @@ module _ (v w : SessionValue) (answer : Answer) (held : holds (is_none v.net.dat
   left_by (inr made) =
       let left = close_left (Unit {0}) v made.last answer made.does in
       let beside = letting_beside (Unit {0}) made.last w made.lets_go in
-      let closed : dealings_of made.last.net ≡ parted (dealings_of v.net) = closed_by made.does in
+      let closed : net_record_of made.last.net ≡ parted (net_record_of v.net) = closed_by made.does in
       let is = held_left v.state.counts.owed (is_none v.net.data_conn) held in
       let S : SessionValue → Type 0 = λ x. w ≡ record x { net = w.net } in
       record {
@@ -527,14 +527,14 @@ module _ (v w : SessionValue) (answer : Answer) (held : holds (is_none v.net.dat
           subst S left.1 beside,
           letting_settles (Unit {0}) made.last w tt made.lets_go
               ∙ ap (λ d. settled made.last.state.counts.owed d) closed
-              ∙ ap (λ x. settled x.state.counts.owed (parted (dealings_of v.net))) left.1
-              ∙ parted_twice is.0 v.state.counts.owed (dealings_of v.net) is.1,
+              ∙ ap (λ x. settled x.state.counts.owed (parted (net_record_of v.net))) left.1
+              ∙ parted_twice is.0 v.state.counts.owed (net_record_of v.net) is.1,
         );
         channel = ap (λ x. x.channel) beside ∙ ap (λ x. x.channel) left.1;
       }
     where
-      closed_by : Carries (Unit {0}) movement.Close v made.last answer → dealings_of made.last.net ≡ parted (dealings_of v.net)
-      closed_by (inl by) = dealings_moved movement.Close by.outcome v.net made.last.net (by.deal tt)
+      closed_by : Carries (Unit {0}) movement.Close v made.last answer → net_record_of made.last.net ≡ parted (net_record_of v.net)
+      closed_by (inl by) = net_record_moved movement.Close by.outcome v.net made.last.net (by.net_event tt)
       closed_by (inr (inl none)) = let clash : false ≡ true = none.0 in cc
       closed_by (inr (inr lacks)) = let clash : false ≡ true = lacks.0 in cc
 

@@ -4,7 +4,7 @@ pub mod EventLemmas
 pub mod Following
 pub mod HiddenCalls
 pub mod Leaving
-pub mod Parting
+pub mod ClosingData
 pub mod Polling
 pub mod Replay
 pub mod Running

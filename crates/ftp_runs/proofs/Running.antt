@@ -4,14 +4,14 @@ use Rattle.std.proofs.Math.ListN.{drop_of_length-le}
 use Rattle.std.proofs.Common.{◌≡◌, ℕ, ◌+◌, ◌<◌, ◌≤◌, drop, get_or, Bool, true, false, cond, List, [], ◌∷◌, ◌++◌, length, length-append, inl, inr, ◌⊎◌, refl, ap, sym, ◌∙◌, subst, append_assoc, append-nil}
 use Rattle.ftp_control.specs.declared.control.rule.ReplyRule.{ReplyRule}
 use Rattle.ftp_transport.specs.declared.room.Room.{Room}
-use Rattle.ftp_dialogue.specs.Deals.{Deal, outcomes_of}
-use Rattle.ftp_dialogue.proofs.Deals.{outcomes-append}
+use Rattle.ftp_dialogue.specs.NetEvents.{NetEvent, outcomes_of}
+use Rattle.ftp_dialogue.proofs.NetEvents.{outcomes-append}
 use Rattle.ftp_dialogue.specs.declared.state.State.{State}
 use Rattle.ftp_calls.specs.declared.call.Answer.{Answer}
 use Rattle.ftp_calls.specs.declared.call.Answer.TheVariants.{Fault}
 use Rattle.ftp_calls.specs.declared.call.Call.{Call}
 use Rattle.ftp_calls.specs.declared.call.Call.TheVariants.{Drain}
-use Rattle.ftp_dialogue.specs.declared.model.Standing.{Standing}
+use Rattle.ftp_dialogue.specs.declared.model.PlayState.{PlayState}
 use Rattle.ftp_dialogue.specs.declared.model.Played.{Played}
 use Rattle.ftp_dialogue.specs.declared.model.Played.TheVariants.{Done}
 use Rattle.ftp_dialogue.specs.declared.model.Wait.{Wait}
@@ -21,12 +21,12 @@ use Rattle.ftp_dialogue.specs.State.{SessionValue, LetsGo}
 use Rattle.ftp_dialogue.specs.Coding.{Coding}
 use Rattle.ftp_dialogue.specs.Dialogue.{dialogue, entered}
 use Rattle.ftp_calls.specs.Exchanges.{drains_first, is_local}
-use Rattle.ftp_dialogue.specs.declared.model.DealOutcome.{DealOutcome}
+use Rattle.ftp_dialogue.specs.declared.model.NetOutcome.{NetOutcome}
 use Rattle.ftp_dialogue.specs.Play.{Taken, after_drain, is_unit, play_call, play_drained, play_drained_if}
 use Rattle.ftp_dialogue.proofs.CarryingLemmas.{beside_goes, refused_so, taken_going, taken_goes_on, taken_plays, taken_resumes}
 use Rattle.ftp_dialogue.specs.Resuming.{Resumes, Silent, modes_in, modes_of}
 use Rattle.ftp_runs.specs.Run.{run, before, and_then, MayBeSilent, OneView, ResumesDrain}
-use Rattle.ftp_dialogue.specs.Promises.{begun_by, lacks_of, DrainsFirst, DrainsIf, However, MakesAfter, Goes, FailsWith, HasFault, standing, Completes, Aborts, Plays, PlaysAlone, IsRefusal, IsRefused, IsPlayed, IsWithheld, due_of, refusal_of}
+use Rattle.ftp_dialogue.specs.Promises.{begun_by, lacks_of, DrainsFirst, DrainsIf, However, MakesAfter, Goes, FailsWith, HasFault, play_state, Completes, Aborts, Plays, PlaysAlone, IsRefusal, IsRefused, IsPlayed, IsWithheld, due_of, refusal_of}
 use Rattle.ftp_runs.specs.Runs.{BeginsAfter, before_all, Agrees, AllRefused, Makes, RanTo, RunsTo, RunAborts, Runs}
 use Rattle.ftp_dialogue.specs.Steps.Moving.{Keeps, Ends, IsMade, Made, MadeDrained}
 use Rattle.ftp_dialogue.proofs.Hearing.{begun_resumes, nothing_resumes}
@@ -35,11 +35,11 @@ use Rattle.ftp_dialogue.proofs.Moving.{Finishes, finishes, nothing_goes, joined_
 use Rattle.ftp_dialogue.specs.Link.{Link}
 
 module _ (coding : Coding) where
-  pub run-nil : (room : Room) (s : Standing) → run room coding [] s ≡ Finished [] s
+  pub run-nil : (room : Room) (s : PlayState) → run room coding [] s ≡ Finished [] s
   unfolding run
   run-nil room s = refl
 
-  pub run-cons : (room : Room) (call : Call) (calls : List Call) (s : Standing) → run room coding (call ∷ calls) s ≡ and_then (play_drained room coding call s) (λ t. run room coding calls t)
+  pub run-cons : (room : Room) (call : Call) (calls : List Call) (s : PlayState) → run room coding (call ∷ calls) s ≡ and_then (play_drained room coding call s) (λ t. run room coding calls t)
   unfolding run
   run-cons room call calls s = refl
 
@@ -48,11 +48,11 @@ pub before_all-snoc : (answers : List Answer) (answer : Answer) (ran : Ran) → 
 before_all-snoc [] answer ran = refl
 before_all-snoc (first ∷ answers) answer ran = ap (before first) (before_all-snoc answers answer ran)
 
-pub before_all-Finished : (answers later : List Answer) (s : Standing) → before_all answers (Finished later s) ≡ Finished (answers ++ later) s
+pub before_all-Finished : (answers later : List Answer) (s : PlayState) → before_all answers (Finished later s) ≡ Finished (answers ++ later) s
 before_all-Finished [] later s = refl
 before_all-Finished (answer ∷ answers) later s = ap (before answer) (before_all-Finished answers later s)
 
-pub before_all-Waiting : (answers later : List Answer) (wait : Wait) (s : Standing) → before_all answers (Waiting later wait s) ≡ Waiting (answers ++ later) wait s
+pub before_all-Waiting : (answers later : List Answer) (wait : Wait) (s : PlayState) → before_all answers (Waiting later wait s) ≡ Waiting (answers ++ later) wait s
 before_all-Waiting [] later wait s = refl
 before_all-Waiting (answer ∷ answers) later wait s = ap (before answer) (before_all-Waiting answers later wait s)
 
@@ -142,7 +142,7 @@ pub record ReachedCall (link : Link) (coding : Coding) (calls : List Call) (call
   pub split : calls ≡ done ++ call ∷ later
   pub count : length answers ≡ length done
   pub came : List ℕ
-  pub answered : List Deal
+  pub answered : List NetEvent
   pub goes : Goes link came answered old new
   pub runs : link.tells → Agrees coding old calls → However old came answered new (λ room s t. run room coding calls s ≡ before_all answers (and_then (play_call room coding call t) (λ u. run room coding later u)))
   pub agrees : Agrees coding old calls → new.channel.failed ≡ false → SeesCall coding call later new
@@ -160,8 +160,8 @@ module _ (link : Link) (coding : Coding) (calls later : List Call) (call : Call)
         answered = ran.answered;
         goes = ran.goes;
         runs = λ h agrees room more ended outcomes fit on.
-            let s : Standing = standing mid more ended outcomes in
-            let next : Standing → Ran = λ u. run room coding later u in
+            let s : PlayState = play_state mid more ended outcomes in
+            let next : PlayState → Ran = λ u. run room coding later u in
             ran.runs h agrees room more ended outcomes fit on
             ∙ ap (before_all answers) (run-cons coding room call later s ∙ ap (λ b. and_then (play_drained_if b room coding call s) next) none);
         agrees = λ agrees going. let sees = reached.agrees agrees going in (sees.1, sees.2);
@@ -186,10 +186,10 @@ module _ (link : Link) (coding : Coding) (calls later : List Call) (call : Call)
     comes_to : link.tells → Agrees coding old calls → However old (reached.ran.came ++ drains.came) (reached.ran.answered ++ drains.answered) new (λ room s t. run room coding calls s ≡ before_all answers (and_then (after_drain (Done first t) (λ u. play_call room coding call u)) (λ u. run room coding later u)))
     comes_to h agrees room more ended outcomes fit on =
         let ran = reached.ran in
-        let next : Standing → Ran = λ u. run room coding later u in
-        let then : Standing → Played = λ u. play_call room coding call u in
-        let s : Standing = standing mid (drains.came ++ more) ended (outcomes_of drains.answered ++ outcomes) in
-        let t : Standing = standing new more ended outcomes in
+        let next : PlayState → Ran = λ u. run room coding later u in
+        let then : PlayState → Played = λ u. play_call room coding call u in
+        let s : PlayState = play_state mid (drains.came ++ more) ended (outcomes_of drains.answered ++ outcomes) in
+        let t : PlayState = play_state new more ended outcomes in
         let before = ran.runs h agrees room (drains.came ++ more) ended (outcomes_of drains.answered ++ outcomes) (fitted room _ _ (drains.goes.sent h) fit) (goes_after mid.channel.ended drains.came more new.channel.ended ended drains.goes.over on) in
         let played = drains.plays h (resumes agrees) room more ended outcomes fit on in
         rw (append_assoc ran.came drains.came more, outcomes-append ran.answered drains.answered, append_assoc (outcomes_of ran.answered) (outcomes_of drains.answered) outcomes)
@@ -218,13 +218,13 @@ module _ (link : Link) (coding : Coding) (calls later : List Call) (call : Call)
           answered = ran.answered ++ drains.answered;
           goes = goes;
           runs = λ h agrees room more ended outcomes fit on.
-              let next : Standing → Ran = λ u. run room coding later u in
-              let t : Standing = standing new more ended outcomes in
+              let next : PlayState → Ran = λ u. run room coding later u in
+              let t : PlayState = play_state new more ended outcomes in
               comes_to h agrees room more ended outcomes fit on ∙ ap (λ b. before_all answers (and_then (if_unit b room t) next)) unit;
           agrees = λ agrees going. nothing_seen coding call later new nothing_kept;
         }
       where
-        if_unit : Bool → Room → Standing → Played
+        if_unit : Bool → Room → PlayState → Played
         if_unit b room t = cond b (play_call room coding call t) (Done first t)
 
     -- the drain fails, and that is the call's answer
@@ -240,14 +240,14 @@ module _ (link : Link) (coding : Coding) (calls later : List Call) (call : Call)
             answered = ran.answered ++ drains.answered;
             goes = goes;
             runs = λ h agrees room more ended outcomes fit on.
-                let next : Standing → Ran = λ u. run room coding later u in
-                let t : Standing = standing new more ended outcomes in
+                let next : PlayState → Ran = λ u. run room coding later u in
+                let t : PlayState = play_state new more ended outcomes in
                 comes_to h agrees room more ended outcomes fit on ∙ ap (λ b. before_all answers (and_then (if_unit b room t) next)) fault ∙ sym (before_all-snoc answers first (next t));
           };
           agrees = λ agrees going. rw nothing_kept (nothing_views coding new.channel.rule later new.state);
         }
       where
-        if_unit : Bool → Room → Standing → Played
+        if_unit : Bool → Room → PlayState → Played
         if_unit b room t = cond b (play_call room coding call t) (Done first t)
 
 module _ (link : Link) (coding : Coding) (calls later : List Call) (call : Call) (old mid new : SessionValue) (answers : List Answer) (answer : Answer) (reached : ReachedCall link coding calls call later old mid answers) where
@@ -263,14 +263,14 @@ module _ (link : Link) (coding : Coding) (calls later : List Call) (call : Call)
           answered = reached.answered ++ done.answered;
           goes = joined_goes link reached.came done.came reached.answered done.answered old mid new reached.goes (goes_from link done.came done.answered call mid new done.goes);
           runs = λ h agrees room more ended outcomes fit on.
-              let next : Standing → Ran = λ u. run room coding later u in
+              let next : PlayState → Ran = λ u. run room coding later u in
               let resumes = begun_resumes call mid (dialogue coding call mid.state) (taken_resumes (modes_of mid) mid.channel.kept coding call mid taken (λ going. (reached.agrees agrees going).0)) in
               let first = reached.runs h agrees room (done.came ++ more) ended (outcomes_of done.answered ++ outcomes) (fitted room _ _ (done.goes.sent h) fit) (goes_after mid.channel.ended done.came more new.channel.ended ended done.goes.over on) in
               let played = done.plays h resumes room more ended outcomes fit on in
               rw (append_assoc reached.came done.came more, outcomes-append reached.answered done.answered, append_assoc (outcomes_of reached.answered) (outcomes_of done.answered) outcomes)
               (first
               ∙ ap (λ p. before_all answers (and_then p next)) (taken_plays coding room call mid (done.came ++ more) ended (outcomes_of done.answered ++ outcomes) taken ∙ played)
-              ∙ sym (before_all-snoc answers answer (run room coding later (standing new more ended outcomes))));
+              ∙ sym (before_all-snoc answers answer (run room coding later (play_state new more ended outcomes))));
         };
         agrees = λ agrees going'. views_on coding call later done.came mid new (keeps_from (Silent (entered call mid.state) new.state (dialogue coding call mid.state)) done.came call mid new done.keeps) (reached.agrees agrees (taken_goes_on call mid new taken apart going'));
       }
@@ -279,7 +279,7 @@ module _ (link : Link) (coding : Coding) (calls later : List Call) (call : Call)
   refuses_next : IsRefused link.tells call mid new answer → Reached link coding calls later old new (answers ++ answer ∷ [])
   refuses_next refused =
       let so = refused_so link.builds link.tells coding call mid new answer refused in
-      let goes = beside_goes link so.answered mid new so.channel so.deals in
+      let goes = beside_goes link so.answered mid new so.channel so.net_events in
       record {
         ran = record {
           done = reached.done ++ call ∷ [];
@@ -289,15 +289,15 @@ module _ (link : Link) (coding : Coding) (calls later : List Call) (call : Call)
           answered = reached.answered ++ so.answered;
           goes = joined_goes link reached.came [] reached.answered so.answered old mid new reached.goes goes;
           runs = λ h agrees room more ended outcomes fit on.
-              let next : Standing → Ran = λ u. run room coding later u in
-              let O : List DealOutcome → Ran = λ o. run room coding calls (standing old (reached.came ++ more) ended o) in
+              let next : PlayState → Ran = λ u. run room coding later u in
+              let O : List NetOutcome → Ran = λ o. run room coding calls (play_state old (reached.came ++ more) ended o) in
               let same : outcomes_of (reached.answered ++ so.answered) ++ outcomes ≡ outcomes_of reached.answered ++ outcomes = ap (λ o. o ++ outcomes) (outcomes-append reached.answered so.answered ∙ ap (λ o. outcomes_of reached.answered ++ o) so.none ∙ append-nil (outcomes_of reached.answered)) in
               let first = reached.runs h agrees room more ended outcomes (fitted room _ _ (goes.sent h) fit) (goes_after mid.channel.ended [] more new.channel.ended ended goes.over on) in
               rw (append-nil reached.came)
               (ap O same
               ∙ first
               ∙ ap (λ p. before_all answers (and_then p next)) (so.plays h room more ended outcomes)
-              ∙ sym (before_all-snoc answers answer (run room coding later (standing new more ended outcomes))));
+              ∙ sym (before_all-snoc answers answer (run room coding later (play_state new more ended outcomes))));
         };
         agrees = λ agrees going.
             let on = so.goes_on going in
@@ -463,9 +463,9 @@ ran_all link coding calls old new answers reached = record {
   goes = reached.ran.goes;
   runs = λ h agrees room more ended outcomes fit on.
       reached.ran.runs h agrees room more ended outcomes fit on
-      ∙ ap (before_all answers) (run-nil coding room (standing new more ended outcomes))
-      ∙ before_all-Finished answers [] (standing new more ended outcomes)
-      ∙ ap (λ a. Finished a (standing new more ended outcomes)) (append-nil answers);
+      ∙ ap (before_all answers) (run-nil coding room (play_state new more ended outcomes))
+      ∙ before_all-Finished answers [] (play_state new more ended outcomes)
+      ∙ ap (λ a. Finished a (play_state new more ended outcomes)) (append-nil answers);
 }
 
 -- the next of the calls

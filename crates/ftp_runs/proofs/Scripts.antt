@@ -13,14 +13,14 @@ use Rattle.ftp_calls.specs.declared.call.Call.{Call}
 use Rattle.ftp_calls.specs.declared.call.Event.{Event}
 use Rattle.ftp_calls.specs.declared.call.Event.TheVariants.{Cancel, Poll}
 use Rattle.ftp_dialogue.specs.declared.stage.Stage.{Stage}
-use Rattle.ftp_dialogue.specs.declared.model.Standing.{Standing}
+use Rattle.ftp_dialogue.specs.declared.model.PlayState.{PlayState}
 use Rattle.ftp_runs.specs.declared.model.Script.{Script}
 use Rattle.ftp_dialogue.specs.State.{SessionValue}
 use Rattle.ftp_dialogue.specs.Coding.{Coding}
 use Rattle.ftp_runs.specs.Script.{script, start_of, script_of, after_event, dropped, Lawful, IsLawful, MayCancel}
-use Rattle.ftp_dialogue.specs.Deals.{Deal, Deals, outcomes_of}
-use Rattle.ftp_dialogue.proofs.Deals.{deals-append}
-use Rattle.ftp_dialogue.specs.declared.model.DealOutcome.{DealOutcome}
+use Rattle.ftp_dialogue.specs.NetEvents.{NetEvent, NetEvents, outcomes_of}
+use Rattle.ftp_dialogue.proofs.NetEvents.{net_events-append}
+use Rattle.ftp_dialogue.specs.declared.model.NetOutcome.{NetOutcome}
 use Rattle.ftp_dialogue.specs.Link.{Builds, over_memory}
 use Rattle.ftp_dialogue.specs.Promises.{Aborts, FailsWith}
 use Rattle.ftp_runs.specs.Scripted.{AreRefused}
@@ -35,11 +35,11 @@ use Rattle.ftp_runs.proofs.Following.{entering_is, left_of}
 use Rattle.ftp_runs.proofs.Leaving.{drop_happens, dropped_apart, dropped_stays}
 
 module _ (builds : Builds) (coding : Coding) where
-  script-snoc : (start : Standing) (s : Script) (events : List Event) (event : Event) → script coding start s (events ++ event ∷ []) ≡ after_event coding start (script coding start s events) event
+  script-snoc : (start : PlayState) (s : Script) (events : List Event) (event : Event) → script coding start s (events ++ event ∷ []) ≡ after_event coding start (script coding start s events) event
   script-snoc start s [] event = refl
   script-snoc start s (first ∷ events) event = script-snoc start (after_event coding start s first) events event
 
-  lawful-snoc : (start : Standing) (s : Script) (events : List Event) (event : Event) → Lawful coding start s (events ++ event ∷ []) → Lawful coding start s events × IsLawful coding start (script coding start s events) event
+  lawful-snoc : (start : PlayState) (s : Script) (events : List Event) (event : Event) → Lawful coding start s (events ++ event ∷ []) → Lawful coding start s events × IsLawful coding start (script coding start s events) event
   lawful-snoc start s [] event lawful = (tt, lawful.0)
   lawful-snoc start s (first ∷ events) event lawful = let later = lawful-snoc start (after_event coding start s first) events event lawful.1 in ((lawful.0, later.0), later.1)
 
@@ -47,7 +47,7 @@ module _ (builds : Builds) (coding : Coding) where
   abbrev pub Happened : ℕ → SessionValue → List Event → SessionValue → Option Call → Stage → Course → List Answer → Type 0
   Happened zero old done v call stage course answers = Unit {0}
   Happened (suc depth) old done v call stage course answers =
-      (answered : List Deal) × Deals builds answered old.net v.net × ((form : ReplyForm) (left : List DealOutcome) → outcome old.channel.rule form old.channel.kept false ≡ Waits → Lawful coding (start_of old (outcomes_of answered ++ left)) (script_of old form) done → Attended builds coding (outcomes_of answered ++ left) left old (script coding (start_of old (outcomes_of answered ++ left)) (script_of old form) done) v call stage course answers ⊎ ScriptAborts builds (λ after later rest. Happened depth after later v call stage course rest) coding (outcomes_of answered ++ left) old form done v answers)
+      (answered : List NetEvent) × NetEvents builds answered old.net v.net × ((form : ReplyForm) (left : List NetOutcome) → outcome old.channel.rule form old.channel.kept false ≡ Waits → Lawful coding (start_of old (outcomes_of answered ++ left)) (script_of old form) done → Attended builds coding (outcomes_of answered ++ left) left old (script coding (start_of old (outcomes_of answered ++ left)) (script_of old form) done) v call stage course answers ⊎ ScriptAborts builds (λ after later rest. Happened depth after later v call stage course rest) coding (outcomes_of answered ++ left) old form done v answers)
 
   -- nothing has happened
   pub starts_script : (depth : ℕ) (old : SessionValue) (call : Option Call) (stage : Stage) (course : Course) → call ≡ None → course ≡ at_rest → IsGiven old.channel.told → IsSound (Unit {0}) old.channel → Happened depth old [] old call stage course []
@@ -62,7 +62,7 @@ module _ (builds : Builds) (coding : Coding) where
   )
 
   -- the session stands where its script does
-  holds_at : (outcomes left : List DealOutcome) (old : SessionValue) (s : Script) (v : SessionValue) (call : Option Call) (stage : Stage) (answers : List Answer) → Follows builds coding outcomes left old s v call stage answers → HoldsAt builds outcomes old s v answers
+  holds_at : (outcomes left : List NetOutcome) (old : SessionValue) (s : Script) (v : SessionValue) (call : Option Call) (stage : Stage) (answers : List Answer) → Follows builds coding outcomes left old s v call stage answers → HoldsAt builds outcomes old s v answers
   holds_at outcomes left old s v call stage answers f =
       record {
         at = record {
@@ -70,7 +70,7 @@ module _ (builds : Builds) (coding : Coding) where
           sent = sym f.sent;
           said = f.said;
           untaken = sym f.untaken;
-          dealings = sym f.dealings;
+          net_record = sym f.net_record;
           seen = sym f.seen;
           waits = f.waits;
           ended = sym f.ended;
@@ -80,7 +80,7 @@ module _ (builds : Builds) (coding : Coding) where
           failed = sym f.failed;
         };
         left = left;
-        answered = record { answered = f.answered; deals = f.deals; outcomes_are = f.outcomes_are };
+        answered = record { answered = f.answered; net_events = f.net_events; outcomes_are = f.outcomes_are };
         came = f.came;
         received = f.received;
         bytes = f.bytes;
@@ -96,7 +96,7 @@ module _ (builds : Builds) (coding : Coding) where
   -- one event more
   module _ (event : Event) (v w : SessionValue) (call call' : Option Call) (stage stage' : Stage) (course course' : Course) (result : Option Answer) (stays : FailedStays v w result) (happens : Happens builds coding v w call call' stage stage' course course' event result) where
     -- a call is aborted
-    aborts_at : (depth : ℕ) (outcomes : List DealOutcome) (old : SessionValue) (form : ReplyForm) (done : List Event) (answers : List Answer) → (broke : AbortsPart builds coding outcomes old (script coding (start_of old outcomes) (script_of old form) done) answers w result) → call' ≡ None → course' ≡ at_rest → event ≡ Poll → ScriptAborts builds (λ after later rest. Happened depth after later w call' stage' course' rest) coding outcomes old form (done ++ event ∷ []) w (answers ++ given_answer result)
+    aborts_at : (depth : ℕ) (outcomes : List NetOutcome) (old : SessionValue) (form : ReplyForm) (done : List Event) (answers : List Answer) → (broke : AbortsPart builds coding outcomes old (script coding (start_of old outcomes) (script_of old form) done) answers w result) → call' ≡ None → course' ≡ at_rest → event ≡ Poll → ScriptAborts builds (λ after later rest. Happened depth after later w call' stage' course' rest) coding outcomes old form (done ++ event ∷ []) w (answers ++ given_answer result)
     aborts_at depth outcomes old form done answers broke none resting polled =
         let at = broke.at in
         let aborts = at.aborts in
@@ -130,7 +130,7 @@ module _ (builds : Builds) (coding : Coding) where
         }
 
     -- an event after a call that was aborted
-    goes_after : (depth : ℕ) (outcomes : List DealOutcome) (old : SessionValue) (form : ReplyForm) (done : List Event) (answers : List Answer) → (broke : ScriptAborts builds (λ after later rest. Happened depth after later v call stage course rest) coding outcomes old form done v answers) → Happened depth broke.after (broke.later ++ event ∷ []) w call' stage' course' (broke.others ++ given_answer result) → ScriptAborts builds (λ after later rest. Happened depth after later w call' stage' course' rest) coding outcomes old form (done ++ event ∷ []) w (answers ++ given_answer result)
+    goes_after : (depth : ℕ) (outcomes : List NetOutcome) (old : SessionValue) (form : ReplyForm) (done : List Event) (answers : List Answer) → (broke : ScriptAborts builds (λ after later rest. Happened depth after later v call stage course rest) coding outcomes old form done v answers) → Happened depth broke.after (broke.later ++ event ∷ []) w call' stage' course' (broke.others ++ given_answer result) → ScriptAborts builds (λ after later rest. Happened depth after later w call' stage' course' rest) coding outcomes old form (done ++ event ∷ []) w (answers ++ given_answer result)
     goes_after depth outcomes old form done answers broke goes_on = record {
       before = broke.before;
       later = broke.later ++ event ∷ [];
@@ -161,17 +161,17 @@ module _ (builds : Builds) (coding : Coding) where
     one_more zero old done answers so_far = tt
     one_more (suc depth) old done answers so_far = (
       so_far.0 ++ happens.0,
-      deals-append builds so_far.0 happens.0 old.net v.net w.net so_far.1 happens.1,
+      net_events-append builds so_far.0 happens.0 old.net v.net w.net so_far.1 happens.1,
       λ form left waits lawful.
           let all : outcomes_of (so_far.0 ++ happens.0) ++ left ≡ outcomes_of so_far.0 ++ (outcomes_of happens.0 ++ left) = outcomes_on so_far.0 happens.0 left in
-          let L : List DealOutcome → Type 0 = λ o. Lawful coding (start_of old o) (script_of old form) (done ++ event ∷ []) in
-          let R : List DealOutcome → Type 0 = λ o. Attended builds coding o left old (script coding (start_of old o) (script_of old form) (done ++ event ∷ [])) w call' stage' course' (answers ++ given_answer result) ⊎ ScriptAborts builds (λ after later rest. Happened depth after later w call' stage' course' rest) coding o old form (done ++ event ∷ []) w (answers ++ given_answer result) in
-          let outcomes : List DealOutcome = outcomes_of so_far.0 ++ (outcomes_of happens.0 ++ left) in
+          let L : List NetOutcome → Type 0 = λ o. Lawful coding (start_of old o) (script_of old form) (done ++ event ∷ []) in
+          let R : List NetOutcome → Type 0 = λ o. Attended builds coding o left old (script coding (start_of old o) (script_of old form) (done ++ event ∷ [])) w call' stage' course' (answers ++ given_answer result) ⊎ ScriptAborts builds (λ after later rest. Happened depth after later w call' stage' course' rest) coding o old form (done ++ event ∷ []) w (answers ++ given_answer result) in
+          let outcomes : List NetOutcome = outcomes_of so_far.0 ++ (outcomes_of happens.0 ++ left) in
           let may = lawful-snoc (start_of old outcomes) (script_of old form) done event (subst L all lawful) in
           subst R (sym all) (go (one_more depth) form outcomes left may.1 (so_far.2 form (outcomes_of happens.0 ++ left) waits may.0)),
     )
       where
-        go : ((later : SessionValue) (done' : List Event) (rest : List Answer) → Happened depth later done' v call stage course rest → Happened depth later (done' ++ event ∷ []) w call' stage' course' (rest ++ given_answer result)) → (form : ReplyForm) (outcomes left : List DealOutcome) → IsLawful coding (start_of old outcomes) (script coding (start_of old outcomes) (script_of old form) done) event → Attended builds coding outcomes (outcomes_of happens.0 ++ left) old (script coding (start_of old outcomes) (script_of old form) done) v call stage course answers ⊎ ScriptAborts builds (λ after later rest. Happened depth after later v call stage course rest) coding outcomes old form done v answers → Attended builds coding outcomes left old (script coding (start_of old outcomes) (script_of old form) (done ++ event ∷ [])) w call' stage' course' (answers ++ given_answer result) ⊎ ScriptAborts builds (λ after later rest. Happened depth after later w call' stage' course' rest) coding outcomes old form (done ++ event ∷ []) w (answers ++ given_answer result)
+        go : ((later : SessionValue) (done' : List Event) (rest : List Answer) → Happened depth later done' v call stage course rest → Happened depth later (done' ++ event ∷ []) w call' stage' course' (rest ++ given_answer result)) → (form : ReplyForm) (outcomes left : List NetOutcome) → IsLawful coding (start_of old outcomes) (script coding (start_of old outcomes) (script_of old form) done) event → Attended builds coding outcomes (outcomes_of happens.0 ++ left) old (script coding (start_of old outcomes) (script_of old form) done) v call stage course answers ⊎ ScriptAborts builds (λ after later rest. Happened depth after later v call stage course rest) coding outcomes old form done v answers → Attended builds coding outcomes left old (script coding (start_of old outcomes) (script_of old form) (done ++ event ∷ [])) w call' stage' course' (answers ++ given_answer result) ⊎ ScriptAborts builds (λ after later rest. Happened depth after later w call' stage' course' rest) coding outcomes old form (done ++ event ∷ []) w (answers ++ given_answer result)
         go again form outcomes left may (inl follows) = next (happens.2 outcomes left old (script coding (start_of old outcomes) (script_of old form) done) answers follows may)
           where
             next : Attended builds coding outcomes left old (after_event coding (start_of old outcomes) (script coding (start_of old outcomes) (script_of old form) done) event) w call' stage' course' (answers ++ given_answer result) ⊎ (AbortsPart builds coding outcomes old (script coding (start_of old outcomes) (script_of old form) done) answers w result × (call' ≡ None) × (course' ≡ at_rest) × (event ≡ Poll)) → Attended builds coding outcomes left old (script coding (start_of old outcomes) (script_of old form) (done ++ event ∷ [])) w call' stage' course' (answers ++ given_answer result) ⊎ ScriptAborts builds (λ after later rest. Happened depth after later w call' stage' course' rest) coding outcomes old form (done ++ event ∷ []) w (answers ++ given_answer result)
@@ -208,7 +208,7 @@ module _ (builds : Builds) (coding : Coding) where
 
   module _ (v new : SessionValue) (call : Option Call) (stage : Stage) (course : Course) (end : AtEnd v new call stage course) where
     -- the session stands where the script does, and where it does after a Cancel
-    ends_at : (outcomes left : List DealOutcome) (old : SessionValue) (s : Script) (answers : List Answer) → Attended builds coding outcomes (outcomes_of end.drops.0 ++ left) old s v call stage course answers → EndsAt builds coding outcomes old s new answers
+    ends_at : (outcomes left : List NetOutcome) (old : SessionValue) (s : Script) (answers : List Answer) → Attended builds coding outcomes (outcomes_of end.drops.0 ++ left) old s v call stage course answers → EndsAt builds coding outcomes old s new answers
     ends_at outcomes left old s answers (f, attends) = record {
       last = v;
       at = holds_at outcomes (outcomes_of end.drops.0 ++ left) old s v call stage answers f;
@@ -228,15 +228,15 @@ module _ (builds : Builds) (coding : Coding) where
     happened_scripted zero old done answers so_far = tt
     happened_scripted (suc depth) old done answers so_far = (
       so_far.0 ++ end.drops.0,
-      deals-append builds so_far.0 end.drops.0 old.net v.net new.net so_far.1 end.drops.1,
+      net_events-append builds so_far.0 end.drops.0 old.net v.net new.net so_far.1 end.drops.1,
       λ form left waits lawful.
           let all : outcomes_of (so_far.0 ++ end.drops.0) ++ left ≡ outcomes_of so_far.0 ++ (outcomes_of end.drops.0 ++ left) = outcomes_on so_far.0 end.drops.0 left in
-          let L : List DealOutcome → Type 0 = λ o. Lawful coding (start_of old o) (script_of old form) done in
-          let R : List DealOutcome → Type 0 = λ o. ScriptHolds builds coding o old form done new answers ⊎ ScriptAborts builds (λ after later rest. ScriptsHold builds depth coding after later new rest) coding o old form done new answers in
+          let L : List NetOutcome → Type 0 = λ o. Lawful coding (start_of old o) (script_of old form) done in
+          let R : List NetOutcome → Type 0 = λ o. ScriptHolds builds coding o old form done new answers ⊎ ScriptAborts builds (λ after later rest. ScriptsHold builds depth coding after later new rest) coding o old form done new answers in
           subst R (sym all) (go (happened_scripted depth) form left (outcomes_of so_far.0 ++ (outcomes_of end.drops.0 ++ left)) (so_far.2 form (outcomes_of end.drops.0 ++ left) waits (subst L all lawful))),
     )
       where
-        go : ((later : SessionValue) (done' : List Event) (rest : List Answer) → Happened depth later done' v call stage course rest → ScriptsHold builds depth coding later done' new rest) → (form : ReplyForm) (left outcomes : List DealOutcome) → Attended builds coding outcomes (outcomes_of end.drops.0 ++ left) old (script coding (start_of old outcomes) (script_of old form) done) v call stage course answers ⊎ ScriptAborts builds (λ after later rest. Happened depth after later v call stage course rest) coding outcomes old form done v answers → ScriptHolds builds coding outcomes old form done new answers ⊎ ScriptAborts builds (λ after later rest. ScriptsHold builds depth coding after later new rest) coding outcomes old form done new answers
+        go : ((later : SessionValue) (done' : List Event) (rest : List Answer) → Happened depth later done' v call stage course rest → ScriptsHold builds depth coding later done' new rest) → (form : ReplyForm) (left outcomes : List NetOutcome) → Attended builds coding outcomes (outcomes_of end.drops.0 ++ left) old (script coding (start_of old outcomes) (script_of old form) done) v call stage course answers ⊎ ScriptAborts builds (λ after later rest. Happened depth after later v call stage course rest) coding outcomes old form done v answers → ScriptHolds builds coding outcomes old form done new answers ⊎ ScriptAborts builds (λ after later rest. ScriptsHold builds depth coding after later new rest) coding outcomes old form done new answers
         go again form left outcomes (inl follows) = inl (ends_at outcomes left old (script coding (start_of old outcomes) (script_of old form) done) answers follows)
         go again form left outcomes (inr broke) = inr (record {
           before = broke.before;
@@ -268,7 +268,7 @@ module _ (builds : Builds) (coding : Coding) where
     pub has_grown : (old : SessionValue) (done : List Event) (answers : List Answer) → ((depth : ℕ) → Happened depth old done v call stage course answers) → Grows builds old new
     has_grown old done answers so_far =
         let all = so_far (suc zero) in
-        (all.0 ++ end.drops.0, deals-append builds all.0 end.drops.0 old.net v.net new.net all.1 end.drops.1)
+        (all.0 ++ end.drops.0, net_events-append builds all.0 end.drops.0 old.net v.net new.net all.1 end.drops.1)
 
     -- no event is left
     pub all_events : (old : SessionValue) (events : List Event) (i : ℕ) (answers : List Answer) → length events ≤ i → ((depth : ℕ) → Happened depth old (take i events) v call stage course answers) → IsScripted builds coding old events new answers

@@ -38,8 +38,8 @@ use Rattle.ftp_calls.specs.declared.exchange.Row.TheVariants.{Exchanges, Arms, R
 use Rattle.ftp_calls.specs.Exchanges.{is_read, reads, row_of}
 use Rattle.ftp_dialogue.specs.declared.state.State.{State}
 use Rattle.ftp_dialogue.specs.declared.stage.Stage.{Stage}
-use Rattle.ftp_dialogue.specs.declared.stage.Stage.TheVariants.{At, Saying, Hearing, Arming, Resyncing, Agreeing, Closing, Aborting, Fetching}
-use Rattle.ftp_dialogue.specs.declared.model.Standing.{Standing}
+use Rattle.ftp_dialogue.specs.declared.stage.Stage.TheVariants.{At, Saying, Hearing, Arming, Resyncing, OpeningData, Closing, Aborting, Transferring}
+use Rattle.ftp_dialogue.specs.declared.model.PlayState.{PlayState}
 use Rattle.ftp_dialogue.specs.declared.model.Wait.{Wait}
 use Rattle.ftp_dialogue.specs.declared.model.Wait.TheVariants as wait
 use Rattle.ftp_dialogue.specs.declared.model.Played.{Played}
@@ -57,9 +57,9 @@ use Rattle.ftp_base.specs.declared.status.Status.TheVariants.{CommandOk}
 use Rattle.ftp_dialogue.proofs.ResyncLemmas.{others, seeking_is}
 use Rattle.ftp_dialogue.specs.declared.stage.Resyncing.TheVariants.{Wording, Sending, Seeking}
 use Rattle.ftp_dialogue.specs.Dialogue.{Expected, expected_of, Tree, Say, Hear, Look, Ask, Build, Move, Leaf, saying, after_fault_of, awaiting, armed, doing, exchanging, concluded, later, set_to, answer_to_fault, dialogue}
-use Rattle.ftp_dialogue.specs.declared.model.DealOutcome.{DealOutcome}
-use Rattle.ftp_dialogue.specs.declared.model.DealOutcome.TheVariants as came
-use Rattle.ftp_dialogue.specs.Deals.{answers as answers_to, constructed, dealt, moved}
+use Rattle.ftp_dialogue.specs.declared.model.NetOutcome.{NetOutcome}
+use Rattle.ftp_dialogue.specs.declared.model.NetOutcome.TheVariants as came
+use Rattle.ftp_dialogue.specs.NetEvents.{answers as answers_to, constructed, after_request, moved}
 use Rattle.ftp_dialogue.specs.Play.{play, address_at, fits, heard_then, taken, asked_then, built_then, moved_then, needs_data}
 use Rattle.ftp_runs.specs.Script.{heard_in, heard_at}
 use Rattle.ftp_dialogue.proofs.CarryingLemmas.{needs_none, plain_dialogue}
@@ -155,18 +155,18 @@ left_shrinks TooLarge bytes = omega (arith, length-drop (reply_limit + 1) bytes)
 left_shrinks Ended bytes = omega arith
 left_shrinks Waits bytes = omega arith
 
-play_shrinks : (room : Room) (tree : Tree) (s : Standing) (how : Wait) (t : Standing) → play room tree s ≡ Pending how t → length t.bytes ≤ length s.bytes
+play_shrinks : (room : Room) (tree : Tree) (s : PlayState) (how : Wait) (t : PlayState) → play room tree s ≡ Pending how t → length t.bytes ≤ length s.bytes
 unfolding play
 play_shrinks room (Say (Ok line) next) s how t is =
     let all : List ℕ = s.said ++ s.unsent ++ line in
-    let here : Standing = record s { said = all; unsent = [] } in
+    let here : PlayState = record s { said = all; unsent = [] } in
     elim (fits room all) as (λ f. cond f (play room next here) (Pending wait.Room here) ≡ Pending how t → length t.bytes ≤ length s.bytes) [
       | true ↦ λ e. play_shrinks room next here how t e
       | false ↦ λ e. omega (arith, ap length (ap bytes_in e))
     ] is
 play_shrinks room (Say (Err cause) next) s how t is = let clash : Done (Fault (fault.ConnectionError cause)) s ≡ Pending how t = is in cc
 play_shrinks room (Hear codes next) s how t is =
-    let k : Result Response FtpError → Standing → Played = λ heard u. play room (next heard) u in
+    let k : Result Response FtpError → PlayState → Played = λ heard u. play room (next heard) u in
     elim (outcome s.state.settings.reply_rule codes.form s.bytes s.ended) as (λ o. heard_then o codes s k ≡ Pending how t → length t.bytes ≤ length s.bytes) [
       | Whole reply code ↦ λ e. (let heard = expected_reply codes.statuses (record { status = status_of code; body = reply }) in omega (arith, play_shrinks room (next heard) (taken (left_by (Whole reply code) s.bytes) s) how t e, left_shrinks (Whole reply code) s.bytes))
       | Bad line ↦ λ e. omega (arith, play_shrinks room (next (Err fault.BadResponse)) (taken (left_by (Bad line) s.bytes) s) how t e, left_shrinks (Bad line) s.bytes)
@@ -176,10 +176,10 @@ play_shrinks room (Hear codes next) s how t is =
     ] is
 play_shrinks room (Look end next) s how t is = play_shrinks room (next (address_at end s)) s how t is
 play_shrinks room (Ask request next) s how t is =
-    let k : RequestOutcome → Standing → Played = λ answer u. play room (next answer) u in
+    let k : RequestOutcome → PlayState → Played = λ answer u. play room (next answer) u in
     elim s.outcomes as (λ o. asked_then o request s k ≡ Pending how t → length t.bytes ≤ length s.bytes) [
       | [] ↦ λ e. omega (arith, ap length (ap bytes_in e))
-      | came.Answered outcome ∷ outcomes ↦ λ e. play_shrinks room (next outcome) (record s { dealings = dealt request outcome s.dealings; outcomes = outcomes }) how t e
+      | came.Answered outcome ∷ outcomes ↦ λ e. play_shrinks room (next outcome) (record s { net_record = after_request request outcome s.net_record; outcomes = outcomes }) how t e
       | came.Built fault ∷ outcomes ↦ λ e. omega (arith, ap length (ap bytes_in e))
       | came.Read bytes ∷ outcomes ↦ λ e. omega (arith, ap length (ap bytes_in e))
       | came.Wrote count ∷ outcomes ↦ λ e. omega (arith, ap length (ap bytes_in e))
@@ -188,11 +188,11 @@ play_shrinks room (Ask request next) s how t is =
       | came.NoMemory ∷ outcomes ↦ λ e. omega (arith, ap length (ap bytes_in e))
     ] is
 play_shrinks room (Build address next) s how t is =
-    let k : Option FtpError → Standing → Played = λ fault u. play room (next fault) u in
+    let k : Option FtpError → PlayState → Played = λ fault u. play room (next fault) u in
     elim s.outcomes as (λ o. built_then o address s k ≡ Pending how t → length t.bytes ≤ length s.bytes) [
       | [] ↦ λ e. omega (arith, ap length (ap bytes_in e))
       | came.Answered outcome ∷ outcomes ↦ λ e. omega (arith, ap length (ap bytes_in e))
-      | came.Built fault ∷ outcomes ↦ λ e. play_shrinks room (next fault) (record s { dealings = constructed address fault s.dealings; outcomes = outcomes }) how t e
+      | came.Built fault ∷ outcomes ↦ λ e. play_shrinks room (next fault) (record s { net_record = constructed address fault s.net_record; outcomes = outcomes }) how t e
       | came.Read bytes ∷ outcomes ↦ λ e. omega (arith, ap length (ap bytes_in e))
       | came.Wrote count ∷ outcomes ↦ λ e. omega (arith, ap length (ap bytes_in e))
       | came.Closed ∷ outcomes ↦ λ e. omega (arith, ap length (ap bytes_in e))
@@ -200,11 +200,11 @@ play_shrinks room (Build address next) s how t is =
       | came.NoMemory ∷ outcomes ↦ λ e. omega (arith, ap length (ap bytes_in e))
     ] is
 play_shrinks room (Move moves next) s how t is =
-    let k : DealOutcome → Standing → Played = λ outcome u. play room (next outcome) u in
+    let k : NetOutcome → PlayState → Played = λ outcome u. play room (next outcome) u in
     elim s.outcomes as (λ o. moved_then o moves s k ≡ Pending how t → length t.bytes ≤ length s.bytes) [
       | [] ↦ λ e. omega (arith, ap length (ap bytes_in e))
       | outcome ∷ outcomes ↦ λ e. (
-          let after : Standing = record s { dealings = moved moves outcome s.dealings; outcomes = outcomes } in
+          let after : PlayState = record s { net_record = moved moves outcome s.net_record; outcomes = outcomes } in
           elim (answers_to moves outcome) as (λ b. cond b (play room (next outcome) after) (Pending wait.Outcome s) ≡ Pending how t → length t.bytes ≤ length s.bytes) [
             | true ↦ λ f. play_shrinks room (next outcome) after how t f
             | false ↦ λ f. omega (arith, ap length (ap bytes_in f))
@@ -235,24 +235,24 @@ fewer_heard how script left fewer = go how
     go wait.Outcome = some
 
 -- a line that isn't within the room is said first
-pub record LacksRoomFor (room : Room) (s : Standing) (tree : Tree) : Type 0 where
+pub record LacksRoomFor (room : Room) (s : PlayState) (tree : Tree) : Type 0 where
   pub line : List ℕ
   pub next : Tree
   pub is : tree ≡ Say (Ok line) next
   pub full : fits room (s.said ++ s.unsent ++ line) ≡ false
 
-module _ (coding : Coding) (room : Room) (script : Script) (s : Standing) (untaken : s.bytes ≡ script.untaken) (how : Wait) (t : Standing) (unheard : heard_at how script t.bytes ≡ false) where
+module _ (coding : Coding) (room : Room) (script : Script) (s : PlayState) (untaken : s.bytes ≡ script.untaken) (how : Wait) (t : PlayState) (unheard : heard_at how script t.bytes ≡ false) where
   -- a reply that is awaited is heard, or waited for
   hears_none : (codes : Expected) (ending : Ending) (state : State) (after : State → Tree) (said unsent : List ℕ) → play room (awaiting coding codes ending state after) (record s { said = said; unsent = unsent }) ≡ Pending how t → ⊥
   hears_none codes ending state after said unsent is = go (outcome s.state.settings.reply_rule codes.form s.bytes s.ended) refl (sym (play-Hear room codes (concluded coding ending state after) here) ∙ is)
     where
-      here : Standing
+      here : PlayState
       here = record s { said = said; unsent = unsent }
 
-      k : Result Response FtpError → Standing → Played
+      k : Result Response FtpError → PlayState → Played
       k = λ heard u. play room (concluded coding ending state after heard) u
 
-      fails : (cause : FtpError) (u : Standing) → k (Err cause) u ≡ Pending how t → ⊥
+      fails : (cause : FtpError) (u : PlayState) → k (Err cause) u ≡ Pending how t → ⊥
       fails cause u e = let clash : Done (answer_to_fault ending cause) (record u { state = after_fault_of ending cause state }) ≡ Pending how t = sym (play-Leaf room (answer_to_fault ending cause) (after_fault_of ending cause state) u) ∙ e in cc
 
       go : (o : Outcome) → outcome s.state.settings.reply_rule codes.form s.bytes s.ended ≡ o → heard_then o codes here k ≡ Pending how t → ⊥
@@ -277,7 +277,7 @@ module _ (coding : Coding) (room : Room) (script : Script) (s : Standing) (untak
       next : Tree
       next = awaiting coding codes ending state after
 
-      here : Standing
+      here : PlayState
       here = record s { said = s.said ++ s.unsent ++ line; unsent = [] }
 
       go : (f : Bool) → fits room (s.said ++ s.unsent ++ line) ≡ f → cond f (play room next here) (Pending wait.Room here) ≡ Pending how t → LacksRoomFor room s (Say (Ok line) next)
@@ -285,20 +285,20 @@ module _ (coding : Coding) (room : Room) (script : Script) (s : Standing) (untak
       go false is e = record { line = line; next = next; is = refl; full = is }
 
   -- an answer doesn't wait
-  never_ends : {A : Type 0} (answer : Answer) (state : State) (u : Standing) → play room (Leaf answer state) u ≡ Pending how t → A
+  never_ends : {A : Type 0} (answer : Answer) (state : State) (u : PlayState) → play room (Leaf answer state) u ≡ Pending how t → A
   never_ends answer state u is = let clash : Done answer (record u { state = state }) ≡ Pending how t = sym (play-Leaf room answer state u) ∙ is in cc
 
   -- the reply to NOOP is heard, or waited for
   seeking_none : (left : ℕ) (state : State) (said unsent : List ℕ) → play room (seeking left state) (record s { said = said; unsent = unsent }) ≡ Pending how t → ⊥
   seeking_none left state said unsent is = go (outcome s.state.settings.reply_rule (expecting (CommandOk ∷ [])).form s.bytes s.ended) refl (sym (play-Hear room (expecting (CommandOk ∷ [])) next here) ∙ ap (λ x. play room x here) (sym (seeking_is left state)) ∙ is)
     where
-      here : Standing
+      here : PlayState
       here = record s { said = said; unsent = unsent }
 
       next : Result Response FtpError → Tree
       next = sought (others left state) state
 
-      k : Result Response FtpError → Standing → Played
+      k : Result Response FtpError → PlayState → Played
       k = λ heard u. play room (next heard) u
 
       go : (o : Outcome) → outcome s.state.settings.reply_rule (expecting (CommandOk ∷ [])).form s.bytes s.ended ≡ o → heard_then o (expecting (CommandOk ∷ [])) here k ≡ Pending how t → ⊥
@@ -320,7 +320,7 @@ module _ (coding : Coding) (room : Room) (script : Script) (s : Standing) (untak
   says_seeking : (line : List ℕ) (state : State) → play room (Say (Ok line) (seeking most_passed_over state)) s ≡ Pending how t → LacksRoomFor room s (Say (Ok line) (seeking most_passed_over state))
   says_seeking line state is = go (fits room (s.said ++ s.unsent ++ line)) refl (sym (play-Say room line (seeking most_passed_over state) s) ∙ is)
     where
-      here : Standing
+      here : PlayState
       here = record s { said = s.said ++ s.unsent ++ line; unsent = [] }
 
       go : (f : Bool) → fits room (s.said ++ s.unsent ++ line) ≡ f → cond f (play room (seeking most_passed_over state) here) (Pending wait.Room here) ≡ Pending how t → LacksRoomFor room s (Say (Ok line) (seeking most_passed_over state))
@@ -368,10 +368,10 @@ module _ (coding : Coding) (room : Room) (script : Script) (s : Standing) (untak
   lacks_room call state (Resyncing turn Wording) plain stage_of is = noop_lacks state is
   lacks_room call state (Resyncing turn (Sending line)) plain stage_of is = says_seeking (due line) state is
   lacks_room call state (Resyncing turn (Seeking left)) plain stage_of is = absurd (seeking_none left state s.said s.unsent is)
-  lacks_room call state (Agreeing way) plain stage_of is = let clash : true ≡ false = sym stage_of.0 ∙ (needs_none call plain).0 in cc
+  lacks_room call state (OpeningData way) plain stage_of is = let clash : true ≡ false = sym stage_of.0 ∙ (needs_none call plain).0 in cc
   lacks_room call state Closing plain stage_of is = let clash : true ≡ false = sym (finishing_moves call stage_of) ∙ (needs_none call plain).1 in cc
   lacks_room call state (Aborting abort) plain stage_of is = let clash : true ≡ false = sym (finishing_moves call (aborts_finish call stage_of)) ∙ (needs_none call plain).1 in cc
-  lacks_room call state (Fetching fetching) plain stage_of is = let clash : true ≡ false = sym (fetch_opens call fetching stage_of) ∙ (needs_none call plain).0 in cc
+  lacks_room call state (Transferring fetching) plain stage_of is = let clash : true ≡ false = sym (fetch_opens call fetching stage_of) ∙ (needs_none call plain).0 in cc
 
 -- a call that says a line first is no plain read
 pub says_no_read : (coding : Coding) (call : Call) (state : State) (line : List ℕ) (next : Tree) → TurnOf call First → dialogue coding call state ≡ Say (Ok line) next → is_read call ≡ false

@@ -6,8 +6,8 @@ use Rattle.futures.specs.declared.task.Poll.TheVariants.{Ready, Pending}
 use Rattle.ftp_base.specs.declared.types.fault.FtpError.{FtpError}
 use Rattle.ftp_base.specs.declared.types.fault.FtpError.TheVariants.{SessionFailed}
 use Rattle.ftp_transport.specs.Told.{EndsAsTold}
-use Rattle.ftp_dialogue.specs.Deals.{Deal, Deals, dealings_of, outcomes_of}
-use Rattle.ftp_dialogue.specs.declared.model.DealOutcome.{DealOutcome}
+use Rattle.ftp_dialogue.specs.NetEvents.{NetEvent, NetEvents, net_record_of, outcomes_of}
+use Rattle.ftp_dialogue.specs.declared.model.NetOutcome.{NetOutcome}
 use Rattle.ftp_control.specs.declared.control.outcome.Outcome.TheVariants.{Waits}
 use Rattle.ftp_control.specs.Grammar.{outcome}
 use Rattle.ftp_transport.specs.Memory.{IsGiven}
@@ -42,13 +42,13 @@ use Rattle.ftp_runs.specs.Script.{unread, is_over, start_of, after_event, IsLawf
 use Rattle.ftp_dialogue.specs.Link.{Builds, over_memory}
 
 -- since the calls before it were done, no less of a call is said and taken than was; where it has begun, more is
-pub record Since (coding : Coding) (old : SessionValue) (items : List Item) (answers : List Answer) (came : List ℕ) (answered : List Deal) (v : SessionValue) (begun : Bool) : Type 0 where
+pub record Since (coding : Coding) (old : SessionValue) (items : List Item) (answers : List Answer) (came : List ℕ) (answered : List NetEvent) (v : SessionValue) (begun : Bool) : Type 0 where
   pub start : SessionValue
   pub before : List ℕ
   pub later : List ℕ
   pub split : came ≡ before ++ later
-  pub asked_before : List Deal
-  pub asked_later : List Deal
+  pub asked_before : List NetEvent
+  pub asked_later : List NetEvent
   pub asked_split : answered ≡ asked_before ++ asked_later
   pub stands : Stands coding old items before asked_before start answers
   pub sent : length start.channel.told.sent ≤ length v.channel.told.sent
@@ -59,7 +59,7 @@ pub record Since (coding : Coding) (old : SessionValue) (items : List Item) (ans
   pub not_begun : begun ≡ false → SaysNothing later start v
 
 -- a call that was polled; of a plain read no trace is left where it is dropped, and `Finish` has left its transfer
-pub record UnderWay (coding : Coding) (old : SessionValue) (s : Script) (came : List ℕ) (answered : List Deal) (v : SessionValue) (call : Call) (stage : Stage) : Type 0 where
+pub record UnderWay (coding : Coding) (old : SessionValue) (s : Script) (came : List ℕ) (answered : List NetEvent) (v : SessionValue) (call : Call) (stage : Stage) : Type 0 where
   pub stage_of : StageOf call stage
   pub polled : s.polled ≡ true
   pub undue : due_of call v ≡ false
@@ -73,7 +73,7 @@ pub record UnderWay (coding : Coding) (old : SessionValue) (s : Script) (came : 
   pub unsent : call ≡ Finish → v.channel.unsent ≡ since.start.channel.unsent
 
 -- a call that was polled and has waited for room since, before it hears: its first line still goes out
-pub record Unheard (coding : Coding) (old : SessionValue) (s : Script) (came : List ℕ) (answered : List Deal) (v : SessionValue) (call : Call) (stage : Stage) : Type 0 where
+pub record Unheard (coding : Coding) (old : SessionValue) (s : Script) (came : List ℕ) (answered : List NetEvent) (v : SessionValue) (call : Call) (stage : Stage) : Type 0 where
   pub plain : needs_data call ≡ false
   pub stage_of : StageOf call stage
   pub polled : s.polled ≡ true
@@ -86,23 +86,23 @@ pub record Unheard (coding : Coding) (old : SessionValue) (s : Script) (came : L
   pub since : Since coding old s.items s.answers came answered v (begun_at stage)
 
 -- a call that wasn't polled
-pub record Started (coding : Coding) (old : SessionValue) (s : Script) (came : List ℕ) (answered : List Deal) (v : SessionValue) (call : Call) (stage : Stage) : Type 0 where
+pub record Started (coding : Coding) (old : SessionValue) (s : Script) (came : List ℕ) (answered : List NetEvent) (v : SessionValue) (call : Call) (stage : Stage) : Type 0 where
   pub at : stage ≡ At First
   pub unpolled : s.polled ≡ false
   pub unheard : s.heard ≡ false
   pub stands : Stands coding old s.items came answered v s.answers
 
-abbrev pub Place : Coding → SessionValue → Script → List ℕ → List Deal → SessionValue → Option Call → Stage → Type 0
+abbrev pub Place : Coding → SessionValue → Script → List ℕ → List NetEvent → SessionValue → Option Call → Stage → Type 0
 Place coding old s came answered v None stage = Stands coding old s.items came answered v s.answers
 Place coding old s came answered v (Some call) stage = Started coding old s came answered v call stage ⊎ UnderWay coding old s came answered v call stage ⊎ Unheard coding old s came answered v call stage
 
 -- the session follows the script; of all outcomes these are left
-pub record Follows (builds : Builds) (coding : Coding) (outcomes left : List DealOutcome) (old : SessionValue) (s : Script) (v : SessionValue) (call : Option Call) (stage : Stage) (answers : List Answer) : Type 0 where
+pub record Follows (builds : Builds) (coding : Coding) (outcomes left : List NetOutcome) (old : SessionValue) (s : Script) (v : SessionValue) (call : Option Call) (stage : Stage) (answers : List Answer) : Type 0 where
   pub came : List ℕ
-  pub answered : List Deal
-  pub deals : Deals builds answered old.net v.net
+  pub answered : List NetEvent
+  pub net_events : NetEvents builds answered old.net v.net
   pub outcomes_are : outcomes ≡ outcomes_of answered ++ left
-  pub dealings : s.dealings ≡ dealings_of v.net
+  pub net_record : s.net_record ≡ net_record_of v.net
   pub place : Place coding old s came answered v call stage
   pub rule : (v.channel.kept ≡ []) ⊎ (v.channel.rule ≡ s.rule)
   pub failures : v.channel.told.failures ≡ old.channel.told.failures
@@ -188,11 +188,11 @@ pub record AbortsCall (builds : Builds) (coding : Coding) (call : Call) (stage :
   pub sound : IsSound (Unit {0}) w.channel
 
 -- a call is aborted that is polled: the one under way, or the drain that is due before it
-pub record AbortsAt (builds : Builds) (coding : Coding) (outcomes : List DealOutcome) (old : SessionValue) (s : Script) (answers : List Answer) (gone : SessionValue) (result : Option Answer) : Type 0 where
+pub record AbortsAt (builds : Builds) (coding : Coding) (outcomes : List NetOutcome) (old : SessionValue) (s : Script) (answers : List Answer) (gone : SessionValue) (result : Option Answer) : Type 0 where
   pub here : Script
   pub polled : IsPolled coding (start_of old outcomes) s.call s here
   pub leaving : here.leaving ≡ s.leaving
-  pub left : List DealOutcome
+  pub left : List NetOutcome
   pub middle : SessionValue
   pub part : Call
   pub stage : Stage
@@ -200,7 +200,7 @@ pub record AbortsAt (builds : Builds) (coding : Coding) (outcomes : List DealOut
   pub aborts : AbortsCall builds coding part stage middle gone result
 
 -- and the transfer that was to be left once the call is over is left
-pub record AbortsPart (builds : Builds) (coding : Coding) (outcomes : List DealOutcome) (old : SessionValue) (s : Script) (answers : List Answer) (w : SessionValue) (result : Option Answer) : Type 0 where
+pub record AbortsPart (builds : Builds) (coding : Coding) (outcomes : List NetOutcome) (old : SessionValue) (s : Script) (answers : List Answer) (w : SessionValue) (result : Option Answer) : Type 0 where
   pub gone : SessionValue
   pub at : AbortsAt builds coding outcomes old s answers gone result
   pub leaves : LeavesThen at.here.leaving gone w
@@ -217,21 +217,21 @@ pub record IsFeed (event : Event) : Type 0 where
 
 -- what happened beside the control connection
 abbrev pub Grows : Builds → SessionValue → SessionValue → Type 0
-Grows builds v w = (answered : List Deal) × Deals builds answered v.net w.net
+Grows builds v w = (answered : List NetEvent) × NetEvents builds answered v.net w.net
 
 -- no call is under way, and no transfer is to be left
 abbrev pub at_rest : Course
 at_rest = record { polled = false; leaving = false }
 
 -- the session follows the script, and so does what is known of the call under way
-abbrev pub Attended : Builds → Coding → List DealOutcome → List DealOutcome → SessionValue → Script → SessionValue → Option Call → Stage → Course → List Answer → Type 0
+abbrev pub Attended : Builds → Coding → List NetOutcome → List NetOutcome → SessionValue → Script → SessionValue → Option Call → Stage → Course → List Answer → Type 0
 Attended builds coding outcomes left old s v call stage course answers =
     Follows builds coding outcomes left old s v call stage answers × Attends s course
 
 -- an event of a script: the session follows it, or the call under way is aborted
 abbrev pub Happens : Builds → Coding → SessionValue → SessionValue → Option Call → Option Call → Stage → Stage → Course → Course → Event → Option Answer → Type 0
 Happens builds coding v w call call' stage stage' course course' event result =
-    (answered : List Deal) × Deals builds answered v.net w.net × ((outcomes left : List DealOutcome) (old : SessionValue) (s : Script) (answers : List Answer) → Attended builds coding outcomes (outcomes_of answered ++ left) old s v call stage course answers → IsLawful coding (start_of old outcomes) s event → Attended builds coding outcomes left old (after_event coding (start_of old outcomes) s event) w call' stage' course' (answers ++ given_answer result) ⊎ (AbortsPart builds coding outcomes old s answers w result × (call' ≡ None) × (course' ≡ at_rest) × (event ≡ Polling)))
+    (answered : List NetEvent) × NetEvents builds answered v.net w.net × ((outcomes left : List NetOutcome) (old : SessionValue) (s : Script) (answers : List Answer) → Attended builds coding outcomes (outcomes_of answered ++ left) old s v call stage course answers → IsLawful coding (start_of old outcomes) s event → Attended builds coding outcomes left old (after_event coding (start_of old outcomes) s event) w call' stage' course' (answers ++ given_answer result) ⊎ (AbortsPart builds coding outcomes old s answers w result × (call' ≡ None) × (course' ≡ at_rest) × (event ≡ Polling)))
 
 -- the transfer that is held, if any, was left, as by a call of its own
 pub record HasLeft (v w : SessionValue) : Type 0 where

@@ -5,7 +5,7 @@ use Rattle.ftp_transport.specs.declared.room.Room.{Room}
 use Rattle.ftp_dialogue.specs.declared.state.State.{State}
 use Rattle.ftp_calls.specs.declared.call.Answer.{Answer}
 use Rattle.ftp_calls.specs.declared.call.Call.{Call}
-use Rattle.ftp_dialogue.specs.declared.model.Standing.{Standing}
+use Rattle.ftp_dialogue.specs.declared.model.PlayState.{PlayState}
 use Rattle.ftp_dialogue.specs.declared.model.Played.{Played}
 use Rattle.ftp_dialogue.specs.declared.model.Played.TheVariants.{Done, Pending}
 use Rattle.ftp_runs.specs.declared.model.Ran.{Ran}
@@ -25,22 +25,22 @@ before answer (Finished answers s) = Finished (answer ∷ answers) s
 before answer (Waiting answers wait s) = Waiting (answer ∷ answers) wait s
 
 -- a call that is done goes on with the later ones
-abbrev pub and_then : Played → (Standing → Ran) → Ran
+abbrev pub and_then : Played → (PlayState → Ran) → Ran
 and_then (Done answer s) next = before answer (next s)
 and_then (Pending wait s) next = Waiting [] wait s
 
 -- the calls in turn, each after the last reply of a transfer that was left
-unfoldable pub run : Room → Coding → List Call → Standing → Ran
+unfoldable pub run : Room → Coding → List Call → PlayState → Ran
 run room coding [] s = Finished [] s
 run room coding (call ∷ calls) s = and_then (play_drained room coding call s) (λ t. run room coding calls t)
 
 -- a call whose answer is told to nobody
-abbrev pub and_on : Played → (Standing → Ran) → Ran
+abbrev pub and_on : Played → (PlayState → Ran) → Ran
 and_on (Done answer s) next = next s
 and_on (Pending wait s) next = Waiting [] wait s
 
 -- the items of a script in turn: the last reply of a transfer that was left is an item by itself
-unfoldable pub replay : Room → Coding → List Item → Standing → Ran
+unfoldable pub replay : Room → Coding → List Item → PlayState → Ran
 replay room coding [] s = Finished [] s
 replay room coding (Shown call ∷ items) s = and_then (play_call room coding call s) (λ t. replay room coding items t)
 replay room coding (Hidden call ∷ items) s = and_on (play_call room coding call s) (λ t. replay room coding items t)

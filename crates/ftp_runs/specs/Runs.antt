@@ -11,7 +11,7 @@ use Rattle.ftp_runs.specs.declared.model.Ran.{Ran}
 use Rattle.ftp_runs.specs.declared.model.Ran.TheVariants.{Finished}
 use Rattle.ftp_dialogue.specs.State.{SessionValue, LetsGo}
 use Rattle.ftp_dialogue.specs.Coding.{Coding}
-use Rattle.ftp_dialogue.specs.Deals.{Deal}
+use Rattle.ftp_dialogue.specs.NetEvents.{NetEvent}
 use Rattle.ftp_calls.specs.Exchanges.{is_local}
 use Rattle.ftp_dialogue.specs.Dialogue.{dialogue}
 use Rattle.ftp_dialogue.specs.Play.{Taken}
@@ -35,14 +35,14 @@ pub record RanTo (link : Link) (coding : Coding) (calls to_make : List Call) (ol
   pub split : calls ≡ done ++ to_make
   pub count : length answers ≡ length done
   pub came : List ℕ
-  pub answered : List Deal
+  pub answered : List NetEvent
   pub goes : Goes link came answered old new
   pub runs : link.tells → Agrees coding old calls → However old came answered new (λ room s t. run room coding calls s ≡ before_all answers (run room coding to_make t))
 
 -- a run that came to its end: these are the answers, and here it stands, whatever else the server sends
 pub record RunsTo (link : Link) (coding : Coding) (calls : List Call) (old new : SessionValue) (answers : List Answer) : Type 0 where
   pub came : List ℕ
-  pub answered : List Deal
+  pub answered : List NetEvent
   pub goes : Goes link came answered old new
   pub runs : link.tells → Agrees coding old calls → However old came answered new (λ room s t. run room coding calls s ≡ Finished answers t)
 

@@ -10,7 +10,7 @@ use Rattle.ftp_calls.specs.declared.call.Call.TheVariants.{Drain, Finish, Leave}
 use Rattle.ftp_calls.specs.declared.call.Event.{Event}
 use Rattle.ftp_calls.specs.declared.call.Event.TheVariants as event
 use Rattle.ftp_runs.specs.declared.model.Script.{Script}
-use Rattle.ftp_dialogue.specs.declared.model.Standing.{Standing}
+use Rattle.ftp_dialogue.specs.declared.model.PlayState.{PlayState}
 use Rattle.ftp_dialogue.specs.declared.model.Wait.{Wait}
 use Rattle.ftp_dialogue.specs.declared.model.Wait.TheVariants as wait
 use Rattle.ftp_runs.specs.declared.model.Ran.{Ran}
@@ -32,11 +32,11 @@ use Rattle.ftp_runs.specs.Run.{replay}
 use Rattle.ftp_dialogue.specs.Play.{is_due, is_unit, needs_data}
 use Rattle.ftp_runs.specs.declared.model.Item.TheVariants.{Shown, Hidden}
 use Rattle.ftp_calls.specs.declared.call.Answer.{Answer}
-use Rattle.ftp_dialogue.specs.Promises.{standing}
+use Rattle.ftp_dialogue.specs.Promises.{play_state}
 use Rattle.ftp_control.specs.Channel.{untaken}
 use Rattle.ftp_control.specs.Saying.{said}
-use Rattle.ftp_dialogue.specs.Deals.{dealings_of}
-use Rattle.ftp_dialogue.specs.declared.model.DealOutcome.{DealOutcome}
+use Rattle.ftp_dialogue.specs.NetEvents.{net_record_of}
+use Rattle.ftp_dialogue.specs.declared.model.NetOutcome.{NetOutcome}
 use Rattle.ftp_dialogue.specs.Sound.{holds}
 use Rattle.ftp_dialogue.specs.State.{SessionValue}
 
@@ -49,8 +49,8 @@ abbrev pub is_over : Told → Bool
 is_over t = t.given.closed || t.ended
 
 -- where a run begins, on what has come by then; these are the outcomes of its requests
-abbrev pub start_of : SessionValue → List DealOutcome → Standing
-start_of v outcomes = standing v (unread v.channel.told) (is_over v.channel.told) outcomes
+abbrev pub start_of : SessionValue → List NetOutcome → PlayState
+start_of v outcomes = play_state v (unread v.channel.told) (is_over v.channel.told) outcomes
 
 -- a script begins; what an earlier read left was read as a reply of this form, by the channel's rule
 abbrev pub script_of : SessionValue → ReplyForm → Script
@@ -68,7 +68,7 @@ script_of v form = record {
   sent = v.channel.told.sent;
   unsent = v.channel.unsent;
   untaken = untaken v.channel ++ unread v.channel.told;
-  dealings = dealings_of v.net;
+  net_record = net_record_of v.net;
   seen = length v.channel.kept;
   form = form;
   rule = v.channel.rule;
@@ -122,7 +122,7 @@ polled_as (Finished answers t) call s = record s {
   sent = front s.room t.said;
   unsent = t.unsent;
   untaken = t.bytes;
-  dealings = t.dealings;
+  net_record = t.net_record;
   seen = seen_in s t.bytes;
   state = t.state;
   failed = t.failed;
@@ -133,7 +133,7 @@ polled_as (Waiting answers wait t) call s = record s {
   said = t.said ++ t.unsent;
   sent = front s.room t.said;
   untaken = t.bytes;
-  dealings = t.dealings;
+  net_record = t.net_record;
   seen = seen_at wait s t.bytes;
   form = form_at wait s;
   rule = rule_at wait s t.state;
@@ -142,10 +142,10 @@ polled_as (Waiting answers wait t) call s = record s {
 }
 
 -- all calls are played anew, with this one, on the bytes that came by now
-abbrev pub run_with : Coding → Standing → Call → Script → Ran
+abbrev pub run_with : Coding → PlayState → Call → Script → Ran
 run_with coding start call s = replay s.room coding (s.items ++ Shown call ∷ []) (record start { bytes = s.bytes; ended = s.ended })
 
-abbrev pub poll_script : Coding → Standing → Option Call → Script → Script
+abbrev pub poll_script : Coding → PlayState → Option Call → Script → Script
 poll_script coding start None s = s
 poll_script coding start (Some call) s = polled_as (run_with coding start call s) call s
 
@@ -180,79 +180,79 @@ succeeded [] = false
 succeeded (answer ∷ answers) = is_unit (last_of answer answers)
 
 -- the drain was polled: the call goes on where it is over; a fault of it is the call's answer
-abbrev pub drained_as : Coding → Standing → Call → Script → Ran → Script
+abbrev pub drained_as : Coding → PlayState → Call → Script → Ran → Script
 drained_as coding start call s (Finished answers t) =
     let done = polled_as (Finished answers t) Drain (draining s) in
     if succeeded answers then poll_script coding start (Some call) (drained_to call s done) else done
 drained_as coding start call s (Waiting answers wait t) = with_call call (polled_as (Waiting answers wait t) Drain (draining s))
 
-abbrev pub poll_if : Bool → Coding → Standing → Call → Script → Script
+abbrev pub poll_if : Bool → Coding → PlayState → Call → Script → Script
 poll_if true coding start call s = drained_as coding start call s (run_with coding start Drain (draining s))
 poll_if false coding start call s = poll_script coding start (Some call) s
 
-abbrev pub poll_next : Coding → Standing → Option Call → Script → Script
+abbrev pub poll_next : Coding → PlayState → Option Call → Script → Script
 poll_next coding start None s = s
 poll_next coding start (Some call) s = poll_if (is_due call s.failed s.state.counts.owed) coding start call s
 
 -- A transfer that is left without a call of its own: where it is held, that is an item whose answer is told to nobody
 
 abbrev pub holds_in : Script → Bool
-holds_in s = holds (is_none s.dealings.data_conn) s.state.counts.owed
+holds_in s = holds (is_none s.net_record.data_conn) s.state.counts.owed
 
 abbrev pub left_as : Script → Ran → Script
 left_as s (Finished answers t) = hidden_to Leave s.call s (polled_as (Finished answers t) Leave (with_call Leave s))
 left_as s (Waiting answers wait t) = s
 
-abbrev pub leave_if : Bool → Coding → Standing → Script → Script
+abbrev pub leave_if : Bool → Coding → PlayState → Script → Script
 leave_if true coding start s = left_as s (run_with coding start Leave s)
 leave_if false coding start s = s
 
 -- the transfer that is held, if any, is left
-abbrev pub leave_held : Coding → Standing → Script → Script
+abbrev pub leave_held : Coding → PlayState → Script → Script
 leave_held coding start s = leave_if (holds_in s) coding start s
 
 -- no call is under way; a transfer that was to be left once one is over is left
 abbrev pub idle : Script → Script
 idle s = record (without_call s) { leaving = false }
 
-abbrev pub over_if : Bool → Coding → Standing → Script → Script
+abbrev pub over_if : Bool → Coding → PlayState → Script → Script
 over_if true coding start s = leave_held coding start (idle s)
 over_if false coding start s = idle s
 
-abbrev pub over : Coding → Standing → Script → Script
+abbrev pub over : Coding → PlayState → Script → Script
 over coding start s = over_if s.leaving coding start s
 
-abbrev pub after_poll : Coding → Standing → Option Call → Script → Script
+abbrev pub after_poll : Coding → PlayState → Option Call → Script → Script
 after_poll coding start None s = over coding start s
 after_poll coding start (Some call) s = s
 
-abbrev pub poll_event : Coding → Standing → Option Call → Script → Script
+abbrev pub poll_event : Coding → PlayState → Option Call → Script → Script
 poll_event coding start None s = s
 poll_event coding start (Some call) s =
     let polled = poll_next coding start (Some call) s in
     after_poll coding start polled.call polled
 
 -- a call is dropped that brings a transfer to its end: it leaves it. Where it was polled it has closed the data connection
-abbrev pub end_dropped : Bool → Coding → Standing → Script → Script
+abbrev pub end_dropped : Bool → Coding → PlayState → Script → Script
 end_dropped true coding start s = record (idle s) { items = s.items ++ Hidden Leave ∷ [] }
 end_dropped false coding start s = leave_held coding start (idle s)
 
-abbrev pub dropped_if : Bool → Coding → Standing → Script → Script
+abbrev pub dropped_if : Bool → Coding → PlayState → Script → Script
 dropped_if true coding start s = end_dropped s.polled coding start s
 dropped_if false coding start s = over coding start s
 
-abbrev pub dropped : Coding → Standing → Option Call → Script → Script
+abbrev pub dropped : Coding → PlayState → Option Call → Script → Script
 dropped coding start None s = s
 dropped coding start (Some call) s = dropped_if (finishes call) coding start s
 
 -- the transfer that is held is left: behind the call under way if it was polled, and else before it, unless that call
 -- took the transfer as it began
-abbrev pub leave_beside : Bool → Bool → Coding → Standing → Script → Script
+abbrev pub leave_beside : Bool → Bool → Coding → PlayState → Script → Script
 leave_beside true ends coding start s = if holds_in s then record s { leaving = true } else s
 leave_beside false true coding start s = s
 leave_beside false false coding start s = leave_held coding start s
 
-abbrev pub leave_now : Coding → Standing → Option Call → Script → Script
+abbrev pub leave_now : Coding → PlayState → Option Call → Script → Script
 leave_now coding start None s = leave_held coding start s
 leave_now coding start (Some call) s = leave_beside s.polled (finishes call) coding start s
 
@@ -266,7 +266,7 @@ abbrev pub fed : List ℕ → Script → Script
 fed more s = if s.ended then s else record s { bytes = s.bytes ++ more; untaken = s.untaken ++ more }
 
 -- what an event makes of it
-abbrev pub after_event : Coding → Standing → Script → Event → Script
+abbrev pub after_event : Coding → PlayState → Script → Event → Script
 after_event coding start s (event.Feed more) = fed more s
 after_event coding start s event.End = record s { ended = true }
 after_event coding start s (event.Room more) = record s { room = more_room more (length s.sent) s.room }
@@ -275,7 +275,7 @@ after_event coding start s event.Poll = poll_event coding start s.call s
 after_event coding start s event.Cancel = dropped coding start s.call s
 after_event coding start s event.Leave = leave_now coding start s.call s
 
-abbrev pub script : Coding → Standing → Script → List Event → Script
+abbrev pub script : Coding → PlayState → Script → List Event → Script
 script coding start s [] = s
 script coding start s (event ∷ events) = script coding start (after_event coding start s event) events
 
@@ -303,21 +303,21 @@ modes_at s = modes_in (kept_in s) s.rule s.state
 abbrev pub SameMode : Modes → Type 0
 SameMode modes = modes.under ≡ modes.setting
 
-abbrev pub MayPoll : Coding → Standing → Option Call → Script → Type 0
+abbrev pub MayPoll : Coding → PlayState → Option Call → Script → Type 0
 MayPoll coding start None s = Unit {0}
 MayPoll coding start (Some call) s =
     s.heard ≡ false → s.failed ≡ false → (SameMode (modes_at s) × SameForm s.state.settings.reply_rule call s.form) ⊎ Resumes (modes_at s) (kept_in s) (dialogue coding call s.state) ⊎ ((needs_data call ≡ false) × HearsNothing (run_with coding start call s) s)
 
 -- where a drain is due it is the drain that is polled first
-abbrev pub MayPollIf : Bool → Coding → Standing → Call → Script → Type 0
+abbrev pub MayPollIf : Bool → Coding → PlayState → Call → Script → Type 0
 MayPollIf true coding start call s = MayPoll coding start (Some Drain) (draining s)
 MayPollIf false coding start call s = MayPoll coding start (Some call) s
 
-abbrev pub MayPollNext : Coding → Standing → Option Call → Script → Type 0
+abbrev pub MayPollNext : Coding → PlayState → Option Call → Script → Type 0
 MayPollNext coding start None s = Unit {0}
 MayPollNext coding start (Some call) s = MayPollIf (is_due call s.failed s.state.counts.owed) coding start call s
 
-abbrev pub IsLawful : Coding → Standing → Script → Event → Type 0
+abbrev pub IsLawful : Coding → PlayState → Script → Event → Type 0
 IsLawful coding start s (event.Feed more) = Unit {0}
 IsLawful coding start s event.End = Unit {0}
 IsLawful coding start s (event.Room more) = Unit {0}
@@ -326,6 +326,6 @@ IsLawful coding start s event.Poll = MayPollNext coding start s.call s
 IsLawful coding start s event.Cancel = MayCancel s.call s.polled
 IsLawful coding start s event.Leave = Unit {0}
 
-abbrev pub Lawful : Coding → Standing → Script → List Event → Type 0
+abbrev pub Lawful : Coding → PlayState → Script → List Event → Type 0
 Lawful coding start s [] = Unit {0}
 Lawful coding start s (event ∷ events) = IsLawful coding start s event × Lawful coding start (after_event coding start s event) events

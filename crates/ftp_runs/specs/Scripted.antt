@@ -6,8 +6,8 @@ use Rattle.ftp_transport.specs.declared.room.Room.{Room}
 use Rattle.ftp_control.specs.declared.control.outcome.Outcome.TheVariants.{Waits}
 use Rattle.ftp_control.specs.Grammar.{outcome}
 use Rattle.ftp_transport.specs.Told.{HasRoomFor}
-use Rattle.ftp_dialogue.specs.Deals.{Deal, Deals, dealings_of, outcomes_of, parted}
-use Rattle.ftp_dialogue.specs.declared.model.DealOutcome.{DealOutcome}
+use Rattle.ftp_dialogue.specs.NetEvents.{NetEvent, NetEvents, net_record_of, outcomes_of, parted}
+use Rattle.ftp_dialogue.specs.declared.model.NetOutcome.{NetOutcome}
 use Rattle.ftp_control.specs.Reading.{GoesOn}
 use Rattle.ftp_control.specs.Channel.{Channel, untaken}
 use Rattle.ftp_control.specs.Saying.{said}
@@ -28,10 +28,10 @@ use Rattle.ftp_runs.specs.declared.model.Item.{Item}
 use Rattle.ftp_runs.specs.declared.model.Item.TheVariants.{Shown}
 use Rattle.ftp_runs.specs.declared.model.Ran.{Ran}
 use Rattle.ftp_runs.specs.declared.model.Ran.TheVariants.{Finished, Waiting}
-use Rattle.ftp_dialogue.specs.declared.model.Standing.{Standing}
+use Rattle.ftp_dialogue.specs.declared.model.PlayState.{PlayState}
 use Rattle.ftp_calls.specs.declared.call.Call.TheVariants.{Drain}
 use Rattle.ftp_dialogue.specs.Play.{Taken}
-use Rattle.ftp_dialogue.specs.Promises.{standing, begun_by, refusal_of, Aborts, IsApart, IsRefusal}
+use Rattle.ftp_dialogue.specs.Promises.{play_state, begun_by, refusal_of, Aborts, IsApart, IsRefusal}
 use Rattle.ftp_runs.specs.Runs.{before_all}
 use Rattle.ftp_runs.specs.Script.{script, script_of, start_of, unread, is_over, draining, drained_to, dropped, polled_as, run_with, succeeded, Lawful, MayCancel}
 use Rattle.ftp_dialogue.specs.Link.{Builds, over_memory}
@@ -49,7 +49,7 @@ pub record StandsAt (s : Script) (new : SessionValue) (answers : List Answer) : 
   pub sent : new.channel.told.sent ≡ s.sent
   pub said : SaysFrontOf new.channel s.said
   pub untaken : untaken new.channel ++ unread new.channel.told ≡ s.untaken
-  pub dealings : dealings_of new.net ≡ s.dealings
+  pub net_record : net_record_of new.net ≡ s.net_record
   pub seen : length new.channel.kept ≡ s.seen
   pub waits : outcome new.channel.rule s.form new.channel.kept false ≡ Waits
   pub ended : is_over new.channel.told ≡ s.ended
@@ -59,16 +59,16 @@ pub record StandsAt (s : Script) (new : SessionValue) (answers : List Answer) : 
   pub failed : new.channel.failed ≡ s.failed
 
 -- what happened beside the control connection since, with these outcomes first of all
-pub record Answered (builds : Builds) (outcomes left : List DealOutcome) (old new : SessionValue) : Type 0 where
-  pub answered : List Deal
-  pub deals : Deals builds answered old.net new.net
+pub record Answered (builds : Builds) (outcomes left : List NetOutcome) (old new : SessionValue) : Type 0 where
+  pub answered : List NetEvent
+  pub net_events : NetEvents builds answered old.net new.net
   pub outcomes_are : outcomes ≡ outcomes_of answered ++ left
 
 -- the events come to their script, where these are the outcomes of the transport's requests; what was received and what
 -- is unread are the bytes that came; nothing fails, and what is kept of a reply was read by the rule that the script says
-pub record HoldsAt (builds : Builds) (outcomes : List DealOutcome) (old : SessionValue) (s : Script) (new : SessionValue) (answers : List Answer) : Type 0 where
+pub record HoldsAt (builds : Builds) (outcomes : List NetOutcome) (old : SessionValue) (s : Script) (new : SessionValue) (answers : List Answer) : Type 0 where
   pub at : StandsAt s new answers
-  pub left : List DealOutcome
+  pub left : List NetOutcome
   pub answered : Answered builds outcomes left old new
   pub came : List ℕ
   pub received : new.channel.told.received ≡ old.channel.told.received ++ came
@@ -84,20 +84,20 @@ leaves_dropped (Some call) leaving = finishes call || leaving
 
 -- after the last event the call under way is dropped: nothing goes over the control connection, and where it may be dropped
 -- the session stands where the script does after a Cancel
-pub record EndsAt (builds : Builds) (coding : Coding) (outcomes : List DealOutcome) (old : SessionValue) (s : Script) (new : SessionValue) (answers : List Answer) : Type 0 where
+pub record EndsAt (builds : Builds) (coding : Coding) (outcomes : List NetOutcome) (old : SessionValue) (s : Script) (new : SessionValue) (answers : List Answer) : Type 0 where
   pub last : SessionValue
   pub at : HoldsAt builds outcomes old s last answers
   pub channel : new.channel ≡ last.channel
   pub stays : leaves_dropped s.call s.leaving ≡ false → new ≡ last
   pub drops : MayCancel s.call s.polled → HoldsAt builds outcomes old (dropped coding (start_of old outcomes) s.call s) new answers
 
-abbrev pub ScriptHolds : Builds → Coding → List DealOutcome → SessionValue → ReplyForm → List Event → SessionValue → List Answer → Type 0
+abbrev pub ScriptHolds : Builds → Coding → List NetOutcome → SessionValue → ReplyForm → List Event → SessionValue → List Answer → Type 0
 ScriptHolds builds coding outcomes old form events new answers =
     EndsAt builds coding outcomes old (script coding (start_of old outcomes) (script_of old form) events) new answers
 
 -- the transfer that is held, if any, is left: its data connection is closed and handed back
 abbrev pub LeavesHeldIf : Bool → SessionValue → SessionValue → Type 0
-LeavesHeldIf true v w = (w ≡ record v { state = with_left v.state; net = w.net }) × (dealings_of w.net ≡ parted (dealings_of v.net))
+LeavesHeldIf true v w = (w ≡ record v { state = with_left v.state; net = w.net }) × (net_record_of w.net ≡ parted (net_record_of v.net))
 LeavesHeldIf false v w = w ≡ v
 
 abbrev pub LeavesHeld : SessionValue → SessionValue → Type 0
@@ -109,18 +109,18 @@ LeavesThen true v w = LeavesHeld v w
 LeavesThen false v w = w ≡ v
 
 -- the calls that are done come to these answers, and the call under way to what is left of it, from here
-abbrev pub Reaches : Coding → SessionValue → List Item → List ℕ → List Deal → SessionValue → List Answer → Call → Tree → Type 0
+abbrev pub Reaches : Coding → SessionValue → List Item → List ℕ → List NetEvent → SessionValue → List Answer → Call → Tree → Type 0
 Reaches coding old items came answered v answers call tree =
-    (later : List Item) (room : Room) (more : List ℕ) (ended : Bool) (outcomes : List DealOutcome)
+    (later : List Item) (room : Room) (more : List ℕ) (ended : Bool) (outcomes : List NetOutcome)
     → HasRoomFor room (length v.channel.told.sent) → GoesOn v.channel.ended more ended
-    → replay room coding (items ++ Shown call ∷ later) (standing old (came ++ more) ended (outcomes_of answered ++ outcomes)) ≡ before_all answers (and_then (finally (play room tree (standing v more ended outcomes))) (λ t. replay room coding later t))
+    → replay room coding (items ++ Shown call ∷ later) (play_state old (came ++ more) ended (outcomes_of answered ++ outcomes)) ≡ before_all answers (and_then (finally (play room tree (play_state v more ended outcomes))) (λ t. replay room coding later t))
 
 -- the calls that are done come to these answers, and to whatever comes after them from here
-abbrev pub Stands : Coding → SessionValue → List Item → List ℕ → List Deal → SessionValue → List Answer → Type 0
+abbrev pub Stands : Coding → SessionValue → List Item → List ℕ → List NetEvent → SessionValue → List Answer → Type 0
 Stands coding old items came answered v answers =
-    (later : List Item) (room : Room) (more : List ℕ) (ended : Bool) (outcomes : List DealOutcome)
+    (later : List Item) (room : Room) (more : List ℕ) (ended : Bool) (outcomes : List NetOutcome)
     → HasRoomFor room (length v.channel.told.sent) → GoesOn v.channel.ended more ended
-    → replay room coding (items ++ later) (standing old (came ++ more) ended (outcomes_of answered ++ outcomes)) ≡ before_all answers (replay room coding later (standing v more ended outcomes))
+    → replay room coding (items ++ later) (play_state old (came ++ more) ended (outcomes_of answered ++ outcomes)) ≡ before_all answers (replay room coding later (play_state v more ended outcomes))
 
 -- something was said since, or a reply was taken: fewer bytes are untaken than were and came
 abbrev pub SaysOrTakes : List ℕ → List ℕ → SessionValue → SessionValue → Type 0
@@ -133,13 +133,13 @@ SaysNothing later start v = (said v.channel ≡ said start.channel) × (untaken 
 
 -- where the calls before it were done; since then something of a call was said, or a reply was taken, exactly if it has
 -- begun
-pub record CallHasBegun (coding : Coding) (old : SessionValue) (s : Script) (came : List ℕ) (answered : List Deal) (v : SessionValue) (begun : Bool) : Type 0 where
+pub record CallHasBegun (coding : Coding) (old : SessionValue) (s : Script) (came : List ℕ) (answered : List NetEvent) (v : SessionValue) (begun : Bool) : Type 0 where
   pub start : SessionValue
   pub before : List ℕ
   pub later : List ℕ
   pub split : came ≡ before ++ later
-  pub asked_before : List Deal
-  pub asked_later : List Deal
+  pub asked_before : List NetEvent
+  pub asked_later : List NetEvent
   pub asked_split : answered ≡ asked_before ++ asked_later
   pub stands : Stands coding old s.items before asked_before start s.answers
   pub has_begun : begun ≡ true → SaysOrTakes before came start v
@@ -160,8 +160,8 @@ pub record LeftOf (builds : Builds) (coding : Coding) (old : SessionValue) (s : 
   pub going : MayGoOn s.polled call v
   pub came : List ℕ
   pub bytes : s.bytes ≡ untaken old.channel ++ came ++ unread v.channel.told
-  pub answered : List Deal
-  pub deals : Deals builds answered old.net v.net
+  pub answered : List NetEvent
+  pub net_events : NetEvents builds answered old.net v.net
   pub reaches : Reaches coding old s.items came answered (entering s.polled call v) s.answers call tree
   pub since : CallHasBegun coding old s came answered v begun
 
@@ -178,17 +178,17 @@ abbrev pub IsDrained : Ran → Call → Script → Script → Type 0
 IsDrained (Finished answers t) call s here = (succeeded answers ≡ true) × (here ≡ drained_to call s (polled_as (Finished answers t) Drain (draining s)))
 IsDrained (Waiting answers wait t) call s here = ⊥
 
-abbrev pub IsPolledIf : Bool → Coding → Standing → Call → Script → Script → Type 0
+abbrev pub IsPolledIf : Bool → Coding → PlayState → Call → Script → Script → Type 0
 IsPolledIf true coding start call s here = (here ≡ draining s) ⊎ IsDrained (run_with coding start Drain (draining s)) call s here
 IsPolledIf false coding start call s here = here ≡ s
 
-abbrev pub IsPolled : Coding → Standing → Option Call → Script → Script → Type 0
+abbrev pub IsPolled : Coding → PlayState → Option Call → Script → Script → Type 0
 IsPolled coding start None s here = ⊥
 IsPolled coding start (Some call) s here = IsPolledIf (is_due call s.failed s.state.counts.owed) coding start call s here
 
 -- a call was aborted at a Poll, in a session that the events before had come to; the later events find no call under
 -- way, and come to `Later`
-pub record ScriptAborts (builds : Builds) (Later : SessionValue → List Event → List Answer → Type 0) (coding : Coding) (outcomes : List DealOutcome) (old : SessionValue) (form : ReplyForm) (events : List Event) (new : SessionValue) (answers : List Answer) : Type 0 where
+pub record ScriptAborts (builds : Builds) (Later : SessionValue → List Event → List Answer → Type 0) (coding : Coding) (outcomes : List NetOutcome) (old : SessionValue) (form : ReplyForm) (events : List Event) (new : SessionValue) (answers : List Answer) : Type 0 where
   pub before : List Event
   pub later : List Event
   pub split : events ≡ before ++ Poll ∷ later
@@ -220,7 +220,7 @@ pub record ScriptAborts (builds : Builds) (Later : SessionValue → List Event �
 abbrev pub ScriptsHold : Builds → ℕ → Coding → SessionValue → List Event → SessionValue → List Answer → Type 0
 ScriptsHold builds zero coding old events new answers = Unit {0}
 ScriptsHold builds (suc depth) coding old events new answers =
-    (answered : List Deal) × Deals builds answered old.net new.net × ((form : ReplyForm) (left : List DealOutcome) → outcome old.channel.rule form old.channel.kept false ≡ Waits → Lawful coding (start_of old (outcomes_of answered ++ left)) (script_of old form) events → ScriptHolds builds coding (outcomes_of answered ++ left) old form events new answers ⊎ ScriptAborts builds (λ after later others. ScriptsHold builds depth coding after later new others) coding (outcomes_of answered ++ left) old form events new answers)
+    (answered : List NetEvent) × NetEvents builds answered old.net new.net × ((form : ReplyForm) (left : List NetOutcome) → outcome old.channel.rule form old.channel.kept false ≡ Waits → Lawful coding (start_of old (outcomes_of answered ++ left)) (script_of old form) events → ScriptHolds builds coding (outcomes_of answered ++ left) old form events new answers ⊎ ScriptAborts builds (λ after later others. ScriptsHold builds depth coding after later new others) coding (outcomes_of answered ++ left) old form events new answers)
 
 -- that is said of however many
 abbrev pub IsScripted : Builds → Coding → SessionValue → List Event → SessionValue → List Answer → Type 0

@@ -5,7 +5,7 @@
 
 use ftp_base::types::{Bytes, Items};
 use ftp_control::control::{ReplyForm, ReplyRule};
-use ftp_dialogue::model::{Dealings, Standing, Wait};
+use ftp_dialogue::model::{NetRecord, PlayState, Wait};
 use ftp_session::session::{Answer, Call, State};
 use ftp_transport::Room;
 
@@ -13,9 +13,9 @@ use ftp_transport::Room;
 #[derive(Drop)]
 pub enum Ran {
     /// Their answers, and where the run stands then.
-    Finished(Items<Answer>, Standing),
+    Finished(Items<Answer>, PlayState),
     /// The answers of those before the one that waits for this, here.
-    Waiting(Items<Answer>, Wait, Standing),
+    Waiting(Items<Answer>, Wait, PlayState),
 }
 
 /// A call of a script that is done.
@@ -57,7 +57,7 @@ pub struct Script {
     /// The bytes that are part of no reply.
     pub untaken: Bytes,
     /// What stands beside the control connection.
-    pub dealings: Dealings,
+    pub net_record: NetRecord,
     /// How many of these a Poll has read.
     pub seen: usize,
     /// The form of the reply that it read them as.

@@ -14,7 +14,7 @@ use Rattle.ftp_control.specs.Channel.{untaken}
 use Rattle.ftp_calls.specs.declared.call.Answer.{Answer}
 use Rattle.ftp_calls.specs.declared.call.Call.{Call}
 use Rattle.ftp_calls.specs.declared.call.Call.TheVariants.{Greet}
-use Rattle.ftp_dialogue.specs.Deals.{first_net}
+use Rattle.ftp_dialogue.specs.NetEvents.{first_net}
 use Rattle.ftp_dialogue.specs.Coding.{Coding}
 use Rattle.ftp_dialogue.specs.Link.{Link}
 use Rattle.ftp_runs.specs.Runs.{Runs}

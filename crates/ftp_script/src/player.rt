@@ -7,7 +7,7 @@
 ghost use Rattle.std.specs.Prelude.{◌≡◌, ◌++◌, OnOk, None, IfOk, ℕ, List, [], drop, map};
 ghost use Rattle.ftp_transport.specs.Memory.{fresh_between, unspecified};
 ghost use Rattle.ftp_dialogue.specs.State.{Begins};
-ghost use Rattle.ftp_dialogue.specs.Deals.{first_net};
+ghost use Rattle.ftp_dialogue.specs.NetEvents.{first_net};
 ghost use Rattle.ftp_dialogue.specs.Dialogue.{rule_by};
 ghost use Rattle.ftp_script.specs.Playing.{IsTranscript, MakesOne, giving, server_address, supply_of};
 

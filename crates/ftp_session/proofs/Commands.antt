@@ -23,16 +23,16 @@ use Rattle.ftp_calls.specs.declared.call.Answer.TheVariants.{Fault}
 use Rattle.ftp_calls.specs.declared.exchange.Ending.TheVariants.{Drains}
 use Rattle.ftp_calls.specs.declared.exchange.Turn.TheVariants.{First}
 use Rattle.ftp_transfer.specs.Mark.{End}
-use Rattle.ftp_dialogue.specs.declared.model.DealOutcome.{DealOutcome}
+use Rattle.ftp_dialogue.specs.declared.model.NetOutcome.{NetOutcome}
 use Rattle.ftp_dialogue.specs.declared.model.Played.TheVariants as played
-use Rattle.ftp_dialogue.specs.declared.model.Standing.{Standing}
+use Rattle.ftp_dialogue.specs.declared.model.PlayState.{PlayState}
 use Rattle.ftp_dialogue.specs.declared.state.State.{State}
 use Rattle.ftp_dialogue.specs.Coding.{Coding}
-use Rattle.ftp_dialogue.specs.Deals.{outcomes_of}
+use Rattle.ftp_dialogue.specs.NetEvents.{outcomes_of}
 use Rattle.ftp_dialogue.specs.Dialogue.{Expected, Tree, Say, Hear, Look, Ask, Build, Move, Leaf, concluded, dialogue, expecting, later}
 use Rattle.ftp_dialogue.specs.Link.{Link, unasked}
 use Rattle.ftp_dialogue.specs.Play.{Refusal, Taken, Lacking, Failing, heard_then, is_unit, play, refused_if_failed, taken}
-use Rattle.ftp_dialogue.specs.Promises.{Aborts, Completes, DrainsIf, IsPlayed, IsRefused, IsSilent, IsSuccess, IsWithheld, LeavesIf, MakesAfter, Plays, PlaysAlone, Refuses, Wired, begun_by, due_of, lacks_of, refusal_of, standing}
+use Rattle.ftp_dialogue.specs.Promises.{Aborts, Completes, DrainsIf, IsPlayed, IsRefused, IsSilent, IsSuccess, IsWithheld, LeavesIf, MakesAfter, Plays, PlaysAlone, Refuses, Wired, begun_by, due_of, lacks_of, refusal_of, play_state}
 use Rattle.ftp_dialogue.specs.Sound.{none_left, some_live}
 use Rattle.ftp_dialogue.specs.State.{SessionValue, LetsGo}
 use Rattle.ftp_dialogue.proofs.Hearing.{play-Hear}
@@ -91,23 +91,23 @@ converses link coding call tree old new answer why begins same played =
     record { going = going_if old.channel.failed (sym why ∙ played.going); last = played.last; plays = subst Q same (subst P begins played.plays); lets_go = played.lets_go }
 
 -- a fault is no success
-no_success : (fault : FtpError) (answer : Answer) (s t : Standing) → played.Done (Fault fault) s ≡ played.Done answer t → IsSuccess answer → ⊥
+no_success : (fault : FtpError) (answer : Answer) (s t : PlayState) → played.Done (Fault fault) s ≡ played.Done answer t → IsSuccess answer → ⊥
 no_success fault answer s t is success =
     let same : answer ≡ Fault fault = cc in
     let P : Answer → Type 0 = IsSuccess in
     subst P same success
 
 -- a dialogue that succeeded, on the wire
-ends_silent : (answer answer' : Answer) (state : State) (s t : Standing) → play Any (Leaf answer state) s ≡ played.Done answer' t → IsSilent s t
+ends_silent : (answer answer' : Answer) (state : State) (s t : PlayState) → play Any (Leaf answer state) s ≡ played.Done answer' t → IsSilent s t
 ends_silent answer answer' state s t is =
     let both : played.Done answer (record s { state = state }) ≡ played.Done answer' t = sym (play-Leaf Any answer state s) ∙ is in
     let same : t ≡ record s { state = state } = cc in
     (ap (λ x. x.said) same, ap (λ x. x.unsent) same, ap (λ x. x.bytes) same)
 
-heard_on_wire : (expected : Expected) (next : Result Response FtpError → Tree) (answer : Answer) (s t : Standing) → ((fault : FtpError) → (state : State) × (next (Err fault) ≡ Leaf (Fault fault) state)) → IsSuccess answer → ((reply : Response) (u : Standing) → play Any (next (Ok reply)) u ≡ played.Done answer t → OnWire (next (Ok reply)) u t) → play Any (Hear expected next) s ≡ played.Done answer t → OnWire (Hear expected next) s t
+heard_on_wire : (expected : Expected) (next : Result Response FtpError → Tree) (answer : Answer) (s t : PlayState) → ((fault : FtpError) → (state : State) × (next (Err fault) ≡ Leaf (Fault fault) state)) → IsSuccess answer → ((reply : Response) (u : PlayState) → play Any (next (Ok reply)) u ≡ played.Done answer t → OnWire (next (Ok reply)) u t) → play Any (Hear expected next) s ≡ played.Done answer t → OnWire (Hear expected next) s t
 heard_on_wire expected next answer s t stops success then_on_wire is = go (outcome s.state.settings.reply_rule expected.form s.bytes s.ended) refl (sym (play-Hear Any expected next s) ∙ is)
   where
-    found : (fault : FtpError) (u : Standing) → play Any (next (Err fault)) u ≡ played.Done answer t → ⊥
+    found : (fault : FtpError) (u : PlayState) → play Any (next (Err fault)) u ≡ played.Done answer t → ⊥
     found fault u done =
         let P : Tree → Type 0 = λ x. play Any x u ≡ played.Done answer t in
         no_success fault answer (record u { state = (stops fault).0 }) t (sym (play-Leaf Any (Fault fault) (stops fault).0 u) ∙ subst P (stops fault).1 done) success
@@ -115,7 +115,7 @@ heard_on_wire expected next answer s t stops success then_on_wire is = go (outco
     go : (o : Outcome) → outcome s.state.settings.reply_rule expected.form s.bytes s.ended ≡ o → heard_then o expected s (λ heard u. play Any (next heard) u) ≡ played.Done answer t → OnWire (Hear expected next) s t
     go (Whole body code) whole done =
         let reply : Response = record { status = status_of code; body = body } in
-        let here : Standing = taken (left_by (Whole body code) s.bytes) s in
+        let here : PlayState = taken (left_by (Whole body code) s.bytes) s in
         elim (is_among expected.statuses (status_of code)) as (λ b. is_among expected.statuses (status_of code) ≡ b → play Any (next (cond b (Ok reply) (Err (fault.UnexpectedResponse reply)))) here ≡ played.Done answer t → OnWire (Hear expected next) s t) [
           | true ↦ λ among done. (reply, code, record { whole = whole; status = refl; accepted = among }, then_on_wire reply here done)
           | false ↦ λ among done. absurd (found (fault.UnexpectedResponse reply) here done)
@@ -125,7 +125,7 @@ heard_on_wire expected next answer s t stops success then_on_wire is = go (outco
     go Ended whole done = absurd (found (fault.ConnectionError connection.UnexpectedEof) (record (taken (left_by Ended s.bytes) s) { failed = true }) done)
     go Waits whole done = cc done
 
-on_wire : (tree : Tree) (answer : Answer) (s t : Standing) → StopsAtFaults tree → IsSuccess answer → play Any tree s ≡ played.Done answer t → OnWire tree s t
+on_wire : (tree : Tree) (answer : Answer) (s t : PlayState) → StopsAtFaults tree → IsSuccess answer → play Any tree s ≡ played.Done answer t → OnWire tree s t
 on_wire (Say (Ok line) next) answer s t stops success is = (line, refl, on_wire next answer (line_sent line s) t stops success (sym (play-Say Any line next s) ∙ is))
 on_wire (Say (Err cause) next) answer s t stops success is = absurd (no_success (fault.ConnectionError cause) answer s t (sym (play-Refused Any cause next s) ∙ is) success)
 on_wire (Hear expected next) answer s t stops success is = heard_on_wire expected next answer s t stops.0 success (λ reply u done. on_wire (next (Ok reply)) answer u t (stops.1 reply) success done) is
@@ -145,10 +145,10 @@ completes_on_wire link tree answer old last new lets_go stops success done = rec
   wire = λ tells resumes.
       let ended = last.channel.ended in
       let is = done.plays tells resumes Any [] ended [] tt (record { nothing = λ e. refl; over = λ e. e }) in
-      let F : List ℕ → Standing = λ c. standing old c ended (outcomes_of done.answered ++ []) in
-      let G : List DealOutcome → Standing = λ o. standing old done.came ended o in
-      let P : Standing → Type 0 = λ s. play Any tree s ≡ played.Done answer (standing last [] ended []) in
-      on_wire tree answer (standing old done.came ended (outcomes_of done.answered)) (standing last [] ended []) stops success (subst P (ap F (append-nil done.came) ∙ ap G (append-nil (outcomes_of done.answered))) is);
+      let F : List ℕ → PlayState = λ c. play_state old c ended (outcomes_of done.answered ++ []) in
+      let G : List NetOutcome → PlayState = λ o. play_state old done.came ended o in
+      let P : PlayState → Type 0 = λ s. play Any tree s ≡ played.Done answer (play_state last [] ended []) in
+      on_wire tree answer (play_state old done.came ended (outcomes_of done.answered)) (play_state last [] ended []) stops success (subst P (ap F (append-nil done.came) ∙ ap G (append-nil (outcomes_of done.answered))) is);
 }
 
 -- a command by itself

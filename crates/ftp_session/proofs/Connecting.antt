@@ -11,18 +11,18 @@ use Rattle.ftp_transport.specs.Told.{Told}
 use Rattle.ftp_transport.specs.declared.room.Room.{Room}
 use Rattle.ftp_transport.specs.declared.request.Asked.{Asked}
 use Rattle.ftp_transport.specs.declared.request.Request.{Request}
-use Rattle.ftp_dialogue.specs.declared.model.DealOutcome.{DealOutcome}
-use Rattle.ftp_dialogue.specs.declared.model.DealOutcome.TheVariants.{Answered}
+use Rattle.ftp_dialogue.specs.declared.model.NetOutcome.{NetOutcome}
+use Rattle.ftp_dialogue.specs.declared.model.NetOutcome.TheVariants.{Answered}
 use Rattle.ftp_transport.specs.declared.request.RequestOutcome.TheVariants.{Done}
 use Rattle.ftp_transport.specs.declared.supply.Supply.{Supply}
 use Rattle.ftp_calls.specs.declared.call.Answer.TheVariants.{Fault}
 use Rattle.ftp_calls.specs.declared.call.Call.TheVariants.{Greet}
 use Rattle.ftp_dialogue.specs.declared.state.State.{State}
-use Rattle.ftp_dialogue.specs.declared.model.Standing.{Standing}
+use Rattle.ftp_dialogue.specs.declared.model.PlayState.{PlayState}
 use Rattle.ftp_dialogue.specs.Coding.{Coding}
-use Rattle.ftp_dialogue.specs.Deals.{dealt}
-use Rattle.ftp_dialogue.specs.declared.model.Dealings.{Dealings}
-use Rattle.ftp_session.specs.Connecting.{connecting, connects_within, dealt_in_turn, if_connected, outcomes_in, AsksAll, IsConnected, NoneConnects}
+use Rattle.ftp_dialogue.specs.NetEvents.{after_request}
+use Rattle.ftp_dialogue.specs.declared.model.NetRecord.{NetRecord}
+use Rattle.ftp_session.specs.Connecting.{connecting, connects_within, after_requests, if_connected, outcomes_in, AsksAll, IsConnected, NoneConnects}
 use Rattle.ftp_dialogue.specs.Dialogue.{Tree, Leaf, dialogue}
 use Rattle.ftp_dialogue.specs.Link.{Link}
 use Rattle.ftp_dialogue.specs.Play.{play}
@@ -31,36 +31,36 @@ outcomes-append : (a b : List Asked) → outcomes_in (a ++ b) ≡ outcomes_in a 
 outcomes-append [] b = refl
 outcomes-append (one ∷ a) b = ap (λ l. Answered one.outcome ∷ l) (outcomes-append a b)
 
-dealt-snoc : (before : List Asked) (one : Asked) (d : Dealings) → dealt_in_turn (before ++ one ∷ []) d ≡ dealt one.request one.outcome (dealt_in_turn before d)
-dealt-snoc [] one d = refl
-dealt-snoc (first ∷ before) one d = dealt-snoc before one (dealt first.request first.outcome d)
+after_request-snoc : (before : List Asked) (one : Asked) (d : NetRecord) → after_requests (before ++ one ∷ []) d ≡ after_request one.request one.outcome (after_requests before d)
+after_request-snoc [] one d = refl
+after_request-snoc (first ∷ before) one d = after_request-snoc before one (after_request first.request first.outcome d)
 
 module _ (coding : Coding) (state : State) (refuses : List Supply → ConnectionError → Type 0) (room : Room) where
   -- requests that were refused leave those after them
-  past_refused : (answered : List Asked) (left : List Request) (fault last : ConnectionError) (ready ready' : List Supply) (s : Standing) → AreRefused refuses answered fault last ready ready' → play room (connecting coding (requests_of answered ++ left) fault state) (record s { outcomes = outcomes_in answered ++ s.outcomes }) ≡ play room (connecting coding left last state) (record s { dealings = dealt_in_turn answered s.dealings })
+  past_refused : (answered : List Asked) (left : List Request) (fault last : ConnectionError) (ready ready' : List Supply) (s : PlayState) → AreRefused refuses answered fault last ready ready' → play room (connecting coding (requests_of answered ++ left) fault state) (record s { outcomes = outcomes_in answered ++ s.outcomes }) ≡ play room (connecting coding left last state) (record s { net_record = after_requests answered s.net_record })
   unfolding connecting play
   past_refused [] left fault last ready ready' s refused =
       ap (λ f. play room (connecting coding left f state) s) (sym refused.0)
   past_refused (one ∷ more) left fault last ready ready' s refused =
       let rest : List Request = requests_of more ++ left in
-      let here : Standing = record s { dealings = dealt one.request one.outcome s.dealings } in
-      let next : Standing = record here { outcomes = outcomes_in more ++ s.outcomes } in
+      let here : PlayState = record s { net_record = after_request one.request one.outcome s.net_record } in
+      let next : PlayState = record here { outcomes = outcomes_in more ++ s.outcomes } in
       let others : ConnectionError → Tree = λ cause. connecting coding rest cause state in
       let turn : play room (if_connected (dialogue coding Greet state) others one.outcome) next ≡ play room (others refused.0) next = ap (λ o. play room (if_connected (dialogue coding Greet state) others o) next) refused.2 in
       turn ∙ past_refused more left refused.0 last refused.1 ready' here refused.4
 
   -- the request after them came to a connection
-  past_connected : (before : List Asked) (request : Request) (left : List Request) (fault last : ConnectionError) (ready due : List Supply) (s : Standing) → AreRefused refuses before fault last ready due → (let one : Asked = record { request = request; outcome = Done } in play room (connecting coding (requests_of before ++ request ∷ left) fault state) (record s { outcomes = outcomes_in (before ++ one ∷ []) ++ s.outcomes }) ≡ play room (dialogue coding Greet state) (record s { dealings = dealt_in_turn (before ++ one ∷ []) s.dealings }))
+  past_connected : (before : List Asked) (request : Request) (left : List Request) (fault last : ConnectionError) (ready due : List Supply) (s : PlayState) → AreRefused refuses before fault last ready due → (let one : Asked = record { request = request; outcome = Done } in play room (connecting coding (requests_of before ++ request ∷ left) fault state) (record s { outcomes = outcomes_in (before ++ one ∷ []) ++ s.outcomes }) ≡ play room (dialogue coding Greet state) (record s { net_record = after_requests (before ++ one ∷ []) s.net_record }))
   unfolding connecting play
   past_connected before request left fault last ready due s refused =
       let one : Asked = record { request = request; outcome = Done } in
-      let after : Standing = record s { outcomes = Answered Done ∷ s.outcomes } in
-      let Q : List DealOutcome → Standing = λ l. record s { outcomes = l } in
-      let P : Dealings → Standing = λ d. record s { dealings = d } in
+      let after : PlayState = record s { outcomes = Answered Done ∷ s.outcomes } in
+      let Q : List NetOutcome → PlayState = λ l. record s { outcomes = l } in
+      let P : NetRecord → PlayState = λ d. record s { net_record = d } in
       let joined : outcomes_in (before ++ one ∷ []) ++ s.outcomes ≡ outcomes_in before ++ Answered Done ∷ s.outcomes = ap (λ l. l ++ s.outcomes) (outcomes-append before (one ∷ [])) ∙ append_assoc (outcomes_in before) (Answered Done ∷ []) s.outcomes in
       ap (λ l. play room (connecting coding (requests_of before ++ request ∷ left) fault state) (Q l)) joined
       ∙ past_refused before (request ∷ left) fault last ready due after refused
-      ∙ ap (λ d. play room (dialogue coding Greet state) (P d)) (sym (dealt-snoc before one s.dealings))
+      ∙ ap (λ d. play room (dialogue coding Greet state) (P d)) (sym (after_request-snoc before one s.net_record))
 
 module _ (link : Link) (coding : Coding) (refuses : List Supply → ConnectionError → Type 0) (requests : List Request) (fault : ConnectionError) (ready ready' : List Supply) (asked asked' : List Asked) where
   -- the requests in turn came to a connection
@@ -73,7 +73,7 @@ module _ (link : Link) (coding : Coding) (refuses : List Supply → ConnectionEr
         answered = answered;
         asked_are = turn.recorded_is ∙ ap (λ l. l ++ one ∷ []) so_far.recorded_are ∙ append_assoc asked so_far.answered (one ∷ []);
         plays = λ state room s.
-            let P : List Request → Type 0 = λ l. play room (connecting coding l fault state) (record s { outcomes = outcomes_in answered ++ s.outcomes }) ≡ play room (dialogue coding Greet state) (record s { dealings = dealt_in_turn answered s.dealings }) in
+            let P : List Request → Type 0 = λ l. play room (connecting coding l fault state) (record s { outcomes = outcomes_in answered ++ s.outcomes }) ≡ play room (dialogue coding Greet state) (record s { net_record = after_requests answered s.net_record }) in
             subst P (sym so_far.in_order) (past_connected coding state refuses room so_far.answered turn.request turn.left fault turn.last ready turn.due s so_far.refused);
       }
 
@@ -88,7 +88,7 @@ module _ (link : Link) (coding : Coding) (refuses : List Supply → ConnectionEr
         answered = so_far.answered;
         asked_are = so_far.recorded_are;
         plays = λ state room s.
-            let P : List Request → Type 0 = λ l. play room (connecting coding l fault state) (record s { outcomes = outcomes_in so_far.answered ++ s.outcomes }) ≡ play room (Leaf (Fault (Connection last)) state) (record s { dealings = dealt_in_turn so_far.answered s.dealings }) in
+            let P : List Request → Type 0 = λ l. play room (connecting coding l fault state) (record s { outcomes = outcomes_in so_far.answered ++ s.outcomes }) ≡ play room (Leaf (Fault (Connection last)) state) (record s { net_record = after_requests so_far.answered s.net_record }) in
             subst P (sym so_far.in_order) (past_refused coding state refuses room so_far.answered [] fault last ready ready' s so_far.refused);
       }
 

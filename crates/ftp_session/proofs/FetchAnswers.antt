@@ -18,11 +18,11 @@ use Rattle.ftp_calls.specs.declared.exchange.Row.{Row}
 use Rattle.ftp_calls.specs.declared.exchange.Task.TheVariants as tasks
 use Rattle.ftp_transfer.specs.Mark.{End}
 use Rattle.ftp_dialogue.specs.Coding.{Coding}
-use Rattle.ftp_dialogue.specs.Dialogue.{Tree, Leaf, closed_as, concluded, doing, fetch_concluded, fetch_parting, fetched, gathering, last_turn, most_bytes, most_reads, on_data, performing, told_of_close, too_long, unfetched}
+use Rattle.ftp_dialogue.specs.Dialogue.{Tree, Leaf, closed_as, concluded, doing, fetch_concluded, fetch_closing_data, fetched, gathering, last_turn, most_bytes, most_reads, on_data, performing, told_of_close, too_long, unfetched}
 use Rattle.ftp_dialogue.specs.Link.{Link}
 use Rattle.ftp_dialogue.specs.State.{SessionValue}
-use Rattle.ftp_dialogue.specs.declared.model.DealOutcome.{DealOutcome}
-use Rattle.ftp_dialogue.specs.declared.model.DealOutcome.TheVariants as came
+use Rattle.ftp_dialogue.specs.declared.model.NetOutcome.{NetOutcome}
+use Rattle.ftp_dialogue.specs.declared.model.NetOutcome.TheVariants as came
 use Rattle.ftp_dialogue.specs.declared.state.State.{State}
 use Rattle.ftp_session.specs.Fetched.{IsFetched}
 use Rattle.ftp_session.specs.Handed.{PlaysSeen, as_seen}
@@ -44,8 +44,8 @@ too_long_tells Listed = tt
 
 module _ (form : Fetch) (state : State) where
   -- a whole data connection is read
-  parting_tells : (told : Answer) → IsFetched form told → Tells (IsFetched form) (fetch_parting form told state)
-  parting_tells told is = λ came heard. concluded_tells (closed_as (told_of_close state.uploads came) told) (closed (told_of_close state.uploads came)) heard
+  closing_data_tells : (told : Answer) → IsFetched form told → Tells (IsFetched form) (fetch_closing_data form told state)
+  closing_data_tells told is = λ came heard. concluded_tells (closed_as (told_of_close state.uploads came) told) (closed (told_of_close state.uploads came)) heard
     where
       closed : (close : Option ErrorKind) → IsFetched form (closed_as close told)
       closed None = is
@@ -55,23 +55,23 @@ module _ (form : Fetch) (state : State) where
       concluded_tells given so (Ok reply) = so
       concluded_tells given so (Err fault) = tt
 
-  data_tells : (coding : Coding) (all : List ℕ) (on : List ℕ → Tree) → ((more : List ℕ) → Tells (IsFetched form) (on more)) → (outcome : DealOutcome) → Tells (IsFetched form) (on_data coding form all on (λ told. fetch_parting form told state) outcome)
-  data_tells coding all on tells (came.Read []) = parting_tells (fetched coding form all) (fetched_tells form coding all)
+  data_tells : (coding : Coding) (all : List ℕ) (on : List ℕ → Tree) → ((more : List ℕ) → Tells (IsFetched form) (on more)) → (outcome : NetOutcome) → Tells (IsFetched form) (on_data coding form all on (λ told. fetch_closing_data form told state) outcome)
+  data_tells coding all on tells (came.Read []) = closing_data_tells (fetched coding form all) (fetched_tells form coding all)
   data_tells coding all on tells (came.Read (byte ∷ bytes)) = grown_tells (all ++ byte ∷ bytes) (nat_le (length (all ++ byte ∷ bytes)) most_bytes)
     where
-      grown_tells : (more : List ℕ) (b : Bool) → Tells (IsFetched form) (cond b (on more) (fetch_parting form (too_long form) state))
+      grown_tells : (more : List ℕ) (b : Bool) → Tells (IsFetched form) (cond b (on more) (fetch_closing_data form (too_long form) state))
       grown_tells more true = tells more
-      grown_tells more false = parting_tells (too_long form) (too_long_tells form)
-  data_tells coding all on tells (came.Failed kind) = parting_tells (unfetched form kind) (unfetched_tells form kind)
-  data_tells coding all on tells came.NoMemory = parting_tells (Fault OutOfMemory) tt
-  data_tells coding all on tells (came.Answered outcome) = parting_tells (too_long form) (too_long_tells form)
-  data_tells coding all on tells (came.Built fault) = parting_tells (too_long form) (too_long_tells form)
-  data_tells coding all on tells (came.Wrote count) = parting_tells (too_long form) (too_long_tells form)
-  data_tells coding all on tells came.Closed = parting_tells (too_long form) (too_long_tells form)
+      grown_tells more false = closing_data_tells (too_long form) (too_long_tells form)
+  data_tells coding all on tells (came.Failed kind) = closing_data_tells (unfetched form kind) (unfetched_tells form kind)
+  data_tells coding all on tells came.NoMemory = closing_data_tells (Fault OutOfMemory) tt
+  data_tells coding all on tells (came.Answered outcome) = closing_data_tells (too_long form) (too_long_tells form)
+  data_tells coding all on tells (came.Built fault) = closing_data_tells (too_long form) (too_long_tells form)
+  data_tells coding all on tells (came.Wrote count) = closing_data_tells (too_long form) (too_long_tells form)
+  data_tells coding all on tells came.Closed = closing_data_tells (too_long form) (too_long_tells form)
 
   gathering_tells : (coding : Coding) (left : ℕ) (all : List ℕ) → Tells (IsFetched form) (gathering coding form left all state)
   unfolding gathering
-  gathering_tells coding zero all = parting_tells (too_long form) (too_long_tells form)
+  gathering_tells coding zero all = closing_data_tells (too_long form) (too_long_tells form)
   gathering_tells coding (suc left) all = data_tells coding all (λ more. gathering coding form left more state) (λ more. gathering_tells coding left more)
 
 module _ (form : Fetch) (coding : Coding) (call : Call) (command : Command) (reads : own_row call false ≡ fetches command form) where

@@ -13,7 +13,7 @@ use Rattle.ftp_transfer.specs.Mark.{End}
 use Rattle.ftp_transfer.specs.Transfer.{TransferValue}
 use Rattle.ftp_transfer.specs.declared.direction.Direction.{Direction}
 use Rattle.ftp_dialogue.specs.Coding.{Coding}
-use Rattle.ftp_session.specs.Polled.{HandsOver, Strays}
+use Rattle.ftp_session.specs.Polled.{HandsOver, OpensNoTransfer}
 use Rattle.ftp_session.specs.Handed.{BeginsToSettle, BeginsToSettleIf, BeginsToSettleUnless, BringsToEnd, BringsToEndIf, HandsConnection, TakesBack, TakesBackIf, LooksIf, ReadsSeen, OpensAs, OpensEither, OpensFrom, Opens, OpensReplied, PlaysSeen, Settles, SettlesIf, Strands, SettlesUnless, as_seen, found, is_out, left_if, opens, watches, with_data, with_reply, without_reply}
 use Rattle.ftp_dialogue.specs.Link.{Link}
 use Rattle.ftp_dialogue.specs.Dialogue.{Expected}
@@ -200,7 +200,7 @@ hands_opens link coding call replies direction end mark after former kept old gi
     opened none (inl fault) = absurd (none fault)
     opened none (inr opens) = opens
 
-    ends : ((answer ≡ Fault fault) × (new ≡ given)) ⊎ Strays replies end.number answer fault given new → ((answer ≡ Fault fault) × (new ≡ given)) ⊎ Strands replies (next_number old.state.counts) answer fault given new
+    ends : ((answer ≡ Fault fault) × (new ≡ given)) ⊎ OpensNoTransfer replies end.number answer fault given new → ((answer ≡ Fault fault) × (new ≡ given)) ⊎ Strands replies (next_number old.state.counts) answer fault given new
     ends (inl failed) = inl failed
     ends (inr strays) =
         let is = opened strays.no_fault (opening_answers link replies coding call old given answer connection plays) in

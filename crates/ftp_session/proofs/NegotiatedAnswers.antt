@@ -24,7 +24,7 @@ use Rattle.ftp_transport.specs.declared.request.RequestOutcome.{RequestOutcome}
 use Rattle.ftp_transport.specs.declared.request.RequestOutcome.TheVariants.{Done as Made, Address, Refused}
 use Rattle.ftp_transport.specs.declared.request.Request.TheVariants.{Connect}
 use Rattle.ftp_dialogue.specs.Coding.{Coding}
-use Rattle.ftp_dialogue.specs.Dialogue.{Tree, Say, Hear, Look, Ask, Build, Move, Leaf, accepting, admitting, agreeing, at_port, concluded, connecting_to, connecting_to_peer, dialogue, doing, drain_answer, from_turn, last_turn, later, lets_in, negotiating, negotiating_unless, on_address, on_built, on_connection, opened_from, opening, parting, restart_turn, strangers, to_address, to_port, with_left}
+use Rattle.ftp_dialogue.specs.Dialogue.{Tree, Say, Hear, Look, Ask, Build, Move, Leaf, accepting, admitting, opening_data, at_port, concluded, connecting_to, connecting_to_peer, dialogue, doing, drain_answer, from_turn, last_turn, later, lets_in, negotiating, negotiating_unless, on_address, on_built, on_connection, opened_from, opening, closing_data, restart_turn, strangers, to_address, to_port, with_left}
 use Rattle.ftp_dialogue.specs.CatchingUp.{InStepIf, MakesThen, PlaysInStep, is_behind, is_plain_read}
 use Rattle.ftp_dialogue.specs.Link.{Link, unasked}
 use Rattle.ftp_dialogue.proofs.Sorts.{opens_drains_none}
@@ -33,7 +33,7 @@ use Rattle.ftp_dialogue.specs.Promises.{Aborts, Completes, DrainsIf, IsFault, Is
 use Rattle.ftp_dialogue.specs.Sound.{cannot_open}
 use Rattle.ftp_dialogue.specs.State.{SessionValue}
 use Rattle.ftp_dialogue.specs.Within.{Within}
-use Rattle.ftp_dialogue.specs.declared.model.DealOutcome.{DealOutcome}
+use Rattle.ftp_dialogue.specs.declared.model.NetOutcome.{NetOutcome}
 use Rattle.ftp_dialogue.specs.declared.state.State.{State}
 use Rattle.ftp_session.specs.Commands.{Converses, HasFailedBefore, MakesTree, is_reply_due}
 use Rattle.ftp_session.specs.Trees.{drain_tree}
@@ -46,7 +46,7 @@ Tells Good (Hear expected next) = (heard : Result Response FtpError) → Tells G
 Tells Good (Look end next) = (address : SocketAddr) → Tells Good (next address)
 Tells Good (Ask request next) = (outcome : RequestOutcome) → Tells Good (next outcome)
 Tells Good (Build address next) = (fault : Option FtpError) → Tells Good (next fault)
-Tells Good (Move moves next) = (outcome : DealOutcome) → Tells Good (next outcome)
+Tells Good (Move moves next) = (outcome : NetOutcome) → Tells Good (next outcome)
 Tells Good (Leaf answer state) = Good answer
 
 -- so does each place within it
@@ -166,25 +166,25 @@ module _ (Good : Answer → Type 0) (fails : (fault : FtpError) → Good (Fault 
       abbrev told_at : SocketAddr → SocketAddr → Turn
       told_at local bound = Active (at_port (socket_port bound) local) offset
 
-      agreeing_tells : (m : Mode) → Tells Good (agreeing m coding call offset state)
-      agreeing_tells mode.Active = λ local.
+      opening_data_tells : (m : Mode) → Tells Good (opening_data m coding call offset state)
+      opening_data_tells mode.Active = λ local.
           address_tells (λ bound. from_turn coding call (told_at local bound) state) (λ bound. continued_tells (later coding call (told_at local bound)) restart_tells)
-      agreeing_tells mode.Passive = passive_tells
-      agreeing_tells mode.ExtendedPassive = extended_tells
+      opening_data_tells mode.Passive = passive_tells
+      opening_data_tells mode.ExtendedPassive = extended_tells
 
       negotiating_tells : Tells Good (negotiating coding call offset state)
       negotiating_tells = go (cannot_open state.counts)
         where
           go : (fault : Option FtpError) → Tells Good (negotiating_unless fault coding call offset state)
           go (Some fault) = fails fault
-          go None = agreeing_tells state.settings.mode
+          go None = opening_data_tells state.settings.mode
 
 -- Such a call
 
 module _ (Good : Answer → Type 0) (fails : (fault : FtpError) → Good (Fault fault)) (coding : Coding) (call : Call) (sort : IsOpening call) (last_tells : (state : State) → Tells Good (last_turn coding call state)) where
   dialogue_tells : (state : State) → Tells Good (dialogue coding call state)
   dialogue_tells state =
-      let P : Bool → Type 0 = λ b. Tells Good (cond b (negotiating coding call state.settings.restart_offset (opened_from call state)) (cond (finishes call) (parting coding call (with_left state)) (from_turn coding call First state))) in
+      let P : Bool → Type 0 = λ b. Tells Good (cond b (negotiating coding call state.settings.restart_offset (opened_from call state)) (cond (finishes call) (closing_data coding call (with_left state)) (from_turn coding call First state))) in
       subst P (sym sort.0) (negotiating_tells Good fails (opened_from call state) coding call (last_tells (opened_from call state)) state.settings.restart_offset)
 
   of_tells : (state : State) (told : Answer) → IsOf told (dialogue coding call state) → Good told

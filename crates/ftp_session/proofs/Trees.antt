@@ -24,7 +24,7 @@ use Rattle.ftp_calls.specs.declared.exchange.Ending.TheVariants as ending
 use Rattle.ftp_calls.specs.declared.exchange.Turn.TheVariants.{First}
 use Rattle.ftp_dialogue.specs.declared.state.State.{State}
 use Rattle.ftp_dialogue.specs.Coding.{Coding}
-use Rattle.ftp_dialogue.specs.Dialogue.{Tree, Say, Hear, Leaf, concluded, dialogue, doing, expected_of, features_answer, from_turn, later, line_answer, negotiating, opened_from, parting, path_answer, size_answer, time_answer, with_left}
+use Rattle.ftp_dialogue.specs.Dialogue.{Tree, Say, Hear, Leaf, concluded, dialogue, doing, expected_of, features_answer, from_turn, later, line_answer, negotiating, opened_from, closing_data, path_answer, size_answer, time_answer, with_left}
 use Rattle.ftp_session.specs.Trees.{feat_tree, leading, login_tree, mdtm_tree, mlst_tree, pwd_tree, read_tree, rename_tree, replied, reply_tree, resume_tree, size_tree, taken_reply, type_reply, type_tree, unit_reply, unit_tree, whole_reply}
 use Rattle.ftp_dialogue.specs.Unanswered.{after_faulty}
 use Rattle.ftp_session.proofs.Commands.{IsCommand, IsOneCommand, StopsAtFaults}
@@ -61,8 +61,8 @@ taken_replies coding state l (Err fault) = refl
 -- its dialogue is that of its row
 said_once : (coding : Coding) (call : Call) (command : Command) (codes : Codes) (how : Ending) (state : State) → negotiates call ≡ false → finishes call ≡ false → own_row call true ≡ says command codes how → dialogue coding call state ≡ said_and coding command codes (concluded coding how state (later coding call First))
 said_once coding call command codes how state none goes_on is =
-    ap (λ b. cond b (negotiating coding call state.settings.restart_offset (opened_from call state)) (cond (finishes call) (parting coding call (with_left state)) (from_turn coding call First state))) none
-    ∙ ap (λ b. cond b (parting coding call (with_left state)) (from_turn coding call First state)) goes_on
+    ap (λ b. cond b (negotiating coding call state.settings.restart_offset (opened_from call state)) (cond (finishes call) (closing_data coding call (with_left state)) (from_turn coding call First state))) none
+    ∙ ap (λ b. cond b (closing_data coding call (with_left state)) (from_turn coding call First state)) goes_on
     ∙ ap (λ row. doing coding row state (later coding call First)) is
 
 -- it gives nothing

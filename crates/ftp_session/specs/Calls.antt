@@ -10,7 +10,7 @@ use Rattle.ftp_base.specs.declared.types.fault.FtpError.{FtpError}
 use Rattle.ftp_transport.specs.Told.{Told}
 use Rattle.ftp_control.specs.Channel.{IsSound}
 use Rattle.ftp_control.specs.declared.control.rule.ReplyRule.{ReplyRule}
-use Rattle.ftp_dialogue.specs.Deals.{Net}
+use Rattle.ftp_dialogue.specs.NetEvents.{Net}
 use Rattle.ftp_calls.specs.declared.call.Answer.{Answer}
 use Rattle.ftp_calls.specs.declared.call.Answer.TheVariants.{Unit as Done, Reply, Fault}
 use Rattle.ftp_calls.specs.declared.call.Answer.TheVariants as answers

@@ -9,14 +9,14 @@ use Rattle.ftp_control.specs.Answer.{is_among}
 use Rattle.ftp_calls.specs.declared.call.Answer.{Answer}
 use Rattle.ftp_calls.specs.declared.call.Answer.TheVariants.{Fault}
 use Rattle.ftp_transfer.specs.Mark.{End}
-use Rattle.ftp_dialogue.specs.declared.model.Standing.{Standing}
+use Rattle.ftp_dialogue.specs.declared.model.PlayState.{PlayState}
 use Rattle.ftp_dialogue.specs.declared.state.State.{State}
-use Rattle.ftp_dialogue.specs.Deals.{Deal, outcomes_of}
+use Rattle.ftp_dialogue.specs.NetEvents.{NetEvent, outcomes_of}
 use Rattle.ftp_dialogue.specs.Dialogue.{Expected, Tree, Say, Hear, Leaf}
 use Rattle.ftp_dialogue.specs.CatchingUp.{InStepIf, is_late}
 use Rattle.ftp_dialogue.specs.Link.{Link, unasked}
 use Rattle.ftp_dialogue.specs.Play.{is_unit, taken}
-use Rattle.ftp_dialogue.specs.Promises.{Aborts, Completes, Goes, IsFault, IsSilent, IsSuccess, IsWithheld, MakesAfter, standing}
+use Rattle.ftp_dialogue.specs.Promises.{Aborts, Completes, Goes, IsFault, IsSilent, IsSuccess, IsWithheld, MakesAfter, play_state}
 use Rattle.ftp_dialogue.specs.Resuming.{Resumes, modes_of}
 use Rattle.ftp_dialogue.specs.Sound.{none_left}
 use Rattle.ftp_dialogue.specs.State.{SessionValue, LetsGo}
@@ -26,17 +26,17 @@ use Rattle.ftp_session.specs.Trees.{drain_tree}
 -- The wire
 
 -- the next reply is whole, with this code, and its status is accepted
-pub record IsAccepted (expected : Expected) (reply : Response) (code : ℕ) (s : Standing) : Type 0 where
+pub record IsAccepted (expected : Expected) (reply : Response) (code : ℕ) (s : PlayState) : Type 0 where
   pub whole : outcome s.state.settings.reply_rule expected.form s.bytes s.ended ≡ Whole reply.body code
   pub status : reply.status ≡ status_of code
   pub accepted : is_among expected.statuses reply.status ≡ true
 
 -- where a line was sent, after what was unsent
-abbrev pub line_sent : List ℕ → Standing → Standing
+abbrev pub line_sent : List ℕ → PlayState → PlayState
 line_sent line s = record s { said = s.said ++ s.unsent ++ line; unsent = [] }
 
 -- each line of a dialogue was sent, each reply was accepted and consumed, and nothing else was said or read
-abbrev pub OnWire : Tree → Standing → Standing → Type 0
+abbrev pub OnWire : Tree → PlayState → PlayState → Type 0
 OnWire (Say line next) s t = (sent : List ℕ) × (line ≡ Ok sent) × OnWire next (line_sent sent s) t
 OnWire (Hear expected next) s t =
     (reply : Response) × (code : ℕ) × IsAccepted expected reply code s × OnWire (next (Ok reply)) (taken (left_by (Whole reply.body code) s.bytes) s) t
@@ -48,9 +48,9 @@ pub record SucceedsOnWire (link : Link) (tree : Tree) (old new : SessionValue) :
   pub last : SessionValue
   pub lets_go : LetsGo link.tells last new
   pub came : List ℕ
-  pub answered : List Deal
+  pub answered : List NetEvent
   pub goes : Goes link came answered old last
-  pub wire : link.tells → Resumes (modes_of old) old.channel.kept tree → OnWire tree (standing old came last.channel.ended (outcomes_of answered)) (standing last [] last.channel.ended [])
+  pub wire : link.tells → Resumes (modes_of old) old.channel.kept tree → OnWire tree (play_state old came last.channel.ended (outcomes_of answered)) (play_state last [] last.channel.ended [])
 
 -- The dialogue
 

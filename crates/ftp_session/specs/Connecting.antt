@@ -18,13 +18,13 @@ use Rattle.ftp_calls.specs.declared.call.Answer.TheVariants.{Fault}
 use Rattle.ftp_calls.specs.declared.call.Call.TheVariants.{Greet}
 use Rattle.ftp_control.specs.declared.control.rule.ReplyRule.{ReplyRule}
 use Rattle.ftp_dialogue.specs.declared.state.State.{State}
-use Rattle.ftp_dialogue.specs.declared.model.DealOutcome.{DealOutcome}
-use Rattle.ftp_dialogue.specs.declared.model.DealOutcome.TheVariants.{Answered}
-use Rattle.ftp_dialogue.specs.declared.model.Standing.{Standing}
+use Rattle.ftp_dialogue.specs.declared.model.NetOutcome.{NetOutcome}
+use Rattle.ftp_dialogue.specs.declared.model.NetOutcome.TheVariants.{Answered}
+use Rattle.ftp_dialogue.specs.declared.model.PlayState.{PlayState}
 use Rattle.ftp_session.specs.Calls.{Connects}
 use Rattle.ftp_dialogue.specs.Coding.{Coding}
-use Rattle.ftp_dialogue.specs.Deals.{dealt, first_net}
-use Rattle.ftp_dialogue.specs.declared.model.Dealings.{Dealings}
+use Rattle.ftp_dialogue.specs.NetEvents.{after_request, first_net}
+use Rattle.ftp_dialogue.specs.declared.model.NetRecord.{NetRecord}
 use Rattle.ftp_dialogue.specs.Dialogue.{Tree, Ask, Leaf, dialogue}
 use Rattle.ftp_dialogue.specs.Link.{Link}
 use Rattle.ftp_dialogue.specs.Play.{play}
@@ -48,21 +48,21 @@ abbrev pub connects_within : Duration → SocketAddr → List Request
 connects_within limit address = if as_nanos limit == 0 then [] else connects_to (Some limit) (address ∷ [])
 
 -- the outcomes of these requests
-abbrev pub outcomes_in : List Asked → List DealOutcome
+abbrev pub outcomes_in : List Asked → List NetOutcome
 outcomes_in [] = []
 outcomes_in (one ∷ more) = Answered one.outcome ∷ outcomes_in more
 
 -- what requests make of what stands beside the control connection
-abbrev pub dealt_in_turn : List Asked → Dealings → Dealings
-dealt_in_turn [] d = d
-dealt_in_turn (one ∷ more) d = dealt_in_turn more (dealt one.request one.outcome d)
+abbrev pub after_requests : List Asked → NetRecord → NetRecord
+after_requests [] d = d
+after_requests (one ∷ more) d = after_requests more (after_request one.request one.outcome d)
 
 -- these requests were made and came to these outcomes; whatever else is known, a dialogue comes with them to what is
 -- left of it
 pub record AsksAll (tree left : State → Tree) (asked asked' : List Asked) : Type 0 where
   pub answered : List Asked
   pub asked_are : asked' ≡ asked ++ answered
-  pub plays : (state : State) (room : Room) (s : Standing) → play room (tree state) (record s { outcomes = outcomes_in answered ++ s.outcomes }) ≡ play room (left state) (record s { dealings = dealt_in_turn answered s.dealings })
+  pub plays : (state : State) (room : Room) (s : PlayState) → play room (tree state) (record s { outcomes = outcomes_in answered ++ s.outcomes }) ≡ play room (left state) (record s { net_record = after_requests answered s.net_record })
 
 -- a transport that was handed these outcomes, and was asked this before, made a connection of this record; the requests
 -- before it were refused

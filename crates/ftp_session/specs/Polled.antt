@@ -130,7 +130,7 @@ Drops tells p old new = DropsUnless p.over tells p old new
 -- What an answer comes to
 
 -- an answer is neither a fault nor that of a transfer that stands on a data connection under this number
-pub record Strays (replies : Bool) (number : ℕ) (answer : Answer) (fault : FtpError) (given new : SessionValue) : Type 0 where
+pub record OpensNoTransfer (replies : Bool) (number : ℕ) (answer : Answer) (fault : FtpError) (given new : SessionValue) : Type 0 where
   pub no_fault : IsFault answer → ⊥
   pub lacks : opens replies answer ≡ true → (is_none given.net.data_conn ≡ true) ⊎ (is_live number given.state.counts.owed ≡ false)
   pub is : fault ≡ ConnectionError NotOwed
@@ -140,4 +140,4 @@ pub record Strays (replies : Bool) (number : ℕ) (answer : Answer) (fault : Ftp
 -- none that opens one, and the marks stay
 abbrev pub HandsOver : Bool → Direction → End → Answer → Option End → Option End → Option End → Option End → SessionValue → SessionValue → Result (Option Response × TransferValue) FtpError → Type 0
 HandsOver replies direction end answer mark after former kept old new (Ok opened) = (answer ≡ opened_as opened.0) × (is_none opened.0 ≡ not replies) × (opened.1.end ≡ end) × (kept ≡ mark) × HandsOut direction old opened.1 after new
-HandsOver replies direction end answer mark after former kept old new (Err fault) = (after ≡ mark) × (kept ≡ former) × (((answer ≡ Fault fault) × (new ≡ old)) ⊎ Strays replies end.number answer fault old new)
+HandsOver replies direction end answer mark after former kept old new (Err fault) = (after ≡ mark) × (kept ≡ former) × (((answer ≡ Fault fault) × (new ≡ old)) ⊎ OpensNoTransfer replies end.number answer fault old new)

@@ -3,7 +3,7 @@
 ghost use Rattle.std.specs.Prelude.{◌≡◌, IfOk, MatchResult, Ok, None};
 ghost use Rattle.ftp_session.specs.Calls.{Connects, FailsToConnect};
 ghost use Rattle.ftp_dialogue.specs.Coding.{chosen};
-ghost use Rattle.ftp_dialogue.specs.Deals.{first_net};
+ghost use Rattle.ftp_dialogue.specs.NetEvents.{first_net};
 ghost use Rattle.ftp_dialogue.specs.Link.{blocking};
 
 use ftp_base::encoding::Encoding;

@@ -3,7 +3,7 @@
 
 use ftp_base::types::Bytes;
 use ftp_runs::model::Script;
-use ftp_session::model::{DealOutcome, Dealings};
+use ftp_session::model::{NetOutcome, NetRecord};
 use ftp_session::session::Call;
 use ftp_transport::{Request, RequestOutcome};
 use rows_plays::Setup;
@@ -32,12 +32,12 @@ pub fn next_outcomes(
     alloc: Global,
     setup: &Setup,
     call: &Call,
-    dealings: &Dealings,
-) -> Result<Vec<DealOutcome>, RowError> {
-    if is_whole(call) && dealings.data_conn.is_some() {
-        return Ok(carried(alloc, setup, call, dealings)?);
+    net_record: &NetRecord,
+) -> Result<Vec<NetOutcome>, RowError> {
+    if is_whole(call) && net_record.data_conn.is_some() {
+        return Ok(carried(alloc, setup, call, net_record)?);
     }
-    next_outcome(alloc, setup, call, dealings)
+    next_outcome(alloc, setup, call, net_record)
 }
 
 /// What becomes of a whole data connection.
@@ -45,22 +45,22 @@ pub fn carried(
     alloc: Global,
     setup: &Setup,
     call: &Call,
-    dealings: &Dealings,
-) -> Result<Vec<DealOutcome>, AllocError> {
+    net_record: &NetRecord,
+) -> Result<Vec<NetOutcome>, AllocError> {
     match call {
         Call::PutFile(_, bytes) | Call::AppendFile(_, bytes) => stored(alloc, bytes.as_slice()),
-        _ => fetched(alloc, setup, dealings),
+        _ => fetched(alloc, setup, net_record),
     }
 }
 
 /// A write takes all bytes that go out for these, which are twice as many at most; of none nothing is written; and then
 /// the data connection is closed.
-fn stored(alloc: Global, bytes: &[u8]) -> Result<Vec<DealOutcome>, AllocError> {
+fn stored(alloc: Global, bytes: &[u8]) -> Result<Vec<NetOutcome>, AllocError> {
     let mut outcomes = Vec::new(alloc);
     if !bytes.is_empty() {
-        outcomes.push(DealOutcome::Wrote(bytes.len().saturating_mul(2)))?;
+        outcomes.push(NetOutcome::Wrote(bytes.len().saturating_mul(2)))?;
     }
-    outcomes.push(DealOutcome::Closed)?;
+    outcomes.push(NetOutcome::Closed)?;
     Ok(outcomes)
 }
 
@@ -68,14 +68,14 @@ fn stored(alloc: Global, bytes: &[u8]) -> Result<Vec<DealOutcome>, AllocError> {
 fn fetched(
     alloc: Global,
     setup: &Setup,
-    dealings: &Dealings,
-) -> Result<Vec<DealOutcome>, AllocError> {
+    net_record: &NetRecord,
+) -> Result<Vec<NetOutcome>, AllocError> {
     let mut outcomes = Vec::new(alloc);
-    for part in setup.data(dealings.asked.as_slice()).chunks(CHUNK) {
-        outcomes.push(DealOutcome::Read(Bytes::from_slice(alloc, part)?))?;
+    for part in setup.data(net_record.asked.as_slice()).chunks(CHUNK) {
+        outcomes.push(NetOutcome::Read(Bytes::from_slice(alloc, part)?))?;
     }
-    outcomes.push(DealOutcome::Read(Bytes::new(alloc)))?;
-    outcomes.push(DealOutcome::Closed)?;
+    outcomes.push(NetOutcome::Read(Bytes::new(alloc)))?;
+    outcomes.push(NetOutcome::Closed)?;
     Ok(outcomes)
 }
 
@@ -85,24 +85,24 @@ pub fn next_outcome(
     alloc: Global,
     setup: &Setup,
     call: &Call,
-    dealings: &Dealings,
-) -> Result<Vec<DealOutcome>, RowError> {
+    net_record: &NetRecord,
+) -> Result<Vec<NetOutcome>, RowError> {
     let outcome = match call {
-        Call::Read(most) => DealOutcome::Read(unread(alloc, setup, *most, dealings)?),
-        Call::Write(bytes) => DealOutcome::Wrote(bytes.as_slice().len()),
-        Call::Finish | Call::Abort | Call::Leave => DealOutcome::Closed,
-        _ => next_answer(alloc, setup, dealings.asked.as_slice())?,
+        Call::Read(most) => NetOutcome::Read(unread(alloc, setup, *most, net_record)?),
+        Call::Write(bytes) => NetOutcome::Wrote(bytes.as_slice().len()),
+        Call::Finish | Call::Abort | Call::Leave => NetOutcome::Closed,
+        _ => next_answer(alloc, setup, net_record.asked.as_slice())?,
     };
     Ok(Vec::from_array(alloc, [outcome])?)
 }
 
 /// What the last of these requests comes to.
-fn next_answer(alloc: Global, setup: &Setup, asked: &[Request]) -> Result<DealOutcome, RowError> {
+fn next_answer(alloc: Global, setup: &Setup, asked: &[Request]) -> Result<NetOutcome, RowError> {
     if let Some(Request::Build(_)) = asked.last() {
-        return Ok(DealOutcome::Built(setup.fault_of_builder()));
+        return Ok(NetOutcome::Built(setup.fault_of_builder()));
     }
     match setup.outcomes(alloc, asked)?.last() {
-        Some(outcome) => Ok(DealOutcome::Answered(*outcome)),
+        Some(outcome) => Ok(NetOutcome::Answered(*outcome)),
         None => Err(RowError::NotUnderstood),
     }
 }
@@ -112,10 +112,10 @@ fn unread(
     alloc: Global,
     setup: &Setup,
     most: usize,
-    dealings: &Dealings,
+    net_record: &NetRecord,
 ) -> Result<Bytes, AllocError> {
-    let all = setup.data(dealings.asked.as_slice());
-    let read = match &dealings.data_conn {
+    let all = setup.data(net_record.asked.as_slice());
+    let read = match &net_record.data_conn {
         Some(traffic) => traffic.received.len(),
         None => 0,
     };
@@ -124,36 +124,36 @@ fn unread(
 }
 
 /// The call under way, where it waits for an outcome, and these are known.
-pub fn waiting<'a>(script: &'a Script, known: &[DealOutcome]) -> Option<&'a Call> {
+pub fn waiting<'a>(script: &'a Script, known: &[NetOutcome]) -> Option<&'a Call> {
     let Some(call) = &script.call else {
         return None;
     };
     let waits = match call {
         Call::Read(_) | Call::Write(_) | Call::Leave => script.polled,
-        Call::Finish | Call::Abort => script.polled && script.dealings.data_conn.is_some(),
-        _ => script.dealings.asked.as_slice().len() > answered(known),
+        Call::Finish | Call::Abort => script.polled && script.net_record.data_conn.is_some(),
+        _ => script.net_record.asked.as_slice().len() > answered(known),
     };
     if waits { Some(call) } else { None }
 }
 
 /// How many of these outcomes are those of requests, or a builder's answers.
-fn answered(outcomes: &[DealOutcome]) -> usize {
+fn answered(outcomes: &[NetOutcome]) -> usize {
     outcomes
         .iter()
-        .filter(|outcome| matches!(outcome, DealOutcome::Answered(_) | DealOutcome::Built(_)))
+        .filter(|outcome| matches!(outcome, NetOutcome::Answered(_) | NetOutcome::Built(_)))
         .count()
 }
 
 /// Those of these outcomes that are requests'; a request of the builder is done, whatever it answered.
 pub fn of_requests(
     alloc: Global,
-    outcomes: &[DealOutcome],
+    outcomes: &[NetOutcome],
 ) -> Result<Vec<RequestOutcome>, AllocError> {
     let mut answers = Vec::new(alloc);
     for outcome in outcomes {
         match outcome {
-            DealOutcome::Answered(answer) => answers.push(*answer)?,
-            DealOutcome::Built(_) => answers.push(RequestOutcome::Done)?,
+            NetOutcome::Answered(answer) => answers.push(*answer)?,
+            NetOutcome::Built(_) => answers.push(RequestOutcome::Done)?,
             _ => {}
         }
     }
@@ -164,18 +164,18 @@ pub fn of_requests(
 pub fn answers_of(
     alloc: Global,
     outcomes: &[RequestOutcome],
-) -> Result<Vec<DealOutcome>, AllocError> {
+) -> Result<Vec<NetOutcome>, AllocError> {
     let mut all = Vec::new(alloc);
     for outcome in outcomes {
-        all.push(DealOutcome::Answered(*outcome))?;
+        all.push(NetOutcome::Answered(*outcome))?;
     }
     Ok(all)
 }
 
 /// What was uploaded on the data connections that are over, one after another.
-pub fn uploaded(alloc: Global, dealings: &Dealings) -> Result<Vec<Vec<u8>>, AllocError> {
+pub fn uploaded(alloc: Global, net_record: &NetRecord) -> Result<Vec<Vec<u8>>, AllocError> {
     let mut uploaded = Vec::new(alloc);
-    for traffic in dealings.closed.as_slice() {
+    for traffic in net_record.closed.as_slice() {
         uploaded.push(Vec::from_slice(alloc, traffic.sent.as_slice())?)?;
     }
     Ok(uploaded)

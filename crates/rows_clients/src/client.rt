@@ -6,7 +6,7 @@ use ftp_session::session::{Answer, Call, NoTlsConnector, Setting};
 use ftp_transfer::mark::Left;
 use ftp_transport::{MemoryConn, MemoryTransport};
 use rows_plays::{
-    Held, Named, NamedSession, Opening, Play, RowBuilder, Standing, Transfers, boxed, bytes,
+    Held, Named, NamedSession, Opening, Play, RowBuilder, RowState, Transfers, boxed, bytes,
     features, greeted, had, lines, made_by_method, optional, recorded, reply, size, text, texts_of,
     time, unit,
 };
@@ -77,7 +77,7 @@ fn is_apart(call: &Call) -> bool {
 }
 
 /// Where these calls lead to, each made by the client's method.
-pub fn called<R>(rt: &R, calls: &[Call], play: &Play) -> Result<Standing, RowError>
+pub fn called<R>(rt: &R, calls: &[Call], play: &Play) -> Result<RowState, RowError>
 where
     R: Wait + RandomSource + AllocGlobal,
 {
@@ -239,9 +239,9 @@ fn stands<R: Wait + AllocGlobal>(
     rt: &R,
     client: &Client,
     answers: &[Answer],
-) -> Result<Standing, RowError> {
+) -> Result<RowState, RowError> {
     let (sent, taken) = traffic(rt, client)?;
-    Ok(Standing {
+    Ok(RowState {
         asked: Vec::new(rt.alloc()),
         uploaded: Vec::new(rt.alloc()),
         sent,

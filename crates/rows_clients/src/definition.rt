@@ -3,10 +3,10 @@
 use crate::beside::{answers_of, next_outcomes, of_requests, uploaded};
 use ftp_base::types::{Bytes, Items};
 use ftp_runs::model::Ran;
-use ftp_session::model::{self, DealOutcome, Dealings, Played, Wait};
+use ftp_session::model::{self, NetOutcome, NetRecord, Played, Wait};
 use ftp_session::session::{Answer, Call};
 use ftp_transport::{RequestOutcome, Room};
-use rows_plays::{Dial, Named, Play, Standing, boxed, lines_of, texts_of, welcome};
+use rows_plays::{Dial, Named, Play, RowState, boxed, lines_of, texts_of, welcome};
 use rows_text::RowError;
 use session_plain::{connect_in_turn, run};
 use std::alloc::{AllocError, Global};
@@ -16,22 +16,22 @@ pub fn first(
     alloc: Global,
     input: &[u8],
     play: &Play,
-    outcomes: &[DealOutcome],
-) -> Result<Box<model::Standing>, AllocError> {
+    outcomes: &[NetOutcome],
+) -> Result<Box<model::PlayState>, AllocError> {
     let (local, peer) = play.setup.ends();
     let bytes = Bytes::from_slice(alloc, input)?;
     let outcomes = Items::from_vec(outcomes.to_vec(alloc)?);
     let state = play.setup.state()?;
     boxed(
         alloc,
-        model::Standing {
+        model::PlayState {
             state,
             failed: false,
             said: Bytes::new(alloc),
             unsent: Bytes::new(alloc),
             local,
             peer,
-            dealings: no_dealings(alloc),
+            net_record: no_net_record(alloc),
             bytes,
             ended: true,
             outcomes,
@@ -40,8 +40,8 @@ pub fn first(
 }
 
 /// Nothing was asked, and there is no data connection.
-pub fn no_dealings(alloc: Global) -> Dealings {
-    Dealings {
+pub fn no_net_record(alloc: Global) -> NetRecord {
+    NetRecord {
         asked: Items::from_vec(Vec::new(alloc)),
         closed: Items::from_vec(Vec::new(alloc)),
         data_conn: None,
@@ -54,7 +54,7 @@ pub fn encoding_of(play: &Play) -> Named {
 }
 
 /// Where a run of these calls ends.
-pub fn ran(alloc: Global, calls: &[Call], play: &Play) -> Result<Standing, RowError> {
+pub fn ran(alloc: Global, calls: &[Call], play: &Play) -> Result<RowState, RowError> {
     if let (Some(dial), Some((_greet, others))) = (&play.dial, calls.split_first()) {
         return dialled(alloc, dial, others, play);
     }
@@ -65,7 +65,7 @@ pub fn ran(alloc: Global, calls: &[Call], play: &Play) -> Result<Standing, RowEr
     let outcomes = of_requests(alloc, &outcomes)?;
     stands(
         alloc,
-        lines_of(alloc, here.dealings.asked.as_slice(), &outcomes)?,
+        lines_of(alloc, here.net_record.asked.as_slice(), &outcomes)?,
         answers,
         here,
         play,
@@ -73,7 +73,7 @@ pub fn ran(alloc: Global, calls: &[Call], play: &Play) -> Result<Standing, RowEr
 }
 
 /// The answers of a run, and where it stands.
-fn end_of(ran: &Ran) -> (&[Answer], &model::Standing) {
+fn end_of(ran: &Ran) -> (&[Answer], &model::PlayState) {
     match ran {
         Ran::Finished(answers, here) => (answers.as_slice(), here),
         Ran::Waiting(answers, _, here) => (answers.as_slice(), here),
@@ -81,7 +81,7 @@ fn end_of(ran: &Ran) -> (&[Answer], &model::Standing) {
 }
 
 /// What happens beside these calls. They are played again with more outcomes, as long as one is waited for.
-fn outcomes_of(alloc: Global, calls: &[Call], play: &Play) -> Result<Vec<DealOutcome>, RowError> {
+fn outcomes_of(alloc: Global, calls: &[Call], play: &Play) -> Result<Vec<NetOutcome>, RowError> {
     let mut outcomes = Vec::new(alloc);
     for _ in 0..u64::MAX {
         let mut more = more_outcomes(alloc, calls, play, &outcomes)?;
@@ -98,14 +98,14 @@ fn more_outcomes(
     alloc: Global,
     calls: &[Call],
     play: &Play,
-    known: &[DealOutcome],
-) -> Result<Vec<DealOutcome>, RowError> {
+    known: &[NetOutcome],
+) -> Result<Vec<NetOutcome>, RowError> {
     let ran = played(alloc, calls, play, known)?;
     let Ran::Waiting(answers, Wait::Outcome, here) = &*ran else {
         return Ok(Vec::new(alloc));
     };
     match calls.get(answers.as_slice().len()) {
-        Some(call) => next_outcomes(alloc, &play.setup, call, &here.dealings),
+        Some(call) => next_outcomes(alloc, &play.setup, call, &here.net_record),
         None => Err(RowError::NotUnderstood),
     }
 }
@@ -115,7 +115,7 @@ fn played(
     alloc: Global,
     calls: &[Call],
     play: &Play,
-    outcomes: &[DealOutcome],
+    outcomes: &[NetOutcome],
 ) -> Result<Box<Ran>, AllocError> {
     let begun = Box::into_inner(first(alloc, &play.input, play, outcomes)?);
     let ran = run(alloc, Room::Any, &encoding_of(play), calls, begun)?;
@@ -123,14 +123,14 @@ fn played(
 }
 
 /// Where a session comes to that connects first, and then makes these calls. Without a connection it makes none.
-fn dialled(alloc: Global, dial: &Dial, others: &[Call], play: &Play) -> Result<Standing, RowError> {
+fn dialled(alloc: Global, dial: &Dial, others: &[Call], play: &Play) -> Result<RowState, RowError> {
     let outcomes = dial.outcomes(alloc)?;
     let (answers, here) = connected(alloc, dial, play, &outcomes)?;
     let mut answers_so_far = texts_of(alloc, &answers)?;
     if !matches!(&answers[..], [Answer::Unit]) {
         return stands(alloc, Vec::new(alloc), answers_so_far, &here, play);
     }
-    let asked = lines_of(alloc, here.dealings.asked.as_slice(), &outcomes)?;
+    let asked = lines_of(alloc, here.net_record.asked.as_slice(), &outcomes)?;
     let end = greeted(alloc, others, play, here)?;
     let (answers, here) = end_of(&end);
     answers_so_far.append(&mut texts_of(alloc, answers)?)?;
@@ -142,7 +142,7 @@ fn greeted(
     alloc: Global,
     calls: &[Call],
     play: &Play,
-    here: Box<model::Standing>,
+    here: Box<model::PlayState>,
 ) -> Result<Box<Ran>, AllocError> {
     let here = Box::into_inner(here);
     let ran = run(alloc, Room::Any, &encoding_of(play), calls, here)?;
@@ -155,7 +155,7 @@ fn connected(
     dial: &Dial,
     play: &Play,
     outcomes: &[RequestOutcome],
-) -> Result<(Vec<Answer>, Box<model::Standing>), RowError> {
+) -> Result<(Vec<Answer>, Box<model::PlayState>), RowError> {
     let requests = dial.requests(alloc)?;
     let begun = first(alloc, &play.input, play, &answers_of(alloc, outcomes)?)?;
     let played = connect_in_turn(
@@ -179,8 +179,8 @@ fn connected(
 fn done(
     alloc: Global,
     answer: Answer,
-    here: model::Standing,
-) -> Result<(Vec<Answer>, Box<model::Standing>), RowError> {
+    here: model::PlayState,
+) -> Result<(Vec<Answer>, Box<model::PlayState>), RowError> {
     let Ok(here) = boxed(alloc, here) else {
         drop(answer);
         return Err(RowError::OutOfMemory);
@@ -195,12 +195,12 @@ fn stands(
     alloc: Global,
     asked: Vec<String>,
     answers: Vec<String>,
-    here: &model::Standing,
+    here: &model::PlayState,
     play: &Play,
-) -> Result<Standing, RowError> {
-    Ok(Standing {
+) -> Result<RowState, RowError> {
+    Ok(RowState {
         asked,
-        uploaded: uploaded(alloc, &here.dealings)?,
+        uploaded: uploaded(alloc, &here.net_record)?,
         sent: Vec::from_slice(alloc, here.said.as_slice())?,
         answers,
         taken: play.input.len().saturating_sub(here.bytes.len()),

@@ -2,7 +2,7 @@
 
 use crate::{client, definition, script, states};
 use ftp_runs::Event;
-use rows_plays::{Mark, Play, Standing};
+use rows_plays::{Mark, Play, RowState};
 use rows_text::RowError;
 use std::alloc::{AllocError, Global};
 use std::random::RandomSource;
@@ -131,7 +131,7 @@ impl Face {
         let alloc = rt.alloc();
         let places = self.places(alloc, play)?;
         let mut marks = self.marks(rt, play, &places)?;
-        let end = self.standing(rt, play, usize::MAX)?;
+        let end = self.play_state(rt, play, usize::MAX)?;
         if marks.len() < places.len() {
             marks.push(end.mark())?;
         }
@@ -157,7 +157,7 @@ impl Face {
         let mut marks = Vec::new(rt.alloc());
         for count in places {
             if *count < length {
-                marks.push(self.standing(rt, play, *count)?.mark())?;
+                marks.push(self.play_state(rt, play, *count)?.mark())?;
             }
         }
         Ok(marks)
@@ -172,12 +172,12 @@ impl Face {
     }
 
     /// Where the row stands after so many calls or events.
-    fn standing<R: Wait + RandomSource + AllocGlobal>(
+    fn play_state<R: Wait + RandomSource + AllocGlobal>(
         self,
         rt: &R,
         play: &Play,
         count: usize,
-    ) -> Result<Standing, RowError> {
+    ) -> Result<RowState, RowError> {
         let alloc = rt.alloc();
         let calls = front(&play.calls, count);
         let events = front(&play.events, count);

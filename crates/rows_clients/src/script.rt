@@ -1,14 +1,14 @@
 //! What the definition of polled runs says.
 
 use crate::beside::{carried, is_whole, next_outcome, of_requests, uploaded, waiting};
-use crate::definition::{encoding_of, first, no_dealings};
+use crate::definition::{encoding_of, first, no_net_record};
 use ftp_base::types::{Bytes, Items};
 use ftp_control::control::ReplyForm;
 use ftp_runs::Event;
 use ftp_runs::model::Script;
-use ftp_session::model::DealOutcome;
+use ftp_session::model::NetOutcome;
 use ftp_transport::Room;
-use rows_plays::{Play, Standing, boxed, lines_of, texts_of, welcome};
+use rows_plays::{Play, RowState, boxed, lines_of, texts_of, welcome};
 use rows_text::RowError;
 use session_plain::run_polled;
 use std::alloc::{AllocError, Global};
@@ -30,7 +30,7 @@ fn begun(alloc: Global, play: &Play) -> Result<Script, AllocError> {
         sent: Bytes::new(alloc),
         unsent: Bytes::new(alloc),
         untaken: Bytes::new(alloc),
-        dealings: no_dealings(alloc),
+        net_record: no_net_record(alloc),
         seen: 0,
         form: ReplyForm::Plain,
         rule: state.settings.reply_rule,
@@ -44,7 +44,7 @@ fn script_of(
     alloc: Global,
     events: &[Event],
     play: &Play,
-    outcomes: &[DealOutcome],
+    outcomes: &[NetOutcome],
 ) -> Result<Box<Script>, AllocError> {
     let start = first(alloc, b"", play, outcomes)?;
     let script = begun(alloc, play)?;
@@ -53,13 +53,13 @@ fn script_of(
 }
 
 /// Where these events lead to.
-pub fn scripted(alloc: Global, events: &[Event], play: &Play) -> Result<Standing, RowError> {
+pub fn scripted(alloc: Global, events: &[Event], play: &Play) -> Result<RowState, RowError> {
     let outcomes = outcomes_of(alloc, events, play)?;
     let requests = of_requests(alloc, &outcomes)?;
     let script = script_of(alloc, events, play, &outcomes)?;
-    Ok(Standing {
-        asked: lines_of(alloc, script.dealings.asked.as_slice(), &requests)?,
-        uploaded: uploaded(alloc, &script.dealings)?,
+    Ok(RowState {
+        asked: lines_of(alloc, script.net_record.asked.as_slice(), &requests)?,
+        uploaded: uploaded(alloc, &script.net_record)?,
         sent: Vec::from_slice(alloc, script.sent.as_slice())?,
         answers: texts_of(alloc, script.answers.as_slice())?,
         taken: script.bytes.len().saturating_sub(script.untaken.len()),
@@ -69,7 +69,7 @@ pub fn scripted(alloc: Global, events: &[Event], play: &Play) -> Result<Standing
 }
 
 /// What happens beside these events: after each event that leaves a call waiting for an outcome, it comes.
-fn outcomes_of(alloc: Global, events: &[Event], play: &Play) -> Result<Vec<DealOutcome>, RowError> {
+fn outcomes_of(alloc: Global, events: &[Event], play: &Play) -> Result<Vec<NetOutcome>, RowError> {
     let mut outcomes = Vec::new(alloc);
     if !play.opens_data() {
         return Ok(outcomes);
@@ -90,7 +90,7 @@ fn add_outcomes(
     alloc: Global,
     events: &[Event],
     play: &Play,
-    outcomes: &mut Vec<DealOutcome>,
+    outcomes: &mut Vec<NetOutcome>,
 ) -> Result<(), RowError> {
     for _ in 0..u64::MAX {
         let mut more = more_outcomes(alloc, events, play, outcomes.as_slice())?;
@@ -108,11 +108,11 @@ fn more_outcomes(
     alloc: Global,
     events: &[Event],
     play: &Play,
-    known: &[DealOutcome],
-) -> Result<Vec<DealOutcome>, RowError> {
+    known: &[NetOutcome],
+) -> Result<Vec<NetOutcome>, RowError> {
     let script = script_of(alloc, events, play, known)?;
     if let Some(call) = waiting(&script, known) {
-        return next_outcome(alloc, &play.setup, call, &script.dealings);
+        return next_outcome(alloc, &play.setup, call, &script.net_record);
     }
     if leaves(events) {
         let close = close(alloc, events, play, known, script.items.as_slice().len())?;
@@ -136,10 +136,10 @@ fn close(
     alloc: Global,
     events: &[Event],
     play: &Play,
-    known: &[DealOutcome],
+    known: &[NetOutcome],
     done: usize,
-) -> Result<Vec<DealOutcome>, RowError> {
-    let close = Vec::from_array(alloc, [DealOutcome::Closed])?;
+) -> Result<Vec<NetOutcome>, RowError> {
+    let close = Vec::from_array(alloc, [NetOutcome::Closed])?;
     let script = script_with(alloc, events, play, known, &close)?;
     if script.items.as_slice().len() > done {
         return Ok(close);
@@ -153,16 +153,16 @@ fn fetched(
     alloc: Global,
     events: &[Event],
     play: &Play,
-    known: &[DealOutcome],
+    known: &[NetOutcome],
     script: &Script,
-) -> Result<Vec<DealOutcome>, RowError> {
+) -> Result<Vec<NetOutcome>, RowError> {
     let Some(call) = &script.call else {
         return Ok(Vec::new(alloc));
     };
-    if !is_whole(call) || script.dealings.data_conn.is_none() {
+    if !is_whole(call) || script.net_record.data_conn.is_none() {
         return Ok(Vec::new(alloc));
     }
-    let more = carried(alloc, &play.setup, call, &script.dealings)?;
+    let more = carried(alloc, &play.setup, call, &script.net_record)?;
     let with = script_with(alloc, events, play, known, &more)?;
     if closed_in(&with) > closed_in(script) {
         return Ok(more);
@@ -175,8 +175,8 @@ fn script_with(
     alloc: Global,
     events: &[Event],
     play: &Play,
-    known: &[DealOutcome],
-    more: &[DealOutcome],
+    known: &[NetOutcome],
+    more: &[NetOutcome],
 ) -> Result<Box<Script>, AllocError> {
     let mut all = known.to_vec(alloc)?;
     all.append(&mut more.to_vec(alloc)?)?;
@@ -185,5 +185,5 @@ fn script_with(
 
 /// How many data connections were closed.
 fn closed_in(script: &Script) -> usize {
-    script.dealings.closed.as_slice().len()
+    script.net_record.closed.as_slice().len()
 }

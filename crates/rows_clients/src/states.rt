@@ -10,7 +10,7 @@ use futures::Future;
 use futures::executor::block_on;
 use futures::task::{Context, Poll};
 use rows_plays::{
-    Held, Named, Opening, Play, RowBuilder, Standing, Transfers, boxed, bytes, count, features,
+    Held, Named, Opening, Play, RowBuilder, RowState, Transfers, boxed, bytes, count, features,
     greeted, had, lines, made_by_method, optional, recorded, reply, size, text, texts_of, time,
     unit,
 };
@@ -127,7 +127,7 @@ fn moved(outcome: io::Result<Result<usize, ErrorKind>>) -> io::Result<usize> {
 }
 
 /// Where these calls lead to, each made by the client's state.
-pub fn called<R>(rt: &R, calls: &[Call], play: &Play) -> Result<Standing, RowError>
+pub fn called<R>(rt: &R, calls: &[Call], play: &Play) -> Result<RowState, RowError>
 where
     R: Wait + RandomSource + AllocGlobal,
 {
@@ -335,10 +335,10 @@ fn told<R: Wait + RandomSource + AllocGlobal>(
     rt: &R,
     client: &Client,
     answers: &[Answer],
-) -> Result<Standing, RowError> {
+) -> Result<RowState, RowError> {
     let alloc = rt.alloc();
     let control = had(done(rt, client.get_ref()))?;
-    Ok(Standing {
+    Ok(RowState {
         asked: recorded(alloc, control.transport().asked())?,
         uploaded: Vec::new(alloc),
         sent: Vec::from_slice(alloc, control.socket().sent())?,

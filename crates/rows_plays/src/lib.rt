@@ -38,5 +38,5 @@ pub use requests::{lines_of, recorded};
 pub use row::Row;
 pub use session::{NamedSession, polled, ran, welcome};
 pub use setup::Setup;
-pub use transcript::{Mark, Standing, add_sent, add_upload};
+pub use transcript::{Mark, RowState, add_sent, add_upload};
 pub use transfers::{Held, Transfers};

@@ -6,7 +6,7 @@ use crate::made_by_method;
 use crate::memory::boxed;
 use crate::play::Play;
 use crate::session::{NamedSession, conn_of, encoded, stands, unread};
-use crate::transcript::Standing;
+use crate::transcript::RowState;
 use crate::transfers::{Held, Transfers};
 use ftp_base::status::Status;
 use ftp_base::types::{FtpError, FtpResult, Text};
@@ -155,7 +155,7 @@ fn dialled(alloc: Global, dial: &Dial, play: &Play) -> FtpResult<Box<NamedSessio
 ///
 /// # Errors
 /// `NotUnderstood`, `OutOfMemory`.
-pub fn called<R>(rt: &R, calls: &[Call], play: &Play) -> Result<Standing, RowError>
+pub fn called<R>(rt: &R, calls: &[Call], play: &Play) -> Result<RowState, RowError>
 where
     R: Wait + RandomSource + AllocGlobal,
 {

@@ -6,7 +6,7 @@ use crate::encodings::Named;
 use crate::memory::{boxed, ended, had};
 use crate::play::Play;
 use crate::requests::recorded;
-use crate::transcript::Standing;
+use crate::transcript::RowState;
 use ftp_runs::{Event, RunCalls, RunEvents};
 use ftp_session::session::{Answer, Call, NoTlsConnector, Session, State};
 use ftp_transport::{MemoryConn, MemoryTransport};
@@ -63,7 +63,7 @@ pub fn encoded(
 ///
 /// # Errors
 /// `OutOfMemory`.
-pub fn ran(alloc: Global, calls: &[Call], play: &Play) -> Result<Standing, RowError> {
+pub fn ran(alloc: Global, calls: &[Call], play: &Play) -> Result<RowState, RowError> {
     let mut session = encoded(alloc, unread(alloc, play)?, play)?;
     let answers = had(session.run(alloc, &(), calls))?;
     stands(alloc, &session, &answers)
@@ -73,7 +73,7 @@ pub fn ran(alloc: Global, calls: &[Call], play: &Play) -> Result<Standing, RowEr
 ///
 /// # Errors
 /// `OutOfMemory`.
-pub fn polled(alloc: Global, events: &[Event], play: &Play) -> Result<Standing, RowError> {
+pub fn polled(alloc: Global, events: &[Event], play: &Play) -> Result<RowState, RowError> {
     let session = session_on(alloc, bare(alloc, play), play)?;
     let mut session = encoded(alloc, session, play)?;
     let answers = happened(alloc, &mut session, events, &play.runs)?;
@@ -117,9 +117,9 @@ pub fn stands(
     alloc: Global,
     session: &NamedSession,
     answers: &[Answer],
-) -> Result<Standing, RowError> {
+) -> Result<RowState, RowError> {
     let conn = session.get_ref();
-    Ok(Standing {
+    Ok(RowState {
         asked: recorded(alloc, session.transport().asked())?,
         uploaded: uploaded(alloc, session.transport().uploaded())?,
         sent: Vec::from_slice(alloc, conn.sent())?,

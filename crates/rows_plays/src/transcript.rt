@@ -5,7 +5,7 @@ use std::alloc::{AllocError, Global};
 
 /// Where a session or a definition stands after a part of a row.
 #[derive(Drop)]
-pub struct Standing {
+pub struct RowState {
     /// What its transport was asked, line by line.
     pub asked: Vec<String>,
     /// What was uploaded on the data connections that are over, in order.
@@ -30,7 +30,7 @@ pub struct Mark {
     answers: usize,
 }
 
-impl Standing {
+impl RowState {
     /// How far it has come.
     pub fn mark(&self) -> Mark {
         Mark {

@@ -10,7 +10,7 @@ use Rattle.ftp_transport.specs.declared.request.RequestOutcome.{RequestOutcome}
 use Rattle.ftp_calls.specs.declared.call.Answer.TheVariants.{Fault}
 use Rattle.ftp_dialogue.specs.declared.state.State.{State}
 use Rattle.ftp_dialogue.specs.declared.model.Played.TheVariants.{Pending}
-use Rattle.ftp_dialogue.specs.declared.model.Standing.{Standing}
+use Rattle.ftp_dialogue.specs.declared.model.PlayState.{PlayState}
 use Rattle.ftp_dialogue.specs.declared.model.Wait.TheVariants.{Outcome as Asking}
 use Rattle.ftp_dialogue.specs.Dialogue.{Tree, Ask, Leaf, accepting, admitting, lets_in, on_address}
 use Rattle.ftp_dialogue.specs.Play.{play}
@@ -35,13 +35,13 @@ accepts opened peer zero state = refl
 accepts opened peer (suc left) state = refl
 
 -- its outcome is known, or isn't
-pub came_to : (opened : Tree) (peer : SocketAddr) (left : ℕ) (s here : Standing) (outcome : RequestOutcome) → AsksFor (Accept s.state.settings.active_deadline) s (Known outcome here) → (room : Room) → play room (accepting opened peer left s.state) s ≡ play room (admitted opened peer left here.state outcome) here
+pub came_to : (opened : Tree) (peer : SocketAddr) (left : ℕ) (s here : PlayState) (outcome : RequestOutcome) → AsksFor (Accept s.state.settings.active_deadline) s (Known outcome here) → (room : Room) → play room (accepting opened peer left s.state) s ≡ play room (admitted opened peer left here.state outcome) here
 came_to opened peer left s here outcome came room =
     ap (λ tree. play room tree s) (accepts opened peer left s.state)
     ∙ known (Accept s.state.settings.active_deadline) s here outcome came room (admitted opened peer left s.state)
     ∙ ap (λ state. play room (admitted opened peer left state outcome) here) (sym came.0)
 
-pub waits : (opened : Tree) (peer : SocketAddr) (left : ℕ) (s here : Standing) → AsksFor (Accept s.state.settings.active_deadline) s (Unknown here) → (room : Room) → play room (accepting opened peer left s.state) s ≡ Pending Asking here
+pub waits : (opened : Tree) (peer : SocketAddr) (left : ℕ) (s here : PlayState) → AsksFor (Accept s.state.settings.active_deadline) s (Unknown here) → (room : Room) → play room (accepting opened peer left s.state) s ≡ Pending Asking here
 waits opened peer left s here came room =
     ap (λ tree. play room tree s) (accepts opened peer left s.state)
     ∙ unknown (Accept s.state.settings.active_deadline) s here came room (admitted opened peer left s.state)

@@ -12,7 +12,7 @@ use Rattle.ftp_transport.specs.declared.request.RequestOutcome.{RequestOutcome}
 use Rattle.ftp_dialogue.specs.declared.state.State.{State}
 use Rattle.ftp_dialogue.specs.declared.model.Played.{Played}
 use Rattle.ftp_dialogue.specs.declared.model.Played.TheVariants.{Pending}
-use Rattle.ftp_dialogue.specs.declared.model.Standing.{Standing}
+use Rattle.ftp_dialogue.specs.declared.model.PlayState.{PlayState}
 use Rattle.ftp_dialogue.specs.declared.model.Wait.TheVariants.{Outcome as Asking}
 use Rattle.ftp_calls.specs.declared.call.Call.{Call}
 use Rattle.ftp_calls.specs.declared.exchange.Turn.TheVariants.{Restart}
@@ -29,11 +29,11 @@ pub ends : (result : Result Played AllocError) (one other : Played) → one ≡ 
 ends result one other same = subst (λ end. IfOk result (λ played. played ≡ end)) same
 
 -- a part of a dialogue is played, under each continuation
-abbrev pub Comes : Standing → ((State → Tree) → Tree) → Result Progress AllocError → Type 0
+abbrev pub Comes : PlayState → ((State → Tree) → Tree) → Result Progress AllocError → Type 0
 Comes s tree result = IfOk result (λ progress. (room : Room) (later : State → Tree) → ComesTo room later (play room (tree later) s) progress)
 
 -- a dialogue that is another under each continuation
-pub comes : (s : Standing) (whole part : (State → Tree) → Tree) → ((later : State → Tree) → whole later ≡ part later) → (result : Result Progress AllocError) → Comes s part result → Comes s whole result
+pub comes : (s : PlayState) (whole part : (State → Tree) → Tree) → ((later : State → Tree) → whole later ≡ part later) → (result : Result Progress AllocError) → Comes s part result → Comes s whole result
 comes s whole part same (Ok progress) played = λ room later. rw (same later) (played room later)
 comes s whole part same (Err fault) played = tt
 
@@ -43,11 +43,11 @@ leads one other same (Ok progress) played = λ room later. rw (same room later) 
 leads one other same (Err fault) played = tt
 
 -- the outcome of a request is known, or isn't
-pub known : (request : Request) (s here : Standing) (outcome : RequestOutcome) → AsksFor request s (Known outcome here) → (room : Room) (next : RequestOutcome → Tree) → play room (Ask request next) s ≡ play room (next outcome) here
+pub known : (request : Request) (s here : PlayState) (outcome : RequestOutcome) → AsksFor request s (Known outcome here) → (room : Room) (next : RequestOutcome → Tree) → play room (Ask request next) s ≡ play room (next outcome) here
 unfolding play
 known request s here outcome came room next = came.1 (λ answer t. play room (next answer) t)
 
-pub unknown : (request : Request) (s here : Standing) → AsksFor request s (Unknown here) → (room : Room) (next : RequestOutcome → Tree) → play room (Ask request next) s ≡ Pending Asking here
+pub unknown : (request : Request) (s here : PlayState) → AsksFor request s (Unknown here) → (room : Room) (next : RequestOutcome → Tree) → play room (Ask request next) s ≡ Pending Asking here
 unfolding play
 unknown request s here came room next = came (λ answer t. play room (next answer) t)
 

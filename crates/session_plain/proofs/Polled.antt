@@ -4,7 +4,7 @@ use Rattle.std.specs.Prelude.{OnOk, Result, Ok, Err}
 use Rattle.ftp_calls.specs.declared.call.Call.{Call}
 use Rattle.ftp_dialogue.specs.Coding.{Coding}
 use Rattle.ftp_runs.specs.declared.model.Script.{Script}
-use Rattle.ftp_dialogue.specs.declared.model.Standing.{Standing}
+use Rattle.ftp_dialogue.specs.declared.model.PlayState.{PlayState}
 use Rattle.ftp_runs.specs.Script.{after_poll, over, poll_event, poll_next}
 
 pub on_ok : (T E : Type 0) (result : Result T E) (P Q : Type 0) → (P → Q) → OnOk result P → OnOk result Q
@@ -22,7 +22,7 @@ none_is : (call : Option Call) → is_none call ≡ true → call ≡ None
 none_is None is = refl
 none_is (Some call) is = let clash : false ≡ true = is in cc
 
-module _ (coding : Coding) (start : Standing) (s t : Script) where
+module _ (coding : Coding) (start : PlayState) (s t : Script) where
   polled : (c : Option Call) → is_none c ≡ false → t ≡ poll_next coding start c s → poll_event coding start c s ≡ after_poll coding start t.call t
   polled None some is = let clash : true ≡ false = some in cc
   polled (Some call) some is = ap (λ x. after_poll coding start x.call x) (sym is)

@@ -7,17 +7,17 @@ use Rattle.ftp_base.specs.declared.types.fault.ConnectionError.TheVariants.{Io}
 use Rattle.ftp_calls.specs.declared.call.Answer.TheVariants.{Count}
 use Rattle.ftp_calls.specs.declared.exchange.Fetch.TheVariants.{Whole}
 use Rattle.ftp_calls.specs.declared.exchange.Movement.TheVariants as movement
-use Rattle.ftp_dialogue.specs.declared.model.DealOutcome.{DealOutcome}
+use Rattle.ftp_dialogue.specs.declared.model.NetOutcome.{NetOutcome}
 use Rattle.ftp_dialogue.specs.declared.state.State.{State}
-use Rattle.ftp_dialogue.specs.Dialogue.{Tree, Move, fetch_parting, giving_up, on_sent, sending}
+use Rattle.ftp_dialogue.specs.Dialogue.{Tree, Move, fetch_closing_data, giving_up, on_sent, sending}
 
 -- what follows a write
-abbrev pub after_write : ℕ → ℕ → List ℕ → State → DealOutcome → Tree
+abbrev pub after_write : ℕ → ℕ → List ℕ → State → NetOutcome → Tree
 after_write left total rest state = on_sent rest (λ more. sending left total more state) state
 
 module _ (total : ℕ) (state : State) where
   -- nothing is left to write
-  pub over_at_end : (left : ℕ) (rest : List ℕ) → rest ≡ [] → sending left total rest state ≡ fetch_parting Whole (Count total) state
+  pub over_at_end : (left : ℕ) (rest : List ℕ) → rest ≡ [] → sending left total rest state ≡ fetch_closing_data Whole (Count total) state
   unfolding sending
   over_at_end zero [] none = refl
   over_at_end (suc left) [] none = refl

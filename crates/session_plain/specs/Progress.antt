@@ -8,14 +8,14 @@ use Rattle.ftp_dialogue.specs.declared.state.State.{State}
 use Rattle.ftp_dialogue.specs.declared.model.Played.{Played}
 use Rattle.ftp_dialogue.specs.Coding.{Coding}
 use Rattle.ftp_dialogue.specs.Dialogue.{Expected, Tree, closes, giving_up, on_data, on_sent}
-use Rattle.ftp_dialogue.specs.Deals.{answers}
+use Rattle.ftp_dialogue.specs.NetEvents.{answers}
 use Rattle.ftp_dialogue.specs.Play.{play, asked_then, built_then, heard_then, moved_then}
 use Rattle.ftp_calls.specs.declared.call.Answer.{Answer}
 use Rattle.ftp_calls.specs.declared.call.Answer.TheVariants.{Unit, Fault}
 use Rattle.ftp_calls.specs.declared.exchange.Fetch.{Fetch}
 use Rattle.ftp_calls.specs.declared.exchange.Movement.{Movement}
-use Rattle.ftp_dialogue.specs.declared.model.DealOutcome.{DealOutcome}
-use Rattle.ftp_dialogue.specs.declared.model.DealOutcome.TheVariants.{Answered, Built}
+use Rattle.ftp_dialogue.specs.declared.model.NetOutcome.{NetOutcome}
+use Rattle.ftp_dialogue.specs.declared.model.NetOutcome.TheVariants.{Answered, Built}
 use Rattle.std.specs.declared.net.socket_addr.SocketAddr.{SocketAddr}
 use Rattle.ftp_base.specs.declared.types.fault.FtpError.{FtpError}
 use Rattle.ftp_base.specs.declared.types.fault.FtpError.TheVariants.{ConnectionError, UnexpectedResponse}
@@ -27,7 +27,7 @@ use Rattle.session_plain.specs.declared.carrying.Carried.TheVariants as carried
 use Rattle.ftp_transport.specs.declared.request.Request.{Request}
 use Rattle.ftp_transport.specs.declared.request.RequestOutcome.{RequestOutcome}
 use Rattle.ftp_dialogue.specs.declared.model.Played.TheVariants.{Pending}
-use Rattle.ftp_dialogue.specs.declared.model.Standing.{Standing}
+use Rattle.ftp_dialogue.specs.declared.model.PlayState.{PlayState}
 use Rattle.ftp_dialogue.specs.declared.model.Wait.TheVariants.{Bytes, Outcome as Asking}
 use Rattle.session_plain.specs.declared.asking.Came.{Came}
 use Rattle.session_plain.specs.declared.asking.Came.TheVariants.{Unknown, Known}
@@ -46,60 +46,60 @@ ComesTo room after played (Stops there) = played ≡ there
 ComesTo room after played (Continues here) = played ≡ play room (after here.state) here
 
 -- a request is made: its outcome isn't known, or it is the next one
-abbrev pub AsksFor : Request → Standing → Came → Type 0
+abbrev pub AsksFor : Request → PlayState → Came → Type 0
 AsksFor request s (Unknown here) =
-    (next : RequestOutcome → Standing → Played) → asked_then s.outcomes request s next ≡ Pending Asking here
+    (next : RequestOutcome → PlayState → Played) → asked_then s.outcomes request s next ≡ Pending Asking here
 AsksFor request s (Known outcome here) =
-    (here.state ≡ s.state) × ((next : RequestOutcome → Standing → Played) → asked_then s.outcomes request s next ≡ next outcome here)
+    (here.state ≡ s.state) × ((next : RequestOutcome → PlayState → Played) → asked_then s.outcomes request s next ≡ next outcome here)
 
 -- the builder is asked: its answer isn't known, or it is the next outcome
-abbrev pub BuildsAt : SocketAddr → Standing → FromBuilder → Type 0
+abbrev pub BuildsAt : SocketAddr → PlayState → FromBuilder → Type 0
 BuildsAt address s (built.Unknown here) =
-    (next : Option FtpError → Standing → Played) → built_then s.outcomes address s next ≡ Pending Asking here
+    (next : Option FtpError → PlayState → Played) → built_then s.outcomes address s next ≡ Pending Asking here
 BuildsAt address s (built.Known fault here) =
-    (here.state ≡ s.state) × ((next : Option FtpError → Standing → Played) → built_then s.outcomes address s next ≡ next fault here)
+    (here.state ≡ s.state) × ((next : Option FtpError → PlayState → Played) → built_then s.outcomes address s next ≡ next fault here)
 
 -- the next outcome, if it is a builder's answer
-abbrev pub next_built : List DealOutcome → Option (Option FtpError)
+abbrev pub next_built : List NetOutcome → Option (Option FtpError)
 next_built (Built fault ∷ outcomes) = Some fault
 next_built outcomes = None
 
 -- the next outcome, if it is one of a request
-abbrev pub next_answer : List DealOutcome → Option RequestOutcome
+abbrev pub next_answer : List NetOutcome → Option RequestOutcome
 next_answer (Answered outcome ∷ outcomes) = Some outcome
 next_answer outcomes = None
 
 -- the next outcome is one of such a movement
-abbrev pub is_next : Movement → List DealOutcome → Bool
+abbrev pub is_next : Movement → List NetOutcome → Bool
 is_next movement [] = false
 is_next movement (outcome ∷ outcomes) = answers movement outcome
 
 -- something is done on the data connection: its outcome isn't known, or it is the next one
-abbrev pub Moves : Movement → Standing → Carried → Type 0
+abbrev pub Moves : Movement → PlayState → Carried → Type 0
 Moves movement s (carried.Unknown here) =
-    (next : DealOutcome → Standing → Played) → moved_then s.outcomes movement s next ≡ Pending Asking here
+    (next : NetOutcome → PlayState → Played) → moved_then s.outcomes movement s next ≡ Pending Asking here
 Moves movement s (carried.Known outcome here) =
-    (here.state ≡ s.state) × ((next : DealOutcome → Standing → Played) → moved_then s.outcomes movement s next ≡ next outcome here)
+    (here.state ≡ s.state) × ((next : NetOutcome → PlayState → Played) → moved_then s.outcomes movement s next ≡ next outcome here)
 
 -- one reply is heard: the bytes don't say it yet, or they say this reply, or a fault in its place
-abbrev pub HearsAs : Outcome → Expected → Standing → Heard → Type 0
+abbrev pub HearsAs : Outcome → Expected → PlayState → Heard → Type 0
 HearsAs said codes s (heard.Unknown here) =
-    (next : Result Response FtpError → Standing → Played) → heard_then said codes s next ≡ Pending (Bytes codes.form) here
+    (next : Result Response FtpError → PlayState → Played) → heard_then said codes s next ≡ Pending (Bytes codes.form) here
 HearsAs said codes s (heard.Known reply here) =
-    (here.state ≡ s.state) × ((next : Result Response FtpError → Standing → Played) → heard_then said codes s next ≡ next reply here)
+    (here.state ≡ s.state) × ((next : Result Response FtpError → PlayState → Played) → heard_then said codes s next ≡ next reply here)
 
-abbrev pub Hears : Expected → Standing → Heard → Type 0
+abbrev pub Hears : Expected → PlayState → Heard → Type 0
 Hears codes s heard = HearsAs (outcome s.state.settings.reply_rule codes.form s.bytes s.ended) codes s heard
 
 -- what follows a read of a whole data connection: others are read after these bytes, or this is the answer
-abbrev pub LeadsTo : Coding → Fetch → List ℕ → DealOutcome → Follows → Type 0
+abbrev pub LeadsTo : Coding → Fetch → List ℕ → NetOutcome → Follows → Type 0
 LeadsTo coding form all outcome (More more) =
     (on : List ℕ → Tree) (over : Answer → Tree) → on_data coding form all on over outcome ≡ on more
 LeadsTo coding form all outcome (Over answer) =
     (on : List ℕ → Tree) (over : Answer → Tree) → on_data coding form all on over outcome ≡ over answer
 
 -- what follows a write of an upload's bytes: the others are sent, or the upload can't go on
-abbrev pub SendsOn : List ℕ → DealOutcome → Sent → Type 0
+abbrev pub SendsOn : List ℕ → NetOutcome → Sent → Type 0
 SendsOn rest outcome (Rest more) = (on : List ℕ → Tree) (state : State) → on_sent rest on state outcome ≡ on more
 SendsOn rest outcome (Failed kind) = (on : List ℕ → Tree) (state : State) → on_sent rest on state outcome ≡ giving_up (ConnectionError (Io kind)) state
 

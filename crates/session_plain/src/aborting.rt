@@ -2,7 +2,7 @@
 
 ghost use Rattle.std.specs.Prelude.{◌≡◌, IfOk};
 ghost use Rattle.ftp_dialogue.specs.Coding.{coding_of};
-ghost use Rattle.ftp_dialogue.specs.Dialogue.{aborting, breaking_off, parting, with_aborted};
+ghost use Rattle.ftp_dialogue.specs.Dialogue.{aborting, breaking_off, closing_data, with_aborted};
 ghost use Rattle.ftp_dialogue.specs.Play.{play};
 
 use crate::carrying::{Carried, moved_by};
@@ -12,26 +12,26 @@ use crate::turns::from_turn;
 use ftp_base::command::Command;
 use ftp_base::encoding::Encoding;
 use ftp_calls::exchange::{Movement, Turn, aborts};
-use ftp_session::model::{Played, Standing, Wait};
+use ftp_session::model::{PlayState, Played, Wait};
 use ftp_session::session::Call;
 use ftp_transport::Room;
 use std::alloc::{AllocError, Global};
 
 /// How a transfer is brought to its end.
-pub(crate) fn parting<E: Encoding>(
+pub(crate) fn closing_data<E: Encoding>(
     alloc: Global,
     room: Room,
     encoding: &E,
     call: &Call,
-    standing: Standing,
+    play_state: PlayState,
 ) -> Result<Played, AllocError>
-    ensures { IfOk result (λ played. played ≡ play room (parting
-        (coding_of E.decoded E.encoded encoding.now) call.now standing.state) standing) }
+    ensures { IfOk result (λ played. played ≡ play room (closing_data
+        (coding_of E.decoded E.encoded encoding.now) call.now play_state.state) play_state) }
 {
     if aborts(call) {
-        aborting(alloc, room, encoding, call, standing)
+        aborting(alloc, room, encoding, call, play_state)
     } else {
-        closing(alloc, room, encoding, call, standing)
+        closing(alloc, room, encoding, call, play_state)
     }
 }
 
@@ -41,12 +41,12 @@ fn aborting<E: Encoding>(
     room: Room,
     encoding: &E,
     call: &Call,
-    standing: Standing,
+    play_state: PlayState,
 ) -> Result<Played, AllocError>
     ensures { IfOk result (λ played. played ≡ play room (aborting
-        (coding_of E.decoded E.encoded encoding.now) call.now standing.state) standing) }
+        (coding_of E.decoded E.encoded encoding.now) call.now play_state.state) play_state) }
 {
-    match say(alloc, room, encoding, Some(Command::Abor), standing)? {
+    match say(alloc, room, encoding, Some(Command::Abor), play_state)? {
         Progress::Stops(played) => Ok(played),
         Progress::Continues(here) => breaking_off(alloc, room, encoding, call, here),
     }
@@ -59,12 +59,12 @@ fn breaking_off<E: Encoding>(
     room: Room,
     encoding: &E,
     call: &Call,
-    standing: Standing,
+    play_state: PlayState,
 ) -> Result<Played, AllocError>
     ensures { IfOk result (λ played. played ≡ play room (breaking_off
-        (coding_of E.decoded E.encoded encoding.now) call.now standing.state) standing) }
+        (coding_of E.decoded E.encoded encoding.now) call.now play_state.state) play_state) }
 {
-    match moved_by(alloc, Movement::Close, standing)? {
+    match moved_by(alloc, Movement::Close, play_state)? {
         Carried::Unknown(here) => Ok(Played::Pending(Wait::Outcome, here)),
         Carried::Known(_outcome, here) => {
             from_turn(alloc, room, encoding, call, Turn::Aborted, here)
@@ -73,9 +73,9 @@ fn breaking_off<E: Encoding>(
 }
 
 /// The transfer was aborted.
-pub(crate) fn aborted(mut standing: Standing) -> Standing
-    ensures { result ≡ record standing { state = with_aborted standing.state } }
+pub(crate) fn aborted(mut play_state: PlayState) -> PlayState
+    ensures { result ≡ record play_state { state = with_aborted play_state.state } }
 {
-    standing.state.counts.abort();
-    standing
+    play_state.state.counts.abort();
+    play_state
 }

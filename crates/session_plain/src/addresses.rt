@@ -15,7 +15,7 @@ use crate::building::{Answered, built};
 use crate::exchange::{Progress, done};
 use ftp_answers::{NoAddress, read_extended_port, read_passive_address};
 use ftp_base::types::{ConnectionError, FtpError, Response};
-use ftp_session::model::{Played, Standing, Wait};
+use ftp_session::model::{PlayState, Played, Wait};
 use ftp_session::session::Answer;
 use ftp_transport::{Request, RequestOutcome};
 use std::alloc::{AllocError, Global};
@@ -26,21 +26,21 @@ use std::net::{SocketAddr, SocketAddrV4, SocketAddrV6};
 pub(crate) fn to_address(
     alloc: Global,
     reply: Response,
-    standing: Standing,
+    play_state: PlayState,
 ) -> Result<Progress, AllocError>
     ensures { IfOk result (λ progress. (room : Rooms) (later : States → Tree) → ComesTo room later
-        (play room (to_address standing.state reply (later standing.state)
-        (passive_address_of reply.body)) standing) progress) }
+        (play room (to_address play_state.state reply (later play_state.state)
+        (passive_address_of reply.body)) play_state) progress) }
 {
     match read_passive_address(reply.body.as_slice()) {
         Ok(address) => {
-            if standing.state.settings.passive_nat_workaround {
-                connecting_to_peer(alloc, address.port(), standing)
+            if play_state.state.settings.passive_nat_workaround {
+                connecting_to_peer(alloc, address.port(), play_state)
             } else {
-                connecting_to(alloc, address, standing)
+                connecting_to(alloc, address, play_state)
             }
         }
-        Err(cause) => Ok(no_address(reply, cause, standing)),
+        Err(cause) => Ok(no_address(reply, cause, play_state)),
     }
 }
 
@@ -49,39 +49,43 @@ pub(crate) fn to_address(
 pub(crate) fn to_port(
     alloc: Global,
     reply: Response,
-    standing: Standing,
+    play_state: PlayState,
 ) -> Result<Progress, AllocError>
     ensures { IfOk result (λ progress. (room : Rooms) (later : States → Tree) → ComesTo room later
-        (play room (to_port standing.state reply (later standing.state)
-        (extended_port_of reply.body)) standing) progress) }
+        (play room (to_port play_state.state reply (later play_state.state)
+        (extended_port_of reply.body)) play_state) progress) }
 {
     match read_extended_port(reply.body.as_slice()) {
-        Ok(port) => connecting_to_peer(alloc, port, standing),
-        Err(cause) => Ok(no_address(reply, cause, standing)),
+        Ok(port) => connecting_to_peer(alloc, port, play_state),
+        Err(cause) => Ok(no_address(reply, cause, play_state)),
     }
 }
 
 /// The reply tells no address, or can't be read.
-fn no_address(reply: Response, cause: NoAddress, standing: Standing) -> Progress
+fn no_address(reply: Response, cause: NoAddress, play_state: PlayState) -> Progress
     ensures { result ≡ Progress.Stops
-        (Played.Done (Answer.Fault (no_address reply cause)) standing) }
+        (Played.Done (Answer.Fault (no_address reply cause)) play_state) }
 {
     let fault = match cause {
         NoAddress::Absent => FtpError::UnexpectedResponse(reply),
         NoAddress::Unreadable => FtpError::BadResponse,
     };
-    done(Answer::Fault(fault), standing)
+    done(Answer::Fault(fault), play_state)
 }
 
 /// A connection to a port of the control connection's peer.
 #[tactic(auto, unfolding(ftp_dialogue::specs::Play::play))]
-fn connecting_to_peer(alloc: Global, port: u16, standing: Standing) -> Result<Progress, AllocError>
+fn connecting_to_peer(
+    alloc: Global,
+    port: u16,
+    play_state: PlayState,
+) -> Result<Progress, AllocError>
     ensures { IfOk result (λ progress. (room : Rooms) (later : States → Tree) → ComesTo room later
-        (play room (connecting_to_peer port standing.state (later standing.state)) standing)
+        (play room (connecting_to_peer port play_state.state (later play_state.state)) play_state)
         progress) }
 {
-    let peer = standing.peer;
-    connecting_to(alloc, at_port(port, peer), standing)
+    let peer = play_state.peer;
+    connecting_to(alloc, at_port(port, peer), play_state)
 }
 
 /// A connection to an address is asked for: of the caller's builder, where there is one.
@@ -89,27 +93,31 @@ fn connecting_to_peer(alloc: Global, port: u16, standing: Standing) -> Result<Pr
 fn connecting_to(
     alloc: Global,
     address: SocketAddr,
-    standing: Standing,
+    play_state: PlayState,
 ) -> Result<Progress, AllocError>
     ensures { IfOk result (λ progress. (room : Rooms) (later : States → Tree) → ComesTo room later
-        (play room (connecting_to address standing.state (later standing.state)) standing)
+        (play room (connecting_to address play_state.state (later play_state.state)) play_state)
         progress) }
 {
-    if standing.state.settings.stream_builder {
-        built_at(alloc, address, standing)
+    if play_state.state.settings.stream_builder {
+        built_at(alloc, address, play_state)
     } else {
-        dialled(alloc, address, standing)
+        dialled(alloc, address, play_state)
     }
 }
 
 /// The builder is asked for it. Its fault is the answer.
 #[tactic(auto, unfolding(ftp_dialogue::specs::Play::play))]
-fn built_at(alloc: Global, address: SocketAddr, standing: Standing) -> Result<Progress, AllocError>
+fn built_at(
+    alloc: Global,
+    address: SocketAddr,
+    play_state: PlayState,
+) -> Result<Progress, AllocError>
     ensures { IfOk result (λ progress. (room : Rooms) (later : States → Tree) → ComesTo room later
-        (play room (Build address (on_built standing.state (later standing.state))) standing)
+        (play room (Build address (on_built play_state.state (later play_state.state))) play_state)
         progress) }
 {
-    match built(alloc, address, standing)? {
+    match built(alloc, address, play_state)? {
         Answered::Unknown(here) => Ok(Progress::Stops(Played::Pending(Wait::Outcome, here))),
         Answered::Known(fault, here) => match fault {
             Some(fault) => Ok(done(Answer::Fault(fault), here)),
@@ -120,12 +128,16 @@ fn built_at(alloc: Global, address: SocketAddr, standing: Standing) -> Result<Pr
 
 /// The transport is asked for it.
 #[tactic(auto, unfolding(ftp_dialogue::specs::Play::play))]
-fn dialled(alloc: Global, address: SocketAddr, standing: Standing) -> Result<Progress, AllocError>
+fn dialled(
+    alloc: Global,
+    address: SocketAddr,
+    play_state: PlayState,
+) -> Result<Progress, AllocError>
     ensures { IfOk result (λ progress. (room : Rooms) (later : States → Tree) → ComesTo room later
-        (play room (Ask (Connect address None) (on_connection standing.state (later standing.state))) standing)
+        (play room (Ask (Connect address None) (on_connection play_state.state (later play_state.state))) play_state)
         progress) }
 {
-    match asked(alloc, Request::Connect(address, None), standing)? {
+    match asked(alloc, Request::Connect(address, None), play_state)? {
         Came::Unknown(here) => Ok(Progress::Stops(Played::Pending(Wait::Outcome, here))),
         Came::Known(RequestOutcome::Refused(cause), here) => Ok(refused(cause, here)),
         Came::Known(RequestOutcome::Done, here) => Ok(Progress::Continues(here)),
@@ -134,11 +146,11 @@ fn dialled(alloc: Global, address: SocketAddr, standing: Standing) -> Result<Pro
 }
 
 /// A request was refused.
-fn refused(cause: ConnectionError, standing: Standing) -> Progress
+fn refused(cause: ConnectionError, play_state: PlayState) -> Progress
     ensures { result ≡ Progress.Stops
-        (Played.Done (Answer.Fault (FtpError.ConnectionError cause)) standing) }
+        (Played.Done (Answer.Fault (FtpError.ConnectionError cause)) play_state) }
 {
-    done(Answer::Fault(FtpError::ConnectionError(cause)), standing)
+    done(Answer::Fault(FtpError::ConnectionError(cause)), play_state)
 }
 
 /// An address with another port.

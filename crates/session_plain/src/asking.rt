@@ -1,12 +1,12 @@
 //! A request to the transport, on all outcomes at once.
 
 ghost use Rattle.std.specs.Prelude.{◌≡◌, IfOk};
-ghost use Rattle.ftp_dialogue.specs.Deals.{data_after, data_meanwhile, dealing, dealt, no_traffic};
+ghost use Rattle.ftp_dialogue.specs.NetEvents.{data_after, data_meanwhile, during_request, after_request, no_traffic};
 ghost use Rattle.session_plain.specs.Progress.{AsksFor};
 
 use crate::outcomes::{next_answer, part};
 use ftp_base::types::{Bytes, Items};
-use ftp_session::model::{Dealings, Standing, Traffic};
+use ftp_session::model::{NetRecord, PlayState, Traffic};
 use ftp_transport::{Request, RequestOutcome};
 use std::alloc::{AllocError, Global};
 use std::mem;
@@ -15,42 +15,42 @@ use std::mem;
 #[derive(Drop)]
 pub(crate) enum Came {
     /// No outcome of it is known.
-    Unknown(Standing),
+    Unknown(PlayState),
     /// This outcome.
-    Known(RequestOutcome, Standing),
+    Known(RequestOutcome, PlayState),
 }
 
 /// A request is made: the next outcome that is known is its, if it is one of a request.
 pub(crate) fn asked(
     alloc: Global,
     request: Request,
-    mut standing: Standing,
+    mut play_state: PlayState,
 ) -> Result<Came, AllocError>
-    ensures { IfOk result (λ came. AsksFor request standing came) }
+    ensures { IfOk result (λ came. AsksFor request play_state came) }
 {
-    let before = mem::replace(&mut standing.dealings, no_dealings(alloc));
-    let Some(outcome) = next_answer(standing.outcomes.as_slice()) else {
-        let Ok(after) = dealing(request, before) else {
-            drop(standing);
+    let before = mem::replace(&mut play_state.net_record, no_net_record(alloc));
+    let Some(outcome) = next_answer(play_state.outcomes.as_slice()) else {
+        let Ok(after) = during_request(request, before) else {
+            drop(play_state);
             return Err(AllocError);
         };
-        drop(mem::replace(&mut standing.dealings, after));
-        return Ok(Came::Unknown(standing));
+        drop(mem::replace(&mut play_state.net_record, after));
+        return Ok(Came::Unknown(play_state));
     };
-    let outcomes = mem::replace(&mut standing.outcomes, Items::from_vec(Vec::new(alloc)));
+    let outcomes = mem::replace(&mut play_state.outcomes, Items::from_vec(Vec::new(alloc)));
     let (_answer, others) = part(outcomes);
-    standing.outcomes = others;
-    let Ok(after) = dealt(alloc, request, outcome, before) else {
-        drop(standing);
+    play_state.outcomes = others;
+    let Ok(after) = after_request(alloc, request, outcome, before) else {
+        drop(play_state);
         return Err(AllocError);
     };
-    drop(mem::replace(&mut standing.dealings, after));
-    Ok(Came::Known(outcome, standing))
+    drop(mem::replace(&mut play_state.net_record, after));
+    Ok(Came::Known(outcome, play_state))
 }
 
 /// Nothing was asked, and there is no data connection.
-pub(crate) fn no_dealings(alloc: Global) -> Dealings {
-    Dealings {
+pub(crate) fn no_net_record(alloc: Global) -> NetRecord {
+    NetRecord {
         asked: Items::from_vec(Vec::new(alloc)),
         closed: Items::from_vec(Vec::new(alloc)),
         data_conn: None,
@@ -58,22 +58,22 @@ pub(crate) fn no_dealings(alloc: Global) -> Dealings {
 }
 
 /// What a request makes of what stands beside the control connection.
-fn dealt(
+fn after_request(
     alloc: Global,
     request: Request,
     outcome: RequestOutcome,
-    before: Dealings,
-) -> Result<Dealings, AllocError>
-    ensures { IfOk result (λ after. after ≡ dealt request outcome before) }
+    before: NetRecord,
+) -> Result<NetRecord, AllocError>
+    ensures { IfOk result (λ after. after ≡ after_request request outcome before) }
 {
-    let Dealings {
+    let NetRecord {
         asked,
         closed,
         data_conn,
     } = before;
     let mut asked = asked.into_vec();
     asked.push(request)?;
-    Ok(Dealings {
+    Ok(NetRecord {
         asked: Items::from_vec(asked),
         closed,
         data_conn: data_after(alloc, request, outcome, data_conn),
@@ -81,17 +81,17 @@ fn dealt(
 }
 
 /// What a request that isn't answered makes of it.
-fn dealing(request: Request, before: Dealings) -> Result<Dealings, AllocError>
-    ensures { IfOk result (λ after. after ≡ dealing request before) }
+fn during_request(request: Request, before: NetRecord) -> Result<NetRecord, AllocError>
+    ensures { IfOk result (λ after. after ≡ during_request request before) }
 {
-    let Dealings {
+    let NetRecord {
         asked,
         closed,
         data_conn,
     } = before;
     let mut asked = asked.into_vec();
     asked.push(request)?;
-    Ok(Dealings {
+    Ok(NetRecord {
         asked: Items::from_vec(asked),
         closed,
         data_conn: data_meanwhile(request, data_conn),

@@ -1,13 +1,13 @@
 //! A connection that the caller's builder is asked for, on all outcomes at once.
 
 ghost use Rattle.std.specs.Prelude.{◌≡◌, IfOk};
-ghost use Rattle.ftp_dialogue.specs.Deals.{constructed, constructing, data_built};
+ghost use Rattle.ftp_dialogue.specs.NetEvents.{constructed, constructing, data_built};
 ghost use Rattle.session_plain.specs.Progress.{BuildsAt};
 
-use crate::asking::{no_dealings, no_traffic};
+use crate::asking::{no_net_record, no_traffic};
 use crate::outcomes::{next_built, part};
 use ftp_base::types::{FtpError, Items};
-use ftp_session::model::{Dealings, Standing, Traffic};
+use ftp_session::model::{NetRecord, PlayState, Traffic};
 use ftp_transport::Request;
 use std::alloc::{AllocError, Global};
 use std::mem;
@@ -17,43 +17,43 @@ use std::net::SocketAddr;
 #[derive(Drop)]
 pub(crate) enum Answered {
     /// Its answer isn't known.
-    Unknown(Standing),
+    Unknown(PlayState),
     /// It made a connection; or gave this fault.
-    Known(Option<FtpError>, Standing),
+    Known(Option<FtpError>, PlayState),
 }
 
 /// The builder is asked: the next outcome that is known is its answer, if it is one of a builder.
 pub(crate) fn built(
     alloc: Global,
     address: SocketAddr,
-    mut standing: Standing,
+    mut play_state: PlayState,
 ) -> Result<Answered, AllocError>
-    ensures { IfOk result (λ built. BuildsAt address standing built) }
+    ensures { IfOk result (λ built. BuildsAt address play_state built) }
 {
-    let before = mem::replace(&mut standing.dealings, no_dealings(alloc));
-    let Ok(next) = next_built(standing.outcomes.as_slice()) else {
+    let before = mem::replace(&mut play_state.net_record, no_net_record(alloc));
+    let Ok(next) = next_built(play_state.outcomes.as_slice()) else {
         drop(before);
-        drop(standing);
+        drop(play_state);
         return Err(AllocError);
     };
     let Some(fault) = next else {
         let Ok(after) = constructing(address, before) else {
-            drop(standing);
+            drop(play_state);
             return Err(AllocError);
         };
-        drop(mem::replace(&mut standing.dealings, after));
-        return Ok(Answered::Unknown(standing));
+        drop(mem::replace(&mut play_state.net_record, after));
+        return Ok(Answered::Unknown(play_state));
     };
-    let outcomes = mem::replace(&mut standing.outcomes, Items::from_vec(Vec::new(alloc)));
+    let outcomes = mem::replace(&mut play_state.outcomes, Items::from_vec(Vec::new(alloc)));
     let (_answer, others) = part(outcomes);
-    standing.outcomes = others;
+    play_state.outcomes = others;
     let Ok(after) = constructed(alloc, address, &fault, before) else {
         drop(fault);
-        drop(standing);
+        drop(play_state);
         return Err(AllocError);
     };
-    drop(mem::replace(&mut standing.dealings, after));
-    Ok(Answered::Known(fault, standing))
+    drop(mem::replace(&mut play_state.net_record, after));
+    Ok(Answered::Known(fault, play_state))
 }
 
 /// What the builder's answer makes of what stands beside the control connection.
@@ -61,18 +61,18 @@ fn constructed(
     alloc: Global,
     address: SocketAddr,
     fault: &Option<FtpError>,
-    before: Dealings,
-) -> Result<Dealings, AllocError>
+    before: NetRecord,
+) -> Result<NetRecord, AllocError>
     ensures { IfOk result (λ after. after ≡ constructed address fault.now before) }
 {
-    let Dealings {
+    let NetRecord {
         asked,
         closed,
         data_conn,
     } = before;
     let mut asked = asked.into_vec();
     asked.push(Request::Build(address))?;
-    Ok(Dealings {
+    Ok(NetRecord {
         asked: Items::from_vec(asked),
         closed,
         data_conn: data_built(alloc, fault, data_conn),
@@ -80,17 +80,17 @@ fn constructed(
 }
 
 /// What a question that isn't answered makes of it.
-fn constructing(address: SocketAddr, before: Dealings) -> Result<Dealings, AllocError>
+fn constructing(address: SocketAddr, before: NetRecord) -> Result<NetRecord, AllocError>
     ensures { IfOk result (λ after. after ≡ constructing address before) }
 {
-    let Dealings {
+    let NetRecord {
         asked,
         closed,
         data_conn,
     } = before;
     let mut asked = asked.into_vec();
     asked.push(Request::Build(address))?;
-    Ok(Dealings {
+    Ok(NetRecord {
         asked: Items::from_vec(asked),
         closed,
         data_conn,

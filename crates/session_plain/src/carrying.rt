@@ -3,19 +3,19 @@
 ghost use Rattle.std.specs.Prelude.{◌≡◌, IfOk, option_map};
 ghost use Rattle.ftp_transport.specs.declared.room.Room.{Room};
 ghost use Rattle.ftp_calls.specs.declared.exchange.Movement.TheVariants as movement;
-ghost use Rattle.ftp_dialogue.specs.Deals.{moved, parted, read_more, written_more};
+ghost use Rattle.ftp_dialogue.specs.NetEvents.{moved, parted, read_more, written_more};
 ghost use Rattle.ftp_dialogue.specs.Dialogue.{Leaf, Move, Tree, carrying, moved_answer};
 ghost use Rattle.ftp_dialogue.specs.Play.{play};
 ghost use Rattle.ftp_dialogue.specs.declared.state.State.{State};
 ghost use Rattle.session_plain.specs.Progress.{ComesTo, Moves};
 
-use crate::asking::no_dealings;
+use crate::asking::no_net_record;
 use crate::exchange::{Progress, done};
 use crate::finishing::left;
 use crate::outcomes::{is_next, part};
 use ftp_base::types::{Bytes, ConnectionError, FtpError, Items};
 use ftp_calls::exchange::Movement;
-use ftp_session::model::{DealOutcome, Dealings, Played, Standing, Traffic, Wait};
+use ftp_session::model::{NetOutcome, NetRecord, PlayState, Played, Traffic, Wait};
 use ftp_session::session::Answer;
 use std::alloc::{AllocError, Global};
 use std::mem;
@@ -24,9 +24,9 @@ use std::mem;
 #[derive(Drop)]
 pub(crate) enum Carried {
     /// No outcome of it is known.
-    Unknown(Standing),
+    Unknown(PlayState),
     /// This outcome.
-    Known(DealOutcome, Standing),
+    Known(NetOutcome, PlayState),
 }
 
 /// Bytes go over the data connection; a read or a write of nothing asks nothing; or it is closed, and the transfer is
@@ -35,37 +35,37 @@ pub(crate) enum Carried {
 pub(crate) fn carrying(
     alloc: Global,
     movement: Movement,
-    standing: Standing,
+    play_state: PlayState,
 ) -> Result<Progress, AllocError>
     ensures { IfOk result (λ progress. (room : Room) (later : State → Tree) → ComesTo room later
-        (play room (carrying movement standing.state) standing) progress) }
+        (play room (carrying movement play_state.state) play_state) progress) }
 {
     match movement {
         Movement::Read(most) => {
             if most == 0 {
-                Ok(done(Answer::Bytes(Bytes::new(alloc)), standing))
+                Ok(done(Answer::Bytes(Bytes::new(alloc)), play_state))
             } else {
-                moving(alloc, Movement::Read(most), standing)
+                moving(alloc, Movement::Read(most), play_state)
             }
         }
         Movement::Write(bytes) => {
             if bytes.as_slice().is_empty() {
-                Ok(done(Answer::Count(0), standing))
+                Ok(done(Answer::Count(0), play_state))
             } else {
-                moving(alloc, Movement::Write(bytes), standing)
+                moving(alloc, Movement::Write(bytes), play_state)
             }
         }
-        Movement::Close => leaving(alloc, standing),
+        Movement::Close => leaving(alloc, play_state),
     }
 }
 
 /// The data connection is closed, and the transfer is left.
 #[tactic(auto, unfolding(ftp_dialogue::specs::Play::play))]
-fn leaving(alloc: Global, standing: Standing) -> Result<Progress, AllocError>
+fn leaving(alloc: Global, play_state: PlayState) -> Result<Progress, AllocError>
     ensures { IfOk result (λ progress. (room : Room) (later : State → Tree) → ComesTo room later
-        (play room (carrying movement.Close standing.state) standing) progress) }
+        (play room (carrying movement.Close play_state.state) play_state) progress) }
 {
-    match moved_by(alloc, Movement::Close, standing)? {
+    match moved_by(alloc, Movement::Close, play_state)? {
         Carried::Unknown(here) => Ok(Progress::Stops(Played::Pending(Wait::Outcome, here))),
         Carried::Known(outcome, here) => {
             pass_over(outcome);
@@ -75,35 +75,35 @@ fn leaving(alloc: Global, standing: Standing) -> Result<Progress, AllocError>
 }
 
 /// What a close came to is told to nobody.
-pub(crate) fn pass_over(outcome: DealOutcome) {
+pub(crate) fn pass_over(outcome: NetOutcome) {
     drop(outcome);
 }
 
 /// What is done is the answer.
 #[tactic(auto, unfolding(ftp_dialogue::specs::Play::play))]
-fn moving(alloc: Global, movement: Movement, standing: Standing) -> Result<Progress, AllocError>
+fn moving(alloc: Global, movement: Movement, play_state: PlayState) -> Result<Progress, AllocError>
     ensures { IfOk result (λ progress. (room : Room) (later : State → Tree) → ComesTo room later
-        (play room (Move movement (λ came. Leaf (moved_answer came) standing.state)) standing)
+        (play room (Move movement (λ came. Leaf (moved_answer came) play_state.state)) play_state)
         progress) }
 {
-    match moved_by(alloc, movement, standing)? {
+    match moved_by(alloc, movement, play_state)? {
         Carried::Unknown(here) => Ok(Progress::Stops(Played::Pending(Wait::Outcome, here))),
         Carried::Known(outcome, here) => Ok(done(moved_answer(outcome), here)),
     }
 }
 
 /// What was done on a data connection is the answer.
-fn moved_answer(outcome: DealOutcome) -> Answer
+fn moved_answer(outcome: NetOutcome) -> Answer
     ensures { result ≡ moved_answer outcome }
 {
     match outcome {
-        DealOutcome::Answered(_) | DealOutcome::Built(_) | DealOutcome::Closed => Answer::Unit,
-        DealOutcome::Read(bytes) => Answer::Bytes(bytes),
-        DealOutcome::Wrote(count) => Answer::Count(count as u64),
-        DealOutcome::Failed(kind) => {
+        NetOutcome::Answered(_) | NetOutcome::Built(_) | NetOutcome::Closed => Answer::Unit,
+        NetOutcome::Read(bytes) => Answer::Bytes(bytes),
+        NetOutcome::Wrote(count) => Answer::Count(count as u64),
+        NetOutcome::Failed(kind) => {
             Answer::Fault(FtpError::ConnectionError(ConnectionError::Io(kind)))
         }
-        DealOutcome::NoMemory => Answer::Fault(FtpError::OutOfMemory),
+        NetOutcome::NoMemory => Answer::Fault(FtpError::OutOfMemory),
     }
 }
 
@@ -111,51 +111,51 @@ fn moved_answer(outcome: DealOutcome) -> Answer
 pub(crate) fn moved_by(
     alloc: Global,
     movement: Movement,
-    mut standing: Standing,
+    mut play_state: PlayState,
 ) -> Result<Carried, AllocError>
-    ensures { IfOk result (λ came. Moves movement standing came) }
+    ensures { IfOk result (λ came. Moves movement play_state came) }
 {
-    if !is_next(&movement, standing.outcomes.as_slice()) {
-        return Ok(Carried::Unknown(standing));
+    if !is_next(&movement, play_state.outcomes.as_slice()) {
+        return Ok(Carried::Unknown(play_state));
     }
-    let outcomes = mem::replace(&mut standing.outcomes, Items::from_vec(Vec::new(alloc)));
+    let outcomes = mem::replace(&mut play_state.outcomes, Items::from_vec(Vec::new(alloc)));
     let (outcome, others) = part(outcomes);
-    standing.outcomes = others;
-    let before = mem::replace(&mut standing.dealings, no_dealings(alloc));
+    play_state.outcomes = others;
+    let before = mem::replace(&mut play_state.net_record, no_net_record(alloc));
     let Ok(after) = moved(movement, &outcome, before) else {
         drop(outcome);
-        drop(standing);
+        drop(play_state);
         return Err(AllocError);
     };
-    drop(mem::replace(&mut standing.dealings, after));
-    Ok(Carried::Known(outcome, standing))
+    drop(mem::replace(&mut play_state.net_record, after));
+    Ok(Carried::Known(outcome, play_state))
 }
 
 /// What a movement makes of what stands beside the control connection.
 fn moved(
     movement: Movement,
-    outcome: &DealOutcome,
-    before: Dealings,
-) -> Result<Dealings, AllocError>
+    outcome: &NetOutcome,
+    before: NetRecord,
+) -> Result<NetRecord, AllocError>
     ensures { IfOk result (λ after. after ≡ moved movement outcome.now before) }
 {
-    let Dealings {
+    let NetRecord {
         asked,
         closed,
         data_conn,
     } = before;
     match movement {
-        Movement::Read(_most) => Ok(Dealings {
+        Movement::Read(_most) => Ok(NetRecord {
             asked,
             closed,
             data_conn: read_on(outcome, data_conn)?,
         }),
-        Movement::Write(bytes) => Ok(Dealings {
+        Movement::Write(bytes) => Ok(NetRecord {
             asked,
             closed,
             data_conn: written_on(bytes.as_slice(), outcome, data_conn)?,
         }),
-        Movement::Close => parted(Dealings {
+        Movement::Close => parted(NetRecord {
             asked,
             closed,
             data_conn,
@@ -164,10 +164,10 @@ fn moved(
 }
 
 /// The data connection is closed and handed back.
-pub(crate) fn parted(before: Dealings) -> Result<Dealings, AllocError>
+pub(crate) fn parted(before: NetRecord) -> Result<NetRecord, AllocError>
     ensures { IfOk result (λ after. after ≡ parted before) }
 {
-    let Dealings {
+    let NetRecord {
         asked,
         closed,
         data_conn,
@@ -176,7 +176,7 @@ pub(crate) fn parted(before: Dealings) -> Result<Dealings, AllocError>
     if let Some(traffic) = data_conn {
         closed.push(traffic)?;
     }
-    Ok(Dealings {
+    Ok(NetRecord {
         asked,
         closed: Items::from_vec(closed),
         data_conn: None,
@@ -184,7 +184,7 @@ pub(crate) fn parted(before: Dealings) -> Result<Dealings, AllocError>
 }
 
 /// What a read makes of the data connection, where there is one.
-fn read_on(outcome: &DealOutcome, conn: Option<Traffic>) -> Result<Option<Traffic>, AllocError>
+fn read_on(outcome: &NetOutcome, conn: Option<Traffic>) -> Result<Option<Traffic>, AllocError>
     ensures { IfOk result (λ after. after ≡ option_map (read_more outcome.now) conn) }
 {
     match conn {
@@ -194,10 +194,10 @@ fn read_on(outcome: &DealOutcome, conn: Option<Traffic>) -> Result<Option<Traffi
 }
 
 /// What was read goes to what was received.
-fn read_more(outcome: &DealOutcome, mut traffic: Traffic) -> Result<Traffic, AllocError>
+fn read_more(outcome: &NetOutcome, mut traffic: Traffic) -> Result<Traffic, AllocError>
     ensures { IfOk result (λ after. after ≡ read_more outcome.now traffic) }
 {
-    if let DealOutcome::Read(bytes) = outcome {
+    if let NetOutcome::Read(bytes) = outcome {
         traffic.received.extend_from_slice(bytes.as_slice())?;
     }
     Ok(traffic)
@@ -206,7 +206,7 @@ fn read_more(outcome: &DealOutcome, mut traffic: Traffic) -> Result<Traffic, All
 /// What a write of these bytes makes of the data connection, where there is one.
 fn written_on(
     bytes: &[u8],
-    outcome: &DealOutcome,
+    outcome: &NetOutcome,
     conn: Option<Traffic>,
 ) -> Result<Option<Traffic>, AllocError>
     ensures { IfOk result (λ after. after ≡ option_map (written_more bytes.now outcome.now) conn) }
@@ -220,12 +220,12 @@ fn written_on(
 /// What was written of these bytes goes to what was sent.
 fn written_more(
     bytes: &[u8],
-    outcome: &DealOutcome,
+    outcome: &NetOutcome,
     mut traffic: Traffic,
 ) -> Result<Traffic, AllocError>
     ensures { IfOk result (λ after. after ≡ written_more bytes.now outcome.now traffic) }
 {
-    if let DealOutcome::Wrote(count) = outcome {
+    if let NetOutcome::Wrote(count) = outcome {
         let taken = (*count).min(bytes.len());
         traffic.sent.extend_from_slice(&bytes[..taken])?;
     }

@@ -9,7 +9,7 @@ use crate::asking::{Came, asked};
 use crate::play::play_dialogue;
 use ftp_base::encoding::Encoding;
 use ftp_base::types::{ConnectionError, FtpError};
-use ftp_session::model::{Played, Standing, Wait};
+use ftp_session::model::{PlayState, Played, Wait};
 use ftp_session::session::{Answer, Call};
 use ftp_transport::{Request, RequestOutcome, Room};
 use std::alloc::{AllocError, Global};
@@ -22,16 +22,16 @@ pub fn connect_in_turn<E: Encoding>(
     encoding: &E,
     requests: &[Request],
     fault: ConnectionError,
-    standing: Standing,
+    play_state: PlayState,
 ) -> Result<Played, AllocError>
     ensures { IfOk result (λ played. played ≡ play room (connecting
-        (coding_of E.decoded E.encoded encoding.now) requests.now fault standing.state) standing) }
+        (coding_of E.decoded E.encoded encoding.now) requests.now fault play_state.state) play_state) }
 {
     let Some((request, others)) = requests.split_first() else {
         let answer = Answer::Fault(FtpError::ConnectionError(fault));
-        return Ok(Played::Done(answer, standing));
+        return Ok(Played::Done(answer, play_state));
     };
-    match asked(alloc, *request, standing)? {
+    match asked(alloc, *request, play_state)? {
         Came::Unknown(here) => Ok(Played::Pending(Wait::Outcome, here)),
         Came::Known(RequestOutcome::Refused(cause), here) => {
             connect_in_turn(alloc, room, encoding, others, cause, here)

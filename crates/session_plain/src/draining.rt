@@ -8,7 +8,7 @@ ghost use Rattle.ftp_runs.specs.Script.{last_of, succeeded};
 use crate::play::play_call;
 use ftp_base::encoding::Encoding;
 use ftp_calls::exchange::drains_first;
-use ftp_session::model::{Played, Standing};
+use ftp_session::model::{PlayState, Played};
 use ftp_session::session::{Answer, Call, Owed};
 use ftp_transport::Room;
 use std::alloc::{AllocError, Global};
@@ -29,13 +29,13 @@ pub fn play_drained<E: Encoding>(
     room: Room,
     encoding: &E,
     call: &Call,
-    standing: Standing,
+    play_state: PlayState,
 ) -> Result<Played, AllocError>
     ensures { IfOk result (λ played. played ≡
-        play_drained room (coding_of E.decoded E.encoded encoding.now) call.now standing) }
+        play_drained room (coding_of E.decoded E.encoded encoding.now) call.now play_state) }
 {
-    let due = is_due(call, standing.failed, standing.state.counts.owed());
-    play_drained_if(alloc, room, encoding, due, call, standing)
+    let due = is_due(call, play_state.failed, play_state.state.counts.owed());
+    play_drained_if(alloc, room, encoding, due, call, play_state)
 }
 
 /// What a call comes to, after that reply where it is due.
@@ -45,15 +45,15 @@ fn play_drained_if<E: Encoding>(
     encoding: &E,
     due: bool,
     call: &Call,
-    standing: Standing,
+    play_state: PlayState,
 ) -> Result<Played, AllocError>
     ensures { IfOk result (λ played. played ≡
-        play_drained_if due room (coding_of E.decoded E.encoded encoding.now) call.now standing) }
+        play_drained_if due room (coding_of E.decoded E.encoded encoding.now) call.now play_state) }
 {
     if !due {
-        return play_call(alloc, room, encoding, call, standing);
+        return play_call(alloc, room, encoding, call, play_state);
     }
-    let drained = play_call(alloc, room, encoding, &Call::Drain, standing)?;
+    let drained = play_call(alloc, room, encoding, &Call::Drain, play_state)?;
     after_drain(alloc, room, encoding, call, drained)
 }
 

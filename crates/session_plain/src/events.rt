@@ -14,7 +14,7 @@ use ftp_base::encoding::Encoding;
 use ftp_base::types::{Bytes, Items};
 use ftp_runs::Event;
 use ftp_runs::model::{Item, Ran, Script};
-use ftp_session::model::{Standing, Wait};
+use ftp_session::model::{PlayState, Wait};
 use ftp_session::session::{Answer, Call};
 use ftp_transport::Room;
 use std::alloc::{AllocError, Global};
@@ -24,7 +24,7 @@ use std::mem;
 pub fn run_polled<E: Encoding>(
     alloc: Global,
     encoding: &E,
-    first: &Standing,
+    first: &PlayState,
     mut here: Script,
     events: &[Event],
 ) -> Result<Script, AllocError>
@@ -45,7 +45,7 @@ pub fn run_polled<E: Encoding>(
 fn happen<E: Encoding>(
     alloc: Global,
     encoding: &E,
-    first: &Standing,
+    first: &PlayState,
     here: &mut Script,
     event: &Event,
 ) -> Result<(), AllocError>
@@ -103,7 +103,7 @@ fn start(here: &mut Script, call: &Call) -> Result<(), AllocError>
 pub(crate) fn poll_next<E: Encoding>(
     alloc: Global,
     encoding: &E,
-    first: &Standing,
+    first: &PlayState,
     here: &mut Script,
 ) -> Result<(), AllocError>
     ensures { OnOk result (here.new ≡ poll_next (coding_of E.decoded E.encoded encoding.now)
@@ -123,7 +123,7 @@ pub(crate) fn poll_next<E: Encoding>(
 fn poll_drain<E: Encoding>(
     alloc: Global,
     encoding: &E,
-    first: &Standing,
+    first: &PlayState,
     here: &mut Script,
     call: Call,
 ) -> Result<(), AllocError>
@@ -147,7 +147,7 @@ fn wait_for_drain(
     here: &mut Script,
     call: Call,
     wait: Wait,
-    there: Standing,
+    there: PlayState,
 ) -> Result<(), AllocError>
     ensures { (answers : List Answers) → OnOk result (here.new ≡
         with_call call (polled_as (Waiting answers wait there) Call.Drain (draining here.old))) }
@@ -168,11 +168,11 @@ fn wait_for_drain(
 fn end_drain<E: Encoding>(
     alloc: Global,
     encoding: &E,
-    first: &Standing,
+    first: &PlayState,
     here: &mut Script,
     call: Call,
     answers: Items<Answer>,
-    there: Standing,
+    there: PlayState,
 ) -> Result<(), AllocError>
     ensures { OnOk result (here.new ≡ drained_as (coding_of E.decoded E.encoded encoding.now)
         first.now call here.old (Finished answers there)) }
@@ -192,10 +192,10 @@ pub(crate) fn pass_over(_answers: Items<Answer>) {}
 fn go_on<E: Encoding>(
     alloc: Global,
     encoding: &E,
-    first: &Standing,
+    first: &PlayState,
     here: &mut Script,
     call: Call,
-    there: Standing,
+    there: PlayState,
 ) -> Result<(), AllocError>
     ensures { (answers : List Answers) → OnOk result (here.new ≡ poll_script (coding_of E.decoded E.encoded encoding.now)
         first.now (Some call) (drained_to call here.old (polled_as (Finished answers there) Call.Drain (draining here.old)))) }
@@ -213,7 +213,7 @@ fn go_on<E: Encoding>(
 fn poll_call<E: Encoding>(
     alloc: Global,
     encoding: &E,
-    first: &Standing,
+    first: &PlayState,
     here: &mut Script,
     call: Call,
 ) -> Result<(), AllocError>
@@ -234,7 +234,7 @@ fn poll_call<E: Encoding>(
 pub(crate) fn run_with<E: Encoding>(
     alloc: Global,
     encoding: &E,
-    first: &Standing,
+    first: &PlayState,
     here: &Script,
     call: &Call,
 ) -> Result<Ran, AllocError>
@@ -253,7 +253,7 @@ pub(crate) fn run_with<E: Encoding>(
 }
 
 /// Where the run began, on the bytes that came by now.
-fn begun(first: &Standing, here: &Script) -> Result<Standing, AllocError>
+fn begun(first: &PlayState, here: &Script) -> Result<PlayState, AllocError>
     ensures { IfOk result (λ begun. begun ≡
         record first.now { bytes = here.now.bytes; ended = here.now.ended }) }
 {
@@ -270,7 +270,7 @@ pub(crate) fn finish(
     here: &mut Script,
     item: Item,
     answers: Items<Answer>,
-    there: Standing,
+    there: PlayState,
 ) -> Result<(), AllocError>
     ensures { OnOk result (here.new ≡ record here.old {
       items = here.old.items ++ item ∷ [];
@@ -282,7 +282,7 @@ pub(crate) fn finish(
       sent = front here.old.room there.said;
       unsent = there.unsent;
       untaken = there.bytes;
-      dealings = there.dealings;
+      net_record = there.net_record;
       seen = seen_in here.old there.bytes;
       state = there.state;
       failed = there.failed;
@@ -305,7 +305,7 @@ pub(crate) fn finish(
     here.unsent = there.unsent;
     here.seen = seen_in(here, there.bytes.len());
     here.untaken = there.bytes;
-    drop(mem::replace(&mut here.dealings, there.dealings));
+    drop(mem::replace(&mut here.net_record, there.net_record));
     drop(mem::replace(&mut here.state, there.state));
     here.failed = there.failed;
     Ok(())
@@ -322,7 +322,7 @@ pub(crate) fn add(alloc: Global, items: &mut Items<Item>, item: Item) -> Result<
 }
 
 /// A call waits: the run stands there.
-fn suspend(here: &mut Script, call: Call, wait: Wait, there: Standing) -> Result<(), AllocError>
+fn suspend(here: &mut Script, call: Call, wait: Wait, there: PlayState) -> Result<(), AllocError>
     ensures { OnOk result (here.new ≡ record here.old {
       call = Some call;
       polled = true;
@@ -330,7 +330,7 @@ fn suspend(here: &mut Script, call: Call, wait: Wait, there: Standing) -> Result
       said = there.said ++ there.unsent;
       sent = front here.old.room there.said;
       untaken = there.bytes;
-      dealings = there.dealings;
+      net_record = there.net_record;
       seen = seen_at wait here.old there.bytes;
       form = form_at wait here.old;
       rule = rule_at wait here.old there.state;
@@ -359,7 +359,7 @@ fn suspend(here: &mut Script, call: Call, wait: Wait, there: Standing) -> Result
     here.said = said;
     here.sent = front(here.room, there.said);
     here.untaken = there.bytes;
-    drop(mem::replace(&mut here.dealings, there.dealings));
+    drop(mem::replace(&mut here.net_record, there.net_record));
     drop(mem::replace(&mut here.state, there.state));
     here.failed = there.failed;
     Ok(())

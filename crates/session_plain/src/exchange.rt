@@ -27,7 +27,7 @@ use ftp_base::types::{Bytes, FtpError, FtpResult, Items, Response};
 use ftp_calls::exchange::{Codes, Ending, Exchange, Row, Turn, row_at};
 use ftp_control::control::{ReplyForm, WireLine, form_of};
 use ftp_dialogue::answers::{features_answer, line_answer, path_answer, size_answer, time_answer};
-use ftp_session::model::{Played, Standing, Wait};
+use ftp_session::model::{PlayState, Played, Wait};
 use ftp_session::session::{Answer, Call, State};
 use ftp_transport::Room;
 use std::alloc::{AllocError, Global};
@@ -38,7 +38,7 @@ pub(crate) enum Progress {
     /// The call has its answer, or waits.
     Stops(Played),
     /// What comes after this part begins here.
-    Continues(Standing),
+    Continues(PlayState),
 }
 
 /// What a call does at this turn.
@@ -49,20 +49,20 @@ pub(crate) fn row<E: Encoding>(
     encoding: &E,
     call: &Call,
     turn: Turn,
-    standing: Standing,
+    play_state: PlayState,
 ) -> Result<Progress, AllocError>
     ensures { IfOk result (λ progress. (later : State → Tree) →
         let coding = coding_of E.decoded E.encoded encoding.now in
         ComesTo room later
-        (play room (doing coding (row_of call.now turn) standing.state later) standing)
+        (play room (doing coding (row_of call.now turn) play_state.state later) play_state)
         progress) }
 {
     match row_at(alloc, call, turn)? {
-        Row::Exchanges(made) => exchange(alloc, room, encoding, made, standing),
-        Row::Arms(offset) => Ok(done(Answer::Unit, armed(offset, standing))),
-        Row::Resyncs => resync(alloc, room, encoding, standing),
-        Row::Sets(setting) => Ok(done(Answer::Unit, set_to(setting, standing))),
-        Row::Moves(movement) => carrying(alloc, movement, standing),
+        Row::Exchanges(made) => exchange(alloc, room, encoding, made, play_state),
+        Row::Arms(offset) => Ok(done(Answer::Unit, armed(offset, play_state))),
+        Row::Resyncs => resync(alloc, room, encoding, play_state),
+        Row::Sets(setting) => Ok(done(Answer::Unit, set_to(setting, play_state))),
+        Row::Moves(movement) => carrying(alloc, movement, play_state),
     }
 }
 
@@ -72,15 +72,15 @@ fn exchange<E: Encoding>(
     room: Room,
     encoding: &E,
     exchange: Exchange,
-    standing: Standing,
+    play_state: PlayState,
 ) -> Result<Progress, AllocError>
     ensures { IfOk result (λ progress. (later : State → Tree) →
         let coding = coding_of E.decoded E.encoded encoding.now in
         ComesTo room later
-        (play room (exchanging coding exchange standing.state later) standing)
+        (play room (exchanging coding exchange play_state.state later) play_state)
         progress) }
 {
-    match say(alloc, room, encoding, exchange.says, standing)? {
+    match say(alloc, room, encoding, exchange.says, play_state)? {
         Progress::Stops(played) => Ok(Progress::Stops(played)),
         Progress::Continues(here) => hear(alloc, encoding, exchange.hears, exchange.ending, here),
     }
@@ -93,34 +93,34 @@ pub(crate) fn say<E: Encoding>(
     room: Room,
     encoding: &E,
     command: Option<Command>,
-    standing: Standing,
+    play_state: PlayState,
 ) -> Result<Progress, AllocError>
     ensures { IfOk result (λ progress. (after : State → Tree) →
         let coding = coding_of E.decoded E.encoded encoding.now in
         ComesTo room after
-        (play room (saying coding command (after standing.state)) standing) progress) }
+        (play room (saying coding command (after play_state.state)) play_state) progress) }
 {
     let Some(command) = command else {
-        return Ok(Progress::Continues(standing));
+        return Ok(Progress::Continues(play_state));
     };
     match line_of(alloc, encoding, command) {
-        Ok(line) => said_then(room, line.as_slice(), standing),
-        Err(FtpError::ConnectionError(cause)) => Ok(done(Answer::Fault(cause.into()), standing)),
+        Ok(line) => said_then(room, line.as_slice(), play_state),
+        Err(FtpError::ConnectionError(cause)) => Ok(done(Answer::Fault(cause.into()), play_state)),
         Err(fault) => {
             drop(fault);
-            drop(standing);
+            drop(play_state);
             Err(AllocError)
         }
     }
 }
 
 /// A line is said; the dialogue continues once all of it is within the room.
-fn said_then(room: Room, line: &[u8], standing: Standing) -> Result<Progress, AllocError>
+fn said_then(room: Room, line: &[u8], play_state: PlayState) -> Result<Progress, AllocError>
     ensures { IfOk result (λ progress. (after : State → Tree) → ComesTo room after
-        (said_then room line.now standing (λ here. play room (after standing.state) here))
+        (said_then room line.now play_state (λ here. play room (after play_state.state) here))
         progress) }
 {
-    let here = said(line, standing)?;
+    let here = said(line, play_state)?;
     if fits(room, here.said.as_slice()) {
         Ok(Progress::Continues(here))
     } else {
@@ -163,20 +163,23 @@ fn form_of_codes(codes: &Codes) -> ReplyForm
 }
 
 /// A line was said after the unsent tail of the one before.
-fn said(line: &[u8], mut standing: Standing) -> Result<Standing, AllocError>
+fn said(line: &[u8], mut play_state: PlayState) -> Result<PlayState, AllocError>
     ensures { IfOk result (λ here. here ≡
-        record standing { said = standing.said ++ standing.unsent ++ line.now; unsent = [] }) }
+        record play_state { said = play_state.said ++ play_state.unsent ++ line.now; unsent = [] }) }
 {
-    let Ok(()) = standing.said.extend_from_slice(standing.unsent.as_slice()) else {
-        drop(standing);
+    let Ok(()) = play_state
+        .said
+        .extend_from_slice(play_state.unsent.as_slice())
+    else {
+        drop(play_state);
         return Err(AllocError);
     };
-    let Ok(()) = standing.said.extend_from_slice(line) else {
-        drop(standing);
+    let Ok(()) = play_state.said.extend_from_slice(line) else {
+        drop(play_state);
         return Err(AllocError);
     };
-    standing.unsent.clear();
-    Ok(standing)
+    play_state.unsent.clear();
+    Ok(play_state)
 }
 
 /// Whether so much is within the room.
@@ -195,17 +198,17 @@ fn hear<E: Encoding>(
     encoding: &E,
     codes: Codes,
     ending: Ending,
-    standing: Standing,
+    play_state: PlayState,
 ) -> Result<Progress, AllocError>
     ensures { IfOk result (λ progress. (room : Room) (later : State → Tree) →
         let coding = coding_of E.decoded E.encoded encoding.now in
         ComesTo room later
-        (play room (awaiting coding (expected_of codes) ending standing.state later) standing)
+        (play room (awaiting coding (expected_of codes) ending play_state.state later) play_state)
         progress) }
 {
     let form = form_of_codes(&codes);
     let statuses = statuses(alloc, codes)?;
-    match hear_reply(alloc, form, statuses.as_slice(), standing)? {
+    match hear_reply(alloc, form, statuses.as_slice(), play_state)? {
         Heard::Unknown(here) => Ok(Progress::Stops(Played::Pending(Wait::Bytes(form), here))),
         Heard::Known(reply, here) => concluded(alloc, encoding, ending, reply, here),
     }
@@ -218,17 +221,17 @@ fn concluded<E: Encoding>(
     encoding: &E,
     ending: Ending,
     heard: FtpResult<Response>,
-    standing: Standing,
+    play_state: PlayState,
 ) -> Result<Progress, AllocError>
     ensures { IfOk result (λ progress. (room : Room) (later : State → Tree) →
         let coding = coding_of E.decoded E.encoded encoding.now in
         ComesTo room later
-        (play room (concluded coding ending standing.state later heard) standing) progress) }
+        (play room (concluded coding ending play_state.state later heard) play_state) progress) }
 {
     match heard {
-        Ok(reply) => accepted(alloc, encoding, ending, reply, standing),
+        Ok(reply) => accepted(alloc, encoding, ending, reply, play_state),
         Err(fault) => {
-            let here = after_fault(&ending, &fault, standing);
+            let here = after_fault(&ending, &fault, play_state);
             let answer = answer_to_fault(&ending, fault);
             drop(ending);
             Ok(done(answer, here))
@@ -243,96 +246,96 @@ fn accepted<E: Encoding>(
     encoding: &E,
     ending: Ending,
     reply: Response,
-    standing: Standing,
+    play_state: PlayState,
 ) -> Result<Progress, AllocError>
     ensures { IfOk result (λ progress. (room : Room) (later : State → Tree) →
         let coding = coding_of E.decoded E.encoded encoding.now in
         ComesTo room later
-        (play room (accepted coding ending standing.state reply later) standing) progress) }
+        (play room (accepted coding ending play_state.state reply later) play_state) progress) }
 {
     match ending {
-        Ending::Done => Ok(done(Answer::Unit, standing)),
-        Ending::GivesReply => Ok(done(Answer::Reply(reply), standing)),
+        Ending::Done => Ok(done(Answer::Unit, play_state)),
+        Ending::GivesReply => Ok(done(Answer::Reply(reply), play_state)),
         Ending::TakesReply => {
-            let here = answered(reply.status, standing);
+            let here = answered(reply.status, play_state);
             Ok(done(Answer::Reply(reply), here))
         }
         Ending::Greets => match greeting_of(alloc, encoding, reply.body) {
-            Ok(welcome) => Ok(done(Answer::Unit, greeted(welcome, standing))),
+            Ok(welcome) => Ok(done(Answer::Unit, greeted(welcome, play_state))),
             Err(AllocError) => {
-                drop(standing);
+                drop(play_state);
                 Err(AllocError)
             }
         },
         Ending::GivesPath => match path_answer(alloc, encoding, reply) {
-            Ok(answer) => Ok(done(answer, standing)),
+            Ok(answer) => Ok(done(answer, play_state)),
             Err(AllocError) => {
-                drop(standing);
+                drop(play_state);
                 Err(AllocError)
             }
         },
         Ending::GivesSecondLine => match line_answer(alloc, encoding, &reply) {
-            Ok(answer) => Ok(done(answer, standing)),
+            Ok(answer) => Ok(done(answer, play_state)),
             Err(AllocError) => {
-                drop(standing);
+                drop(play_state);
                 Err(AllocError)
             }
         },
-        Ending::GivesTime => Ok(done(time_answer(&reply), standing)),
-        Ending::GivesSize => Ok(done(size_answer(&reply), standing)),
+        Ending::GivesTime => Ok(done(time_answer(&reply), play_state)),
+        Ending::GivesSize => Ok(done(size_answer(&reply), play_state)),
         Ending::GivesFeatures => match features_answer(alloc, &reply) {
-            Ok(answer) => Ok(done(answer, standing)),
+            Ok(answer) => Ok(done(answer, play_state)),
             Err(AllocError) => {
-                drop(standing);
+                drop(play_state);
                 Err(AllocError)
             }
         },
-        Ending::SetsText(text) => Ok(done(Answer::Unit, text_set(text, standing))),
-        Ending::Continues => Ok(Progress::Continues(standing)),
-        Ending::GivesAddress => to_address(alloc, reply, standing),
-        Ending::GivesPort => to_port(alloc, reply, standing),
-        Ending::Opens(gives_reply) => opens(alloc, opened_answer(gives_reply, reply), standing),
-        Ending::Performs(task) => performs(alloc, encoding, task, standing),
-        Ending::Finishes(close) => Ok(done(finish_answer(close), finished(standing))),
-        Ending::Drains => Ok(done(Answer::Unit, drained(standing))),
+        Ending::SetsText(text) => Ok(done(Answer::Unit, text_set(text, play_state))),
+        Ending::Continues => Ok(Progress::Continues(play_state)),
+        Ending::GivesAddress => to_address(alloc, reply, play_state),
+        Ending::GivesPort => to_port(alloc, reply, play_state),
+        Ending::Opens(gives_reply) => opens(alloc, opened_answer(gives_reply, reply), play_state),
+        Ending::Performs(task) => performs(alloc, encoding, task, play_state),
+        Ending::Finishes(close) => Ok(done(finish_answer(close), finished(play_state))),
+        Ending::Drains => Ok(done(Answer::Unit, drained(play_state))),
         Ending::Stops => {
             if reply.status.code() == Status::TransferAborted.code() {
-                Ok(Progress::Continues(standing))
+                Ok(Progress::Continues(play_state))
             } else {
-                Ok(done(Answer::Unit, aborted(standing)))
+                Ok(done(Answer::Unit, aborted(play_state)))
             }
         }
         Ending::GoesOn(status) => {
             let goes_on = reply.status.code() == status.code();
             if goes_on {
-                Ok(Progress::Continues(standing))
+                Ok(Progress::Continues(play_state))
             } else {
-                Ok(done(Answer::Unit, standing))
+                Ok(done(Answer::Unit, play_state))
             }
         }
     }
 }
 
 /// The server greeted.
-fn greeted(welcome: WelcomeMessage, mut standing: Standing) -> Standing
-    ensures { result ≡ record standing {
-      state = record standing.state { welcome = Some welcome };
+fn greeted(welcome: WelcomeMessage, mut play_state: PlayState) -> PlayState
+    ensures { result ≡ record play_state {
+      state = record play_state.state { welcome = Some welcome };
     } }
 {
-    standing.state.welcome = Some(welcome);
-    standing
+    play_state.state.welcome = Some(welcome);
+    play_state
 }
 
 /// Transfers are of text from now on, or aren't.
-fn text_set(text: bool, mut standing: Standing) -> Standing
-    ensures { result ≡ record standing {
-      state = record standing.state {
-        settings = record standing.state.settings { text = text };
+fn text_set(text: bool, mut play_state: PlayState) -> PlayState
+    ensures { result ≡ record play_state {
+      state = record play_state.state {
+        settings = record play_state.state.settings { text = text };
       };
     } }
 {
-    standing.state.settings.text = text;
-    standing
+    play_state.state.settings.text = text;
+    play_state
 }
 
 /// What a greeting's bytes say.
@@ -351,8 +354,8 @@ fn greeting_of<E: Encoding>(
 }
 
 /// A call has its answer.
-pub(crate) fn done(answer: Answer, standing: Standing) -> Progress
-    ensures { result ≡ Progress.Stops (Played.Done answer standing) }
+pub(crate) fn done(answer: Answer, play_state: PlayState) -> Progress
+    ensures { result ≡ Progress.Stops (Played.Done answer play_state) }
 {
-    Progress::Stops(Played::Done(answer, standing))
+    Progress::Stops(Played::Done(answer, play_state))
 }

@@ -4,11 +4,11 @@ ghost use Rattle.std.specs.Prelude.{◌≡◌, ◌++◌, IfOk, length};
 ghost use Rattle.ftp_transport.specs.declared.room.Room.{Room as Rooms};
 ghost use Rattle.ftp_calls.specs.declared.exchange.Ending.TheVariants as ending;
 ghost use Rattle.ftp_dialogue.specs.Coding.{Coding, coding_of};
-ghost use Rattle.ftp_dialogue.specs.Dialogue.{Tree, after_fetch, closed_as, fault_or, fetch_concluded, fetch_ending, fetch_parting, fetched, fetching, first_fault, gathering, opening, performing, too_long, unfetched, wants_memory, with_fetched};
+ghost use Rattle.ftp_dialogue.specs.Dialogue.{Tree, after_fetch, closed_as, fault_or, fetch_concluded, fetch_ending, fetch_closing_data, fetched, fetching, first_fault, gathering, opening, performing, too_long, unfetched, wants_memory, with_fetched};
 ghost use Rattle.ftp_base.specs.declared.types.fault.FtpError.{FtpError as Faults};
 ghost use Rattle.ftp_dialogue.specs.Play.{play};
 ghost use Rattle.ftp_dialogue.specs.declared.state.State.{State as States};
-ghost use Rattle.ftp_dialogue.specs.declared.model.DealOutcome.TheVariants as came;
+ghost use Rattle.ftp_dialogue.specs.declared.model.NetOutcome.TheVariants as came;
 ghost use Rattle.session_plain.specs.Progress.{ComesTo, LeadsTo};
 
 use crate::carrying::{Carried, moved_by};
@@ -24,7 +24,7 @@ use ftp_base::types::{Bytes, ConnectionError, FtpError, FtpResult, Response};
 use ftp_calls::exchange::{Fetch, Movement, Task};
 use ftp_calls::lines::Lines;
 use ftp_control::control::form_of;
-use ftp_session::model::{DealOutcome, Played, Standing, Wait};
+use ftp_session::model::{NetOutcome, PlayState, Played, Wait};
 use ftp_session::session::Answer;
 use std::alloc::{AllocError, Global};
 use std::io::ErrorKind;
@@ -53,14 +53,14 @@ pub(crate) fn performs<E: Encoding>(
     alloc: Global,
     encoding: &E,
     task: Task,
-    standing: Standing,
+    play_state: PlayState,
 ) -> Result<Progress, AllocError>
     ensures { IfOk result (λ progress. (room : Rooms) (later : States → Tree) →
         let coding = coding_of E.decoded E.encoded encoding.now in
-        ComesTo room later (play room (opening standing.state.settings.mode
-        (performing coding task standing.state) standing.state) standing) progress) }
+        ComesTo room later (play room (opening play_state.state.settings.mode
+        (performing coding task play_state.state) play_state.state) play_state) progress) }
 {
-    match opened(alloc, standing)? {
+    match opened(alloc, play_state)? {
         Progress::Stops(played) => Ok(Progress::Stops(played)),
         Progress::Continues(here) => performing(alloc, encoding, task, here),
     }
@@ -71,15 +71,15 @@ fn performing<E: Encoding>(
     alloc: Global,
     encoding: &E,
     task: Task,
-    standing: Standing,
+    play_state: PlayState,
 ) -> Result<Progress, AllocError>
     ensures { IfOk result (λ progress. (room : Rooms) (later : States → Tree) →
         let coding = coding_of E.decoded E.encoded encoding.now in
-        ComesTo room later (play room (performing coding task standing.state) standing) progress) }
+        ComesTo room later (play room (performing coding task play_state.state) play_state) progress) }
 {
     match task {
-        Task::Fetch(form) => fetching(alloc, encoding, form, standing),
-        Task::Store(bytes) => storing(alloc, bytes, standing),
+        Task::Fetch(form) => fetching(alloc, encoding, form, play_state),
+        Task::Store(bytes) => storing(alloc, bytes, play_state),
     }
 }
 
@@ -88,14 +88,14 @@ fn fetching<E: Encoding>(
     alloc: Global,
     encoding: &E,
     form: Fetch,
-    standing: Standing,
+    play_state: PlayState,
 ) -> Result<Progress, AllocError>
     ensures { IfOk result (λ progress. (room : Rooms) (later : States → Tree) →
         let coding = coding_of E.decoded E.encoded encoding.now in
-        ComesTo room later (play room (fetching coding form standing.state) standing) progress) }
+        ComesTo room later (play room (fetching coding form play_state.state) play_state) progress) }
 {
     let none = Bytes::new(alloc);
-    gathering(alloc, encoding, form, MOST_READS, none, standing)
+    gathering(alloc, encoding, form, MOST_READS, none, play_state)
 }
 
 /// The data connection is read to its end, by so many reads at most, after these bytes.
@@ -106,37 +106,37 @@ fn gathering<E: Encoding>(
     form: Fetch,
     left: u64,
     all: Bytes,
-    standing: Standing,
+    play_state: PlayState,
 ) -> Result<Progress, AllocError>
     ensures { IfOk result (λ progress. (room : Rooms) (later : States → Tree) →
         let coding = coding_of E.decoded E.encoded encoding.now in
         ComesTo room later
-        (play room (gathering coding form left all standing.state) standing) progress) }
+        (play room (gathering coding form left all play_state.state) play_state) progress) }
 {
     if left == 0 {
-        return parting(alloc, form, too_long(form), standing);
+        return closing_data(alloc, form, too_long(form), play_state);
     }
-    match moved_by(alloc, Movement::Read(CHUNK), standing)? {
+    match moved_by(alloc, Movement::Read(CHUNK), play_state)? {
         Carried::Unknown(here) => Ok(Progress::Stops(Played::Pending(Wait::Outcome, here))),
         Carried::Known(outcome, here) => match follow(alloc, encoding, form, all, outcome)? {
             Follows::More(more) => gathering(alloc, encoding, form, left - 1, more, here),
-            Follows::Over(answer) => parting(alloc, form, answer, here),
+            Follows::Over(answer) => closing_data(alloc, form, answer, here),
         },
     }
 }
 
 /// The data connection is closed; the fault of an upload's close is the answer.
 #[tactic(auto, unfolding(ftp_dialogue::specs::Play::play))]
-pub(crate) fn parting(
+pub(crate) fn closing_data(
     alloc: Global,
     form: Fetch,
     answer: Answer,
-    standing: Standing,
+    play_state: PlayState,
 ) -> Result<Progress, AllocError>
     ensures { IfOk result (λ progress. (room : Rooms) (later : States → Tree) → ComesTo room later
-        (play room (fetch_parting form answer standing.state) standing) progress) }
+        (play room (fetch_closing_data form answer play_state.state) play_state) progress) }
 {
-    let Ok(came) = moved_by(alloc, Movement::Close, standing) else {
+    let Ok(came) = moved_by(alloc, Movement::Close, play_state) else {
         drop(answer);
         return Err(AllocError);
     };
@@ -171,14 +171,14 @@ fn last_reply(
     alloc: Global,
     form: Fetch,
     answer: Answer,
-    standing: Standing,
+    play_state: PlayState,
 ) -> Result<Progress, AllocError>
     ensures { IfOk result (λ progress. (room : Rooms) (later : States → Tree) → ComesTo room later
-        (play room (fetch_ending form answer standing.state) standing) progress) }
+        (play room (fetch_ending form answer play_state.state) play_state) progress) }
 {
     let codes = [Status::ClosingDataConnection, Status::RequestedFileActionOk];
     let reply_form = form_of(&codes);
-    let Ok(heard) = hear_reply(alloc, reply_form, &codes, standing) else {
+    let Ok(heard) = hear_reply(alloc, reply_form, &codes, play_state) else {
         drop(answer);
         return Err(AllocError);
     };
@@ -192,27 +192,27 @@ fn last_reply(
 }
 
 /// A transfer was opened and has come to its end.
-fn fetched_from(standing: Standing) -> Standing
-    ensures { result ≡ record standing { state = with_fetched standing.state } }
+fn fetched_from(play_state: PlayState) -> PlayState
+    ensures { result ≡ record play_state { state = with_fetched play_state.state } }
 {
-    finished(with_transfer(standing))
+    finished(with_transfer(play_state))
 }
 
 /// What a fault in place of the last reply leaves, by whether memory ran out.
-fn after_fetch(lacks: bool, standing: Standing) -> Standing
+fn after_fetch(lacks: bool, play_state: PlayState) -> PlayState
     ensures { (fault : Faults) → lacks ≡ wants_memory fault →
-        result ≡ record standing { state = after_fetch fault standing.state } }
+        result ≡ record play_state { state = after_fetch fault play_state.state } }
 {
     if lacks {
-        left(with_transfer(standing))
+        left(with_transfer(play_state))
     } else {
-        fetched_from(standing)
+        fetched_from(play_state)
     }
 }
 
 /// What follows once the last reply was heard.
 #[tactic(auto, unfolding(ftp_dialogue::specs::Play::play))]
-fn concluded(form: Fetch, answer: Answer, heard: FtpResult<Response>, here: Standing) -> Played
+fn concluded(form: Fetch, answer: Answer, heard: FtpResult<Response>, here: PlayState) -> Played
     ensures { (room : Rooms) → play room (fetch_concluded form answer here.state heard) here ≡ result }
 {
     match heard {
@@ -230,19 +230,19 @@ fn follow<E: Encoding>(
     encoding: &E,
     form: Fetch,
     all: Bytes,
-    outcome: DealOutcome,
+    outcome: NetOutcome,
 ) -> Result<Follows, AllocError>
     ensures { IfOk result (λ follows.
         LeadsTo (coding_of E.decoded E.encoded encoding.now) form all outcome follows) }
 {
     match outcome {
-        DealOutcome::Read(bytes) => after_bytes(alloc, encoding, form, all, bytes),
-        DealOutcome::Failed(kind) => Ok(Follows::Over(unfetched(form, kind))),
-        DealOutcome::NoMemory => Ok(Follows::Over(Answer::Fault(FtpError::OutOfMemory))),
-        DealOutcome::Answered(_) => Ok(Follows::Over(too_long(form))),
-        DealOutcome::Built(_) => Ok(Follows::Over(too_long(form))),
-        DealOutcome::Wrote(_) => Ok(Follows::Over(too_long(form))),
-        DealOutcome::Closed => Ok(Follows::Over(too_long(form))),
+        NetOutcome::Read(bytes) => after_bytes(alloc, encoding, form, all, bytes),
+        NetOutcome::Failed(kind) => Ok(Follows::Over(unfetched(form, kind))),
+        NetOutcome::NoMemory => Ok(Follows::Over(Answer::Fault(FtpError::OutOfMemory))),
+        NetOutcome::Answered(_) => Ok(Follows::Over(too_long(form))),
+        NetOutcome::Built(_) => Ok(Follows::Over(too_long(form))),
+        NetOutcome::Wrote(_) => Ok(Follows::Over(too_long(form))),
+        NetOutcome::Closed => Ok(Follows::Over(too_long(form))),
     }
 }
 

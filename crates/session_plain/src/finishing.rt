@@ -8,14 +8,14 @@ ghost use Rattle.ftp_dialogue.specs.Unanswered.{answered_by};
 ghost use Rattle.ftp_dialogue.specs.Play.{leaving, play};
 
 use crate::aborting::aborted;
-use crate::asking::no_dealings;
+use crate::asking::no_net_record;
 use crate::carrying::{Carried, moved_by, parted};
 use crate::turns::from_turn;
 use ftp_base::encoding::Encoding;
 use ftp_base::status::Status;
 use ftp_base::types::{ConnectionError, FtpError};
 use ftp_calls::exchange::{Ending, Movement, Turn, finishes};
-use ftp_session::model::{DealOutcome, Played, Standing, Wait};
+use ftp_session::model::{NetOutcome, PlayState, Played, Wait};
 use ftp_session::session::{Answer, Call};
 use ftp_transport::Room;
 use std::alloc::{AllocError, Global};
@@ -29,12 +29,12 @@ pub(crate) fn closing<E: Encoding>(
     room: Room,
     encoding: &E,
     call: &Call,
-    standing: Standing,
+    play_state: PlayState,
 ) -> Result<Played, AllocError>
     ensures { IfOk result (λ played. played ≡ play room (closing
-        (coding_of E.decoded E.encoded encoding.now) call.now standing.state) standing) }
+        (coding_of E.decoded E.encoded encoding.now) call.now play_state.state) play_state) }
 {
-    match moved_by(alloc, Movement::Close, standing)? {
+    match moved_by(alloc, Movement::Close, play_state)? {
         Carried::Unknown(here) => Ok(Played::Pending(Wait::Outcome, here)),
         Carried::Known(outcome, here) => {
             let close = told_of_close(here.state.uploads, outcome);
@@ -44,7 +44,7 @@ pub(crate) fn closing<E: Encoding>(
 }
 
 /// The fault of an upload's close is told before the reply's.
-pub(crate) fn told_of_close(uploads: bool, outcome: DealOutcome) -> Option<ErrorKind>
+pub(crate) fn told_of_close(uploads: bool, outcome: NetOutcome) -> Option<ErrorKind>
     ensures { result ≡ told_of_close uploads outcome }
 {
     if !uploads {
@@ -52,7 +52,7 @@ pub(crate) fn told_of_close(uploads: bool, outcome: DealOutcome) -> Option<Error
         return None;
     }
     match outcome {
-        DealOutcome::Failed(kind) => Some(kind),
+        NetOutcome::Failed(kind) => Some(kind),
         other => {
             drop(other);
             None
@@ -112,91 +112,91 @@ pub(crate) fn wants_memory(fault: &FtpError) -> bool
 }
 
 /// What a fault in place of a reply leaves.
-pub(crate) fn after_fault(ending: &Ending, fault: &FtpError, mut standing: Standing) -> Standing
-    ensures { result ≡ record standing { state = after_fault_of ending.now fault.now standing.state } }
+pub(crate) fn after_fault(ending: &Ending, fault: &FtpError, mut play_state: PlayState) -> PlayState
+    ensures { result ≡ record play_state { state = after_fault_of ending.now fault.now play_state.state } }
 {
     match ending {
         Ending::Finishes(_) => {
             if wants_memory(fault) {
-                standing
+                play_state
             } else {
-                finished(standing)
+                finished(play_state)
             }
         }
         Ending::Drains => {
             if wants_memory(fault) {
-                standing
+                play_state
             } else {
-                drained(standing)
+                drained(play_state)
             }
         }
-        Ending::Stops => aborted(standing),
+        Ending::Stops => aborted(play_state),
         Ending::TakesReply => {
-            standing.state.answer_faulty(fault);
-            standing
+            play_state.state.answer_faulty(fault);
+            play_state
         }
-        _ => standing,
+        _ => play_state,
     }
 }
 
 /// A reply of this status is that of a command that was dropped, where one is due.
-pub(crate) fn answered(status: Status, mut standing: Standing) -> Standing
-    ensures { result ≡ record standing { state = answered_by status standing.state } }
+pub(crate) fn answered(status: Status, mut play_state: PlayState) -> PlayState
+    ensures { result ≡ record play_state { state = answered_by status play_state.state } }
 {
-    standing.state.answer(status);
-    standing
+    play_state.state.answer(status);
+    play_state
 }
 
 /// The transfer has come to its end.
-pub(crate) fn finished(mut standing: Standing) -> Standing
-    ensures { result ≡ record standing { state = with_finished standing.state } }
+pub(crate) fn finished(mut play_state: PlayState) -> PlayState
+    ensures { result ≡ record play_state { state = with_finished play_state.state } }
 {
-    standing.state.counts.finish();
-    standing
+    play_state.state.counts.finish();
+    play_state
 }
 
 /// The transfer that was left has come to its end.
-pub(crate) fn drained(mut standing: Standing) -> Standing
-    ensures { result ≡ record standing { state = with_drained standing.state } }
+pub(crate) fn drained(mut play_state: PlayState) -> PlayState
+    ensures { result ≡ record play_state { state = with_drained play_state.state } }
 {
-    standing.state.counts.drain();
-    standing
+    play_state.state.counts.drain();
+    play_state
 }
 
 /// The transfer is left.
-pub(crate) fn left(mut standing: Standing) -> Standing
-    ensures { result ≡ record standing { state = with_left standing.state } }
+pub(crate) fn left(mut play_state: PlayState) -> PlayState
+    ensures { result ≡ record play_state { state = with_left play_state.state } }
 {
-    standing.state.counts.leave();
-    standing
+    play_state.state.counts.leave();
+    play_state
 }
 
 /// A call that isn't made: the transfer that it would bring to its end is left, and its data connection is closed.
 pub(crate) fn left_by(
     alloc: Global,
     call: &Call,
-    standing: Standing,
-) -> Result<Standing, AllocError>
+    play_state: PlayState,
+) -> Result<PlayState, AllocError>
     ensures { IfOk result (λ here. here ≡
-        (if finishes call.now then leaving standing else standing)) }
+        (if finishes call.now then leaving play_state else play_state)) }
 {
     if finishes(call) {
-        leaving(alloc, standing)
+        leaving(alloc, play_state)
     } else {
-        Ok(standing)
+        Ok(play_state)
     }
 }
 
 /// The transfer is left, and its data connection is closed.
-fn leaving(alloc: Global, standing: Standing) -> Result<Standing, AllocError>
-    ensures { IfOk result (λ here. here ≡ leaving standing) }
+fn leaving(alloc: Global, play_state: PlayState) -> Result<PlayState, AllocError>
+    ensures { IfOk result (λ here. here ≡ leaving play_state) }
 {
-    let mut here = left(standing);
-    let before = mem::replace(&mut here.dealings, no_dealings(alloc));
+    let mut here = left(play_state);
+    let before = mem::replace(&mut here.net_record, no_net_record(alloc));
     let Ok(after) = parted(before) else {
         drop(here);
         return Err(AllocError);
     };
-    drop(mem::replace(&mut here.dealings, after));
+    drop(mem::replace(&mut here.net_record, after));
     Ok(here)
 }

@@ -9,16 +9,16 @@ use ftp_base::status::Status;
 use ftp_base::types::{Bytes, ConnectionError, FtpError, FtpResult, Response};
 use ftp_control::control::{Outcome, REPLY_LIMIT, ReplyForm, expected_reply};
 use ftp_control::plain::outcome;
-use ftp_session::model::Standing;
+use ftp_session::model::PlayState;
 use std::alloc::{AllocError, Global};
 
 /// What a reply comes to.
 #[derive(Drop)]
 pub(crate) enum Heard {
     /// The bytes don't say it yet.
-    Unknown(Standing),
+    Unknown(PlayState),
     /// This reply, or a fault in its place.
-    Known(FtpResult<Response>, Standing),
+    Known(FtpResult<Response>, PlayState),
 }
 
 /// One reply is heard, of this form and under these statuses.
@@ -26,18 +26,18 @@ pub(crate) fn hear_reply(
     alloc: Global,
     form: ReplyForm,
     codes: &[Status],
-    standing: Standing,
+    play_state: PlayState,
 ) -> Result<Heard, AllocError>
     ensures { IfOk result (λ heard.
-        Hears (record { form = form; statuses = codes.now }) standing heard) }
+        Hears (record { form = form; statuses = codes.now }) play_state heard) }
 {
-    let rule = standing.state.settings.reply_rule;
-    let bytes = standing.bytes.as_slice();
-    let Ok(said) = outcome(alloc, rule, form, bytes, standing.ended) else {
-        drop(standing);
+    let rule = play_state.state.settings.reply_rule;
+    let bytes = play_state.bytes.as_slice();
+    let Ok(said) = outcome(alloc, rule, form, bytes, play_state.ended) else {
+        drop(play_state);
         return Err(AllocError);
     };
-    heard_as(alloc, form, codes, said, standing)
+    heard_as(alloc, form, codes, said, play_state)
 }
 
 /// What the bytes say.
@@ -46,52 +46,52 @@ fn heard_as(
     form: ReplyForm,
     codes: &[Status],
     said: Outcome,
-    standing: Standing,
+    play_state: PlayState,
 ) -> Result<Heard, AllocError>
     ensures { IfOk result (λ heard.
-        HearsAs said (record { form = form; statuses = codes.now }) standing heard) }
+        HearsAs said (record { form = form; statuses = codes.now }) play_state heard) }
 {
-    let Ok(left) = left_by(alloc, &said, standing.bytes.as_slice()) else {
+    let Ok(left) = left_by(alloc, &said, play_state.bytes.as_slice()) else {
         drop(said);
-        drop(standing);
+        drop(play_state);
         return Err(AllocError);
     };
     match said {
         Outcome::Whole(body, code) => {
             let status = Status::from(code);
             let reply = expected_reply(codes, Response { status, body });
-            Ok(Heard::Known(reply, taken(left, standing)))
+            Ok(Heard::Known(reply, taken(left, play_state)))
         }
         Outcome::Bad(_line) => {
             let fault = Err(FtpError::BadResponse);
-            Ok(Heard::Known(fault, taken(left, standing)))
+            Ok(Heard::Known(fault, taken(left, play_state)))
         }
         Outcome::TooLarge => {
             let fault = Err(ConnectionError::ReplyTooLarge.into());
-            Ok(Heard::Known(fault, failed(taken(left, standing))))
+            Ok(Heard::Known(fault, failed(taken(left, play_state))))
         }
         Outcome::Ended => {
             let fault = Err(ConnectionError::UnexpectedEof.into());
-            Ok(Heard::Known(fault, failed(taken(left, standing))))
+            Ok(Heard::Known(fault, failed(taken(left, play_state))))
         }
-        Outcome::Waits => Ok(Heard::Unknown(standing)),
+        Outcome::Waits => Ok(Heard::Unknown(play_state)),
     }
 }
 
 /// A reply was taken.
-fn taken(left: Bytes, mut standing: Standing) -> Standing
-    ensures { result ≡ taken left standing }
+fn taken(left: Bytes, mut play_state: PlayState) -> PlayState
+    ensures { result ≡ taken left play_state }
 {
-    standing.bytes = left;
-    standing
+    play_state.bytes = left;
+    play_state
 }
 
 /// The session has failed.
-fn failed(mut standing: Standing) -> Standing
-    ensures { result ≡ record standing { failed = true } }
+fn failed(mut play_state: PlayState) -> PlayState
+    ensures { result ≡ record play_state { failed = true } }
 {
-    standing.failed = true;
-    standing
+    play_state.failed = true;
+    play_state
 }
 
 /// The bytes that an outcome leaves for the next read.

@@ -13,7 +13,7 @@ use ftp_base::encoding::Encoding;
 use ftp_base::types::Items;
 use ftp_calls::exchange::finishes;
 use ftp_runs::model::{Item, Ran, Script};
-use ftp_session::model::Standing;
+use ftp_session::model::PlayState;
 use ftp_session::session::{Call, Owed};
 use std::alloc::{AllocError, Global};
 use std::mem;
@@ -22,7 +22,7 @@ use std::mem;
 pub(crate) fn poll_event<E: Encoding>(
     alloc: Global,
     encoding: &E,
-    first: &Standing,
+    first: &PlayState,
     here: &mut Script,
 ) -> Result<(), AllocError>
     ensures { OnOk result (here.new ≡ poll_event (coding_of E.decoded E.encoded encoding.now)
@@ -42,7 +42,7 @@ pub(crate) fn poll_event<E: Encoding>(
 fn over<E: Encoding>(
     alloc: Global,
     encoding: &E,
-    first: &Standing,
+    first: &PlayState,
     here: &mut Script,
 ) -> Result<(), AllocError>
     ensures { OnOk result (here.new ≡ over (coding_of E.decoded E.encoded encoding.now) first.now here.old) }
@@ -69,7 +69,7 @@ fn rest(here: &mut Script)
 fn leave_held<E: Encoding>(
     alloc: Global,
     encoding: &E,
-    first: &Standing,
+    first: &PlayState,
     here: &mut Script,
 ) -> Result<(), AllocError>
     ensures { OnOk result (here.new ≡ leave_held (coding_of E.decoded E.encoded encoding.now) first.now here.old) }
@@ -84,14 +84,14 @@ fn leave_held<E: Encoding>(
 fn holds(here: &Script) -> bool
     ensures { result ≡ holds_in here.now }
 {
-    matches!(here.state.counts.owed(), Owed::Live(_)) && here.dealings.data_conn.is_some()
+    matches!(here.state.counts.owed(), Owed::Live(_)) && here.net_record.data_conn.is_some()
 }
 
 /// The transfer is left, which is an item.
 fn leave<E: Encoding>(
     alloc: Global,
     encoding: &E,
-    first: &Standing,
+    first: &PlayState,
     here: &mut Script,
 ) -> Result<(), AllocError>
     ensures { OnOk result (here.new ≡ left_as here.old (run_with (coding_of E.decoded E.encoded encoding.now) first.now Call.Leave here.old)) }
@@ -106,7 +106,7 @@ fn leave<E: Encoding>(
 }
 
 /// It was left, and the run stands there.
-fn stand_at(alloc: Global, here: &mut Script, there: Standing) -> Result<(), AllocError>
+fn stand_at(alloc: Global, here: &mut Script, there: PlayState) -> Result<(), AllocError>
     ensures { (answers : List Answers) → OnOk result (here.new ≡ left_as here.old (Finished answers there)) }
 {
     let call = here.call.take();
@@ -124,7 +124,7 @@ fn stand_at(alloc: Global, here: &mut Script, there: Standing) -> Result<(), All
 pub(crate) fn drop_call<E: Encoding>(
     alloc: Global,
     encoding: &E,
-    first: &Standing,
+    first: &PlayState,
     here: &mut Script,
 ) -> Result<(), AllocError>
     ensures { OnOk result (here.new ≡ dropped (coding_of E.decoded E.encoded encoding.now)
@@ -145,7 +145,7 @@ pub(crate) fn drop_call<E: Encoding>(
 fn drop_end<E: Encoding>(
     alloc: Global,
     encoding: &E,
-    first: &Standing,
+    first: &PlayState,
     here: &mut Script,
 ) -> Result<(), AllocError>
     ensures { OnOk result (here.new ≡ end_dropped here.old.polled (coding_of E.decoded E.encoded encoding.now)
@@ -163,7 +163,7 @@ fn drop_end<E: Encoding>(
 pub(crate) fn leave_now<E: Encoding>(
     alloc: Global,
     encoding: &E,
-    first: &Standing,
+    first: &PlayState,
     here: &mut Script,
 ) -> Result<(), AllocError>
     ensures { OnOk result (here.new ≡ leave_now (coding_of E.decoded E.encoded encoding.now)

@@ -3,7 +3,7 @@
 
 ghost use Rattle.std.specs.Prelude.{◌≡◌, IfOk};
 ghost use Rattle.ftp_dialogue.specs.Coding.{coding_of};
-ghost use Rattle.ftp_dialogue.specs.Dialogue.{agreeing, listening, negotiating};
+ghost use Rattle.ftp_dialogue.specs.Dialogue.{opening_data, listening, negotiating};
 ghost use Rattle.ftp_dialogue.specs.Play.{play};
 
 use crate::addresses::at_port;
@@ -13,7 +13,7 @@ use crate::turns::from_turn;
 use ftp_base::encoding::Encoding;
 use ftp_base::types::{ConnectionError, Mode};
 use ftp_calls::exchange::Turn;
-use ftp_session::model::{Played, Standing, Wait};
+use ftp_session::model::{PlayState, Played, Wait};
 use ftp_session::session::{Answer, Call};
 use ftp_transport::{Request, RequestOutcome, Room};
 use std::alloc::{AllocError, Global};
@@ -26,38 +26,38 @@ pub(crate) fn negotiating<E: Encoding>(
     encoding: &E,
     call: &Call,
     offset: u64,
-    standing: Standing,
+    play_state: PlayState,
 ) -> Result<Played, AllocError>
     ensures { IfOk result (λ played. played ≡ play room (negotiating
-        (coding_of E.decoded E.encoded encoding.now) call.now offset standing.state) standing) }
+        (coding_of E.decoded E.encoded encoding.now) call.now offset play_state.state) play_state) }
 {
-    match standing.state.counts.cannot_open() {
-        Some(fault) => Ok(Played::Done(Answer::Fault(fault), standing)),
-        None => agreeing(alloc, room, encoding, call, offset, standing),
+    match play_state.state.counts.cannot_open() {
+        Some(fault) => Ok(Played::Done(Answer::Fault(fault), play_state)),
+        None => opening_data(alloc, room, encoding, call, offset, play_state),
     }
 }
 
 /// Who opens the data connection, and how it is asked for.
-fn agreeing<E: Encoding>(
+fn opening_data<E: Encoding>(
     alloc: Global,
     room: Room,
     encoding: &E,
     call: &Call,
     offset: u64,
-    standing: Standing,
+    play_state: PlayState,
 ) -> Result<Played, AllocError>
-    ensures { IfOk result (λ played. played ≡ play room (agreeing standing.state.settings.mode
-        (coding_of E.decoded E.encoded encoding.now) call.now offset standing.state) standing) }
+    ensures { IfOk result (λ played. played ≡ play room (opening_data play_state.state.settings.mode
+        (coding_of E.decoded E.encoded encoding.now) call.now offset play_state.state) play_state) }
 {
-    match standing.state.settings.mode {
-        Mode::Active => listening(alloc, room, encoding, call, offset, standing),
+    match play_state.state.settings.mode {
+        Mode::Active => listening(alloc, room, encoding, call, offset, play_state),
         Mode::Passive => {
             let turn = Turn::Passive(offset);
-            from_turn(alloc, room, encoding, call, turn, standing)
+            from_turn(alloc, room, encoding, call, turn, play_state)
         }
         Mode::ExtendedPassive => {
             let turn = Turn::ExtendedPassive(offset);
-            from_turn(alloc, room, encoding, call, turn, standing)
+            from_turn(alloc, room, encoding, call, turn, play_state)
         }
     }
 }
@@ -70,13 +70,13 @@ fn listening<E: Encoding>(
     encoding: &E,
     call: &Call,
     offset: u64,
-    standing: Standing,
+    play_state: PlayState,
 ) -> Result<Played, AllocError>
     ensures { IfOk result (λ played. played ≡ play room (listening
-        (coding_of E.decoded E.encoded encoding.now) call.now offset standing.state) standing) }
+        (coding_of E.decoded E.encoded encoding.now) call.now offset play_state.state) play_state) }
 {
-    let local = standing.local;
-    match asked(alloc, Request::Listen(at_port(0, local)), standing)? {
+    let local = play_state.local;
+    match asked(alloc, Request::Listen(at_port(0, local)), play_state)? {
         Came::Unknown(here) => Ok(Played::Pending(Wait::Outcome, here)),
         Came::Known(RequestOutcome::Done, here) => Ok(fault(ConnectionError::NoAddress, here)),
         Came::Known(RequestOutcome::Refused(cause), here) => Ok(fault(cause, here)),

@@ -11,7 +11,7 @@ ghost use Rattle.session_plain.specs.Progress.{ComesTo};
 use crate::asking::{Came, asked};
 use crate::exchange::{Progress, done};
 use ftp_base::types::{ConnectionError, FtpError, Mode, Response};
-use ftp_session::model::{Played, Standing, Wait};
+use ftp_session::model::{PlayState, Played, Wait};
 use ftp_session::session::Answer;
 use ftp_transport::{Request, RequestOutcome};
 use std::alloc::{AllocError, Global};
@@ -36,13 +36,13 @@ pub(crate) fn opened_answer(gives_reply: bool, reply: Response) -> Answer
 pub(crate) fn opens(
     alloc: Global,
     answer: Answer,
-    standing: Standing,
+    play_state: PlayState,
 ) -> Result<Progress, AllocError>
     ensures { IfOk result (λ progress. (room : Rooms) (later : States → Tree) →
-        ComesTo room later (play room (opening standing.state.settings.mode
-        (Leaf answer (with_transfer standing.state)) standing.state) standing) progress) }
+        ComesTo room later (play room (opening play_state.state.settings.mode
+        (Leaf answer (with_transfer play_state.state)) play_state.state) play_state) progress) }
 {
-    let Ok(stood) = opened(alloc, standing) else {
+    let Ok(stood) = opened(alloc, play_state) else {
         drop(answer);
         return Err(AllocError);
     };
@@ -57,16 +57,16 @@ pub(crate) fn opens(
 
 /// The command was accepted: what comes next begins once the data connection stands.
 #[tactic(auto, unfolding(ftp_dialogue::specs::Play::play))]
-pub(crate) fn opened(alloc: Global, standing: Standing) -> Result<Progress, AllocError>
+pub(crate) fn opened(alloc: Global, play_state: PlayState) -> Result<Progress, AllocError>
     ensures { IfOk result (λ progress. (room : Rooms) (next : States → Tree) →
-        ComesTo room next (play room (opening standing.state.settings.mode
-        (next standing.state) standing.state) standing) progress) }
+        ComesTo room next (play room (opening play_state.state.settings.mode
+        (next play_state.state) play_state.state) play_state) progress) }
 {
-    match standing.state.settings.mode {
-        Mode::Passive | Mode::ExtendedPassive => Ok(Progress::Continues(standing)),
+    match play_state.state.settings.mode {
+        Mode::Passive | Mode::ExtendedPassive => Ok(Progress::Continues(play_state)),
         Mode::Active => {
-            let peer = standing.peer;
-            accepting(alloc, peer, STRANGERS, standing)
+            let peer = play_state.peer;
+            accepting(alloc, peer, STRANGERS, play_state)
         }
     }
 }
@@ -77,14 +77,14 @@ fn accepting(
     alloc: Global,
     peer: SocketAddr,
     left: u64,
-    standing: Standing,
+    play_state: PlayState,
 ) -> Result<Progress, AllocError>
     ensures { IfOk result (λ progress. (room : Rooms) (next : States → Tree) → ComesTo room next
-        (play room (accepting (next standing.state) peer left standing.state) standing)
+        (play room (accepting (next play_state.state) peer left play_state.state) play_state)
         progress) }
 {
-    let deadline = standing.state.settings.active_deadline;
-    match asked(alloc, Request::Accept(deadline), standing)? {
+    let deadline = play_state.state.settings.active_deadline;
+    match asked(alloc, Request::Accept(deadline), play_state)? {
         Came::Unknown(here) => Ok(Progress::Stops(Played::Pending(Wait::Outcome, here))),
         Came::Known(RequestOutcome::Done, here) => {
             Ok(Progress::Stops(fault(ConnectionError::NoAddress, here)))
@@ -105,24 +105,24 @@ fn accepting(
 }
 
 /// Whether a peer may open the data connection, beside a control connection to this one.
-fn lets_in(standing: &Standing, peer: SocketAddr, from: SocketAddr) -> bool
-    ensures { result ≡ lets_in standing.now.state peer from }
+fn lets_in(play_state: &PlayState, peer: SocketAddr, from: SocketAddr) -> bool
+    ensures { result ≡ lets_in play_state.now.state peer from }
 {
-    let check = &standing.state.settings.active_peer_check;
+    let check = &play_state.state.settings.active_peer_check;
     check.allows(from.ip(), peer.ip())
 }
 
 /// A transfer is live from now on.
-pub(crate) fn with_transfer(mut standing: Standing) -> Standing
-    ensures { result ≡ record standing { state = with_transfer standing.state } }
+pub(crate) fn with_transfer(mut play_state: PlayState) -> PlayState
+    ensures { result ≡ record play_state { state = with_transfer play_state.state } }
 {
-    standing.state.counts.open();
-    standing
+    play_state.state.counts.open();
+    play_state
 }
 
 /// A connection's fault is the answer.
-pub(crate) fn fault(cause: ConnectionError, standing: Standing) -> Played
-    ensures { result ≡ Played.Done (Answer.Fault (FtpError.ConnectionError cause)) standing }
+pub(crate) fn fault(cause: ConnectionError, play_state: PlayState) -> Played
+    ensures { result ≡ Played.Done (Answer.Fault (FtpError.ConnectionError cause)) play_state }
 {
-    Played::Done(Answer::Fault(FtpError::ConnectionError(cause)), standing)
+    Played::Done(Answer::Fault(FtpError::ConnectionError(cause)), play_state)
 }

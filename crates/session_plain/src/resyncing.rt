@@ -17,7 +17,7 @@ use ftp_base::encoding::Encoding;
 use ftp_base::status::Status;
 use ftp_base::types::{FtpError, FtpResult, Response};
 use ftp_control::control::form_of;
-use ftp_session::model::{Played, Standing, Wait};
+use ftp_session::model::{PlayState, Played, Wait};
 use ftp_session::session::{Answer, Owed};
 use ftp_transport::Room;
 use std::alloc::{AllocError, Global};
@@ -31,37 +31,40 @@ pub(crate) fn resync<E: Encoding>(
     alloc: Global,
     room: Room,
     encoding: &E,
-    standing: Standing,
+    play_state: PlayState,
 ) -> Result<Progress, AllocError>
     ensures { IfOk result (λ progress. (later : States → Tree) →
         let coding = coding_of E.decoded E.encoded encoding.now in
-        ComesTo room later (play room (resyncing coding standing.state) standing) progress) }
+        ComesTo room later (play room (resyncing coding play_state.state) play_state) progress) }
 {
-    if is_beside(&standing) {
-        return Ok(done(Answer::Fault(FtpError::DataConnectionAlreadyOpen), standing));
+    if is_beside(&play_state) {
+        return Ok(done(
+            Answer::Fault(FtpError::DataConnectionAlreadyOpen),
+            play_state,
+        ));
     }
-    match say(alloc, room, encoding, Some(Command::Noop), standing)? {
+    match say(alloc, room, encoding, Some(Command::Noop), play_state)? {
         Progress::Stops(played) => Ok(Progress::Stops(played)),
         Progress::Continues(here) => seeking(alloc, MOST_PASSED_OVER, here),
     }
 }
 
 /// Whether a transfer is live.
-fn is_beside(standing: &Standing) -> bool
-    ensures { result ≡ some_live standing.now.state.counts.owed }
+fn is_beside(play_state: &PlayState) -> bool
+    ensures { result ≡ some_live play_state.now.state.counts.owed }
 {
-    matches!(standing.state.counts.owed(), Owed::Live(_))
+    matches!(play_state.state.counts.owed(), Owed::Live(_))
 }
 
 /// The reply to `NOOP` is heard, before which so many others may come.
 #[tactic(auto, unfolding(ftp_dialogue::specs::Play::play))]
-fn seeking(alloc: Global, left: u64, standing: Standing) -> Result<Progress, AllocError>
+fn seeking(alloc: Global, left: u64, play_state: PlayState) -> Result<Progress, AllocError>
     ensures { IfOk result (λ progress. (room : Rooms) (later : States → Tree) → ComesTo room later
-        (play room (seeking left standing.state) standing) progress) }
+        (play room (seeking left play_state.state) play_state) progress) }
 {
     let codes = [Status::CommandOk];
     let form = form_of(&codes);
-    match hear_reply(alloc, form, &codes, standing)? {
+    match hear_reply(alloc, form, &codes, play_state)? {
         Heard::Unknown(here) => Ok(Progress::Stops(Played::Pending(Wait::Bytes(form), here))),
         Heard::Known(heard, here) => match sought(left, heard) {
             Some(answer) => Ok(done(answer, here)),

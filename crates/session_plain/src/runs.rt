@@ -10,7 +10,7 @@ use crate::play::play_call;
 use ftp_base::encoding::Encoding;
 use ftp_base::types::Items;
 use ftp_runs::model::{Item, Ran};
-use ftp_session::model::{Played, Standing, Wait};
+use ftp_session::model::{PlayState, Played, Wait};
 use ftp_session::session::{Answer, Call};
 use ftp_transport::Room;
 use std::alloc::{AllocError, Global};
@@ -22,15 +22,15 @@ pub fn run<E: Encoding>(
     room: Room,
     encoding: &E,
     calls: &[Call],
-    standing: Standing,
+    play_state: PlayState,
 ) -> Result<Ran, AllocError>
     ensures { IfOk result (λ ran. ran ≡
-        run room (coding_of E.decoded E.encoded encoding.now) calls.now standing) }
+        run room (coding_of E.decoded E.encoded encoding.now) calls.now play_state) }
 {
     let Some((call, others)) = calls.split_first() else {
-        return Ok(Ran::Finished(Items::from_vec(Vec::new(alloc)), standing));
+        return Ok(Ran::Finished(Items::from_vec(Vec::new(alloc)), play_state));
     };
-    match play_drained(alloc, room, encoding, call, standing)? {
+    match play_drained(alloc, room, encoding, call, play_state)? {
         Played::Done(answer, here) => before(answer, run(alloc, room, encoding, others, here)?),
         Played::Pending(wait, here) => Ok(none_so_far(alloc, wait, here)),
     }
@@ -44,23 +44,23 @@ pub(crate) fn replay_then<E: Encoding>(
     encoding: &E,
     items: &[Item],
     call: &Call,
-    standing: Standing,
+    play_state: PlayState,
 ) -> Result<Ran, AllocError>
     ensures { IfOk result (λ ran. ran ≡
-        replay room (coding_of E.decoded E.encoded encoding.now) (items.now ++ Shown call.now ∷ []) standing) }
+        replay room (coding_of E.decoded E.encoded encoding.now) (items.now ++ Shown call.now ∷ []) play_state) }
 {
     let Some((item, others)) = items.split_first() else {
-        return last(alloc, room, encoding, call, standing);
+        return last(alloc, room, encoding, call, play_state);
     };
     match item {
-        Item::Shown(first) => match play_call(alloc, room, encoding, first, standing)? {
+        Item::Shown(first) => match play_call(alloc, room, encoding, first, play_state)? {
             Played::Done(answer, here) => before(
                 answer,
                 replay_then(alloc, room, encoding, others, call, here)?,
             ),
             Played::Pending(wait, here) => Ok(none_so_far(alloc, wait, here)),
         },
-        Item::Hidden(first) => match play_call(alloc, room, encoding, first, standing)? {
+        Item::Hidden(first) => match play_call(alloc, room, encoding, first, play_state)? {
             Played::Done(answer, here) => {
                 drop(answer);
                 replay_then(alloc, room, encoding, others, call, here)
@@ -77,12 +77,12 @@ fn last<E: Encoding>(
     room: Room,
     encoding: &E,
     call: &Call,
-    standing: Standing,
+    play_state: PlayState,
 ) -> Result<Ran, AllocError>
     ensures { IfOk result (λ ran. ran ≡
-        replay room (coding_of E.decoded E.encoded encoding.now) (Shown call.now ∷ []) standing) }
+        replay room (coding_of E.decoded E.encoded encoding.now) (Shown call.now ∷ []) play_state) }
 {
-    match play_call(alloc, room, encoding, call, standing)? {
+    match play_call(alloc, room, encoding, call, play_state)? {
         Played::Done(answer, here) => {
             let none = Ran::Finished(Items::from_vec(Vec::new(alloc)), here);
             before(answer, none)
@@ -92,7 +92,7 @@ fn last<E: Encoding>(
 }
 
 /// No call has its answer yet.
-fn none_so_far(alloc: Global, wait: Wait, here: Standing) -> Ran
+fn none_so_far(alloc: Global, wait: Wait, here: PlayState) -> Ran
     ensures { result ≡ Ran.Waiting [] wait here }
 {
     Ran::Waiting(Items::from_vec(Vec::new(alloc)), wait, here)

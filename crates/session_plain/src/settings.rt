@@ -4,15 +4,15 @@ ghost use Rattle.std.specs.Prelude.{◌≡◌};
 ghost use Rattle.ftp_dialogue.specs.Dialogue.{armed, changed, set_to};
 
 use ftp_dialogue::rule_by;
-use ftp_session::model::Standing;
+use ftp_session::model::PlayState;
 use ftp_session::session::{Setting, Settings};
 
 /// A setting changes.
-pub(crate) fn set_to(setting: Setting, mut standing: Standing) -> Standing
-    ensures { result ≡ record standing { state = set_to setting standing.state } }
+pub(crate) fn set_to(setting: Setting, mut play_state: PlayState) -> PlayState
+    ensures { result ≡ record play_state { state = set_to setting play_state.state } }
 {
-    change(setting, &mut standing.state.settings);
-    standing
+    change(setting, &mut play_state.state.settings);
+    play_state
 }
 
 /// A setting changes.
@@ -29,9 +29,9 @@ fn change(setting: Setting, settings: &mut Settings)
 }
 
 /// The next transfer begins at this offset.
-pub(crate) fn armed(offset: u64, mut standing: Standing) -> Standing
-    ensures { result ≡ record standing { state = armed offset standing.state } }
+pub(crate) fn armed(offset: u64, mut play_state: PlayState) -> PlayState
+    ensures { result ≡ record play_state { state = armed offset play_state.state } }
 {
-    standing.state.settings.restart_offset = offset;
-    standing
+    play_state.state.settings.restart_offset = offset;
+    play_state
 }

@@ -9,13 +9,13 @@ ghost use Rattle.session_plain.specs.Progress.{ComesTo, SendsOn};
 
 use crate::carrying::{Carried, moved_by};
 use crate::exchange::Progress;
-use crate::fetching::parting;
+use crate::fetching::closing_data;
 use crate::finishing::left;
 use crate::opening::with_transfer;
 use ftp_base::ascii::CrlfEncoder;
 use ftp_base::types::{Bytes, ConnectionError, FtpError, Items};
 use ftp_calls::exchange::{Fetch, Movement};
-use ftp_session::model::{DealOutcome, Played, Standing, Wait};
+use ftp_session::model::{NetOutcome, PlayState, Played, Wait};
 use ftp_session::session::Answer;
 use std::alloc::{AllocError, Global};
 use std::io::ErrorKind;
@@ -36,18 +36,18 @@ pub(crate) enum Sent {
 pub(crate) fn storing(
     alloc: Global,
     bytes: Items<u8>,
-    standing: Standing,
+    play_state: PlayState,
 ) -> Result<Progress, AllocError>
     ensures { IfOk result (λ progress. (room : Rooms) (later : States → Tree) → ComesTo room later
-        (play room (storing bytes standing.state) standing) progress) }
+        (play room (storing bytes play_state.state) play_state) progress) }
 {
-    let Ok(wire) = wire_data(alloc, standing.state.settings.text, bytes.as_slice()) else {
-        drop(standing);
+    let Ok(wire) = wire_data(alloc, play_state.state.settings.text, bytes.as_slice()) else {
+        drop(play_state);
         return Err(AllocError);
     };
     match size_to_send(wire.as_slice()) {
-        Some(total) => sending(alloc, total, total, wire, standing),
-        None => Ok(gave_up(ConnectionError::SourceTooLarge, standing)),
+        Some(total) => sending(alloc, total, total, wire, play_state),
+        None => Ok(gave_up(ConnectionError::SourceTooLarge, play_state)),
     }
 }
 
@@ -58,21 +58,21 @@ fn sending(
     left: u64,
     total: u64,
     rest: Bytes,
-    standing: Standing,
+    play_state: PlayState,
 ) -> Result<Progress, AllocError>
     ensures { IfOk result (λ progress. (room : Rooms) (later : States → Tree) → ComesTo room later
-        (play room (sending left total rest standing.state) standing) progress) }
+        (play room (sending left total rest play_state.state) play_state) progress) }
 {
     if rest.is_empty() {
-        return parting(alloc, Fetch::Whole, Answer::Count(total), standing);
+        return closing_data(alloc, Fetch::Whole, Answer::Count(total), play_state);
     }
     if left == 0 {
-        return Ok(gave_up(ConnectionError::Io(ErrorKind::WriteZero), standing));
+        return Ok(gave_up(ConnectionError::Io(ErrorKind::WriteZero), play_state));
     }
     match moved_by(
         alloc,
         Movement::Write(as_items(alloc, rest.as_slice())?),
-        standing,
+        play_state,
     )? {
         Carried::Unknown(here) => Ok(Progress::Stops(Played::Pending(Wait::Outcome, here))),
         Carried::Known(outcome, here) => match follow_write(alloc, rest.as_slice(), outcome)? {
@@ -92,17 +92,17 @@ fn as_items(alloc: Global, bytes: &[u8]) -> Result<Items<u8>, AllocError>
 }
 
 /// What follows a write of these bytes that came to this.
-fn follow_write(alloc: Global, rest: &[u8], outcome: DealOutcome) -> Result<Sent, AllocError>
+fn follow_write(alloc: Global, rest: &[u8], outcome: NetOutcome) -> Result<Sent, AllocError>
     ensures { IfOk result (λ follows. SendsOn rest.now outcome follows) }
 {
     match outcome {
-        DealOutcome::Wrote(count) => Ok(Sent::Rest(after(alloc, rest, count)?)),
-        DealOutcome::Failed(kind) => Ok(Sent::Failed(kind)),
-        DealOutcome::NoMemory => Ok(Sent::Failed(ErrorKind::WriteZero)),
-        DealOutcome::Answered(_) => Ok(Sent::Failed(ErrorKind::WriteZero)),
-        DealOutcome::Built(_) => Ok(Sent::Failed(ErrorKind::WriteZero)),
-        DealOutcome::Read(_) => Ok(Sent::Failed(ErrorKind::WriteZero)),
-        DealOutcome::Closed => Ok(Sent::Failed(ErrorKind::WriteZero)),
+        NetOutcome::Wrote(count) => Ok(Sent::Rest(after(alloc, rest, count)?)),
+        NetOutcome::Failed(kind) => Ok(Sent::Failed(kind)),
+        NetOutcome::NoMemory => Ok(Sent::Failed(ErrorKind::WriteZero)),
+        NetOutcome::Answered(_) => Ok(Sent::Failed(ErrorKind::WriteZero)),
+        NetOutcome::Built(_) => Ok(Sent::Failed(ErrorKind::WriteZero)),
+        NetOutcome::Read(_) => Ok(Sent::Failed(ErrorKind::WriteZero)),
+        NetOutcome::Closed => Ok(Sent::Failed(ErrorKind::WriteZero)),
     }
 }
 
@@ -119,12 +119,12 @@ fn after(alloc: Global, bytes: &[u8], count: usize) -> Result<Bytes, AllocError>
 
 /// The upload can't go on: its transfer was opened, and is left.
 #[tactic(auto, unfolding(ftp_dialogue::specs::Play::play))]
-fn gave_up(fault: ConnectionError, standing: Standing) -> Progress
+fn gave_up(fault: ConnectionError, play_state: PlayState) -> Progress
     ensures { (room : Rooms) (later : States → Tree) → ComesTo room later
-        (play room (giving_up (FtpError.ConnectionError fault) standing.state) standing) result }
+        (play room (giving_up (FtpError.ConnectionError fault) play_state.state) play_state) result }
 {
     let answer = Answer::Fault(FtpError::ConnectionError(fault));
-    Progress::Stops(Played::Done(answer, left(with_transfer(standing))))
+    Progress::Stops(Played::Done(answer, left(with_transfer(play_state))))
 }
 
 /// The bytes of a file as they go over the data connection: a text's lines end in CR LF (RFC 959, section 3.1.1.1).

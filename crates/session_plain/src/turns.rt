@@ -9,7 +9,7 @@ ghost use Rattle.ftp_dialogue.specs.Play.{play};
 use crate::exchange::{Progress, row};
 use ftp_base::encoding::Encoding;
 use ftp_calls::exchange::Turn;
-use ftp_session::model::{Played, Standing};
+use ftp_session::model::{PlayState, Played};
 use ftp_session::session::{Answer, Call};
 use ftp_transport::Room;
 use std::alloc::{AllocError, Global};
@@ -21,12 +21,12 @@ pub(crate) fn from_turn<E: Encoding>(
     encoding: &E,
     call: &Call,
     turn: Turn,
-    standing: Standing,
+    play_state: PlayState,
 ) -> Result<Played, AllocError>
     ensures { IfOk result (λ played. played ≡ play room (from_turn
-        (coding_of E.decoded E.encoded encoding.now) call.now turn standing.state) standing) }
+        (coding_of E.decoded E.encoded encoding.now) call.now turn play_state.state) play_state) }
 {
-    match row(alloc, room, encoding, call, turn, standing)? {
+    match row(alloc, room, encoding, call, turn, play_state)? {
         Progress::Stops(played) => Ok(played),
         Progress::Continues(here) => later(alloc, room, encoding, call, turn, here),
     }
@@ -40,24 +40,24 @@ fn later<E: Encoding>(
     encoding: &E,
     call: &Call,
     turn: Turn,
-    standing: Standing,
+    play_state: PlayState,
 ) -> Result<Played, AllocError>
     ensures { IfOk result (λ played. played ≡ play room (later
-        (coding_of E.decoded E.encoded encoding.now) call.now turn standing.state) standing) }
+        (coding_of E.decoded E.encoded encoding.now) call.now turn play_state.state) play_state) }
 {
     match turn {
-        Turn::First => last_turn(alloc, room, encoding, call, standing),
-        Turn::Second => Ok(Played::Done(Answer::Unit, standing)),
-        Turn::Passive(offset) => restart_turn(alloc, room, encoding, call, offset, standing),
+        Turn::First => last_turn(alloc, room, encoding, call, play_state),
+        Turn::Second => Ok(Played::Done(Answer::Unit, play_state)),
+        Turn::Passive(offset) => restart_turn(alloc, room, encoding, call, offset, play_state),
         Turn::ExtendedPassive(offset) => {
-            restart_turn(alloc, room, encoding, call, offset, standing)
+            restart_turn(alloc, room, encoding, call, offset, play_state)
         }
         Turn::Active(_address, offset) => {
-            restart_turn(alloc, room, encoding, call, offset, standing)
+            restart_turn(alloc, room, encoding, call, offset, play_state)
         }
-        Turn::Restart(_offset) => last_turn(alloc, room, encoding, call, standing),
-        Turn::Closed(_close) => Ok(Played::Done(Answer::Unit, standing)),
-        Turn::Aborted => last_turn(alloc, room, encoding, call, standing),
+        Turn::Restart(_offset) => last_turn(alloc, room, encoding, call, play_state),
+        Turn::Closed(_close) => Ok(Played::Done(Answer::Unit, play_state)),
+        Turn::Aborted => last_turn(alloc, room, encoding, call, play_state),
     }
 }
 
@@ -69,15 +69,22 @@ fn restart_turn<E: Encoding>(
     encoding: &E,
     call: &Call,
     offset: u64,
-    standing: Standing,
+    play_state: PlayState,
 ) -> Result<Played, AllocError>
     ensures { IfOk result (λ played. played ≡ play room (restart_turn
-        (coding_of E.decoded E.encoded encoding.now) call.now offset standing.state) standing) }
+        (coding_of E.decoded E.encoded encoding.now) call.now offset play_state.state) play_state) }
 {
     if !tells_offset(call, offset) {
-        return last_turn(alloc, room, encoding, call, standing);
+        return last_turn(alloc, room, encoding, call, play_state);
     }
-    match row(alloc, room, encoding, call, Turn::Restart(offset), standing)? {
+    match row(
+        alloc,
+        room,
+        encoding,
+        call,
+        Turn::Restart(offset),
+        play_state,
+    )? {
         Progress::Stops(played) => Ok(played),
         Progress::Continues(here) => last_turn(alloc, room, encoding, call, here),
     }
@@ -90,12 +97,12 @@ fn last_turn<E: Encoding>(
     room: Room,
     encoding: &E,
     call: &Call,
-    standing: Standing,
+    play_state: PlayState,
 ) -> Result<Played, AllocError>
     ensures { IfOk result (λ played. played ≡ play room (last_turn
-        (coding_of E.decoded E.encoded encoding.now) call.now standing.state) standing) }
+        (coding_of E.decoded E.encoded encoding.now) call.now play_state.state) play_state) }
 {
-    match row(alloc, room, encoding, call, Turn::Second, standing)? {
+    match row(alloc, room, encoding, call, Turn::Second, play_state)? {
         Progress::Stops(played) => Ok(played),
         Progress::Continues(here) => Ok(Played::Done(Answer::Unit, here)),
     }

@@ -3,7 +3,7 @@ use Rattle.ftp_control.specs.declared.control.rule.ReplyRule.TheVariants.{Strict
 use Rattle.ftp_transport.specs.Told.{Told}
 use Rattle.ftp_transport.specs.Memory.{Asking, IsGiven, fed}
 use Rattle.ftp_dialogue.specs.State.{Begins}
-use Rattle.ftp_dialogue.specs.Deals.{first_net}
+use Rattle.ftp_dialogue.specs.NetEvents.{first_net}
 use Rattle.ftp_session.proofs.Handed.{unmarked}
 use Rattle.from_contracts.proofs.Noop.{server, answered}
 use Rattle.from_contracts.proofs.greeting_and_noop.Goals as goal

@@ -29,26 +29,26 @@ use Rattle.ftp_calls.specs.declared.exchange.Ending.TheVariants.{Greets, GivesPa
 use Rattle.ftp_calls.specs.declared.exchange.Fetch.{Fetch}
 use Rattle.ftp_dialogue.specs.declared.gathered.More.{More}
 use Rattle.ftp_dialogue.specs.declared.gathered.More.TheVariants as more
-use Rattle.ftp_dialogue.specs.declared.stage.Fetching.{Fetching as Fetched}
-use Rattle.ftp_dialogue.specs.declared.stage.Fetching.TheVariants as fetch
+use Rattle.ftp_dialogue.specs.declared.stage.Transferring.{Transferring as Fetched}
+use Rattle.ftp_dialogue.specs.declared.stage.Transferring.TheVariants as fetch
 use Rattle.ftp_dialogue.specs.declared.stage.Opened.{Opened as Opening}
 use Rattle.ftp_dialogue.specs.declared.stage.Opened.TheVariants.{Gives as GivesAnswer, Performs as PerformsAll}
-use Rattle.ftp_dialogue.specs.declared.model.DealOutcome.TheVariants as came
+use Rattle.ftp_dialogue.specs.declared.model.NetOutcome.TheVariants as came
 use Rattle.ftp_dialogue.specs.declared.nodes.Accepted.{Accepted}
 use Rattle.ftp_dialogue.specs.declared.nodes.Accepted.TheVariants as accepts
 use Rattle.ftp_dialogue.specs.declared.stage.Asking.{Asking}
 use Rattle.ftp_dialogue.specs.declared.stage.Asking.TheVariants.{PeerPort, Connection, Peer, Accepting}
 use Rattle.ftp_dialogue.specs.declared.stage.Awaits.{Awaits}
 use Rattle.ftp_dialogue.specs.declared.stage.Stage.{Stage}
-use Rattle.ftp_dialogue.specs.declared.stage.Stage.TheVariants.{Agreeing, Fetching}
-use Rattle.ftp_dialogue.specs.declared.stage.Agreeing.TheVariants.{Asking as Asks}
+use Rattle.ftp_dialogue.specs.declared.stage.Stage.TheVariants.{OpeningData, Transferring}
+use Rattle.ftp_dialogue.specs.declared.stage.OpeningData.TheVariants.{Asking as Asks}
 use Rattle.ftp_dialogue.specs.declared.stage.Step.{Step}
 use Rattle.ftp_dialogue.specs.declared.stage.Step.TheVariants.{Next, Pending, Done}
 use Rattle.ftp_dialogue.specs.State.{SessionValue, LetsGo}
 use Rattle.ftp_dialogue.specs.Coding.{Coding}
-use Rattle.ftp_dialogue.specs.Deals.{Deal, MovementIs, outcomes_of}
+use Rattle.ftp_dialogue.specs.NetEvents.{NetEvent, MovementIs, outcomes_of}
 use Rattle.ftp_calls.specs.declared.exchange.Movement.{Movement}
-use Rattle.ftp_dialogue.specs.declared.model.DealOutcome.{DealOutcome}
+use Rattle.ftp_dialogue.specs.declared.model.NetOutcome.{NetOutcome}
 use Rattle.ftp_calls.specs.declared.exchange.Turn.{Turn}
 use Rattle.ftp_calls.specs.declared.exchange.Turn.TheVariants.{First}
 use Rattle.ftp_calls.specs.declared.exchange.Row.{Row}
@@ -102,7 +102,7 @@ Speaks (Move movement next) = ⊥
 Speaks (Leaf answer state) = ⊥
 
 -- the line that was said first still goes out, and that is all: what is kept of a reply doesn't matter yet
-pub record StillSays (link : Link) (tree tree' : Tree) (came : List ℕ) (answered : List Deal) (line : List ℕ) (old new : SessionValue) : Type 0 where
+pub record StillSays (link : Link) (tree tree' : Tree) (came : List ℕ) (answered : List NetEvent) (line : List ℕ) (old new : SessionValue) : Type 0 where
   pub rest : List ℕ
   pub next : Tree
   pub is : tree' ≡ Say (Ok rest) next
@@ -115,7 +115,7 @@ abbrev pub HasGoneOut : List ℕ → SessionValue → SessionValue → Type 0
 HasGoneOut line old new = length (said old.channel) + length line ≤ length new.channel.told.sent
 
 -- the line that a tree says first still goes out, or has gone out
-abbrev pub SaysFirst : Link → Tree → Tree → List ℕ → List Deal → SessionValue → SessionValue → Type 0
+abbrev pub SaysFirst : Link → Tree → Tree → List ℕ → List NetEvent → SessionValue → SessionValue → Type 0
 SaysFirst link tree tree' came answered old new =
     (line : List ℕ) (next : Tree) → tree ≡ Say (Ok line) next → link.tells → StillSays link tree tree' came answered line old new ⊎ HasGoneOut line old new
 
@@ -292,8 +292,8 @@ LooksUp link end old new (Ok address) = (next : SocketAddr → Tree) → Still l
 LooksUp link end old new (Err kind) = (begun : Bool) (next : SocketAddr → Tree) → Aborts link begun (Look end next) (Fault (ConnectionError (Io kind))) old new
 
 -- something was done on the data connection
-abbrev pub MovesBy : Link → Movement → SessionValue → SessionValue → DealOutcome → Type 0
-MovesBy link movement old new outcome = (next : DealOutcome → Tree) → Still link (Move movement next) (next outcome) old new
+abbrev pub MovesBy : Link → Movement → SessionValue → SessionValue → NetOutcome → Type 0
+MovesBy link movement old new outcome = (next : NetOutcome → Tree) → Still link (Move movement next) (next outcome) old new
 
 -- the transport was asked, or will be again
 abbrev pub AsksFor : Link → Request → SessionValue → SessionValue → Poll (Result RequestOutcome AllocError) → Type 0
@@ -426,7 +426,7 @@ abbrev pub dropped : SessionValue → SessionValue
 dropped v = record v { net = record v.net { data_conn = None } }
 
 abbrev pub TurnsAway : Turn → SocketAddr → ℕ → Opening → Stage → SessionValue → SessionValue → Step → Type 0
-TurnsAway turn peer left opened stage old new Next = (rest : ℕ) × (left ≡ suc rest) × (stage ≡ Agreeing (Asks turn (Accepting peer rest opened))) × (new ≡ dropped old)
+TurnsAway turn peer left opened stage old new Next = (rest : ℕ) × (left ≡ suc rest) × (stage ≡ OpeningData (Asks turn (Accepting peer rest opened))) × (new ≡ dropped old)
 TurnsAway turn peer left opened stage old new Pending = ⊥
 TurnsAway turn peer left opened stage old new (Done last) = (left ≡ zero) × (last ≡ Fault (ConnectionError TimedOut)) × (new ≡ old)
 
@@ -439,7 +439,7 @@ ConnectsTo call turn (outcomes.Refused fault) stage result = result ≡ Done (Fa
 -- a peer was let in: a transfer is live, and that is the answer; or a whole file or listing goes over the connection
 abbrev pub LetsIn : Opening → Stage → SessionValue → SessionValue → Step → Type 0
 LetsIn (GivesAnswer answer) stage old new result = (result ≡ Done answer) × (new ≡ record old { state = with_transfer old.state })
-LetsIn (PerformsAll task) stage old new result = (result ≡ Next) × (stage ≡ Fetching (fetch.Starting task)) × (new ≡ old)
+LetsIn (PerformsAll task) stage old new result = (result ≡ Next) × (stage ≡ Transferring (fetch.Starting task)) × (new ≡ old)
 
 -- a peer came: one that is let in opens the transfer, another is dropped; or none came
 abbrev pub MeetsIf : Bool → Turn → SocketAddr → ℕ → Opening → Stage → SessionValue → SessionValue → Step → Type 0
@@ -468,7 +468,7 @@ nothing_moved (movement.Write bytes) = answers.Count 0
 nothing_moved movement.Close = answers.Unit
 
 -- what a movement answers, and leaves: after a close the transfer is left
-abbrev pub answer_moved : Movement → DealOutcome → Answer
+abbrev pub answer_moved : Movement → NetOutcome → Answer
 answer_moved (movement.Read most) outcome = moved_answer outcome
 answer_moved (movement.Write bytes) outcome = moved_answer outcome
 answer_moved movement.Close outcome = answers.Unit
@@ -481,11 +481,11 @@ state_moved movement.Close state = with_left state
 -- bytes went over the data connection, and that is the answer; or it was closed, and the transfer is left; or there were
 -- no bytes to go, or no memory for those that are read, and nothing happened
 pub record CarriesBy (tells : Type 0) (movement : Movement) (old new : SessionValue) (answer : Answer) : Type 0 where
-  pub outcome : DealOutcome
+  pub outcome : NetOutcome
   pub some : moves_nothing movement ≡ false
   pub is : answer ≡ answer_moved movement outcome
   pub beside : new ≡ record old { state = state_moved movement old.state; net = new.net }
-  pub deal : tells → MovementIs movement outcome old.net new.net
+  pub net_event : tells → MovementIs movement outcome old.net new.net
   pub apart : IsApart (answer_moved movement outcome)
 
 -- a read needs memory for its bytes
@@ -529,7 +529,7 @@ CarriesOut tells call old new answer = IsRefused tells call old new answer ⊎ C
 -- A whole data connection
 
 -- a read of the data connection came to this, and all that was read is this now
-abbrev pub ReadsBy : Link → SessionValue → SessionValue → DealOutcome → Type 0
+abbrev pub ReadsBy : Link → SessionValue → SessionValue → NetOutcome → Type 0
 ReadsBy link old new outcome = MovesBy link (movement.Read chunk) old new outcome
 
 abbrev pub Grows : Link → List ℕ → List ℕ → SessionValue → SessionValue → Poll More → Type 0
@@ -541,10 +541,10 @@ Grows link all all' old new poll.Pending = (all' ≡ all) × ((tree : Tree) → 
 
 -- what follows a read
 abbrev pub Follows : Coding → Fetch → ℕ → List ℕ → More → Fetched → Type 0
-Follows coding form left all more.Grew next = next ≡ (if nat_le (length all) most_bytes then fetch.Gathering form left all else fetch.Parting form (too_long form))
-Follows coding form left all more.Ended next = (next ≡ fetch.Parting form (fetched coding form all)) ⊎ (next ≡ fetch.Parting form (Fault OutOfMemory))
-Follows coding form left all (more.Failed kind) next = next ≡ fetch.Parting form (unfetched form kind)
-Follows coding form left all more.NoMemory next = next ≡ fetch.Parting form (Fault OutOfMemory)
+Follows coding form left all more.Grew next = next ≡ (if nat_le (length all) most_bytes then fetch.Gathering form left all else fetch.ClosingData form (too_long form))
+Follows coding form left all more.Ended next = (next ≡ fetch.ClosingData form (fetched coding form all)) ⊎ (next ≡ fetch.ClosingData form (Fault OutOfMemory))
+Follows coding form left all (more.Failed kind) next = next ≡ fetch.ClosingData form (unfetched form kind)
+Follows coding form left all more.NoMemory next = next ≡ fetch.ClosingData form (Fault OutOfMemory)
 
 -- bytes were written to the data connection, from the front, and the rest is left; or that failed; or it is waited for
 abbrev pub Sends : Link → List ℕ → List ℕ → SessionValue → SessionValue → Result (Poll (Unit {0})) ErrorKind → Type 0

@@ -11,9 +11,9 @@ use Rattle.ftp_calls.specs.declared.exchange.Turn.{Turn}
 use Rattle.ftp_calls.specs.declared.exchange.Turn.TheVariants.{First, Second, Passive, ExtendedPassive, Active, Restart, Closed, Aborted}
 use Rattle.ftp_dialogue.specs.declared.state.State.{State}
 use Rattle.ftp_dialogue.specs.declared.stage.Stage.{Stage}
-use Rattle.ftp_dialogue.specs.declared.stage.Stage.TheVariants.{At, Saying, Hearing, Arming, Resyncing, Agreeing, Closing, Aborting, Fetching}
+use Rattle.ftp_dialogue.specs.declared.stage.Stage.TheVariants.{At, Saying, Hearing, Arming, Resyncing, OpeningData, Closing, Aborting, Transferring}
 use Rattle.ftp_dialogue.specs.declared.stage.Aborting.TheVariants.{Wording}
-use Rattle.ftp_dialogue.specs.declared.stage.Agreeing.TheVariants.{Negotiating}
+use Rattle.ftp_dialogue.specs.declared.stage.OpeningData.TheVariants.{Negotiating}
 use Rattle.ftp_dialogue.specs.State.{SessionValue}
 use Rattle.ftp_dialogue.specs.Coding.{Coding}
 use Rattle.ftp_calls.specs.Exchanges.{aborts, finishes, is_read, negotiates}
@@ -41,10 +41,10 @@ is_first (Saying line a) = false
 is_first (Hearing a) = false
 is_first (Arming turn offset) = false
 is_first (Resyncing turn seeks) = false
-is_first (Agreeing agreeing) = false
+is_first (OpeningData opening_data) = false
 is_first Closing = false
 is_first (Aborting abort) = false
-is_first (Fetching fetching) = false
+is_first (Transferring fetching) = false
 
 -- where the end of a transfer begins: its data connection is closed, or ABOR goes out first
 abbrev pub last_stage : Call → Stage
@@ -52,7 +52,7 @@ last_stage call = if aborts call then Aborting Wording else Closing
 
 -- where a call begins: one that opens a data connection takes the offset with it
 abbrev pub first_stage : Call → State → Stage
-first_stage call state = if negotiates call then Agreeing (Negotiating state.settings.restart_offset) else if finishes call then last_stage call else At First
+first_stage call state = if negotiates call then OpeningData (Negotiating state.settings.restart_offset) else if finishes call then last_stage call else At First
 
 -- where a poll of a call begins
 abbrev pub entered_stage : Call → Stage → State → Stage

@@ -25,16 +25,16 @@ use Rattle.ftp_calls.specs.declared.exchange.Fetch.TheVariants.{Whole}
 use Rattle.ftp_calls.specs.declared.exchange.Task.{Task}
 use Rattle.ftp_dialogue.specs.declared.stage.Awaits.{Awaits}
 use Rattle.ftp_dialogue.specs.declared.stage.Stage.{Stage}
-use Rattle.ftp_dialogue.specs.declared.stage.Stage.TheVariants.{At, Saying, Hearing, Arming, Resyncing, Agreeing, Closing, Aborting, Fetching}
-use Rattle.ftp_dialogue.specs.declared.stage.Fetching.{Fetching as Fetched}
-use Rattle.ftp_dialogue.specs.declared.stage.Fetching.TheVariants.{Starting, Gathering, Sending as SendingData, Ending}
-use Rattle.ftp_dialogue.specs.declared.stage.Fetching.TheVariants as fetch
+use Rattle.ftp_dialogue.specs.declared.stage.Stage.TheVariants.{At, Saying, Hearing, Arming, Resyncing, OpeningData, Closing, Aborting, Transferring}
+use Rattle.ftp_dialogue.specs.declared.stage.Transferring.{Transferring as Fetched}
+use Rattle.ftp_dialogue.specs.declared.stage.Transferring.TheVariants.{Starting, Gathering, Sending as SendingData, Ending}
+use Rattle.ftp_dialogue.specs.declared.stage.Transferring.TheVariants as fetch
 use Rattle.ftp_dialogue.specs.declared.stage.Opened.{Opened as Opening}
 use Rattle.ftp_dialogue.specs.declared.stage.Opened.TheVariants.{Gives as GivesAnswer, Performs}
-use Rattle.ftp_dialogue.specs.declared.stage.Agreeing.{Agreeing as Way}
-use Rattle.ftp_dialogue.specs.declared.stage.Agreeing.TheVariants.{Negotiating, Locating, Binding, Asking}
+use Rattle.ftp_dialogue.specs.declared.stage.OpeningData.{OpeningData as Way}
+use Rattle.ftp_dialogue.specs.declared.stage.OpeningData.TheVariants.{Negotiating, Locating, Binding, Asking}
 use Rattle.ftp_dialogue.specs.declared.stage.Aborting.{Aborting as Abort}
-use Rattle.ftp_dialogue.specs.declared.stage.Aborting.TheVariants.{Wording, Sending, Parting}
+use Rattle.ftp_dialogue.specs.declared.stage.Aborting.TheVariants.{Wording, Sending, ClosingData}
 use Rattle.ftp_dialogue.specs.declared.stage.Resyncing.{Resyncing as Resync}
 use Rattle.ftp_dialogue.specs.declared.stage.Resyncing.TheVariants as resync
 use Rattle.ftp_dialogue.specs.declared.stage.Asking.{Asking as Asked}
@@ -46,7 +46,7 @@ use Rattle.ftp_dialogue.specs.Promises.{IsFault}
 use Rattle.ftp_calls.specs.declared.exchange.Row.{Row}
 use Rattle.ftp_calls.specs.declared.exchange.Row.TheVariants.{Exchanges, Arms, Resyncs}
 use Rattle.ftp_calls.specs.Exchanges.{row_of, aborting_row, aborts, finishes, is_local, is_read, negotiates, next_turn, Movements, Listings, Kind, kind_of_fetch, kind_of_task, Nothing, Replies, Texts, Times, Sizes, Lists, Connections, ending_of, given_by, says_of}
-use Rattle.ftp_dialogue.specs.Dialogue.{expected_of, Tree, Say, Look, There, Leaf, armed, awaiting, aborting, breaking_off, closes, closing, later, from_turn, negotiating, listening, listening_at, connecting_to, connecting_to_peer, accepting, fetch_ending, fetch_parting, gathering, most_reads, performing, resyncing, seeking, most_passed_over, sending, strangers, with_transfer}
+use Rattle.ftp_dialogue.specs.Dialogue.{expected_of, Tree, Say, Look, There, Leaf, armed, awaiting, aborting, breaking_off, closes, closing, later, from_turn, negotiating, listening, listening_at, connecting_to, connecting_to_peer, accepting, fetch_ending, fetch_closing_data, gathering, most_reads, performing, resyncing, seeking, most_passed_over, sending, strangers, with_transfer}
 
 -- an exchange was made before
 abbrev pub is_later : Turn → Bool
@@ -77,7 +77,7 @@ awaited coding call state a = awaiting coding (expected_of a.hears) a.ending sta
 
 -- the first node on the way, by who opens the data connection
 abbrev pub first_by : Mode → ℕ → Stage
-first_by mode.Active offset = Agreeing (Locating offset)
+first_by mode.Active offset = OpeningData (Locating offset)
 first_by mode.Passive offset = At (Passive offset)
 first_by mode.ExtendedPassive offset = At (ExtendedPassive offset)
 
@@ -92,7 +92,7 @@ way_of coding call state (Asking turn asking) = asking_of coding asking state (l
 abbrev pub abort_left : Coding → Call → State → Abort → Tree
 abort_left coding call state Wording = aborting coding call state
 abort_left coding call state (Sending line) = Say (Ok (due line)) (breaking_off coding call state)
-abort_left coding call state Parting = breaking_off coding call state
+abort_left coding call state ClosingData = breaking_off coding call state
 
 -- what is left where the reply to NOOP is sought
 abbrev pub resync_left : Coding → State → Resync → Tree
@@ -105,7 +105,7 @@ abbrev pub fetch_left : Coding → State → Fetched → Tree
 fetch_left coding state (Starting task) = performing coding task state
 fetch_left coding state (Gathering form left all) = gathering coding form left all state
 fetch_left coding state (SendingData left total rest) = sending left total rest state
-fetch_left coding state (fetch.Parting form answer) = fetch_parting form answer state
+fetch_left coding state (fetch.ClosingData form answer) = fetch_closing_data form answer state
 fetch_left coding state (Ending form answer) = fetch_ending form answer state
 
 -- what is left of a call's dialogue
@@ -115,10 +115,10 @@ remaining coding call state (Saying line a) = Say (Ok (due line)) (awaited codin
 remaining coding call state (Hearing a) = awaited coding call state a
 remaining coding call state (Arming turn offset) = Leaf answer.Unit (armed offset state)
 remaining coding call state (Resyncing turn seeks) = resync_left coding state seeks
-remaining coding call state (Agreeing agreeing) = way_of coding call state agreeing
+remaining coding call state (OpeningData opening_data) = way_of coding call state opening_data
 remaining coding call state Closing = closing coding call state
 remaining coding call state (Aborting abort) = abort_left coding call state abort
-remaining coding call state (Fetching fetching) = fetch_left coding state fetching
+remaining coding call state (Transferring fetching) = fetch_left coding state fetching
 
 -- a reply was taken on that way
 abbrev pub has_asked : Way → Bool
@@ -132,7 +132,7 @@ abbrev pub has_sent : Abort → Bool
 has_sent Wording = false
 has_sent (Sending None) = true
 has_sent (Sending (Some line)) = false
-has_sent Parting = true
+has_sent ClosingData = true
 
 -- ABOR has gone out whole, where the call is an abort
 abbrev pub is_out : Stage → Bool
@@ -156,10 +156,10 @@ begun_at (Saying (Some line) a) = a.begun
 begun_at (Hearing a) = a.begun
 begun_at (Arming turn offset) = is_later turn
 begun_at (Resyncing turn seeks) = has_sought (is_later turn) seeks
-begun_at (Agreeing agreeing) = has_asked agreeing
+begun_at (OpeningData opening_data) = has_asked opening_data
 begun_at Closing = false
 begun_at (Aborting abort) = has_sent abort
-begun_at (Fetching fetching) = true
+begun_at (Transferring fetching) = true
 
 -- the nodes that are left
 abbrev pub many : ℕ
@@ -190,7 +190,7 @@ nodes_of (Asking turn asking) = nodes_asked asking turn
 abbrev pub nodes_of_abort : Abort → ℕ
 nodes_of_abort Wording = many + 33
 nodes_of_abort (Sending line) = many + 32
-nodes_of_abort Parting = many + 31
+nodes_of_abort ClosingData = many + 31
 
 abbrev pub nodes_of_resync : Turn → Resync → ℕ
 nodes_of_resync turn resync.Wording = nodes_from turn - 1
@@ -201,7 +201,7 @@ abbrev pub nodes_of_fetch : Fetched → ℕ
 nodes_of_fetch (Starting task) = most_reads + 11
 nodes_of_fetch (Gathering form left all) = left + 10
 nodes_of_fetch (SendingData left total rest) = left + 10
-nodes_of_fetch (fetch.Parting form answer) = 5
+nodes_of_fetch (fetch.ClosingData form answer) = 5
 nodes_of_fetch (Ending form answer) = 4
 
 abbrev pub nodes_left : Stage → ℕ
@@ -210,10 +210,10 @@ nodes_left (Saying line a) = nodes_from a.turn - 1
 nodes_left (Hearing a) = nodes_from a.turn - 2
 nodes_left (Arming turn offset) = nodes_from turn - 1
 nodes_left (Resyncing turn seeks) = nodes_of_resync turn seeks
-nodes_left (Agreeing agreeing) = nodes_of agreeing
+nodes_left (OpeningData opening_data) = nodes_of opening_data
 nodes_left Closing = many + 30
 nodes_left (Aborting abort) = nodes_of_abort abort
-nodes_left (Fetching fetching) = nodes_of_fetch fetching
+nodes_left (Transferring fetching) = nodes_of_fetch fetching
 
 -- the line of a command, where there is one
 abbrev pub line_of : Coding → Option Command → Result (List ℕ) Cause
@@ -230,10 +230,10 @@ NodeOf coding turn exchange (Saying line a) = (line_of coding exchange.says ≡ 
 NodeOf coding turn exchange (Hearing a) = (exchange.says ≡ None) × (a ≡ awaits_of turn exchange)
 NodeOf coding turn exchange (Arming other offset) = ⊥
 NodeOf coding turn exchange (Resyncing other seeks) = ⊥
-NodeOf coding turn exchange (Agreeing agreeing) = ⊥
+NodeOf coding turn exchange (OpeningData opening_data) = ⊥
 NodeOf coding turn exchange Closing = ⊥
 NodeOf coding turn exchange (Aborting abort) = ⊥
-NodeOf coding turn exchange (Fetching fetching) = ⊥
+NodeOf coding turn exchange (Transferring fetching) = ⊥
 
 -- an exchange doesn't begin: its line is refused, or there is no memory; what is said of an abort takes none
 abbrev pub NotBegun : Coding → Row → FtpError → Type 0
@@ -301,7 +301,7 @@ abbrev pub FetchOf : Call → Fetched → Type 0
 FetchOf call (Starting task) = MayPerform call task
 FetchOf call (Gathering form left all) = MayFetch call form
 FetchOf call (SendingData left total rest) = MayFetch call Whole
-FetchOf call (fetch.Parting form answer) = MayFetch call form × AnswersKind (kind_of_fetch form) answer
+FetchOf call (fetch.ClosingData form answer) = MayFetch call form × AnswersKind (kind_of_fetch form) answer
 FetchOf call (Ending form answer) = MayFetch call form × AnswersKind (kind_of_fetch form) answer
 
 abbrev pub WayOf : Call → Way → Type 0
@@ -317,10 +317,10 @@ StageOf call (Saying line a) = (ending_of (row_of call a.turn) ≡ Some a.ending
 StageOf call (Hearing a) = (ending_of (row_of call a.turn) ≡ Some a.ending) × (a.begun ≡ true → is_read call ≡ false) × TurnOf call a.turn
 StageOf call (Arming turn offset) = (row_of call turn ≡ Arms offset) × TurnOf call turn
 StageOf call (Resyncing turn seeks) = (row_of call turn ≡ Resyncs) × TurnOf call turn
-StageOf call (Agreeing agreeing) = (negotiates call ≡ true) × WayOf call agreeing
+StageOf call (OpeningData opening_data) = (negotiates call ≡ true) × WayOf call opening_data
 StageOf call Closing = finishes call ≡ true
 StageOf call (Aborting abort) = aborts call ≡ true
-StageOf call (Fetching fetching) = FetchOf call fetching
+StageOf call (Transferring fetching) = FetchOf call fetching
 
 -- where a call stands after a step that doesn't end it
 abbrev pub StageAfter : Call → Stage → Step → Type 0

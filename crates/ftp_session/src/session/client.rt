@@ -8,7 +8,7 @@ ghost use Rattle.std.specs.Prelude.{◌≡◌, IsOk, IfOk, MatchResult, Ok, IfEr
 ghost use Rattle.ftp_control.specs.Channel.{IsSound, untaken};
 ghost use Rattle.ftp_session.specs.Calls.{Connects, FailsToConnect};
 ghost use Rattle.ftp_dialogue.specs.Coding.{chosen};
-ghost use Rattle.ftp_dialogue.specs.Deals.{first_net};
+ghost use Rattle.ftp_dialogue.specs.NetEvents.{first_net};
 ghost use Rattle.ftp_dialogue.specs.Link.{blocking};
 ghost use Rattle.ftp_dialogue.specs.Sound.{SoundCounts};
 ghost use Rattle.ftp_dialogue.specs.State.{greeted_again, Begins};

@@ -1,7 +1,7 @@
 use Rattle.std.proofs.Common.{◌≡◌, ◌∷◌, [], map, take, None}
 use Rattle.ftp_calls.specs.declared.call.Call.TheVariants.{Greet}
 use Rattle.ftp_transport.specs.Memory.{fresh_between, unspecified}
-use Rattle.ftp_dialogue.specs.Deals.{first_net}
+use Rattle.ftp_dialogue.specs.NetEvents.{first_net}
 use Rattle.ftp_dialogue.specs.State.{SessionValue, Begins}
 use Rattle.ftp_dialogue.specs.Dialogue.{rule_by}
 use Rattle.ftp_script.specs.Playing.{giving, Makes, server_address, supply_of}

@@ -6,17 +6,17 @@ use Rattle.session_plain.proofs.Parts.{comes, built_here, dialled_here}
 use Rattle.session_plain.proofs.addresses.connecting_to.Goals as goal
 
 -- the builder is asked
-pub returns-then-standing : goal.returns-then-standing
-returns-then-standing c =
-    let s = c.args.standing in
+pub returns-then-play_state : goal.returns-then-play_state
+returns-then-play_state c =
+    let s = c.args.play_state in
     let whole = λ (later : State → Tree). connecting_to c.args.address s.state (later s.state) in
     let part = λ (later : State → Tree). Build c.args.address (on_built s.state (later s.state)) in
-    comes s whole part (λ later. built_here s.state c.args.address (later s.state) c.if-standing.true) c.built_at.result c.built_at.ensures
+    comes s whole part (λ later. built_here s.state c.args.address (later s.state) c.if-play_state.true) c.built_at.result c.built_at.ensures
 
 -- the transport is asked
-pub returns-else-standing : goal.returns-else-standing
-returns-else-standing c =
-    let s = c.args.standing in
+pub returns-else-play_state : goal.returns-else-play_state
+returns-else-play_state c =
+    let s = c.args.play_state in
     let whole = λ (later : State → Tree). connecting_to c.args.address s.state (later s.state) in
     let part = λ (later : State → Tree). Ask (Connect c.args.address None) (on_connection s.state (later s.state)) in
-    comes s whole part (λ later. dialled_here s.state c.args.address (later s.state) c.if-standing.false) c.dialled.result c.dialled.ensures
+    comes s whole part (λ later. dialled_here s.state c.args.address (later s.state) c.if-play_state.false) c.dialled.result c.dialled.ensures

@@ -10,7 +10,7 @@ returns-in-Known-Done-default g n c =
     let arm = c.in-Known-Done-default in
     let came = rw (arm.is, arm.field-0-is) at c.in_ok-here.ensures in
     let P : Played → Type 0 = λ end. IfOk c.play_dialogue.result (λ played. played ≡ end) in
-    subst P (greets coding c.args.room c.args.requests.now c.in-Some.others.now c.in-Some.request.now c.args.fault c.args.standing arm.here _ c.in-Some.ensures.cases.0 came (λ tree deny. refl)) c.play_dialogue.ensures
+    subst P (greets coding c.args.room c.args.requests.now c.in-Some.others.now c.in-Some.request.now c.args.fault c.args.play_state arm.here _ c.in-Some.ensures.cases.0 came (λ tree deny. refl)) c.play_dialogue.ensures
 
 pub returns-in-Known-Address-default : goal.returns-in-Known-Address-default
 returns-in-Known-Address-default g n c =
@@ -18,4 +18,4 @@ returns-in-Known-Address-default g n c =
     let arm = c.in-Known-Address-default in
     let came = rw (arm.is, arm.field-0-is) at c.in_ok-here.ensures in
     let P : Played → Type 0 = λ end. IfOk c.play_dialogue-in-Known-Address-default.result (λ played. played ≡ end) in
-    subst P (greets coding c.args.room c.args.requests.now c.in-Some.others.now c.in-Some.request.now c.args.fault c.args.standing arm.here _ c.in-Some.ensures.cases.0 came (λ tree deny. refl)) c.play_dialogue-in-Known-Address-default.ensures
+    subst P (greets coding c.args.room c.args.requests.now c.in-Some.others.now c.in-Some.request.now c.args.fault c.args.play_state arm.here _ c.in-Some.ensures.cases.0 came (λ tree deny. refl)) c.play_dialogue-in-Known-Address-default.ensures

@@ -27,7 +27,7 @@ pub returns-in-Continues : goal.returns-in-Continues
 returns-in-Continues g c =
     let exchange = c.args.exchange in
     let coding = coding_of g.E.Encoding.decoded g.E.Encoding.encoded c.args.encoding.now in
-    let s = c.args.standing in
+    let s = c.args.play_state in
     let here = c.in-Continues.here in
     let whole = λ (later : State → Tree). play c.args.room (exchanging coding exchange s.state later) s in
     let part = λ (r : Room) (later : State → Tree). play r (awaiting coding (expected_of exchange.hears) exchange.ending here.state later) here in

@@ -12,7 +12,7 @@ pub returns-in-Unknown : goal.returns-in-Unknown
 unfolding play
 returns-in-Unknown g c = λ room later.
     let coding = coding_of g.E.Encoding.decoded g.E.Encoding.encoded c.args.encoding.now in
-    let s = c.args.standing in
+    let s = c.args.play_state in
     let codes : Expected = expected_of c.args.codes in
     let under : c.as_slice.result.now ≡ codes.statuses = simp (c.as_slice.ensures, c.in_ok-statuses.ensures) refl in
     let formed : c.form_of_codes-form.result ≡ codes.form = c.form_of_codes-form.ensures in
@@ -25,7 +25,7 @@ pub returns-in-Known : goal.returns-in-Known
 unfolding play
 returns-in-Known g c =
     let coding = coding_of g.E.Encoding.decoded g.E.Encoding.encoded c.args.encoding.now in
-    let s = c.args.standing in
+    let s = c.args.play_state in
     let codes : Expected = expected_of c.args.codes in
     let under : c.as_slice.result.now ≡ codes.statuses = simp (c.as_slice.ensures, c.in_ok-statuses.ensures) refl in
     let formed : c.form_of_codes-form.result ≡ codes.form = c.form_of_codes-form.ensures in

@@ -14,5 +14,5 @@ pub returns-in-Exchanges : goal.returns-in-Exchanges
 returns-in-Exchanges g c =
     let coding = coding_of g.E.Encoding.decoded g.E.Encoding.encoded c.args.encoding.now in
     let same : Exchanges c.in-Exchanges.made ≡ row_of c.args.call.now c.args.turn = sym c.in-Exchanges.is ∙ c.in_ok-made.ensures.row_is in
-    let P : Row → Type 0 = λ r. IfOk c.exchange.result (λ progress. (later : State → Tree) → ComesTo c.args.room later (play c.args.room (doing coding r c.args.standing.state later) c.args.standing) progress) in
+    let P : Row → Type 0 = λ r. IfOk c.exchange.result (λ progress. (later : State → Tree) → ComesTo c.args.room later (play c.args.room (doing coding r c.args.play_state.state later) c.args.play_state) progress) in
     subst P same c.exchange.ensures

@@ -16,7 +16,7 @@ returns-in-Stops g c = λ room later.
 pub returns-in-Continues : goal.returns-in-Continues
 returns-in-Continues g c =
     let coding = coding_of g.E.Encoding.decoded g.E.Encoding.encoded c.args.encoding.now in
-    let s = c.args.standing in
+    let s = c.args.play_state in
     let here = c.in-Continues.here in
     let stands = rw c.in-Continues.is at c.in_ok-played.ensures in
     let one = λ (room : Room) (later : State → Tree). play room (performing coding c.args.task here.state) here in

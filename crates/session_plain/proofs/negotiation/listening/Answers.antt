@@ -15,7 +15,7 @@ unfolding play
 returns-in-Known-Address-default g c =
     let coding = coding_of g.E.Encoding.decoded g.E.Encoding.encoded c.args.encoding.now in
     let call = c.args.call.now in
-    let s = c.args.standing in
+    let s = c.args.play_state in
     let arm = c.in-Known-Address-default in
     let turn = λ (bound : SocketAddr). Active (at_port (socket_port bound) s.local) c.args.offset in
     let next = on_address s.state (λ bound. from_turn coding call (turn bound) s.state) in

@@ -9,5 +9,5 @@ use Rattle.session_plain.proofs.negotiation.negotiating.Goals as goal
 pub returns-in-None : goal.returns-in-None
 returns-in-None g c =
     let coding = coding_of g.E.Encoding.decoded g.E.Encoding.encoded c.args.encoding.now in
-    let s = c.args.standing in
-    ends c.agreeing.result _ _ (sym (ap (λ f. play c.args.room (negotiating_unless f coding c.args.call.now c.args.offset s.state) s) (sym c.cannot_open.ensures ∙ c.in-None.is))) c.agreeing.ensures
+    let s = c.args.play_state in
+    ends c.opening_data.result _ _ (sym (ap (λ f. play c.args.room (negotiating_unless f coding c.args.call.now c.args.offset s.state) s) (sym c.cannot_open.ensures ∙ c.in-None.is))) c.opening_data.ensures

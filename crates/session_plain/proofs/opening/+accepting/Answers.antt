@@ -10,26 +10,26 @@ use Rattle.session_plain.proofs.opening.+accepting.Goals as goal
 -- no outcome is known
 pub returns-in-Unknown : goal.returns-in-Unknown
 returns-in-Unknown t c = λ room next.
-    waits (next c.args.standing.state) c.args.peer c.args.left c.args.standing c.in-Unknown.here (rw c.in-Unknown.is at c.in_ok-here.ensures) room
+    waits (next c.args.play_state.state) c.args.peer c.args.left c.args.play_state c.in-Unknown.here (rw c.in-Unknown.is at c.in_ok-here.ensures) room
 
 -- no peer came
 pub returns-in-Known-Done-default : goal.returns-in-Known-Done-default
 unfolding play
 returns-in-Known-Done-default t c = λ room next.
     let arm = c.in-Known-Done-default in
-    came_to (next c.args.standing.state) c.args.peer c.args.left c.args.standing arm.here _ (rw (arm.is, arm.field-0-is) at c.in_ok-here.ensures) room ∙ sym c.fault.ensures
+    came_to (next c.args.play_state.state) c.args.peer c.args.left c.args.play_state arm.here _ (rw (arm.is, arm.field-0-is) at c.in_ok-here.ensures) room ∙ sym c.fault.ensures
 
 pub returns-in-Known-Refused-default : goal.returns-in-Known-Refused-default
 unfolding play
 returns-in-Known-Refused-default t c = λ room next.
     let arm = c.in-Known-Refused-default in
-    came_to (next c.args.standing.state) c.args.peer c.args.left c.args.standing arm.here _ (rw (arm.is, arm.field-0-is) at c.in_ok-here.ensures) room ∙ sym c.fault-in-Known-Refused-default.ensures
+    came_to (next c.args.play_state.state) c.args.peer c.args.left c.args.play_state arm.here _ (rw (arm.is, arm.field-0-is) at c.in_ok-here.ensures) room ∙ sym c.fault-in-Known-Refused-default.ensures
 
 -- a peer is let in
 pub returns-then-lets_in : goal.returns-then-lets_in
 returns-then-lets_in t c = λ room next.
     let arm = c.in-Known-Address-default in
-    let s = c.args.standing in
+    let s = c.args.play_state in
     let came = rw (arm.is, arm.field-0-is) at c.in_ok-here.ensures in
     let in_time = others (next s.state) c.args.peer c.args.left arm.here.state in
     let allowed : lets_in arm.here.state c.args.peer arm.from ≡ true = sym c.lets_in.ensures ∙ c.if-lets_in.true in
@@ -41,7 +41,7 @@ pub returns-then-left-eq0 : goal.returns-then-left-eq0
 unfolding play
 returns-then-left-eq0 t c = λ room next.
     let arm = c.in-Known-Address-default in
-    let s = c.args.standing in
+    let s = c.args.play_state in
     let came = rw (arm.is, arm.field-0-is) at c.in_ok-here.ensures in
     let in_time = others (next s.state) c.args.peer c.args.left arm.here.state in
     let allowed : lets_in arm.here.state c.args.peer arm.from ≡ false = sym c.lets_in.ensures ∙ c.if-lets_in.false in
@@ -53,7 +53,7 @@ returns-then-left-eq0 t c = λ room next.
 pub returns-else-left-eq0 : goal.returns-else-left-eq0
 returns-else-left-eq0 t c =
     let arm = c.in-Known-Address-default in
-    let s = c.args.standing in
+    let s = c.args.play_state in
     let came = rw (arm.is, arm.field-0-is) at c.in_ok-here.ensures in
     let allowed : lets_in arm.here.state c.args.peer arm.from ≡ false = sym c.lets_in.ensures ∙ c.if-lets_in.false in
     let led = λ (room : Room) (next : State → Tree). came_to (next s.state) c.args.peer c.args.left s arm.here _ came room in

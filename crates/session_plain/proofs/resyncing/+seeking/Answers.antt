@@ -13,7 +13,7 @@ use Rattle.session_plain.proofs.resyncing.+seeking.Goals as goal
 pub returns-in-Unknown : goal.returns-in-Unknown
 unfolding play
 returns-in-Unknown t c = λ room later.
-    let s = c.args.standing in
+    let s = c.args.play_state in
     let left = c.args.left in
     let came = rw c.in-Unknown.is at c.in_ok-here.ensures in
     let due = rw c.form_of-form.ensures at came in
@@ -23,7 +23,7 @@ returns-in-Unknown t c = λ room later.
 pub returns-in-Some : goal.returns-in-Some
 unfolding play
 returns-in-Some t c = λ room later.
-    let s = c.args.standing in
+    let s = c.args.play_state in
     let left = c.args.left in
     let here = c.in-Known.here in
     let came = rw c.form_of-form.ensures at (rw c.in-Known.is at c.in_ok-here.ensures) in
@@ -36,7 +36,7 @@ returns-in-Some t c = λ room later.
 pub returns-in-None : goal.returns-in-None
 unfolding play
 returns-in-None t c =
-    let s = c.args.standing in
+    let s = c.args.play_state in
     let left = c.args.left in
     let here = c.in-Known.here in
     let came = rw c.form_of-form.ensures at (rw c.in-Known.is at c.in_ok-here.ensures) in

@@ -20,14 +20,14 @@ pub returns-then-is_beside : goal.returns-then-is_beside
 unfolding play
 returns-then-is_beside g c = λ later.
     let coding = coding_of g.E.Encoding.decoded g.E.Encoding.encoded c.args.encoding.now in
-    let s = c.args.standing in
+    let s = c.args.play_state in
     rw c.done.ensures (ap (λ b. play c.args.room (cond b (Leaf (Fault DataConnectionAlreadyOpen) s.state) (Say (wire coding.encode (text_of Noop)) (seeking most_passed_over s.state))) s) (sym c.is_beside.ensures ∙ c.if-is_beside.true))
 
 -- NOOP waits for room, or has no line
 pub returns-in-Stops : goal.returns-in-Stops
 returns-in-Stops g c = λ later.
     let coding = coding_of g.E.Encoding.decoded g.E.Encoding.encoded c.args.encoding.now in
-    let s = c.args.standing in
+    let s = c.args.play_state in
     let spoken = ap (λ b. play c.args.room (cond b (Leaf (Fault DataConnectionAlreadyOpen) s.state) (Say (wire coding.encode (text_of Noop)) (seeking most_passed_over s.state))) s) (sym c.is_beside.ensures ∙ c.if-is_beside.false) in
     spoken ∙ (rw c.in-Stops.is at (c.in_ok-played.ensures (λ state. seeking most_passed_over state)))
 
@@ -40,7 +40,7 @@ follows room whole part same (Err fault) comes = tt
 pub returns-in-Continues : goal.returns-in-Continues
 returns-in-Continues g c =
     let coding = coding_of g.E.Encoding.decoded g.E.Encoding.encoded c.args.encoding.now in
-    let s = c.args.standing in
+    let s = c.args.play_state in
     let here = c.in-Continues.here in
     let spoken = ap (λ b. play c.args.room (cond b (Leaf (Fault DataConnectionAlreadyOpen) s.state) (Say (wire coding.encode (text_of Noop)) (seeking most_passed_over s.state))) s) (sym c.is_beside.ensures ∙ c.if-is_beside.false) in
     let said = rw c.in-Continues.is at (c.in_ok-played.ensures (λ state. seeking most_passed_over state)) in

@@ -7,7 +7,7 @@ use Rattle.ftp_calls.specs.declared.exchange.Fetch.TheVariants.{Whole}
 use Rattle.ftp_calls.specs.declared.exchange.Movement.TheVariants as movement
 use Rattle.ftp_transport.specs.declared.room.Room.{Room}
 use Rattle.ftp_dialogue.specs.declared.state.State.{State}
-use Rattle.ftp_dialogue.specs.Dialogue.{Tree, Move, fetch_parting, giving_up, sending}
+use Rattle.ftp_dialogue.specs.Dialogue.{Tree, Move, fetch_closing_data, giving_up, sending}
 use Rattle.ftp_dialogue.specs.Play.{play}
 use Rattle.ftp_dialogue.proofs.UnsentLemmas.{nil_of, some_of}
 use Rattle.session_plain.specs.Progress.{ComesTo}
@@ -18,17 +18,17 @@ use Rattle.session_plain.proofs.storing.+sending.Goals as goal
 -- nothing is left to write
 pub returns-then-is_empty : goal.returns-then-is_empty
 returns-then-is_empty t c =
-    let s = c.args.standing in
+    let s = c.args.play_state in
     let rest = c.args.rest in
-    let one = λ (room : Room) (later : State → Tree). play room (fetch_parting Whole (Count c.args.total) s.state) s in
+    let one = λ (room : Room) (later : State → Tree). play room (fetch_closing_data Whole (Count c.args.total) s.state) s in
     let other = λ (room : Room) (later : State → Tree). play room (sending c.args.left c.args.total rest s.state) s in
     let over = over_at_end c.args.total s.state c.args.left rest (nil_of rest c.if-is_empty.ensures) in
-    leads one other (λ room later. ap (λ tree. play room tree s) over) c.parting.result c.parting.ensures
+    leads one other (λ room later. ap (λ tree. play room tree s) over) c.closing_data.result c.closing_data.ensures
 
 -- no write is left
 pub returns-then-left-eq0 : goal.returns-then-left-eq0
 returns-then-left-eq0 t c = λ room later.
-    let s = c.args.standing in
+    let s = c.args.play_state in
     let P : Tree → Type 0 = λ tree. ComesTo room later (play room tree s) c.gave_up.result in
     let stops = stops_at_last c.args.total s.state c.args.left c.args.rest c.if-left-eq0.true (some_of c.args.rest c.if-is_empty.ensures) in
     subst P (sym stops) (c.gave_up.ensures room later)
@@ -37,7 +37,7 @@ returns-then-left-eq0 t c = λ room later.
 pub returns-in-Unknown : goal.returns-in-Unknown
 unfolding play
 returns-in-Unknown t c = λ room later.
-    let s = c.args.standing in
+    let s = c.args.play_state in
     let rest = c.args.rest in
     let left = c.args.left - 1 in
     let items : c.in_ok-as_items.field-0 ≡ rest = c.in_ok-as_items.ensures ∙ c.as_slice.ensures in
@@ -49,7 +49,7 @@ returns-in-Unknown t c = λ room later.
 pub returns-in-Rest : goal.returns-in-Rest
 unfolding play
 returns-in-Rest t c =
-    let s = c.args.standing in
+    let s = c.args.play_state in
     let rest = c.args.rest in
     let here = c.in-Known.here in
     let left = c.args.left - 1 in
@@ -70,7 +70,7 @@ returns-in-Rest t c =
 pub returns : goal.returns
 unfolding play
 returns t c = λ room later.
-    let s = c.args.standing in
+    let s = c.args.play_state in
     let rest = c.args.rest in
     let here = c.in-Known.here in
     let left = c.args.left - 1 in

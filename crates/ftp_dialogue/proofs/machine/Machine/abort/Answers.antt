@@ -11,7 +11,7 @@ returns-in-Sending-clause-breaks g c =
     let is = c.in-Sending.is in
     rw is (c.send.ensures.breaks (coding_of g.E.Encoding.decoded g.E.Encoding.encoded c.args.encoding.now))
 
-pub returns-in-Parting-clause-breaks : goal.returns-in-Parting-clause-breaks
-returns-in-Parting-clause-breaks g c =
-    let is = c.in-Parting.is in
+pub returns-in-ClosingData-clause-breaks : goal.returns-in-ClosingData-clause-breaks
+returns-in-ClosingData-clause-breaks g c =
+    let is = c.in-ClosingData.is in
     rw is (c.part.ensures.breaks (coding_of g.E.Encoding.decoded g.E.Encoding.encoded c.args.encoding.now))

@@ -1,7 +1,7 @@
 use Rattle.std.proofs.Common.{inl, ap}
 use Rattle.ftp_dialogue.specs.Coding.{coding_of}
 use Rattle.ftp_dialogue.specs.State.{SessionValue}
-use Rattle.ftp_dialogue.proofs.Agreeing.{asking_answers, asking_fewer, fetch_fewer, may_perform, asks_opens, row_answers}
+use Rattle.ftp_dialogue.proofs.OpeningData.{asking_answers, asking_fewer, fetch_fewer, may_perform, asks_opens, row_answers}
 use Rattle.ftp_dialogue.proofs.NegotiationLemmas.{concludes_on}
 use Rattle.ftp_dialogue.proofs.Nexts.{stage_after}
 use Rattle.ftp_dialogue.proofs.machine.Machine.accept_reply.Goals as goal

@@ -2,7 +2,7 @@ use Rattle.ftp_transport.specs.declared.request.Request.TheVariants.{Accept}
 use Rattle.ftp_transport.specs.Asking.{recorded}
 use Rattle.ftp_transport.specs.declared.request.RequestOutcome.TheVariants.{Address, Refused}
 use Rattle.std.proofs.Common.{ap, refl, sym, ◌∙◌}
-use Rattle.ftp_dialogue.proofs.Deals.{is_next, same_net}
+use Rattle.ftp_dialogue.proofs.NetEvents.{is_next, same_net}
 use Rattle.ftp_dialogue.proofs.NegotiationLemmas.{accepted_through, unasked_through, unchanged_still}
 use Rattle.ftp_dialogue.proofs.machine.Machine.ask_to_accept.Goals as goal
 

@@ -2,7 +2,7 @@ use Rattle.std.proofs.Common.{refl, ◌∙◌, ap, None, Some}
 use Rattle.ftp_transport.specs.Asking.{recorded}
 use Rattle.ftp_transport.specs.declared.request.Request.TheVariants.{Build}
 use Rattle.ftp_transport.specs.declared.request.RequestOutcome.TheVariants.{Done}
-use Rattle.ftp_dialogue.proofs.Deals.{is_next, same_net}
+use Rattle.ftp_dialogue.proofs.NetEvents.{is_next, same_net}
 use Rattle.ftp_dialogue.proofs.NegotiationLemmas.{built_through, unasked_through}
 use Rattle.ftp_dialogue.proofs.machine.Machine.ask_to_build.Goals as goal
 

@@ -2,7 +2,7 @@ use Rattle.ftp_transport.specs.Asking.{recorded}
 use Rattle.std.proofs.Common.{None, ap, refl, sym, ◌∙◌}
 use Rattle.ftp_transport.specs.declared.request.Request.TheVariants.{Connect}
 use Rattle.ftp_transport.specs.declared.request.RequestOutcome.TheVariants.{Done, Refused}
-use Rattle.ftp_dialogue.proofs.Deals.{is_next, same_net}
+use Rattle.ftp_dialogue.proofs.NetEvents.{is_next, same_net}
 use Rattle.ftp_dialogue.proofs.NegotiationLemmas.{asked_through, unasked_through}
 use Rattle.ftp_dialogue.proofs.machine.Machine.ask_to_connect.Goals as goal
 

@@ -1,7 +1,7 @@
 use Rattle.ftp_transport.specs.declared.request.Request.TheVariants.{Listen}
 use Rattle.ftp_transport.specs.declared.request.RequestOutcome.TheVariants.{Address, Refused}
 use Rattle.std.proofs.Common.{refl}
-use Rattle.ftp_dialogue.proofs.Deals.{same_net}
+use Rattle.ftp_dialogue.proofs.NetEvents.{same_net}
 use Rattle.ftp_dialogue.proofs.NegotiationLemmas.{asked_through, unasked_through}
 use Rattle.ftp_dialogue.proofs.machine.Machine.ask_to_listen.Goals as goal
 

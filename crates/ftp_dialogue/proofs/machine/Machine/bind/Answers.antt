@@ -5,7 +5,7 @@ use Rattle.ftp_base.specs.declared.types.fault.ConnectionError.TheVariants.{NoAd
 use Rattle.ftp_transport.specs.declared.request.Request.TheVariants.{Listen}
 use Rattle.ftp_calls.specs.declared.exchange.Turn.TheVariants.{First, Active}
 use Rattle.ftp_dialogue.specs.Dialogue.{at_port, from_turn, listening_at, on_address}
-use Rattle.ftp_dialogue.specs.declared.stage.Agreeing.TheVariants.{Binding}
+use Rattle.ftp_dialogue.specs.declared.stage.OpeningData.TheVariants.{Binding}
 use Rattle.ftp_dialogue.proofs.NegotiationLemmas.{still_ends, still_lacks, walks_end, walks_on, walks_wait}
 use Rattle.ftp_dialogue.proofs.machine.Machine.bind.Goals as goal
 

@@ -1,7 +1,7 @@
 use Rattle.std.proofs.Common.{inr}
 use Rattle.ftp_calls.specs.declared.exchange.Turn.TheVariants.{First}
 use Rattle.ftp_dialogue.specs.Dialogue.{connecting_to, later}
-use Rattle.ftp_dialogue.specs.declared.stage.Agreeing.TheVariants.{Asking}
+use Rattle.ftp_dialogue.specs.declared.stage.OpeningData.TheVariants.{Asking}
 use Rattle.ftp_dialogue.specs.declared.stage.Asking.TheVariants.{Connection}
 use Rattle.ftp_dialogue.proofs.NegotiationLemmas.{built_walks, connecting_unheard, still_fails, unbuilt_walks, walks_end}
 use Rattle.ftp_dialogue.proofs.machine.Machine.construct.Goals as goal

@@ -1,7 +1,7 @@
 use Rattle.std.proofs.Common.{inr}
 use Rattle.ftp_calls.specs.declared.exchange.Turn.TheVariants.{First}
 use Rattle.ftp_dialogue.specs.Dialogue.{connecting_to, later}
-use Rattle.ftp_dialogue.specs.declared.stage.Agreeing.TheVariants.{Asking}
+use Rattle.ftp_dialogue.specs.declared.stage.OpeningData.TheVariants.{Asking}
 use Rattle.ftp_dialogue.specs.declared.stage.Asking.TheVariants.{Connection}
 use Rattle.ftp_dialogue.proofs.NegotiationLemmas.{connecting_unheard, connects_walks, dial_waits, still_fails, walks_end}
 use Rattle.ftp_dialogue.proofs.machine.Machine.dial.Goals as goal

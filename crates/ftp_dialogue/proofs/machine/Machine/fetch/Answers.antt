@@ -13,8 +13,8 @@ returns-in-Sending-clause-breaks g c = rw c.in-Sending.is (c.send_more.ensures.b
 pub returns-in-Gathering-clause-breaks : goal.returns-in-Gathering-clause-breaks
 returns-in-Gathering-clause-breaks g c = rw c.in-Gathering.is c.gather.ensures.breaks
 
-pub returns-in-Parting-clause-breaks : goal.returns-in-Parting-clause-breaks
-returns-in-Parting-clause-breaks g c = rw c.in-Parting.is (c.part_fetched.ensures.breaks (coding_of g.E.Encoding.decoded g.E.Encoding.encoded c.args.encoding.now))
+pub returns-in-ClosingData-clause-breaks : goal.returns-in-ClosingData-clause-breaks
+returns-in-ClosingData-clause-breaks g c = rw c.in-ClosingData.is (c.part_fetched.ensures.breaks (coding_of g.E.Encoding.decoded g.E.Encoding.encoded c.args.encoding.now))
 
 pub returns-in-Ending-clause-breaks : goal.returns-in-Ending-clause-breaks
 returns-in-Ending-clause-breaks g c = rw c.in-Ending.is (c.end_fetched.ensures.breaks (coding_of g.E.Encoding.decoded g.E.Encoding.encoded c.args.encoding.now))

@@ -1,7 +1,7 @@
 use Rattle.std.proofs.Common.{true, inr, refl}
 use Rattle.ftp_calls.specs.declared.exchange.Turn.TheVariants.{First}
 use Rattle.ftp_dialogue.specs.Dialogue.{at_port, connecting_to, later}
-use Rattle.ftp_dialogue.specs.declared.stage.Agreeing.TheVariants.{Asking}
+use Rattle.ftp_dialogue.specs.declared.stage.OpeningData.TheVariants.{Asking}
 use Rattle.ftp_dialogue.specs.declared.stage.Asking.TheVariants.{PeerPort}
 use Rattle.ftp_dialogue.proofs.NegotiationLemmas.{walks_end, walks_on, reached_fewer}
 use Rattle.ftp_dialogue.proofs.machine.Machine.find_peer.Goals as goal

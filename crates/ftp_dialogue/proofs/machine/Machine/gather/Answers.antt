@@ -1,5 +1,5 @@
 use Rattle.ftp_dialogue.specs.Coding.{coding_of}
-use Rattle.ftp_dialogue.specs.declared.stage.Fetching.TheVariants.{Gathering}
+use Rattle.ftp_dialogue.specs.declared.stage.Transferring.TheVariants.{Gathering}
 use Rattle.ftp_dialogue.proofs.FetchingLemmas.{fetch_full, fetch_lacks, fetch_read_at, fetch_waits_at, gathering_unheard}
 use Rattle.ftp_dialogue.proofs.machine.Machine.gather.Goals as goal
 

@@ -2,7 +2,7 @@ use Rattle.std.proofs.Common.{inr, refl, true}
 use Rattle.ftp_calls.specs.declared.exchange.Turn.TheVariants.{First}
 use Rattle.ftp_dialogue.specs.Dialogue.{accepting, strangers}
 use Rattle.ftp_dialogue.specs.Steps.Stages.{opened_by}
-use Rattle.ftp_dialogue.specs.declared.stage.Agreeing.TheVariants.{Asking}
+use Rattle.ftp_dialogue.specs.declared.stage.OpeningData.TheVariants.{Asking}
 use Rattle.ftp_dialogue.specs.declared.stage.Asking.TheVariants.{Peer}
 use Rattle.ftp_dialogue.proofs.NegotiationLemmas.{walks_end, walks_on, known_fewer}
 use Rattle.ftp_dialogue.proofs.machine.Machine.know_peer.Goals as goal

@@ -2,7 +2,7 @@ use Rattle.std.proofs.Common.{inr}
 use Rattle.ftp_calls.specs.declared.exchange.Turn.TheVariants.{First}
 use Rattle.ftp_dialogue.specs.Dialogue.{accepting}
 use Rattle.ftp_dialogue.specs.Steps.Stages.{opened_by}
-use Rattle.ftp_dialogue.specs.declared.stage.Agreeing.TheVariants.{Asking}
+use Rattle.ftp_dialogue.specs.declared.stage.OpeningData.TheVariants.{Asking}
 use Rattle.ftp_dialogue.specs.declared.stage.Asking.TheVariants.{Accepting}
 use Rattle.ftp_dialogue.proofs.NegotiationLemmas.{accepting_unheard, meets_walks, still_fails, waits_for_peer, walks_end}
 use Rattle.ftp_dialogue.proofs.machine.Machine.let_in.Goals as goal

@@ -1,7 +1,7 @@
 use Rattle.std.proofs.Common.{arith, false, inr, refl}
 use Rattle.ftp_calls.specs.declared.exchange.Turn.TheVariants.{First}
 use Rattle.ftp_dialogue.specs.Dialogue.{listening_at}
-use Rattle.ftp_dialogue.specs.declared.stage.Agreeing.TheVariants.{Locating}
+use Rattle.ftp_dialogue.specs.declared.stage.OpeningData.TheVariants.{Locating}
 use Rattle.ftp_dialogue.proofs.NegotiationLemmas.{walks_end, walks_on}
 use Rattle.ftp_dialogue.proofs.machine.Machine.locate.Goals as goal
 

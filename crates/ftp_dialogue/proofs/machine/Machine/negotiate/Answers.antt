@@ -2,9 +2,9 @@ use Rattle.std.proofs.Common.{inl, inr, refl, sym, ap, ◌∙◌}
 use Rattle.ftp_calls.specs.declared.exchange.Turn.TheVariants.{First}
 use Rattle.ftp_dialogue.specs.Dialogue.{negotiating}
 use Rattle.ftp_dialogue.specs.Sound.{cannot_open}
-use Rattle.ftp_dialogue.specs.declared.stage.Agreeing.TheVariants.{Negotiating}
+use Rattle.ftp_dialogue.specs.declared.stage.OpeningData.TheVariants.{Negotiating}
 use Rattle.ftp_dialogue.proofs.NegotiationLemmas.{agrees_by, cannot_ends, still_lacks, unasked_through, walks_end}
-use Rattle.ftp_dialogue.proofs.Deals.{same_net}
+use Rattle.ftp_dialogue.proofs.NetEvents.{same_net}
 use Rattle.ftp_dialogue.proofs.machine.Machine.negotiate.Goals as goal
 
 pub returns-in-Some-clause-walks : goal.returns-in-Some-clause-walks

@@ -1,4 +1,4 @@
-use Rattle.ftp_dialogue.specs.declared.stage.Fetching.TheVariants.{Sending}
+use Rattle.ftp_dialogue.specs.declared.stage.Transferring.TheVariants.{Sending}
 use Rattle.ftp_dialogue.proofs.FetchingLemmas.{fetch_lacks, sending_unheard}
 use Rattle.ftp_dialogue.proofs.SendingLemmas.{all_sent, none_sent, sends_later, sent_none, sent_some}
 use Rattle.ftp_dialogue.proofs.UnsentLemmas.{nil_of, some_of}

@@ -59,33 +59,33 @@ returns-in-Arming-clause-steps g c =
     let is = c.in-Arming.ensures.value in
     rw (← is, c.arm.ensures.done) (inl (arms _ c.in-Arming.offset c.args.self.now c.arm.new.self c.requires.going c.arm.ensures.armed))
 
-pub returns-in-Agreeing-clause-stage : goal.returns-in-Agreeing-clause-stage
-returns-in-Agreeing-clause-stage g c = (c.walk.ensures.walks (coding_of g.E.Encoding.decoded g.E.Encoding.encoded c.args.encoding.now)).stage_of
+pub returns-in-OpeningData-clause-stage : goal.returns-in-OpeningData-clause-stage
+returns-in-OpeningData-clause-stage g c = (c.walk.ensures.walks (coding_of g.E.Encoding.decoded g.E.Encoding.encoded c.args.encoding.now)).stage_of
 
-pub returns-in-Agreeing-clause-waits : goal.returns-in-Agreeing-clause-waits
-returns-in-Agreeing-clause-waits g c = λ waits. inr ((c.walk.ensures.walks (coding_of g.E.Encoding.decoded g.E.Encoding.encoded c.args.encoding.now)).waits waits)
+pub returns-in-OpeningData-clause-waits : goal.returns-in-OpeningData-clause-waits
+returns-in-OpeningData-clause-waits g c = λ waits. inr ((c.walk.ensures.walks (coding_of g.E.Encoding.decoded g.E.Encoding.encoded c.args.encoding.now)).waits waits)
 
-pub returns-in-Agreeing-clause-answers : goal.returns-in-Agreeing-clause-answers
-returns-in-Agreeing-clause-answers g c = (c.walk.ensures.walks (coding_of g.E.Encoding.decoded g.E.Encoding.encoded c.args.encoding.now)).answers
+pub returns-in-OpeningData-clause-answers : goal.returns-in-OpeningData-clause-answers
+returns-in-OpeningData-clause-answers g c = (c.walk.ensures.walks (coding_of g.E.Encoding.decoded g.E.Encoding.encoded c.args.encoding.now)).answers
 
-pub returns-in-Agreeing-clause-fewer : goal.returns-in-Agreeing-clause-fewer
-returns-in-Agreeing-clause-fewer g c =
-    let is = c.in-Agreeing.ensures.value in
+pub returns-in-OpeningData-clause-fewer : goal.returns-in-OpeningData-clause-fewer
+returns-in-OpeningData-clause-fewer g c =
+    let is = c.in-OpeningData.ensures.value in
     rw (← is) (c.walk.ensures.walks (coding_of g.E.Encoding.decoded g.E.Encoding.encoded c.args.encoding.now)).fewer
 
-pub returns-in-Agreeing-clause-steps : goal.returns-in-Agreeing-clause-steps
-returns-in-Agreeing-clause-steps g c =
-    let is = c.in-Agreeing.ensures.value in
+pub returns-in-OpeningData-clause-steps : goal.returns-in-OpeningData-clause-steps
+returns-in-OpeningData-clause-steps g c =
+    let is = c.in-OpeningData.ensures.value in
     rw (← is) (c.walk.ensures.walks (coding_of g.E.Encoding.decoded g.E.Encoding.encoded c.args.encoding.now)).steps
 
-pub returns-in-Agreeing-clause-quiet : goal.returns-in-Agreeing-clause-quiet
-returns-in-Agreeing-clause-quiet g c =
-    let is = c.in-Agreeing.ensures.value in
+pub returns-in-OpeningData-clause-quiet : goal.returns-in-OpeningData-clause-quiet
+returns-in-OpeningData-clause-quiet g c =
+    let is = c.in-OpeningData.ensures.value in
     rw (← is) (c.walk.ensures.walks (coding_of g.E.Encoding.decoded g.E.Encoding.encoded c.args.encoding.now)).quiet
 
-pub returns-in-Agreeing-clause-begun : goal.returns-in-Agreeing-clause-begun
-returns-in-Agreeing-clause-begun g c =
-    let is = c.in-Agreeing.ensures.value in
+pub returns-in-OpeningData-clause-begun : goal.returns-in-OpeningData-clause-begun
+returns-in-OpeningData-clause-begun g c =
+    let is = c.in-OpeningData.ensures.value in
     rw (← is) (c.walk.ensures.walks (coding_of g.E.Encoding.decoded g.E.Encoding.encoded c.args.encoding.now)).begun
 
 pub returns-in-Closing-clause-stage : goal.returns-in-Closing-clause-stage
@@ -153,47 +153,47 @@ returns-in-Aborting-clause-begun g c =
     let is = c.in-Aborting.ensures.value in
     rw (← is) c.abort.ensures.breaks.begun
 
-pub returns-in-Fetching-clause-stage : goal.returns-in-Fetching-clause-stage
-returns-in-Fetching-clause-stage g c = c.fetch.ensures.breaks.stage_of
+pub returns-in-Transferring-clause-stage : goal.returns-in-Transferring-clause-stage
+returns-in-Transferring-clause-stage g c = c.fetch.ensures.breaks.stage_of
 
-pub returns-in-Fetching-clause-waits : goal.returns-in-Fetching-clause-waits
-returns-in-Fetching-clause-waits g c = c.fetch.ensures.waits
+pub returns-in-Transferring-clause-waits : goal.returns-in-Transferring-clause-waits
+returns-in-Transferring-clause-waits g c = c.fetch.ensures.waits
 
-pub returns-in-Fetching-clause-net : goal.returns-in-Fetching-clause-net
-returns-in-Fetching-clause-net g c = λ none ends.
-    let is = c.in-Fetching.ensures.value in
+pub returns-in-Transferring-clause-net : goal.returns-in-Transferring-clause-net
+returns-in-Transferring-clause-net g c = λ none ends.
+    let is = c.in-Transferring.ensures.value in
     let stage_of = rw (← is) at c.requires.stage in
-    let clash : true ≡ false = sym (fetch_opens c.args.call.now c.in-Fetching.fetching stage_of) ∙ none in
+    let clash : true ≡ false = sym (fetch_opens c.args.call.now c.in-Transferring.fetching stage_of) ∙ none in
     cc
 
-pub returns-in-Fetching-clause-answers : goal.returns-in-Fetching-clause-answers
-returns-in-Fetching-clause-answers g c = c.fetch.ensures.breaks.answers
+pub returns-in-Transferring-clause-answers : goal.returns-in-Transferring-clause-answers
+returns-in-Transferring-clause-answers g c = c.fetch.ensures.breaks.answers
 
-pub returns-in-Fetching-clause-fewer : goal.returns-in-Fetching-clause-fewer
-returns-in-Fetching-clause-fewer g c =
-    let is = c.in-Fetching.ensures.value in
+pub returns-in-Transferring-clause-fewer : goal.returns-in-Transferring-clause-fewer
+returns-in-Transferring-clause-fewer g c =
+    let is = c.in-Transferring.ensures.value in
     rw (← is) c.fetch.ensures.breaks.fewer
 
-pub returns-in-Fetching-clause-steps : goal.returns-in-Fetching-clause-steps
-returns-in-Fetching-clause-steps g c =
-    let is = c.in-Fetching.ensures.value in
+pub returns-in-Transferring-clause-steps : goal.returns-in-Transferring-clause-steps
+returns-in-Transferring-clause-steps g c =
+    let is = c.in-Transferring.ensures.value in
     rw (← is) c.fetch.ensures.breaks.steps
 
-pub returns-in-Fetching-clause-quiet : goal.returns-in-Fetching-clause-quiet
-returns-in-Fetching-clause-quiet g c =
-    let is = c.in-Fetching.ensures.value in
+pub returns-in-Transferring-clause-quiet : goal.returns-in-Transferring-clause-quiet
+returns-in-Transferring-clause-quiet g c =
+    let is = c.in-Transferring.ensures.value in
     rw (← is) c.fetch.ensures.breaks.quiet
 
-pub returns-in-Fetching-clause-begun : goal.returns-in-Fetching-clause-begun
-returns-in-Fetching-clause-begun g c =
-    let is = c.in-Fetching.ensures.value in
+pub returns-in-Transferring-clause-begun : goal.returns-in-Transferring-clause-begun
+returns-in-Transferring-clause-begun g c =
+    let is = c.in-Transferring.ensures.value in
     rw (← is) c.fetch.ensures.breaks.begun
 
-pub returns-in-Fetching-clause-rests : goal.returns-in-Fetching-clause-rests
-returns-in-Fetching-clause-rests g c = λ waits read.
-    let is = c.in-Fetching.ensures.value in
+pub returns-in-Transferring-clause-rests : goal.returns-in-Transferring-clause-rests
+returns-in-Transferring-clause-rests g c = λ waits read.
+    let is = c.in-Transferring.ensures.value in
     let stage_of = rw (← is) at c.requires.stage in
-    let clash : true ≡ false = sym read ∙ read_opens_none c.args.call.now (fetch_opens c.args.call.now c.in-Fetching.fetching stage_of) in
+    let clash : true ≡ false = sym read ∙ read_opens_none c.args.call.now (fetch_opens c.args.call.now c.in-Transferring.fetching stage_of) in
     cc
 
 pub returns-in-Resyncing-clause-stage : goal.returns-in-Resyncing-clause-stage

@@ -2,7 +2,7 @@ use Rattle.std.proofs.Common.{List, None, Ok, Err, inl, inr, subst}
 use Rattle.ftp_transport.specs.Told.{Told}
 use Rattle.ftp_session.specs.Calls.{Connects}
 use Rattle.ftp_dialogue.specs.Coding.{chosen}
-use Rattle.ftp_dialogue.specs.Deals.{first_net}
+use Rattle.ftp_dialogue.specs.NetEvents.{first_net}
 use Rattle.ftp_dialogue.specs.Link.{link}
 use Rattle.ftp_session.proofs.Connecting.{is_connected, none_connects}
 use Rattle.ftp_session.proofs.session.client.Session.connect_in_turn.Goals as goal

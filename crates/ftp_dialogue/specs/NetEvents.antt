@@ -14,9 +14,9 @@ use Rattle.ftp_transport.specs.declared.request.RequestOutcome.{RequestOutcome}
 use Rattle.ftp_transport.specs.declared.request.RequestOutcome.TheVariants.{Done, Address, Refused}
 use Rattle.ftp_transport.specs.declared.supply.Supply.{Supply}
 use Rattle.ftp_transport.specs.declared.supply.Supply.TheVariants.{Connects, Peer}
-use Rattle.ftp_dialogue.specs.declared.model.DealOutcome.{DealOutcome}
-use Rattle.ftp_dialogue.specs.declared.model.DealOutcome.TheVariants.{Answered, Built, Read, Wrote, Closed, Failed, NoMemory}
-use Rattle.ftp_dialogue.specs.declared.model.Dealings.{Dealings}
+use Rattle.ftp_dialogue.specs.declared.model.NetOutcome.{NetOutcome}
+use Rattle.ftp_dialogue.specs.declared.model.NetOutcome.TheVariants.{Answered, Built, Read, Wrote, Closed, Failed, NoMemory}
+use Rattle.ftp_dialogue.specs.declared.model.NetRecord.{NetRecord}
 use Rattle.ftp_dialogue.specs.declared.model.Traffic.{Traffic}
 use Rattle.ftp_dialogue.specs.Link.{Builds}
 use Rattle.ftp_dialogue.specs.declared.state.Owed.{Owed}
@@ -42,8 +42,8 @@ traffic_of t = record { received = t.received; sent = t.sent }
 abbrev pub no_traffic : Traffic
 no_traffic = record { received = []; sent = [] }
 
-abbrev pub dealings_of : Net → Dealings
-dealings_of n = record { asked = requests_of n.asked; closed = map traffic_of n.closed; data_conn = option_map traffic_of n.data_conn }
+abbrev pub net_record_of : Net → NetRecord
+net_record_of n = record { asked = requests_of n.asked; closed = map traffic_of n.closed; data_conn = option_map traffic_of n.data_conn }
 
 -- Requests
 
@@ -59,8 +59,8 @@ data_after (Accept deadline) (Address from) conn = Some no_traffic
 data_after (Accept deadline) (Refused fault) conn = None
 data_after (Build address) outcome conn = conn
 
-abbrev pub dealt : Request → RequestOutcome → Dealings → Dealings
-dealt request outcome d = record { asked = d.asked ++ request ∷ []; closed = d.closed; data_conn = data_after request outcome d.data_conn }
+abbrev pub after_request : Request → RequestOutcome → NetRecord → NetRecord
+after_request request outcome d = record { asked = d.asked ++ request ∷ []; closed = d.closed; data_conn = data_after request outcome d.data_conn }
 
 -- the data connection while a request isn't answered
 abbrev pub data_meanwhile : Request → Option Traffic → Option Traffic
@@ -69,8 +69,8 @@ data_meanwhile (Listen address) conn = conn
 data_meanwhile (Accept deadline) conn = None
 data_meanwhile (Build address) conn = conn
 
-abbrev pub dealing : Request → Dealings → Dealings
-dealing request d = record { asked = d.asked ++ request ∷ []; closed = d.closed; data_conn = data_meanwhile request d.data_conn }
+abbrev pub during_request : Request → NetRecord → NetRecord
+during_request request d = record { asked = d.asked ++ request ∷ []; closed = d.closed; data_conn = data_meanwhile request d.data_conn }
 
 -- The caller's builder
 
@@ -79,17 +79,17 @@ abbrev pub data_built : Option FtpError → Option Traffic → Option Traffic
 data_built None conn = Some no_traffic
 data_built (Some fault) conn = conn
 
-abbrev pub constructed : SocketAddr → Option FtpError → Dealings → Dealings
+abbrev pub constructed : SocketAddr → Option FtpError → NetRecord → NetRecord
 constructed address fault d = record { asked = d.asked ++ Build address ∷ []; closed = d.closed; data_conn = data_built fault d.data_conn }
 
 -- while the builder's answer isn't known
-abbrev pub constructing : SocketAddr → Dealings → Dealings
+abbrev pub constructing : SocketAddr → NetRecord → NetRecord
 constructing address d = record d { asked = d.asked ++ Build address ∷ [] }
 
 -- What is done on the data connection
 
 -- the outcome is one of such a movement
-abbrev pub answers : Movement → DealOutcome → Bool
+abbrev pub answers : Movement → NetOutcome → Bool
 answers (movement.Read most) (Read bytes) = true
 answers (movement.Write bytes) (Wrote count) = true
 answers movement.Close Closed = true
@@ -98,11 +98,11 @@ answers moves (Failed kind) = true
 answers moves other = false
 
 -- what was read, or written
-abbrev pub read_more : DealOutcome → Traffic → Traffic
+abbrev pub read_more : NetOutcome → Traffic → Traffic
 read_more (Read bytes) t = record t { received = t.received ++ bytes }
 read_more other t = t
 
-abbrev pub written_more : List ℕ → DealOutcome → Traffic → Traffic
+abbrev pub written_more : List ℕ → NetOutcome → Traffic → Traffic
 written_more bytes (Wrote count) t = record t { sent = t.sent ++ take count bytes }
 written_more bytes other t = t
 
@@ -112,17 +112,17 @@ with_last l None = l
 with_last l (Some last) = l ++ last ∷ []
 
 -- the data connection is closed and handed back
-abbrev pub parted : Dealings → Dealings
+abbrev pub parted : NetRecord → NetRecord
 parted d = record d { closed = with_last d.closed d.data_conn; data_conn = None }
 
-abbrev pub moved : Movement → DealOutcome → Dealings → Dealings
+abbrev pub moved : Movement → NetOutcome → NetRecord → NetRecord
 moved (movement.Read most) outcome d = record d { data_conn = option_map (read_more outcome) d.data_conn }
 moved (movement.Write bytes) outcome d = record d { data_conn = option_map (written_more bytes outcome) d.data_conn }
 moved movement.Close outcome d = parted d
 
 -- a call is done: a data connection is kept for a live transfer alone; that of one that was left is closed and handed
 -- back
-abbrev pub settled : Owed → Dealings → Dealings
+abbrev pub settled : Owed → NetRecord → NetRecord
 settled Nothing d = record d { data_conn = None }
 settled (Live number) d = d
 settled (Left number) d = parted d
@@ -131,14 +131,14 @@ settled (Left number) d = parted d
 
 -- a request was answered; the builder was asked, and made a connection or gave a fault; something was done on the data
 -- connection; it was closed and handed back, whatever the close came to; or it was let go
-pub data Deal : Type 0 where
-  Requested : Request → RequestOutcome → Deal
-  Constructed : SocketAddr → Option FtpError → Deal
-  Moved : Movement → DealOutcome → Deal
-  Parted : Deal
-  Dropped : Deal
+pub data NetEvent : Type 0 where
+  Requested : Request → RequestOutcome → NetEvent
+  Constructed : SocketAddr → Option FtpError → NetEvent
+  Moved : Movement → NetOutcome → NetEvent
+  Parted : NetEvent
+  Dropped : NetEvent
 
-abbrev pub outcomes_of : List Deal → List DealOutcome
+abbrev pub outcomes_of : List NetEvent → List NetOutcome
 outcomes_of [] = []
 outcomes_of (Requested request outcome ∷ more) = Answered outcome ∷ outcomes_of more
 outcomes_of (Constructed address fault ∷ more) = Built fault ∷ outcomes_of more
@@ -180,20 +180,20 @@ pub record ConstructedIs (builds : Builds) (address : SocketAddr) (fault : Optio
 
 -- a read gave at most so many bytes, or met the end where it gave none; or it failed, which was counted; or there was no
 -- memory for it, or at the end for what had come
-abbrev pub ReadIs : ℕ → DealOutcome → Told → Told → Type 0
+abbrev pub ReadIs : ℕ → NetOutcome → Told → Told → Type 0
 ReadIs most (Read bytes) t u = (length bytes ≤ most) × (u ≡ (if length bytes == 0 then after_end t else after_read bytes t))
 ReadIs most (Failed kind) t u = HasFailed kind t u
 ReadIs most NoMemory t u = (u ≡ t) ⊎ (u ≡ after_end t)
 ReadIs most other t u = ⊥
 
 -- a write took some of the bytes, from the front; or it failed
-abbrev pub WriteIs : List ℕ → DealOutcome → Told → Told → Type 0
+abbrev pub WriteIs : List ℕ → NetOutcome → Told → Told → Type 0
 WriteIs bytes (Wrote count) t u = (0 < count) × (count ≤ length bytes) × (u ≡ after_write (take count bytes) t)
 WriteIs bytes (Failed kind) t u = HasFailed kind t u
 WriteIs bytes other t u = ⊥
 
 -- this end closed the connection, and the close was done, or failed
-abbrev pub CloseIs : DealOutcome → Told → Told → Type 0
+abbrev pub CloseIs : NetOutcome → Told → Told → Type 0
 CloseIs Closed t u = u ≡ after_close t
 CloseIs (Failed kind) t u = HasFailed kind (after_close t) u
 CloseIs other t u = ⊥
@@ -203,32 +203,32 @@ abbrev pub DataTells : (Told → Told → Type 0) → Net → Net → Type 0
 DataTells Tells n m = (t : Told) × (u : Told) × (n.data_conn ≡ Some t) × (m ≡ record n { data_conn = Some u }) × Tells t u
 
 -- the data connection, where there is one, was closed and is with those that are over
-abbrev pub ClosesFrom : DealOutcome → Option Told → Net → Net → Type 0
+abbrev pub ClosesFrom : NetOutcome → Option Told → Net → Net → Type 0
 ClosesFrom outcome None n m = m ≡ n
 ClosesFrom outcome (Some t) n m = (u : Told) × (m ≡ record n { closed = n.closed ++ u ∷ []; data_conn = None }) × CloseIs outcome t u
 
-abbrev pub ClosesBy : DealOutcome → Net → Net → Type 0
+abbrev pub ClosesBy : NetOutcome → Net → Net → Type 0
 ClosesBy outcome n m = ClosesFrom outcome n.data_conn n m
 
-abbrev pub MovedIs : Movement → DealOutcome → Net → Net → Type 0
+abbrev pub MovedIs : Movement → NetOutcome → Net → Net → Type 0
 MovedIs (movement.Read most) outcome n m = DataTells (ReadIs most outcome) n m
 MovedIs (movement.Write bytes) outcome n m = DataTells (WriteIs bytes outcome) n m
 MovedIs movement.Close outcome n m = ClosesBy outcome n m
 
-abbrev pub MovementIs : Movement → DealOutcome → Net → Net → Type 0
+abbrev pub MovementIs : Movement → NetOutcome → Net → Net → Type 0
 MovementIs movement outcome n m = (answers movement outcome ≡ true) × MovedIs movement outcome n m
 
 abbrev pub PartedIs : Net → Net → Type 0
-PartedIs n m = (outcome : DealOutcome) × ClosesBy outcome n m
+PartedIs n m = (outcome : NetOutcome) × ClosesBy outcome n m
 
-abbrev pub DealIs : Builds → Deal → Net → Net → Type 0
-DealIs builds (Requested request outcome) n m = RequestIs request outcome n m
-DealIs builds (Constructed address fault) n m = ConstructedIs builds address fault n m
-DealIs builds (Moved movement outcome) n m = MovementIs movement outcome n m
-DealIs builds Parted n m = PartedIs n m
-DealIs builds Dropped n m = m ≡ record n { data_conn = None }
+abbrev pub NetEventIs : Builds → NetEvent → Net → Net → Type 0
+NetEventIs builds (Requested request outcome) n m = RequestIs request outcome n m
+NetEventIs builds (Constructed address fault) n m = ConstructedIs builds address fault n m
+NetEventIs builds (Moved movement outcome) n m = MovementIs movement outcome n m
+NetEventIs builds Parted n m = PartedIs n m
+NetEventIs builds Dropped n m = m ≡ record n { data_conn = None }
 
 -- one after another
-abbrev pub Deals : Builds → List Deal → Net → Net → Type 0
-Deals builds [] n m = m ≡ n
-Deals builds (deal ∷ deals) n m = (k : Net) × DealIs builds deal n k × Deals builds deals k m
+abbrev pub NetEvents : Builds → List NetEvent → Net → Net → Type 0
+NetEvents builds [] n m = m ≡ n
+NetEvents builds (net_event ∷ net_events) n m = (k : Net) × NetEventIs builds net_event n k × NetEvents builds net_events k m
