@@ -209,32 +209,14 @@ module _ (tells : Type 0) (says : List ℕ → Bool → Outcome) (kept now later
       told = λ h. let P : Told → Type 0 = λ x. HasFailed kind x v in subst P (so_far.told h) (told h);
     }
 
-    -- there is no room for the buffer
-    pub buffer_hears : (v : Told) → (tells → v ≡ u) → Hears tells says kept later ahead [] first false t v (Err OutOfMemory)
-    buffer_hears v told = record {
-      came = so_far.came;
-      taken = later;
-      split = looked_at ∙ sym (append-nil later);
-      past = omega arith;
-      over = so_far.over;
-      unended = λ w. refl;
-      none = λ w. refl;
-      at_end = λ e. refl;
-      last = λ e. let clash : Err OutOfMemory ≡ Ok Ended = e in cc;
-      all = refl;
-      answer = λ w. tt;
-      told = λ h. told h ∙ so_far.told h;
-    }
-
     -- the connection was read
     pub fills_on : (any : Bool) (new : List ℕ) (v : Told) → Fills tells (Ok (Ready any)) new u v → SoFar tells says kept later ahead new first (not any) t v
     fills_on true new v fills = more_comes new v fills.told
     fills_on false new v fills = let P : List ℕ → Type 0 = λ l. SoFar tells says kept later ahead l first true t v in subst P (sym fills.leaves) (end_comes v fills.told)
 
     -- it couldn't be
-    pub fill_fails : (broken : Broken) (new : List ℕ) (v : Told) → Fills tells (Err broken) new u v → Hears tells says kept later ahead new first false t v (Err broken)
-    fill_fails (Connection kind) new v fills = let P : List ℕ → Type 0 = λ l. Hears tells says kept later ahead l first false t v (Err (Connection kind)) in subst P (sym fills.leaves) (fails_hears kind v fills.told)
-    fill_fails OutOfMemory new v fills = let P : List ℕ → Type 0 = λ l. Hears tells says kept later ahead l first false t v (Err OutOfMemory) in subst P (sym fills.leaves) (buffer_hears v fills.told)
+    pub fill_fails : (kind : ErrorKind) (new : List ℕ) (v : Told) → Fills tells (Err kind) new u v → Hears tells says kept later ahead new first false t v (Err (Connection kind))
+    fill_fails kind new v fills = let P : List ℕ → Type 0 = λ l. Hears tells says kept later ahead l first false t v (Err (Connection kind)) in subst P (sym fills.leaves) (fails_hears kind v fills.told)
 
 -- what is kept and ahead has grown, or the input has ended
 pub fill_smaller : (any : Bool) (before after came : ℕ) → before ≡ after → after ≤ reply_limit → came ≤ 8192 → (any ≡ true → 0 < came) → cond (not any) 0 (270337 - (after + came)) < 270337 - before

@@ -8,7 +8,7 @@ use super::failures::{Failure, Failures};
 use super::state::{Owed, State};
 use ftp_control::control::{ControlChannel, ReplyRule};
 use ftp_transport::Network;
-use std::alloc::Global;
+use std::alloc::{AllocError, Global};
 use std::marker::Model;
 
 /// A transport, the control channel on one of its connections, and the state of the dialogues. Beside them stand the
@@ -49,28 +49,37 @@ impl<Tr: Network> Model for Machine<Tr> {
 }
 
 impl<Tr: Network> Machine<Tr> {
-    ghost use Rattle.std.specs.Prelude.{◌≡◌, is_none};
+    ghost use Rattle.std.specs.Prelude.{◌≡◌, IfOk, is_none};
     ghost use Rattle.ftp_control.specs.Channel.{IsSound};
     ghost use Rattle.ftp_dialogue.specs.NetEvents.{first_net};
     ghost use Rattle.ftp_dialogue.specs.Sound.{Sound, holds};
     ghost use Rattle.ftp_dialogue.specs.State.{Begins, LetsGo};
 
     /// A machine on a connection, which reads replies by this rule. Nothing is read and nothing is sent.
-    pub fn new(alloc: Global, transport: Tr, conn: Tr::Conn, rule: ReplyRule) -> Machine<Tr>
-        ensures begins { Begins Tr.Conn.tells rule (Tr.Conn.told conn)
-            (first_net (Tr.asked transport) (Tr.ready transport) (Tr.closed transport)) result }
-        ensures sound { IsSound Tr.Conn.tells result.channel }
+    ///
+    /// # Errors
+    /// There is no memory for the buffer of received bytes. The connection is closed.
+    pub fn new(
+        alloc: Global,
+        transport: Tr,
+        conn: Tr::Conn,
+        rule: ReplyRule,
+    ) -> Result<Machine<Tr>, AllocError>
+        ensures begins { IfOk result (λ machine. Begins Tr.Conn.tells rule (Tr.Conn.told conn)
+            (first_net (Tr.asked transport) (Tr.ready transport) (Tr.closed transport)) machine) }
+        ensures sound { IfOk result (λ machine. IsSound Tr.Conn.tells machine.channel) }
     {
+        let channel = ControlChannel::new(alloc, conn, rule)?;
         let mut state = State::new();
         state.settings.reply_rule = rule;
-        Machine {
+        Ok(Machine {
             transport,
-            channel: ControlChannel::new(alloc, conn, rule),
+            channel,
             state,
             listener: None,
             data_conn: None,
             failures: Failures::none(),
-        }
+        })
     }
 
     /// A call is done: its listener is closed, and a data connection that carries no transfer. That of a transfer that

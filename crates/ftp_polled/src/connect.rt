@@ -38,6 +38,8 @@ where
     // Whether replies are read leniently.
     lenient: bool,
     session: Option<Session<Tr, K, E, B>>,
+    // Why there is no session, until it is told.
+    fault: Option<FtpError>,
     greeting: PolledCall,
 }
 
@@ -69,12 +71,17 @@ where
             tried: Tried { count: 0, fault },
             lenient,
             session: None,
+            fault: None,
             greeting: PolledCall::alone(Call::Greet),
         }
     }
 
     /// A state that reads the greeting of a session.
-    fn over(rt: &'r R, session: FtpResult<Session<Tr, K, E, B>>) -> Self {
+    fn over(rt: &'r R, made: FtpResult<Session<Tr, K, E, B>>) -> Self {
+        let (session, fault) = match made {
+            Ok(session) => (Some(session), None),
+            Err(fault) => (None, Some(fault)),
+        };
         Connect {
             rt,
             transport: None,
@@ -85,7 +92,8 @@ where
                 fault: ConnectionError::NoAddress,
             },
             lenient: false,
-            session: session.ok(),
+            session,
+            fault,
             greeting: PolledCall::alone(Call::Greet),
         }
     }
@@ -138,6 +146,14 @@ where
         Ok(())
     }
 
+    /// Why there is no session.
+    fn no_session(&mut self) -> FtpError {
+        match self.fault.take() {
+            Some(fault) => fault,
+            None => FtpError::ConnectionError(ConnectionError::AlreadyCompleted),
+        }
+    }
+
     /// Goes on to read the greeting.
     fn poll_greeting(
         &mut self,
@@ -147,7 +163,7 @@ where
         ensures kept { Keeps cx.old cx.new }
     {
         let Some(mut session) = self.session.take() else {
-            return Poll::Ready(Err(FtpError::ConnectionError(ConnectionError::AlreadyCompleted)));
+            return Poll::Ready(Err(self.no_session()));
         };
         let alloc = self.rt.alloc();
         match session.poll_call(alloc, self.rt, &mut self.greeting, &mut ()) {

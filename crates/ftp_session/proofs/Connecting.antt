@@ -3,8 +3,9 @@ use Rattle.std.proofs.lemmas.Bool.{eqb-true}
 use Rattle.std.specs.Duration.{as_nanos}
 use Rattle.std.specs.declared.time.Duration.{Duration}
 use Rattle.std.specs.declared.net.socket_addr.SocketAddr.{SocketAddr}
-use Rattle.std.proofs.Common.{◌≡◌, ◌==◌, ℕ, Bool, true, false, Some, take, List, [], ◌∷◌, ◌++◌, refl, sym, ap, subst, ◌∙◌, append_assoc}
+use Rattle.std.proofs.Common.{◌≡◌, ◌==◌, ℕ, Bool, true, false, Some, take, List, [], ◌∷◌, ◌++◌, inl, inr, refl, sym, ap, subst, ◌∙◌, append_assoc}
 use Rattle.ftp_base.specs.declared.types.fault.ConnectionError.{ConnectionError}
+use Rattle.ftp_base.specs.declared.types.fault.FtpError.{FtpError}
 use Rattle.ftp_base.specs.declared.types.fault.FtpError.TheVariants.{ConnectionError as Connection}
 use Rattle.ftp_transport.specs.Asking.{connects_to, requests_of, AreRefused, RefusedInTurn, ConnectsInTurn}
 use Rattle.ftp_transport.specs.Told.{Told}
@@ -22,7 +23,10 @@ use Rattle.ftp_dialogue.specs.declared.model.PlayState.{PlayState}
 use Rattle.ftp_dialogue.specs.Coding.{Coding}
 use Rattle.ftp_dialogue.specs.NetEvents.{after_request}
 use Rattle.ftp_dialogue.specs.declared.model.NetRecord.{NetRecord}
-use Rattle.ftp_session.specs.Connecting.{connecting, connects_within, after_requests, if_connected, outcomes_in, AsksAll, IsConnected, NoneConnects}
+use Rattle.ftp_control.specs.declared.control.rule.ReplyRule.{ReplyRule}
+use Rattle.ftp_dialogue.specs.NetEvents.{first_net}
+use Rattle.ftp_session.specs.Calls.{FailsToConnect}
+use Rattle.ftp_session.specs.Connecting.{connecting, connects_within, after_requests, if_connected, outcomes_in, AsksAll, FailsToConnectBy, IsConnected, NoneConnects}
 use Rattle.ftp_dialogue.specs.Dialogue.{Tree, Leaf, dialogue}
 use Rattle.ftp_dialogue.specs.Link.{Link}
 use Rattle.ftp_dialogue.specs.Play.{play}
@@ -94,6 +98,11 @@ module _ (link : Link) (coding : Coding) (refuses : List Supply → ConnectionEr
 
   pub none_connects : (last : ConnectionError) → (link.tells → RefusedInTurn refuses requests [] fault last ready ready' asked asked') → NoneConnects link coding refuses requests fault ready asked (Connection last)
   none_connects last in_turn = record { last = last; is = refl; unused = ready'; asked_by = asked'; in_turn = in_turn; asks = λ h. asks_none last (in_turn h) }
+
+-- no session is made on the connection that the requests came to
+pub fails_by : (link : Link) (coding : Coding) (rule : ReplyRule) (refuses : List Supply → ConnectionError → Type 0) (requests : List Request) (fault : ConnectionError) (ready unused : List Supply) (closed : List Told) (asked asked' : List Asked) (told : Told) (answer : FtpError) → (link.tells → ConnectsInTurn refuses requests fault told ready unused asked asked') → FailsToConnect link coding rule told (first_net asked' unused closed) answer → FailsToConnectBy link coding rule refuses requests fault ready closed asked answer
+fails_by link coding rule refuses requests fault ready unused closed asked asked' told answer in_turn (inl (new, connects)) = inr (inl (new, record { told = told; asked_by = asked'; connected = is_connected link coding refuses requests fault ready unused asked asked' told in_turn; connects = connects }))
+fails_by link coding rule refuses requests fault ready unused closed asked asked' told answer in_turn (inr memory) = inr (inr memory)
 
 -- what is asked within a time: nothing where there is none
 pub within_none : (limit : Duration) (address : SocketAddr) (count : ℕ) → count ≡ 0 → as_nanos limit ≡ 0 → connects_to (Some limit) (take count (address ∷ [])) ≡ connects_within limit address

@@ -1,5 +1,5 @@
 -- The calls of a session: each is its dialogue.
-use Rattle.std.specs.Prelude.{ℕ, Result, Ok, Err, map, string_bytes}
+use Rattle.std.specs.Prelude.{◌≡◌, ◌⊎◌, ℕ, Result, Ok, Err, map, string_bytes}
 use Rattle.std.specs.declared.vec.Vec.{Vec}
 use Rattle.std.specs.declared.string.String.{String}
 use Rattle.std.specs.declared.alloc.Global.{Global}
@@ -7,6 +7,7 @@ use Rattle.jiff_core.specs.declared.civil.datetime.DateTime.{DateTime}
 use Rattle.ftp_base.specs.Features.{Entries}
 use Rattle.ftp_base.specs.declared.types.reply.Response.{Response}
 use Rattle.ftp_base.specs.declared.types.fault.FtpError.{FtpError}
+use Rattle.ftp_base.specs.declared.types.fault.FtpError.TheVariants.{OutOfMemory}
 use Rattle.ftp_transport.specs.Told.{Told}
 use Rattle.ftp_control.specs.Channel.{IsSound}
 use Rattle.ftp_control.specs.declared.control.rule.ReplyRule.{ReplyRule}
@@ -68,6 +69,6 @@ pub record Connects (link : Link) (coding : Coding) (rule : ReplyRule) (told : T
   pub greets : PlaysAlone link coding Greet old new (unit_answer result)
   pub sound : IsSound link.tells new.channel
 
--- no session is connected, and this is why
+-- no session is connected: the greeting's dialogue failed, or there was no memory for a session
 abbrev pub FailsToConnect : Link → Coding → ReplyRule → Told → Net → FtpError → Type 0
-FailsToConnect link coding rule told beside fault = (new : SessionValue) × Connects link coding rule told beside new (Err fault)
+FailsToConnect link coding rule told beside fault = ((new : SessionValue) × Connects link coding rule told beside new (Err fault)) ⊎ (fault ≡ OutOfMemory)

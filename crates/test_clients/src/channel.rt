@@ -62,7 +62,7 @@ fn lines(alloc: Global, channel: &mut ControlChannel<MemoryConn>) -> FtpResult<[
 
 /// A channel over memory.
 fn channel_on(alloc: Global, conn: MemoryConn) -> FtpResult<Box<ControlChannel<MemoryConn>>> {
-    boxed(alloc, ControlChannel::new(alloc, conn, ReplyRule::Strict))
+    boxed(alloc, ControlChannel::new(alloc, conn, ReplyRule::Strict)?)
 }
 
 #[test]

@@ -16,7 +16,7 @@ fn greeting(alloc: Global, letters: usize) -> FtpResult<(u8, u64)> {
     let line = vec![in alloc; b'a'; letters]?;
     conn.feed(&line)?;
     conn.feed(b"\r\n220 ready\r\n")?;
-    let mut channel = boxed(alloc, ControlChannel::new(alloc, conn, ReplyRule::Strict))?;
+    let mut channel = boxed(alloc, ControlChannel::new(alloc, conn, ReplyRule::Strict)?)?;
     let fault = number(channel.read_response(alloc, Status::Ready));
     Ok((fault, channel.get_ref().reads()))
 }

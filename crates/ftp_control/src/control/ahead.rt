@@ -1,18 +1,18 @@
 //! Received bytes that no read has looked at yet.
 //!
 //! A connection is read only where none is left, and then for as many bytes as the buffer holds, so that replies that came
-//! together cost one read. The buffer is made by the first read.
+//! together cost one read.
 
-ghost use Rattle.std.specs.Prelude.{◌≡◌, ◌≤◌, ◌<◌, IfErr, OnOk, Ok, [], drop, take, length, false, true};
+ghost use Rattle.std.specs.Prelude.{◌≡◌, ◌≤◌, ◌<◌, IfErr, IfOk, Ok, [], drop, take, length, false, true};
 ghost use Rattle.futures.specs.declared.task.Poll.TheVariants as poll;
 ghost use Rattle.ftp_transport.specs.Memory.{IsGiven};
-ghost use Rattle.ftp_control.specs.Inside.Ahead.{BreaksBy, Fills, IsPiece};
+ghost use Rattle.ftp_control.specs.Inside.Ahead.{Fills, IsPiece};
 
-use super::Broken;
 use ftp_transport::PollConn;
 use futures::task::Poll;
 use memchr::memchr;
 use std::alloc::{AllocError, Global};
+use std::io::ErrorKind;
 use std::marker::Model;
 
 /// How many bytes a connection is asked for at once.
@@ -27,26 +27,29 @@ pub(crate) struct ReadAhead {
 }
 
 impl Model for ReadAhead {
-    ghost use Rattle.std.specs.Prelude.{◌≤◌, ◌-◌, ℕ, List, drop, take, length};
+    ghost use Rattle.std.specs.Prelude.{◌≡◌, ◌≤◌, ◌-◌, ℕ, List, drop, take, length};
 
     ghost Value = { List ℕ };
 
     ghost view = { λ a. take (a.end - a.start) (drop a.start a.buffer.items) };
 
     ghost invariant = { λ a. (a.start ≤ a.end) × (a.end ≤ length a.buffer.items) ×
-        (length a.buffer.items ≤ 8192) };
+        (length a.buffer.items ≡ 8192) };
 }
 
 impl ReadAhead {
-    /// No bytes. Allocates nothing.
-    pub(crate) fn new(alloc: Global) -> ReadAhead
-        ensures { result ≡ [] }
+    /// No bytes, and the buffer for them.
+    ///
+    /// # Errors
+    /// There is no memory for the buffer.
+    pub(crate) fn new(alloc: Global) -> Result<ReadAhead, AllocError>
+        ensures { IfOk result (λ ahead. ahead ≡ []) }
     {
-        ReadAhead {
-            buffer: Vec::new(alloc),
+        Ok(ReadAhead {
+            buffer: vec![in alloc; 0u8; AHEAD_LIMIT]?,
             start: 0,
             end: 0,
-        }
+        })
     }
 
     /// The bytes.
@@ -68,19 +71,18 @@ impl ReadAhead {
     /// Reads bytes, where none is left. Returns whether any came, and not the end of the input.
     ///
     /// # Errors
-    /// A fault of the connection; out of memory for the buffer, and nothing is read.
+    /// A fault of the connection.
     pub(crate) fn fill<W, C: PollConn<W>>(
         &mut self,
-        alloc: Global,
         conn: &mut C,
         w: &mut W,
-    ) -> Result<Poll<bool>, Broken>
+    ) -> Result<Poll<bool>, ErrorKind>
         requires { self.old ≡ [] }
         ensures bound { length self.new ≤ 8192 }
         ensures waits { result ≡ Ok poll.Pending → C.may_wait }
         ensures end { C.Tells.tells → C.may_wait → result ≡ Ok (poll.Ready false) →
             (C.Tells.told conn.old).given.closed ≡ true }
-        ensures fault { IfErr result (λ broken. BreaksBy C.read_faults broken) }
+        ensures fault { IfErr result (λ kind. C.read_faults kind) }
         ensures given { C.Tells.tells → IsGiven (C.Tells.told conn.old) →
             IsGiven (C.Tells.told conn.new) }
         ensures fills { Fills C.Tells.tells result self.new (C.Tells.told conn.old)
@@ -88,30 +90,15 @@ impl ReadAhead {
     {
         self.start = 0;
         self.end = 0;
-        if make(alloc, &mut self.buffer).is_err() {
-            return Err(Broken::OutOfMemory);
-        }
         match conn.poll_read(w, self.buffer.as_mut_slice()) {
             Ok(Poll::Ready(count)) => {
                 self.end = count;
                 Ok(Poll::Ready(count > 0))
             }
             Ok(Poll::Pending) => Ok(Poll::Pending),
-            Err(kind) => Err(Broken::Connection(kind)),
+            Err(kind) => Err(kind),
         }
     }
-}
-
-/// Makes the buffer, where there is none.
-fn make(alloc: Global, buffer: &mut Vec<u8>) -> Result<(), AllocError>
-    requires bound { length buffer.old.items ≤ 8192 }
-    ensures some { OnOk result (0 < length buffer.new.items) }
-    ensures bound { length buffer.new.items ≤ 8192 }
-{
-    if buffer.is_empty() {
-        *buffer = vec![in alloc; 0u8; AHEAD_LIMIT]?;
-    }
-    Ok(())
 }
 
 /// How many bytes at the front are looked at together, this many at most: those to the first LF, or all.

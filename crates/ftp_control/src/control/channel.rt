@@ -24,7 +24,7 @@ use super::sought::Sought;
 use super::{Broken, Outcome, ReplyForm, ReplyRule, WireLine};
 use ftp_transport::{PollConn, Tells};
 use futures::task::Poll;
-use std::alloc::Global;
+use std::alloc::{AllocError, Global};
 use std::io::ErrorKind;
 use std::marker::Model;
 
@@ -66,7 +66,7 @@ impl<C: Tells + Drop> Model for ControlChannel<C> {
 }
 
 impl<C: Tells + Drop> ControlChannel<C> {
-    ghost use Rattle.std.specs.Prelude.{◌<◌, IfErr, length};
+    ghost use Rattle.std.specs.Prelude.{◌<◌, IfErr, IfOk, length};
     ghost use Rattle.ftp_transport.specs.Memory.{IsGiven};
     ghost use Rattle.ftp_control.specs.Reading.{MayBreak};
     ghost use Rattle.ftp_transport.specs.Told.{EndsAsTold, before_fault, begun};
@@ -107,16 +107,20 @@ impl<C: Tells + Drop> ControlChannel<C> {
     }
 
     /// A channel on a connection, which reads replies by this rule: nothing is read, nothing is sent.
-    pub fn new(alloc: Global, mut conn: C, rule: ReplyRule) -> ControlChannel<C>
-        ensures rule { result.rule ≡ rule }
-        ensures begins { C.tells → result.told ≡ begun (C.told conn) }
-        ensures idle { IsIdle result }
-        ensures sound { IsSound C.tells result }
+    ///
+    /// # Errors
+    /// There is no memory for the buffer of received bytes. The connection is closed.
+    pub fn new(alloc: Global, mut conn: C, rule: ReplyRule) -> Result<ControlChannel<C>, AllocError>
+        ensures rule { IfOk result (λ channel. channel.rule ≡ rule) }
+        ensures begins { IfOk result (λ channel. C.tells → channel.told ≡ begun (C.told conn)) }
+        ensures idle { IfOk result (λ channel. IsIdle channel) }
+        ensures sound { IfOk result (λ channel. IsSound C.tells channel) }
     {
+        let ahead = ReadAhead::new(alloc)?;
         conn.begin();
-        ControlChannel {
+        Ok(ControlChannel {
             conn,
-            ahead: ReadAhead::new(alloc),
+            ahead,
             reply: ReplyBuffer {
                 bytes: Vec::new(alloc),
                 line_start: 0,
@@ -129,7 +133,7 @@ impl<C: Tells + Drop> ControlChannel<C> {
             ended: false,
             failed: false,
             rule,
-        }
+        })
     }
 
     /// Whether the channel has failed, by a read, a write or the server. A failed channel sends and reads nothing.

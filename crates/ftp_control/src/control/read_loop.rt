@@ -56,10 +56,10 @@ pub(crate) fn hear<W, C: PollConn<W>>(
             Ok(Outcome::Waits) => {}
             other => return other,
         }
-        match ahead.fill(alloc, conn, w) {
+        match ahead.fill(conn, w) {
             Ok(Poll::Ready(any)) => *ended = !any,
             Ok(Poll::Pending) => return Ok(Outcome::Waits),
-            Err(broken) => return Err(broken),
+            Err(kind) => return Err(Broken::Connection(kind)),
         }
     }
     Ok(sought.take_end(alloc, reply, rule))

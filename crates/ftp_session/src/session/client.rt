@@ -4,7 +4,7 @@
 //! session that has failed answers each call with `SessionFailed` and touches nothing; the connection is dropped with
 //! it.
 
-ghost use Rattle.std.specs.Prelude.{◌≡◌, IsOk, IfOk, MatchResult, Ok, IfErr, OnOk, OnErr, Some, None, length, option_map};
+ghost use Rattle.std.specs.Prelude.{◌≡◌, IfOk, MatchResult, Ok, IfErr, OnOk, OnErr, Some, None, length, option_map};
 ghost use Rattle.ftp_control.specs.Channel.{IsSound, untaken};
 ghost use Rattle.ftp_session.specs.Calls.{Connects, FailsToConnect};
 ghost use Rattle.ftp_dialogue.specs.Coding.{chosen};
@@ -51,9 +51,9 @@ impl<Tr: Network, K: Drop, E: Encoding, B: Drop> Session<Tr, K, E, B> {
     /// sent.
     ///
     /// # Errors
-    /// None today: the result leaves room for a session that makes a buffer.
+    /// `OutOfMemory` for the buffer of received bytes. The connection is closed.
     pub fn new(alloc: Global, transport: Tr, conn: Tr::Conn) -> FtpResult<Session<Tr, K, E, B>>
-        ensures succeeds { IsOk result }
+        ensures memory { IfErr result (λ fault. fault ≡ FtpError.OutOfMemory) }
         ensures begins { IfOk result (λ session.
             Begins Tr.Conn.tells ReplyRule.Strict (Tr.Conn.told conn)
             (first_net (Tr.asked transport) (Tr.ready transport) (Tr.closed transport)) session.machine) }
@@ -72,7 +72,7 @@ impl<Tr: Network, K: Drop, E: Encoding, B: Drop> Session<Tr, K, E, B> {
         conn: Tr::Conn,
         rule: ReplyRule,
     ) -> FtpResult<Session<Tr, K, E, B>>
-        ensures succeeds { IsOk result }
+        ensures memory { IfErr result (λ fault. fault ≡ FtpError.OutOfMemory) }
         ensures begins { IfOk result (λ session.
             Begins Tr.Conn.tells rule (Tr.Conn.told conn)
             (first_net (Tr.asked transport) (Tr.ready transport) (Tr.closed transport)) session.machine) }
@@ -81,8 +81,9 @@ impl<Tr: Network, K: Drop, E: Encoding, B: Drop> Session<Tr, K, E, B> {
         ensures builder { IfOk result (λ session. session.builder ≡ None) }
         ensures mark { IfOk result (λ session. session.mark ≡ None) }
     {
+        let machine = Machine::new(alloc, transport, conn, rule)?;
         Ok(Session {
-            machine: Machine::new(alloc, transport, conn, rule),
+            machine,
             encoding: Chosen(None),
             connector: None,
             builder: None,
@@ -94,7 +95,7 @@ impl<Tr: Network, K: Drop, E: Encoding, B: Drop> Session<Tr, K, E, B> {
     /// A session on a connection, once the server's greeting (220) was read.
     ///
     /// # Errors
-    /// Those of a read of one reply. The connection is closed then.
+    /// `OutOfMemory`; those of a read of one reply. The connection is closed then.
     pub fn connect_with_stream(
         alloc: Global,
         transport: Tr,
@@ -236,9 +237,9 @@ impl<Tr: Network, K: Drop, E: Encoding, B: Drop> Session<Tr, K, E, B> {
         self.machine.channel.failed()
     }
 
-    /// Where the last error of input or output was met, if there was one: after a call that returned `Io`, where that was,
-    /// but that of an upload's close and a last reply that both fail the second is told. It stays until the next is met.
-    /// No clause says it.
+    /// Where the last error of input or output was met, if there was one: after a call that returned `Io`, where that was.
+    /// Where both the close of an upload and its last reply fail, it is the reply's, though the call returned that of the
+    /// close. It stays until the next is met. No clause says it.
     pub fn last_failure(&self) -> Option<Failure> {
         self.machine.last_failure()
     }

@@ -47,4 +47,4 @@ returns-in-Err-clause-heard g c =
     let so_far = rw c.loop-ended-test.true at c.loop-ended.invariant.so_far in
     let looks = rw (c.in-Ok-Waits.is, c.in-Ok-Waits.field-0-is) at c.look.ensures.takes in
     let fills = rw c.in-Err.is at c.fill.ensures.fills in
-    rw c.loop-ended-test.true (fill_fails _ _ _ _ _ _ _ _ _ _ _ so_far looks c.in-Err.broken _ _ fills)
+    rw c.loop-ended-test.true (fill_fails _ _ _ _ _ _ _ _ _ _ _ so_far looks c.in-Err.kind _ _ fills)
