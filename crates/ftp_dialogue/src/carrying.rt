@@ -14,6 +14,7 @@ ghost use Rattle.ftp_dialogue.specs.Promises.{IsRefused, LeavesIf, refusal_of};
 ghost use Rattle.ftp_dialogue.specs.Steps.Moving.{Carries, CarriesOut, Sets, Walks};
 
 use super::asks::Asks;
+use super::gathered::fitted;
 use super::machine::Machine;
 use super::stage::{Stage, Step, go_to};
 use super::{Answer, Call, Owed, Setting, rule_by};
@@ -221,7 +222,7 @@ fn read_once<C: Conn>(conn: &mut C, mut buffer: Vec<u8>) -> NetOutcome
     match conn.read(&mut buffer) {
         Ok(count) => {
             buffer.truncate(count);
-            NetOutcome::Read(Bytes::from_vec(buffer))
+            NetOutcome::Read(fitted(buffer))
         }
         Err(kind) => NetOutcome::Failed(kind),
     }

@@ -306,7 +306,7 @@ fn answer_of<E: Encoding>(alloc: Global, encoding: &E, form: Fetch, gathered: Ga
     ensures { (result ≡ fetched (coding_of E.decoded E.encoded encoding.now) form gathered) ⊎
         (result ≡ Answer.Fault FtpError.OutOfMemory) }
 {
-    let bytes = gathered.into_bytes(alloc);
+    let bytes = gathered.into_bytes();
     match form {
         Fetch::Whole => Answer::Bytes(bytes),
         Fetch::Listed => match read_listing(alloc, bytes.as_slice(), encoding) {

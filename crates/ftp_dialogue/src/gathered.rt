@@ -91,33 +91,25 @@ impl Gathered {
         self.filled
     }
 
-    /// The bytes. Where their memory is more than a quarter above them they are moved into memory of their size, if there
-    /// is any.
-    pub(super) fn into_bytes(self, alloc: Global) -> Bytes
+    /// The bytes.
+    pub(super) fn into_bytes(self) -> Bytes
         ensures { result ≡ self }
     {
         let Gathered { mut buffer, filled } = self;
         buffer.truncate(filled);
-        if buffer.capacity() - filled <= filled / 4 {
-            return Bytes::from_vec(buffer);
-        }
-        match exact_copy(alloc, buffer.as_slice()) {
-            Ok(exact) => {
-                drop(buffer);
-                Bytes::from_vec(exact)
-            }
-            Err(AllocError) => Bytes::from_vec(buffer),
-        }
+        fitted(buffer)
     }
 }
 
-/// These bytes, in memory of their size.
-fn exact_copy(alloc: Global, bytes: &[u8]) -> Result<Vec<u8>, AllocError>
-    ensures { IfOk result (λ copy. copy.items ≡ bytes.now) }
+/// A buffer's bytes. Where its memory is more than a quarter above them the rest of it is let go.
+pub(super) fn fitted(mut buffer: Vec<u8>) -> Bytes
+    ensures { result ≡ buffer.items }
 {
-    let mut copy = Vec::with_capacity(alloc, bytes.len())?;
-    copy.extend_from_slice(bytes)?;
-    Ok(copy)
+    let count = buffer.len();
+    if buffer.capacity() - count > count / 4 {
+        buffer.shrink_to_fit();
+    }
+    Bytes::from_vec(buffer)
 }
 
 /// Reads once into a buffer, after its filled bytes, and makes room before. Nothing is read where there is no memory.

@@ -10,6 +10,7 @@
 #![tactic(auto)]
 
 mod aborting;
+mod admitting;
 pub mod answers;
 pub mod asks;
 mod carrying;
@@ -29,6 +30,7 @@ mod requests;
 mod resyncing;
 mod sending;
 pub mod stage;
+mod starting;
 pub mod state;
 mod transitions;
 pub mod unsent;

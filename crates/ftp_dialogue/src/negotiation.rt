@@ -25,9 +25,6 @@ use std::alloc::AllocError;
 use std::io::ErrorKind;
 use std::net::{SocketAddr, SocketAddrV4, SocketAddrV6};
 
-/// How many strangers one data command drops.
-const STRANGERS: u64 = 1000;
-
 impl<Tr: Network> Machine<Tr> {
     /// One node on the way to a data connection.
     pub(super) fn walk<W, A: Asks<Tr, W>>(
@@ -288,152 +285,6 @@ impl<Tr: Network> Machine<Tr> {
         }
     }
 
-    /// The peer's address is looked up, to compare it with those that connect.
-    fn know_peer<W, A: Asks<Tr, W>>(
-        &mut self,
-        asker: &A,
-        _call: &Call,
-        turn: Turn,
-        opened: Opened,
-        stage: &mut Stage,
-        w: &mut W,
-    ) -> Step
-    where
-        Tr::Conn: PollConn<W>,
-        requires going { self.old.channel.failed ≡ false }
-        requires opens { negotiates _call.now ≡ true }
-        requires opened { OpeningOf _call.now opened }
-        ensures end { self.new.channel.ended ≡ self.old.channel.ended }
-        ensures walks { (coding : Coding) →
-            Walks (asking (A.builds asker.now) A.may_wait (polling Tr.Conn.PollConn)) coding _call.now
-            (Stage.OpeningData (OpeningData.Asking turn (Asking.Peer opened))) stage.new self.old self.new result }
-    {
-        match self.look_there(asker, w) {
-            Ok(peer) => {
-                let asking = Asking::Accepting(peer, STRANGERS, opened);
-                go_to(stage, Stage::OpeningData(OpeningData::Asking(turn, asking)));
-                Step::Next
-            }
-            Err(kind) => {
-                drop(opened);
-                Step::Done(Answer::Fault(FtpError::ConnectionError(ConnectionError::Io(kind))))
-            }
-        }
-    }
-
-    /// The transport accepts a connection: a peer that is let in opens the transfer, another is dropped.
-    fn let_in<W, A: Asks<Tr, W>>(
-        &mut self,
-        asker: &A,
-        _call: &Call,
-        turn: Turn,
-        peer: SocketAddr,
-        left: u64,
-        opened: Opened,
-        stage: &mut Stage,
-        w: &mut W,
-    ) -> Step
-    where
-        Tr::Conn: PollConn<W>,
-        requires going { self.old.channel.failed ≡ false }
-        requires opens { negotiates _call.now ≡ true }
-        requires may { A.may_ask }
-        requires opened { OpeningOf _call.now opened }
-        ensures end { self.new.channel.ended ≡ self.old.channel.ended }
-        ensures walks { (coding : Coding) →
-            Walks (asking (A.builds asker.now) A.may_wait (polling Tr.Conn.PollConn)) coding _call.now
-            (Stage.OpeningData (OpeningData.Asking turn (Asking.Accepting peer left opened))) stage.new self.old self.new result }
-    {
-        match self.ask_to_accept(asker, w) {
-            Poll::Ready(Ok(outcome)) => self.meet(outcome, turn, peer, left, opened, stage),
-            Poll::Ready(Err(AllocError)) => {
-                drop(opened);
-                self.lack_memory()
-            }
-            Poll::Pending => {
-                let asking = Asking::Accepting(peer, left, opened);
-                go_to(stage, Stage::OpeningData(OpeningData::Asking(turn, asking)));
-                Step::Pending
-            }
-        }
-    }
-
-    /// A peer came, or none did: one that is let in opens the transfer, another is dropped.
-    fn meet(
-        &mut self,
-        outcome: RequestOutcome,
-        turn: Turn,
-        peer: SocketAddr,
-        left: u64,
-        opened: Opened,
-        stage: &mut Stage,
-    ) -> Step
-        ensures end { self.new.channel.ended ≡ self.old.channel.ended }
-        ensures meets { Meets outcome turn peer left opened stage.new self.old self.new result }
-    {
-        match outcome {
-            RequestOutcome::Address(from) => {
-                if self
-                    .state
-                    .settings
-                    .active_peer_check
-                    .allows(from.ip(), peer.ip())
-                {
-                    self.admit(opened, stage)
-                } else {
-                    self.turn_away(turn, peer, left, opened, stage)
-                }
-            }
-            RequestOutcome::Refused(fault) => {
-                drop(opened);
-                refused(fault)
-            }
-            RequestOutcome::Done => {
-                drop(opened);
-                refused(ConnectionError::NoAddress)
-            }
-        }
-    }
-
-    /// A peer was let in: a transfer is live, or all that comes is read.
-    fn admit(&mut self, opened: Opened, stage: &mut Stage) -> Step
-        ensures end { self.new.channel.ended ≡ self.old.channel.ended }
-        ensures admits { LetsIn opened stage.new self.old self.new result }
-    {
-        match opened {
-            Opened::Gives(answer) => {
-                self.state.counts.open();
-                Step::Done(answer)
-            }
-            Opened::Performs(task) => {
-                go_to(stage, Stage::Transferring(Transferring::Starting(task)));
-                Step::Next
-            }
-        }
-    }
-
-    /// A stranger is dropped: another may come, or too many have.
-    fn turn_away(
-        &mut self,
-        turn: Turn,
-        peer: SocketAddr,
-        left: u64,
-        opened: Opened,
-        stage: &mut Stage,
-    ) -> Step
-        ensures end { self.new.channel.ended ≡ self.old.channel.ended }
-        ensures turned { TurnsAway turn peer left opened stage.new self.old self.new result }
-    {
-        if left == 0 {
-            drop(opened);
-            return refused(ConnectionError::TimedOut);
-        }
-        let _stranger = self.data_conn.take();
-        let asking = Asking::Accepting(peer, left - 1, opened);
-        go_to(stage, Stage::OpeningData(OpeningData::Asking(turn, asking)));
-        Step::Next
-    }
-
     /// The address of this end of the control connection.
     fn look_here<W, A: Asks<Tr, W>>(
         &mut self,
@@ -452,7 +303,7 @@ impl<Tr: Network> Machine<Tr> {
     }
 
     /// The address of the other end of the control connection.
-    fn look_there<W, A: Asks<Tr, W>>(
+    pub(super) fn look_there<W, A: Asks<Tr, W>>(
         &mut self,
         _asker: &A,
         _w: &mut W,
@@ -501,7 +352,7 @@ fn connected(call: &Call, turn: Turn, outcome: RequestOutcome, stage: &mut Stage
 }
 
 /// A request was refused.
-fn refused(fault: ConnectionError) -> Step
+pub(super) fn refused(fault: ConnectionError) -> Step
     ensures { result ≡ Step.Done (Answer.Fault (FtpError.ConnectionError fault)) }
 {
     Step::Done(Answer::Fault(FtpError::ConnectionError(fault)))
