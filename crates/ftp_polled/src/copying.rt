@@ -1,4 +1,8 @@
-//! A source is copied to a transfer, a piece a poll: a text's lines end in CR LF on the wire (RFC 959, section 3.1.1.1).
+//! A source is copied to a transfer, some reads and writes a poll: a text's lines end in CR LF on the wire (RFC 959, section
+//! 3.1.1.1).
+//!
+//! The source is read by at most 8,192 bytes at once, until a block is full, the source waits or gives no more; what stands
+//! on the wire for the block is written then: 64 KiB at most.
 
 ghost use Rattle.std.specs.Prelude.{◌≡◌, Some};
 ghost use Rattle.futures.specs.Poll.{OnPending};
@@ -16,7 +20,10 @@ use std::io::ErrorKind;
 use tokio::io::AsyncRead;
 
 /// How many bytes of a source are read at once.
-const BUFFER: usize = 8_192;
+const PIECE: usize = 8_192;
+
+/// How many bytes are written at once.
+const BLOCK: usize = 65_536;
 
 /// How many reads and writes one poll makes, so that other tasks run beside a long transfer.
 pub(crate) const STEPS: u32 = 64;
@@ -26,65 +33,128 @@ pub(crate) const STEPS: u32 = 64;
 pub(crate) struct Copying<S: AsyncRead, P: Progress> {
     source: S,
     progress: P,
-    buffers: Option<Buffers>,
+    block: Option<Block>,
     // How often in a row the source was interrupted.
     interrupted: usize,
     // How many bytes stand on the wire for what was read.
     count: u64,
+    // Why the source is read no more.
+    stop: Option<Stop>,
     // Whether the data connection failed.
     data_failed: bool,
 }
 
-/// What was read last, and what stands on the wire for it.
-#[derive(Drop)]
-struct Buffers {
-    input: Vec<u8>,
-    output: Vec<u8>,
-    // How many bytes of the output were written.
-    sent: usize,
-    // None where the bytes go as they are.
-    encoder: Option<CrlfEncoder>,
+/// Why a source is read no more.
+#[derive(Clone, Copy)]
+enum Stop {
+    /// It has ended.
+    Ended,
+    /// It has failed.
+    Failed(ErrorKind),
 }
 
-impl Buffers {
-    /// Buffers for a text, or for other bytes.
+/// What was read last, and what stands on the wire for it.
+#[derive(Drop)]
+struct Block {
+    input: Vec<u8>,
+    // How many bytes of the input were read.
+    filled: usize,
+    // None where the bytes go as they are.
+    text: Option<Text>,
+    // Whether what stands on the wire for the input is being written, and how many of its bytes were.
+    sends: bool,
+    sent: usize,
+}
+
+/// A text on the wire.
+#[derive(Drop)]
+struct Text {
+    encoder: CrlfEncoder,
+    output: Vec<u8>,
+}
+
+impl Block {
+    /// An empty block, for a text or for other bytes.
     ///
     /// # Errors
     /// `OutOfMemory`.
-    fn new(alloc: Global, text: bool) -> FtpResult<Buffers> {
-        let encoder = if text { Some(CrlfEncoder::new()) } else { None };
-        Ok(Buffers {
-            input: vec![in alloc; 0u8; BUFFER]?,
-            output: Vec::new(alloc),
+    fn new(alloc: Global, is_text: bool) -> FtpResult<Block> {
+        let text = if is_text {
+            Some(Text {
+                encoder: CrlfEncoder::new(),
+                output: Vec::new(alloc),
+            })
+        } else {
+            None
+        };
+        // A text may be twice as long on the wire.
+        let most = if is_text { BLOCK / 2 } else { BLOCK };
+        Ok(Block {
+            input: vec![in alloc; 0u8; most]?,
+            filled: 0,
+            text,
+            sends: false,
             sent: 0,
-            encoder,
         })
     }
 
-    /// Puts what stands on the wire for the first bytes of the input into the output, after so many bytes, and returns how
-    /// many they are then.
+    /// The room that the next read fills.
+    fn room(&mut self) -> &mut [u8] {
+        let start = self.filled.min(self.input.len());
+        let end = start.saturating_add(PIECE).min(self.input.len());
+        &mut self.input[start..end]
+    }
+
+    /// So many bytes were read into the room.
+    fn fill(&mut self, count: usize) {
+        self.filled = self.filled.saturating_add(count);
+    }
+
+    /// Whether nothing was read.
+    fn is_empty(&self) -> bool {
+        self.filled == 0
+    }
+
+    /// Whether there is no room for more.
+    fn is_full(&self) -> bool {
+        self.filled >= self.input.len()
+    }
+
+    /// From now on what stands on the wire for the block is written, after so many bytes. Returns how many they are then.
     ///
     /// # Errors
     /// `SourceTooLarge`, `OutOfMemory`.
-    fn convert(&mut self, taken: usize, count: u64) -> FtpResult<u64> {
-        self.output.clear();
-        self.sent = 0;
-        let piece = front(self.input.as_slice(), taken);
-        match &mut self.encoder {
-            Some(encoder) => encoder.encode(piece, &mut self.output)?,
-            None => self.output.extend_from_slice(piece)?,
+    fn begin_to_send(&mut self, count: u64) -> FtpResult<u64> {
+        if let Some(text) = &mut self.text {
+            text.output.clear();
+            let piece = front(self.input.as_slice(), self.filled);
+            text.encoder.encode(piece, &mut text.output)?;
         }
-        upload_size(count, self.output.len())
+        self.sends = true;
+        self.sent = 0;
+        upload_size(count, self.wire().len())
     }
 
-    /// Whether all of the output was written.
-    fn is_sent(&self) -> bool {
-        self.sent >= self.output.len()
+    /// What stands on the wire for the block.
+    fn wire(&self) -> &[u8] {
+        match &self.text {
+            Some(text) => text.output.as_slice(),
+            None => front(self.input.as_slice(), self.filled),
+        }
     }
 
-    /// The bytes of the output that weren't written.
+    /// The bytes that weren't written.
     fn unsent(&self) -> &[u8] {
-        behind(self.output.as_slice(), self.sent)
+        behind(self.wire(), self.sent)
+    }
+
+    /// So many of the unsent bytes were written. Where all were, the block is empty again.
+    fn advance(&mut self, count: usize) {
+        self.sent = self.sent.saturating_add(count);
+        if self.sent >= self.wire().len() {
+            self.sends = false;
+            self.filled = 0;
+        }
     }
 }
 
@@ -106,23 +176,16 @@ pub(crate) fn behind(bytes: &[u8], count: usize) -> &[u8] {
     }
 }
 
-/// What a poll of a source has come to.
-enum Read {
-    /// It has ended.
-    Ended,
-    /// Bytes were read, or it is to be read again.
-    Goes,
-}
-
 impl<S: AsyncRead, P: Progress> Copying<S, P> {
     /// Nothing was copied yet.
     pub(crate) fn new(source: S, progress: P) -> Copying<S, P> {
         Copying {
             source,
             progress,
-            buffers: None,
+            block: None,
             interrupted: 0,
             count: 0,
+            stop: None,
             data_failed: false,
         }
     }
@@ -137,12 +200,12 @@ impl<S: AsyncRead, P: Progress> Copying<S, P> {
         self.count
     }
 
-    /// Makes the buffers, for a text or for other bytes.
+    /// Makes the buffer, for a text or for other bytes.
     ///
     /// # Errors
     /// `OutOfMemory`.
     pub(crate) fn begin(&mut self, alloc: Global, text: bool) -> FtpResult<()> {
-        self.buffers = Some(Buffers::new(alloc, text)?);
+        self.block = Some(Block::new(alloc, text)?);
         Ok(())
     }
 
@@ -175,74 +238,85 @@ impl<S: AsyncRead, P: Progress> Copying<S, P> {
         ensures registered { result ≡ Some Poll.Pending → IsArmed cx.new }
         ensures kept { Keeps cx.old cx.new }
     {
-        let Some(buffers) = &mut self.buffers else {
+        let Some(block) = &mut self.block else {
             return Some(Poll::Ready(Err(FtpError::OutOfMemory)));
         };
-        if buffers.is_sent() {
-            return match poll_source(
-                &mut self.source,
-                buffers,
-                &mut self.interrupted,
-                &mut self.count,
-                cx,
-            ) {
-                Poll::Ready(Ok(Read::Ended)) => Some(Poll::Ready(Ok(()))),
-                Poll::Ready(Ok(Read::Goes)) => None,
-                Poll::Ready(Err(fault)) => Some(Poll::Ready(Err(fault))),
-                Poll::Pending => Some(Poll::Pending),
+        if block.sends {
+            return match transfer.poll_write_in(cx, block.unsent()) {
+                Ok(Poll::Ready(count)) => {
+                    block.advance(count);
+                    if !block.sends {
+                        self.progress.went(self.count);
+                    }
+                    None
+                }
+                Ok(Poll::Pending) => Some(Poll::Pending),
+                Err(kind) => {
+                    self.data_failed = true;
+                    Some(Poll::Ready(Err(io_fault(kind))))
+                }
             };
         }
-        match transfer.poll_write_in(cx, buffers.unsent()) {
-            Ok(Poll::Ready(count)) => {
-                buffers.sent = buffers.sent.saturating_add(count);
-                if buffers.is_sent() {
-                    self.progress.went(self.count);
+        match self.stop {
+            None => self.poll_source(cx),
+            Some(Stop::Ended) => Some(Poll::Ready(Ok(()))),
+            Some(Stop::Failed(kind)) => Some(Poll::Ready(Err(io_fault(kind)))),
+        }
+    }
+
+    /// Reads the source once. An interrupted read is made again, at most 64 times in a row. Where the block is full, or the
+    /// source waits or stops, the block is written next.
+    fn poll_source(&mut self, cx: &mut Context<'_>) -> Option<Poll<FtpResult<()>>>
+        ensures registered { result ≡ Some Poll.Pending → IsArmed cx.new }
+        ensures kept { Keeps cx.old cx.new }
+    {
+        let Some(block) = &mut self.block else {
+            return Some(Poll::Ready(Err(FtpError::OutOfMemory)));
+        };
+        match self.source.poll_read(cx, block.room()) {
+            Poll::Ready(Ok(0)) => self.stop = Some(Stop::Ended),
+            Poll::Ready(Ok(count)) => {
+                self.interrupted = 0;
+                block.fill(count);
+                if !block.is_full() {
+                    return None;
                 }
+            }
+            Poll::Ready(Err(error)) => {
+                let kind = error.kind();
+                if kind == ErrorKind::Interrupted && self.interrupted < RETRIES {
+                    self.interrupted += 1;
+                    return None;
+                }
+                self.stop = Some(Stop::Failed(kind));
+            }
+            Poll::Pending => {
+                if block.is_empty() {
+                    return Some(Poll::Pending);
+                }
+            }
+        }
+        self.begin_to_send()
+    }
+
+    /// From now on the block is written, if there is anything in it. None where it is.
+    fn begin_to_send(&mut self) -> Option<Poll<FtpResult<()>>>
+        ensures moves { result ≡ Some Poll.Pending → ⊥ }
+    {
+        let Some(block) = &mut self.block else {
+            return None;
+        };
+        if block.is_empty() {
+            return None;
+        }
+        match block.begin_to_send(self.count) {
+            Ok(count) => {
+                self.count = count;
                 None
             }
-            Ok(Poll::Pending) => Some(Poll::Pending),
-            Err(kind) => {
-                self.data_failed = true;
-                Some(Poll::Ready(Err(io_fault(kind))))
-            }
+            Err(fault) => Some(Poll::Ready(Err(fault))),
         }
     }
-}
-
-/// Reads the source once. An interrupted read is made again, at most 64 times in a row.
-fn poll_source<S: AsyncRead>(
-    source: &mut S,
-    buffers: &mut Buffers,
-    interrupted: &mut usize,
-    count: &mut u64,
-    cx: &mut Context<'_>,
-) -> Poll<FtpResult<Read>>
-    ensures registered { OnPending result (IsArmed cx.new) }
-    ensures kept { Keeps cx.old cx.new }
-{
-    match source.poll_read(cx, &mut buffers.input) {
-        Poll::Ready(Ok(0)) => Poll::Ready(Ok(Read::Ended)),
-        Poll::Ready(Ok(taken)) => {
-            *interrupted = 0;
-            Poll::Ready(take_piece(buffers, taken, count))
-        }
-        Poll::Ready(Err(error)) => {
-            let kind = error.kind();
-            if kind == ErrorKind::Interrupted && *interrupted < RETRIES {
-                *interrupted += 1;
-                Poll::Ready(Ok(Read::Goes))
-            } else {
-                Poll::Ready(Err(io_fault(kind)))
-            }
-        }
-        Poll::Pending => Poll::Pending,
-    }
-}
-
-/// Bytes were read from the source: what stands on the wire for them is counted.
-fn take_piece(buffers: &mut Buffers, taken: usize, count: &mut u64) -> FtpResult<Read> {
-    *count = buffers.convert(taken, *count)?;
-    Ok(Read::Goes)
 }
 
 /// A fault of the source, or of the data connection.

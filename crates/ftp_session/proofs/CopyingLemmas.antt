@@ -1,10 +1,11 @@
 -- Lemmas on a source that is copied to a transfer.
 use Rattle.std.proofs.Common.{◌≡◌, ◌<◌, ◌+◌, ◌-◌, ◌⊎◌, ℕ, Bool, true, false, List, [], ◌++◌, Option, Result, Ok, Err, inl, inr, refl, ap, sym, subst, ◌∙◌, length, take, drop, arith, append_assoc, append-nil, take-append-drop}
+use Rattle.std.proofs.Math.Seq.{take-add}
 use Rattle.std.proofs.lemmas.List.{length-append, take_rest}
 use Rattle.std.proofs.KnownBytes.{Consumes-kept, Consumes-nil, Consumes-trans}
 use Rattle.std.specs.Io.KnownBytes.{Consumes, Keeps}
 use Rattle.std.specs.Prelude.{IsErr, IsErrAnd}
-use Rattle.ftp_base.specs.Ascii.{AddsPiece, IsCopyFault, converted, crlf, ends_in_return}
+use Rattle.ftp_base.specs.Ascii.{AddsPiece, converted, crlf, ends_in_return}
 use Rattle.ftp_base.proofs.AsciiLemmas.{crlf-append}
 use Rattle.ftp_base.proofs.CopyLemmas.{added-all, added-length, length-converted}
 use Rattle.ftp_base.specs.declared.types.fault.FtpError.{FtpError}
@@ -96,6 +97,21 @@ io_is_other kind size same = let clash : ConnectionError (Io kind) ≡ Connectio
 
 pub memory_is_other : (fault : FtpError) (size : ℕ) → fault ≡ OutOfMemory → TooLarge fault size
 memory_is_other fault size is same = let clash : OutOfMemory ≡ ConnectionError SourceTooLarge = sym is ∙ same in cc
+
+-- the next bytes of a block were read in after the filled ones
+pub block_more : (r s t : Option (List ℕ)) (xs ys : List ℕ) (filled n : ℕ) → Consumes r s (take filled xs) → take filled ys ≡ take filled xs → Consumes s t (take n (drop filled ys)) → Consumes r t (take (filled + n) ys)
+block_more r s t xs ys filled n before front more =
+    let piece : List ℕ = take n (drop filled ys) in
+    subst (Consumes r t) (sym (take-add filled n ys ∙ ap (λ l. l ++ piece) front)) (Consumes-trans r s t (take filled xs) piece before more)
+
+-- or none was
+pub block_end : (r s t : Option (List ℕ)) (xs ys : List ℕ) (filled n : ℕ) → Consumes r s (take filled xs) → take filled ys ≡ take filled xs → Consumes s t (take n (drop filled ys)) → n ≡ 0 → Consumes r t (take filled ys)
+block_end r s t xs ys filled n before front more none =
+    let same : filled + n ≡ filled = omega (arith, none) in
+    subst (λ k. Consumes r t (take k ys)) same (block_more r s t xs ys filled n before front more)
+
+pub block_kept : (r s t : Option (List ℕ)) (xs ys : List ℕ) (filled : ℕ) → Consumes r s (take filled xs) → take filled ys ≡ take filled xs → Keeps s t → Consumes r t (take filled ys)
+block_kept r s t xs ys filled before front kept = subst (Consumes r t) (sym front) (Consumes-kept r s t (take filled xs) before kept)
 
 -- the source failed
 pub source_fails : (tells : Type 0) (text : Bool) (r s : Option (List ℕ)) (old new : TransferValue) (after : Bool) (count : ℕ) (kind : ErrorKind) → SoFar tells text r s old new after count → GaveUp tells text r s old new (ConnectionError (Io kind))

@@ -2,11 +2,11 @@
 
 use crate::clients::write_passive;
 use crate::scene::{Scene, done, greeted, listening};
-use ftp_base::types::FtpResult;
+use ftp_base::types::{FileType, FtpResult};
 use ftp_polled::AllowStdIo;
 use ftp_session::session::{Failure, NoProgress, Progress};
 use std::alloc::AllocGlobal;
-use std::io::{Read, Write};
+use std::io::{ErrorKind, Read, Write};
 use std::net::{Net, SocketAddr, TcpListener, TcpStream};
 use std::random::RandomSource;
 use std::sync::Wait;
@@ -150,6 +150,59 @@ fn an_upload_tells_how_many_bytes_have_gone_out(rt: HostRuntime) -> Result<(), F
         // CR is put before the LF: RFC 959, section 3.1.1.1
         assert_eq!(rt; (came, took), ((4, 4), 4));
     }
+    Ok(())
+}
+
+/// A source that fails after so many bytes; and the most that it was asked for at once.
+#[derive(Drop)]
+struct Failing {
+    left: usize,
+    most: usize,
+}
+
+impl Read for Failing {
+    fn read(&mut self, buf: &mut [u8]) -> io::Result<usize> {
+        self.most = self.most.max(buf.len());
+        if self.left == 0 {
+            return Err(ErrorKind::BrokenPipe.into());
+        }
+        let count = buf.len().min(self.left);
+        self.left -= count;
+        Ok(count)
+    }
+}
+
+/// An upload from a source that fails after 150,000 bytes: the number of its refusal, the most that the source was asked for at
+/// once, and what was told last.
+fn broken_off<R>(rt: &R, port: u16) -> Result<(u8, usize, u64), Fail>
+where
+    R: Net<Listener = TcpListener, Stream = TcpStream> + Wait + Clock + RandomSource + AllocGlobal,
+{
+    let mut scene = greeted(rt)?;
+    scene.server.write_all(b"200 ok\r\n")?;
+    write_passive(&mut scene.server, port)?;
+    let binary = scene.client.transfer_type(rt, FileType::Binary);
+    let binary = done(rt, &mut scene.runtime, binary);
+    let mut told = Told(0);
+    let mut source = Failing {
+        left: 150_000,
+        most: 0,
+    };
+    let upload = scene
+        .client
+        .put_file_with(rt, "a", AllowStdIo(&mut source), &mut told);
+    let refused = done(rt, &mut scene.runtime, upload);
+    drop(scene);
+    Ok((refused.saturating_add(binary), source.most, told.0))
+}
+
+#[test]
+fn all_that_a_source_gave_goes_out_before_its_error(rt: HostRuntime) -> Result<(), Fail> {
+    let (listener, address) = listening(&rt)?;
+    let taking = thread::spawn(&rt, move || taken(&rt, &listener))?;
+    let came = broken_off(&rt, address.port())?;
+    let took = taking.join(&rt)?;
+    assert_eq!(rt; (came, took), ((1, 8_192, 150_000), 150_000));
     Ok(())
 }
 

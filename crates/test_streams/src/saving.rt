@@ -1,10 +1,11 @@
 //! Downloads to a writer, uploads, and who is told how far they have come.
 
 use crate::scene::{MemorySession, greeted, number};
+use ftp_base::types::FileType;
 use ftp_session::session::{Failure, NoProgress, Progress};
 use std::alloc::Global;
 use std::io;
-use std::io::{ErrorKind, Write};
+use std::io::{ErrorKind, Read, Write};
 use std::test::Fail;
 
 /// The sum of what was told, and how often.
@@ -102,6 +103,51 @@ fn an_upload_tells_how_many_bytes_have_gone_out(rt: HostRuntime) -> Result<(), F
     // CR is put before the LF: RFC 959, section 3.1.1.1
     let came = (put(rt.alloc(), false)?, put(rt.alloc(), true)?);
     assert_eq!(rt; came, ((4, 4, 1), (4, 4, 1)));
+    Ok(())
+}
+
+/// A source that fails after so many bytes; and the most that it was asked for at once.
+#[derive(Drop)]
+struct Failing {
+    left: usize,
+    most: usize,
+}
+
+impl Read for Failing {
+    fn read(&mut self, buf: &mut [u8]) -> io::Result<usize> {
+        self.most = self.most.max(buf.len());
+        if self.left == 0 {
+            return Err(ErrorKind::BrokenPipe.into());
+        }
+        let count = buf.len().min(self.left);
+        self.left -= count;
+        Ok(count)
+    }
+}
+
+/// An upload from a source that fails after 150,000 bytes: the number of its refusal, the most that the source was asked for at
+/// once, the sum of what was told and how often, and how many bytes went out.
+fn broken_off(alloc: Global) -> Result<(u8, usize, u64, u32, usize), Fail> {
+    let mut session = greeted(alloc, "200 o;227 x (10,0,0,1,4,0).;150 b")?;
+    session.transfer_type(alloc, FileType::Binary)?;
+    let mut told = Told { sum: 0, times: 0 };
+    let mut source = Failing {
+        left: 150_000,
+        most: 0,
+    };
+    let refused = number(session.put_file_with(alloc, &(), "f", &mut source, &mut told));
+    let mut sent = 0usize;
+    for upload in session.transport().uploaded() {
+        sent = upload.sent().len().saturating_add(sent);
+    }
+    Ok((refused, source.most, told.sum, told.times, sent))
+}
+
+#[test]
+fn all_that_a_source_gave_goes_out_by_64_kib_before_its_error(rt: HostRuntime) -> Result<(), Fail> {
+    // 65,536, 131,072 and 150,000 bytes had gone
+    let came = broken_off(rt.alloc())?;
+    assert_eq!(rt; came, (1, 8_192, 346_608, 3, 150_000));
     Ok(())
 }
 

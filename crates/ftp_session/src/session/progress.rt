@@ -42,9 +42,11 @@ impl<'p, P: Progress> Watch<'p, P> {
         }
     }
 
-    /// So many bytes have gone.
-    pub(super) fn went(&mut self, so_far: u64) {
-        self.progress.went(so_far);
+    /// Some bytes more have gone, and are so many now. Of none nobody is told.
+    pub(super) fn went(&mut self, more: usize, so_far: u64) {
+        if more > 0 {
+            self.progress.went(so_far);
+        }
     }
 
     /// The data connection failed: this is the call's fault.

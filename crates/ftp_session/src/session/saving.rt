@@ -54,7 +54,7 @@ fn save_through<C: Conn + Drop, W: Write, P: Progress>(
         }
         let size = upload_size(count, taken)?;
         write_all_retrying(writer, &buffer[..taken])?;
-        watch.went(size);
+        watch.went(taken, size);
         count = size;
     }
     unreachable!()
