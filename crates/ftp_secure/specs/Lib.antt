@@ -1,0 +1,7 @@
+pub mod Connectors
+pub mod Continues
+pub mod Gone
+pub mod Kept
+pub mod Securing
+pub mod Steps
+pub mod Streams

@@ -1,0 +1,52 @@
+//! A transport whose connections may be under TLS, as one whose calls block.
+
+use crate::connector::Secures;
+use crate::data_stream::DataStream;
+use crate::secured::Secured;
+use ftp_transport::{Accepted, Connected, Listening, Transport};
+use std::net::SocketAddr;
+use std::time::Duration;
+
+impl<R, Tr: Transport<R>, K: Secures<Tr::Conn>> Transport<R> for Secured<Tr, K> {
+    fn connect(
+        &mut self,
+        rt: &R,
+        address: SocketAddr,
+    ) -> Connected<DataStream<Tr::Conn, K::Stream>> {
+        match self.below.connect(rt, address) {
+            Ok(Ok(conn)) => Ok(Ok(DataStream::Tcp(conn))),
+            Ok(Err(fault)) => Ok(Err(fault)),
+            Err(full) => Err(full),
+        }
+    }
+
+    fn connect_timeout(
+        &mut self,
+        rt: &R,
+        address: SocketAddr,
+        limit: Duration,
+    ) -> Connected<DataStream<Tr::Conn, K::Stream>> {
+        match self.below.connect_timeout(rt, address, limit) {
+            Ok(Ok(conn)) => Ok(Ok(DataStream::Tcp(conn))),
+            Ok(Err(fault)) => Ok(Err(fault)),
+            Err(full) => Err(full),
+        }
+    }
+
+    fn listen(&mut self, rt: &R, address: SocketAddr) -> Listening<Tr::Listener> {
+        self.below.listen(rt, address)
+    }
+
+    fn accept(
+        &mut self,
+        rt: &R,
+        listener: &mut Tr::Listener,
+        deadline: Duration,
+    ) -> Accepted<DataStream<Tr::Conn, K::Stream>> {
+        match self.below.accept(rt, listener, deadline) {
+            Ok(Ok((conn, peer))) => Ok(Ok((DataStream::Tcp(conn), peer))),
+            Ok(Err(fault)) => Ok(Err(fault)),
+            Err(full) => Err(full),
+        }
+    }
+}

@@ -1,0 +1,55 @@
+//! A connection that is put under TLS by polls.
+
+use crate::sealed::Seal;
+use crate::streams::{Network, number, plain};
+use ftp_base::types::{FtpError, FtpResult};
+use ftp_secure::{DataStream, PollSecureTransport, SecureNetwork, SecureStep, Secured};
+use ftp_transport::{MemoryTransport, PollConn};
+use futures::task::Poll;
+use std::alloc::Global;
+use std::test::Fail;
+
+/// A transport that keeps a connector to a server of this name; none where there is none.
+fn keeping(alloc: Global, domain: Option<&str>) -> FtpResult<Box<Network>> {
+    let mut network = Box::new(alloc, Secured::new(alloc, MemoryTransport::new(alloc)))?;
+    if let Some(domain) = domain {
+        let seal = Seal::new(alloc, "clear!")?;
+        network.keep(Box::into_inner(seal), String::from_str(alloc, domain)?);
+    }
+    Ok(network)
+}
+
+/// Polls until the connection is there, at most four times: how often it waited, and the connection.
+fn polled<K: Drop, T: PollSecureTransport<K, ()>>(
+    network: &T,
+    conn: T::Conn,
+) -> FtpResult<(u8, T::Conn)> {
+    let mut securing = network.begin_secure(conn)?;
+    for waits in 0..4u8 {
+        match network.poll_secure(&mut (), securing) {
+            SecureStep::Done(made) => return Ok((waits, made?)),
+            SecureStep::Waits(next) => securing = next,
+        }
+    }
+    Err(FtpError::BadResponse)
+}
+
+/// How often a connection to a server of this name waits until it is under TLS, and how many bytes a poll reads of it then.
+fn secured(alloc: Global, domain: Option<&str>) -> FtpResult<(u8, usize)> {
+    let network = keeping(alloc, domain)?;
+    let (waits, mut stream) = polled::<Seal, Network>(&network, DataStream::Tcp(plain(alloc)?))?;
+    match stream.poll_read(&mut (), &mut [0; 8]) {
+        Ok(Poll::Ready(count)) => Ok((waits, count)),
+        _ => Ok((waits, 0)),
+    }
+}
+
+#[test]
+fn a_handshake_is_polled_until_it_is_done(rt: HostRuntime) -> Result<(), Fail> {
+    let alloc = rt.alloc();
+    let plain = secured(alloc, None)?;
+    let sealed = secured(alloc, Some("ftp.example"))?;
+    let refused = number(secured(alloc, Some("localhost")));
+    assert_eq!(rt; (plain, sealed, refused), ((0, 5), (1, 6), 9));
+    Ok(())
+}
