@@ -8,8 +8,8 @@ use std::fmt;
 use std::random::RandomSource;
 use std::sync::Wait;
 
-/// The sizes of the pieces in which the server's bytes come: as they are written, and one by one.
-const PIECES: [usize; 2] = [usize::MAX, 1];
+/// The sizes of the pieces in which the server's bytes come: as they are written, and by one, two and seven.
+const PIECES: [usize; 4] = [usize::MAX, 1, 2, 7];
 
 /// How many rows of a set were played, how often, and how many plays differed.
 #[derive(Clone, Copy)]

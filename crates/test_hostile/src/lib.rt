@@ -1,0 +1,4 @@
+//! Tests of what hostile servers send: lines of listings that are cut, and characters past ASCII in every part of them.
+#![tactic(auto)]
+
+mod lines;
