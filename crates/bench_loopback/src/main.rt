@@ -1,9 +1,10 @@
-//! Measures the blocking client against a server of its own on 127.0.0.1.
+//! Measures the clients against a server of its own on 127.0.0.1.
 //!
-//! The words are pairs, a kind of run and its amount, as `download 256 list 20000`; they are run in turn, in one session.
-//! `download` and `buffer` fetch so many MiB, by a stream and whole; `upload` sends so many MiB, `text` so many as lines
-//! of text, which `convert` converts in memory alone; `list` lists so many lines, and `files` fetches so many files of
-//! 1 KiB. Standard output gets what was carried, standard error the times.
+//! The words are pairs, a kind of run and its amount, as `download 256 list 20000`; those of the blocking client are run in
+//! turn, in one session, and then those of the polled one. `download` and `buffer` fetch so many MiB, by a stream and whole;
+//! `upload` sends so many MiB, `put` so many from a reader, `text` so many as lines of text, which `convert` converts in memory
+//! alone; `list` lists so many lines, and `files` fetches so many files of 1 KiB. `polled-download`, `polled-put` and
+//! `polled-files` are the polled client's. Standard output gets what was carried, standard error the times.
 #![tactic(auto)]
 
 mod download;
@@ -11,6 +12,7 @@ mod figures;
 mod listing;
 mod pieces;
 mod plan;
+mod polled;
 mod server;
 mod session;
 mod text;
@@ -29,11 +31,17 @@ fn main(rt: HostRuntime) -> Result<()> {
     // Both ends stand before there is a thread, so neither side waits for one that never comes.
     let near = TcpStream::connect(&rt, listener.local_addr()?)?;
     let (far, _peer) = listener.accept()?;
-    let server = thread::spawn(&rt, move || server::serve(rt.alloc(), far, &data))?;
+    let polled_near = TcpStream::connect(&rt, listener.local_addr()?)?;
+    let (polled_far, _peer) = listener.accept()?;
+    let server = thread::spawn(&rt, move || {
+        server::serve_both(rt.alloc(), far, polled_far, &data)
+    })?;
     let outcome = session::run_all(&rt, near, &plan);
-    // The client is gone by now, which ends the server, too.
+    let polled = polled::run_all(&rt, polled_near, &plan);
+    // The clients are gone by now, which ends the server, too.
     let received = server.join(&rt);
-    outcome.context("the client")?;
+    outcome.context("the blocking client")?;
+    polled.context("the polled client")?;
     let received = received.context("the server")?;
     println!(rt; "server: {received} bytes received")?;
     Ok(())

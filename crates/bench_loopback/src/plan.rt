@@ -23,6 +23,14 @@ pub enum Kind {
     List,
     /// Small files, one after another.
     Files,
+    /// A file, sent from a reader.
+    Put,
+    /// A file, saved to a writer by the polled client.
+    PolledDownload,
+    /// A file, sent from a reader by the polled client.
+    PolledPut,
+    /// Small files, one after another, by the polled client.
+    PolledFiles,
 }
 
 impl Kind {
@@ -36,6 +44,10 @@ impl Kind {
             "convert" => Some(Kind::Convert),
             "list" => Some(Kind::List),
             "files" => Some(Kind::Files),
+            "put" => Some(Kind::Put),
+            "polled-download" => Some(Kind::PolledDownload),
+            "polled-put" => Some(Kind::PolledPut),
+            "polled-files" => Some(Kind::PolledFiles),
             _ => None,
         }
     }
@@ -50,15 +62,28 @@ impl Kind {
             Kind::Convert => "convert",
             Kind::List => "list",
             Kind::Files => "files",
+            Kind::Put => "put",
+            Kind::PolledDownload => "polled-download",
+            Kind::PolledPut => "polled-put",
+            Kind::PolledFiles => "polled-files",
         }
+    }
+
+    /// Whether the polled client makes it.
+    pub fn is_polled(self) -> bool {
+        matches!(
+            self,
+            Kind::PolledDownload | Kind::PolledPut | Kind::PolledFiles
+        )
     }
 
     /// What it counts.
     pub fn unit(self) -> &'static str {
         match self {
             Kind::Download | Kind::Buffer | Kind::Upload | Kind::Text | Kind::Convert => "bytes",
+            Kind::Put | Kind::PolledDownload | Kind::PolledPut => "bytes",
             Kind::List => "lines",
-            Kind::Files => "files",
+            Kind::Files | Kind::PolledFiles => "files",
         }
     }
 }

@@ -11,8 +11,20 @@ use std::net::{TcpListener, TcpStream};
 /// A line of a listing.
 const LINE: &[u8] = b"-rw-r--r-- 1 ftp ftp 1024 Jan 10 2024 notes.txt\r\n";
 
+/// Serves two clients, one after the other; how many bytes both uploaded.
+pub fn serve_both(
+    alloc: Global,
+    first: TcpStream,
+    second: TcpStream,
+    data: &TcpListener,
+) -> io::Result<u64> {
+    let before = serve(alloc, first, data)?;
+    let after = serve(alloc, second, data)?;
+    Ok(before.saturating_add(after))
+}
+
 /// Serves a client until it quits or is gone, with the listener for its data connections; how many bytes it uploaded.
-pub fn serve(alloc: Global, stream: TcpStream, data: &TcpListener) -> io::Result<u64> {
+fn serve(alloc: Global, stream: TcpStream, data: &TcpListener) -> io::Result<u64> {
     // Replies are small, and one may follow another.
     stream.set_nodelay(true)?;
     let mut control = BufReader::new(alloc, stream)?;

@@ -12,7 +12,8 @@ use std::time::{Clock, CpuClock};
 use suppaftp::types::FileType;
 use suppaftp::{FtpResult, FtpStream};
 
-/// Makes all runs in one session, in turn, and prints what each carried and took. The session is over at the end.
+/// Makes all runs of the blocking client in one session, in turn, and prints what each carried and took. The session is over
+/// at the end.
 pub fn run_all<R>(rt: &R, stream: TcpStream, plan: &[Run]) -> Result<()>
 where
     R: Net<Listener = TcpListener, Stream = TcpStream>
@@ -27,7 +28,9 @@ where
     let client = FtpStream::connect_with_stream(rt, stream)?;
     client.transfer_type(rt, FileType::Binary)?;
     for run in plan {
-        measure(rt, &client, *run)?;
+        if !run.kind.is_polled() {
+            measure(rt, &client, *run)?;
+        }
     }
     client.quit(rt)?;
     Ok(())
@@ -66,5 +69,7 @@ where
         Kind::Convert => Ok(text::convert(rt.alloc(), lines, run.amount)?),
         Kind::List => listing::listed(rt, client, run.amount),
         Kind::Files => download::small_files(rt, client, run.amount, buffer),
+        Kind::Put => upload::from_reader(rt, client, run.amount, lines),
+        Kind::PolledDownload | Kind::PolledPut | Kind::PolledFiles => Ok(0),
     }
 }

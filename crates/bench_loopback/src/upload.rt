@@ -30,3 +30,12 @@ where
     transfer.finish(rt)?;
     Ok(count)
 }
+
+/// Uploads at most so many bytes as a reader gives them; how many went out.
+pub fn from_reader<R>(rt: &R, client: &FtpStream, length: u64, lines: &[u8]) -> FtpResult<u64>
+where
+    R: Net<Listener = TcpListener, Stream = TcpStream> + Clock + Wait + AllocGlobal,
+{
+    let mut source = Text::new(lines, length);
+    client.put_file(rt, "binary", &mut source)
+}
