@@ -37,7 +37,7 @@ abbrev pub AppendsFront : Option (List ℕ) → Option (List ℕ) → List ℕ �
 AppendsFront old new bytes =
     (front : List ℕ) × (rest : List ℕ) × (bytes ≡ front ++ rest) × Appends old new front
 
--- the faults of a copy: of a kind that its reader or its writer answered, too large a source, out of
+-- the errors of a copy: of a kind that its reader or its writer answered, too large a source, out of
 -- memory
 abbrev pub IsCopyFault : FtpError → Type 0
 IsCopyFault fault =

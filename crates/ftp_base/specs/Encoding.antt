@@ -9,7 +9,7 @@ abbrev pub IsRefusal : Result (List ℕ) ErrorKind → EncodeError → Type 0
 IsRefusal encoded (Refused kind) = encoded ≡ Err kind
 IsRefusal encoded OutOfMemory = Unit {0}
 
--- the text of a fault, but for a refusal, which ends in the text of its kind, the standard library's
+-- the text of an error, but for a refusal, which ends in the text of its kind, the standard library's
 abbrev pub encode_error_text : EncodeError → Option (List ℕ)
 encode_error_text (Refused kind) = None
 encode_error_text OutOfMemory = Some (codes "out of memory")

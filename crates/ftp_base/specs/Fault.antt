@@ -1,4 +1,4 @@
--- Faults, their kinds, their texts and their numbers.
+-- Errors, their kinds, their texts and their numbers.
 use Rattle.std.specs.Prelude.{ℕ, List, Option, Some, None, codes}
 use Rattle.std.specs.declared.io.ErrorKind.{ErrorKind}
 use Rattle.std.specs.declared.io.ErrorKind.TheVariants as kind
@@ -7,7 +7,7 @@ use Rattle.ftp_base.specs.declared.types.fault.FtpError.TheVariants.{ConnectionE
 use Rattle.ftp_base.specs.declared.types.fault.ConnectionError.{ConnectionError}
 use Rattle.ftp_base.specs.declared.types.fault.ConnectionError.TheVariants.{Io, UnexpectedEof, ReplyTooLarge, LineBreak, EncodedWithoutCrlf, EncodedLineBreak, Encoding, TimedOut, NoAddress, SourceTooLarge, NotOwed, AlreadyCompleted}
 
--- the kind of a fault, in the standard library's words
+-- the kind of an error, in the standard library's words
 abbrev pub kind_of : ConnectionError → ErrorKind
 kind_of (Io kind) = kind
 kind_of UnexpectedEof = kind.UnexpectedEof
@@ -22,7 +22,7 @@ kind_of SourceTooLarge = kind.InvalidInput
 kind_of NotOwed = kind.InvalidInput
 kind_of AlreadyCompleted = kind.InvalidInput
 
--- the text of a fault, but for one that ends in the text of a kind, which is the standard library's
+-- the text of an error, but for one that ends in the text of a kind, which is the standard library's
 abbrev pub connection_text : ConnectionError → Option (List ℕ)
 connection_text (Io kind) = None
 connection_text UnexpectedEof = Some (codes "the connection was closed before the reply was whole")
@@ -37,7 +37,7 @@ connection_text SourceTooLarge = Some (codes "the source is too large")
 connection_text NotOwed = Some (codes "the transfer is not of this session")
 connection_text AlreadyCompleted = Some (codes "the call has completed")
 
--- the number of a connection's fault
+-- the number of a connection's error
 abbrev pub connection_number : ConnectionError → ℕ
 connection_number (Io kind) = 1
 connection_number UnexpectedEof = 2
@@ -52,7 +52,7 @@ connection_number SourceTooLarge = 17
 connection_number NotOwed = 18
 connection_number AlreadyCompleted = 19
 
--- the number of a fault
+-- the number of an error
 abbrev pub number_of : FtpError → ℕ
 number_of (OfConnection cause) = connection_number cause
 number_of (SecureError cause) = 9

@@ -15,7 +15,7 @@ strict_text bytes = if is_utf8 bytes then Some (trim_end bytes) else None
 abbrev pub printed_reply : Response → List ℕ
 printed_reply reply = codes "[" ++ decimal (code_of reply.status) ++ codes "] " ++ unwrap_or (strict_text reply.body) []
 
--- the text of a fault
+-- the text of an error
 abbrev pub body_error_text : BodyError → List ℕ
 body_error_text NotUtf8 = codes "the reply is not UTF-8"
 body_error_text OutOfMemory = codes "out of memory"

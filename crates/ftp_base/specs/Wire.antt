@@ -6,7 +6,7 @@ use Rattle.ftp_base.specs.declared.types.fault.ConnectionError.TheVariants.{Enco
 use Rattle.ftp_base.specs.Line.{text_fault, encoded_fault}
 use Rattle.ftp_base.specs.Telnet.{escaped}
 
--- a line, or the fault that keeps it back
+-- a line, or the error that keeps it back
 abbrev pub unless : Option ConnectionError → Result (List ℕ) ConnectionError → Result (List ℕ) ConnectionError
 unless None line = line
 unless (Some fault) line = Err fault
@@ -16,6 +16,6 @@ abbrev pub line_of : Result (List ℕ) ErrorKind → Result (List ℕ) Connectio
 line_of (Err kind) = Err (Encoding kind)
 line_of (Ok bytes) = unless (encoded_fault bytes) (Ok (escaped bytes))
 
--- the line that goes out for a command's text under an encoding, or the first fault that keeps it back
+-- the line that goes out for a command's text under an encoding, or the first error that keeps it back
 abbrev pub wire : (List ℕ → Result (List ℕ) ErrorKind) → List ℕ → Result (List ℕ) ConnectionError
 wire encode text = unless (text_fault text) (line_of (encode text))

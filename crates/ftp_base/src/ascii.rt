@@ -23,7 +23,7 @@ const BUFFER: usize = 8_192;
 pub const GREATEST_UPLOAD: u64 = (1 << 63) - 1;
 
 /// Puts CR before each LF of a text that doesn't follow a CR already. The text may come in any
-/// pieces: the encoder remembers whether the last byte that it was given is CR.
+/// pieces: the encoder remembers whether the last byte that it was passed is CR.
 #[derive(Drop)]
 pub struct CrlfEncoder {
     after_return: bool,
@@ -36,7 +36,7 @@ impl Model for CrlfEncoder {
 }
 
 impl CrlfEncoder {
-    /// An encoder that was given no byte yet.
+    /// An encoder that was passed no byte yet.
     pub fn new() -> CrlfEncoder
         ensures { result ≡ ends_in_return [] }
     {
@@ -72,7 +72,7 @@ impl CrlfEncoder {
     }
 }
 
-/// Adds the wire bytes of a piece, and tells whether its last byte is CR, or the byte before where
+/// Adds the wire bytes of a piece, and returns whether its last byte is CR, or the byte before where
 /// it is empty. Where an allocation fails some may have been added.
 fn push_converted(
     mut after_return: bool,
@@ -140,13 +140,13 @@ pub fn upload_size(written: u64, added: usize) -> FtpResult<u64>
     }
 }
 
-/// Copies a text to a writer, each line ended by CR LF, up to the end of the reader, and answers
+/// Copies a text to a writer, each line ended by CR LF, up to the end of the reader, and returns
 /// how many bytes were written. It reads at most 8,192 bytes at once.
 ///
 /// # Errors
-/// `Io` of the kind that the reader or the writer answers, an interruption only after 64 tries in a row
+/// `Io` of the kind of the reader's or the writer's error, an interruption only after 64 tries in a row
 /// were interrupted again; `SourceTooLarge` where more than 2^63 - 1 bytes would be written;
-/// `OutOfMemory`. What was read before a fault of the reader has been written.
+/// `OutOfMemory`. What was read before an error of the reader has been written.
 pub fn copy_crlf<R: Read, W: Write>(alloc: Global, reader: &mut R, writer: &mut W) -> FtpResult<u64>
     ensures written { OnOk result (IfSome (R.remaining reader.old)
         (λ source. Appends (W.contents writer.old) (W.contents writer.new) (crlf source))) }

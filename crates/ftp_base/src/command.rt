@@ -52,7 +52,7 @@ pub enum Command {
     Mkd(Text),
     /// `MLSD`: lists this directory, or the present one, for machines.
     Mlsd(Option<Text>),
-    /// `MLST`: tells of this file, or of the present directory, for machines.
+    /// `MLST`: facts of this file, or of the present directory, for machines.
     Mlst(Option<Text>),
     /// `NLST`: lists the names in this directory, or in the present one.
     Nlst(Option<Text>),

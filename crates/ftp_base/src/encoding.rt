@@ -45,7 +45,7 @@ pub trait Encoding: Drop {
     /// The text that bytes stand for.
     ghost decoded: { Self → List ℕ → List ℕ };
 
-    /// The bytes that stand for a text, or the kind of fault where there are none.
+    /// The bytes that stand for a text, or the kind of error where there are none.
     ghost encoded: { Self → List ℕ → Result (List ℕ) ErrorKind };
 
     /// The text that bytes stand for. Every list of bytes stands for one.

@@ -1,6 +1,6 @@
 //! Laws that hold for all values, each the contract of a function that does nothing else.
 //!
-//! What a derived `==` or `cmp` answers stands in no contract that a caller could cite. Here it does: `==` is sameness,
+//! What a derived `==` or `cmp` returns stands in no contract that a caller could cite. Here it does: `==` is sameness,
 //! statuses are ordered by their codes, and types of data by their variants. A change of a type that breaks its law
 //! fails the check. That orders are total and agree with `==`, and that equal values hash alike, are laws of the
 //! standard library's traits, which each `impl` proves.
@@ -126,28 +126,28 @@ pub fn equal_texts(one: &Text, other: &Text) -> bool
     one == other
 }
 
-/// Equal faults of a connection are the same.
+/// Equal errors of a connection are the same.
 pub fn equal_connection_errors(one: &ConnectionError, other: &ConnectionError) -> bool
     ensures { IsTrue result ↔ (one.now ≡ other.now) }
 {
     one == other
 }
 
-/// Equal faults of an encoding are the same.
+/// Equal errors of an encoding are the same.
 pub fn equal_encode_errors(one: &EncodeError, other: &EncodeError) -> bool
     ensures { IsTrue result ↔ (one.now ≡ other.now) }
 {
     one == other
 }
 
-/// Equal faults of a body are the same.
+/// Equal errors of a body are the same.
 pub fn equal_body_errors(one: &BodyError, other: &BodyError) -> bool
     ensures { IsTrue result ↔ (one.now ≡ other.now) }
 {
     one == other
 }
 
-/// Equal faults of an overlong reply are the same.
+/// Equal errors of an overlong reply are the same.
 pub fn equal_overlong_replies(one: &ReplyTooLarge, other: &ReplyTooLarge) -> bool
     ensures { IsTrue result ↔ (one.now ≡ other.now) }
 {

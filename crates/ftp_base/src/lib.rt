@@ -1,8 +1,8 @@
-//! The base of an FTP client: what is said and what it means, without any connection.
+//! The base of an FTP client: what is sent and what it means, without any connection.
 //!
-//! Status codes, faults, the line of each command, what is found in the text of a reply, text encodings, and text
+//! Status codes, errors, the line of each command, what is found in the text of a reply, text encodings, and text
 //! uploads. Nothing here waits, and little keeps a state, so that nearly every call is a function whose contract gives
-//! its result. Where an allocation may fail, the call's `# Errors` says what is answered and what stays as it was.
+//! its result. Where an allocation may fail, the call's `# Errors` names what is returned and what stays as it was.
 #![tactic(auto)]
 
 pub mod ascii;

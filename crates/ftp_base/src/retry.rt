@@ -1,7 +1,7 @@
 //! Reads and writes that a signal may interrupt.
 //!
 //! A call of the system that is interrupted has done nothing, and is made again. Whoever interrupts without end must
-//! not hold a client up for ever, so after [`RETRIES`] tries in a row the interruption is told.
+//! not hold a client up for ever, so after [`RETRIES`] tries in a row the interruption is returned.
 
 ghost use Rattle.std.specs.Prelude.{◌≡◌, ◌≢◌, ◌+◌, ◌<◌, ◌≤◌, ◌++◌, length, take, drop, vec_len, Err, OnOk, OnErr, IfOk, IfErr, IfSome};
 ghost use Rattle.std.specs.Io.{ReadsAtMost, StartsWith, WritesAtMost, appended_bytes};
@@ -12,7 +12,7 @@ use crate::types::{ConnectionError, FtpError, FtpResult};
 use std::io;
 use std::io::{ErrorKind, Read, Write};
 
-/// How often an interrupted read or write is tried again before its fault is told.
+/// How often an interrupted read or write is tried again before its error is returned.
 pub const RETRIES: usize = 64;
 
 /// The most bytes that a read to the end may hold.
@@ -24,7 +24,7 @@ const ROOM: usize = 65_536;
 /// Reads once. An interrupted read is tried again, at most 64 times.
 ///
 /// # Errors
-/// What the reader answers.
+/// The reader's error.
 pub fn read_retrying<R: Read>(reader: &mut R, buffer: &mut [u8]) -> io::Result<usize>
     ensures bound { ReadsAtMost result buffer.new }
     ensures bytes { ReadConsumes
@@ -42,7 +42,7 @@ pub fn read_retrying<R: Read>(reader: &mut R, buffer: &mut [u8]) -> io::Result<u
 /// Writes once. An interrupted write is tried again, at most 64 times.
 ///
 /// # Errors
-/// What the writer answers.
+/// The writer's error.
 pub fn write_retrying<W: Write>(writer: &mut W, bytes: &[u8]) -> io::Result<usize>
     ensures bound { WritesAtMost result bytes.now }
     ensures bytes { WriteAppends (W.contents writer.old) (W.contents writer.new) result bytes.now }
@@ -56,10 +56,10 @@ pub fn write_retrying<W: Write>(writer: &mut W, bytes: &[u8]) -> io::Result<usiz
     writer.write(bytes)
 }
 
-/// Writes all bytes. A write that takes none is a fault.
+/// Writes all bytes. A write that accepts none is an error.
 ///
 /// # Errors
-/// What the writer answers, or `WriteZero`; a front of the bytes was written.
+/// The writer's error, or `WriteZero`; a front of the bytes was written.
 pub fn write_all_retrying<W: Write>(writer: &mut W, bytes: &[u8]) -> io::Result<()>
     ensures ok { OnOk result (Appends (W.contents writer.old) (W.contents writer.new) bytes.now) }
     ensures err { OnErr result

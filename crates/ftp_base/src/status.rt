@@ -1,7 +1,7 @@
 //! The status codes of replies (RFC 959, section 4.2; RFC 2228, RFC 2428, RFC 3659).
 //!
 //! A client asks of a reply whether its code is one that it expected, so codes are variants with names. A server may
-//! send any three digits: a code that is none of these is [`Status::Unknown`], and no fault. The number of a variant is
+//! send any three digits: a code that is none of these is [`Status::Unknown`], and no error. The number of a variant is
 //! its code, so that statuses are ordered by their codes however they are listed here. The texts are those of the Rust
 //! crate suppaftp, in its spelling.
 

@@ -1,7 +1,7 @@
-//! What every layer speaks of: bytes and text, replies, faults.
+//! What every layer speaks of: bytes and text, replies, errors.
 //!
-//! What a reply, a command or a fault holds is of types that a contract sees as lists of bytes. A fault says by its
-//! variant what went wrong. Modes, types of data and checks of peers are what a caller chooses.
+//! What a reply, a command or an error holds is of types that a contract sees as lists of bytes. An error's variant
+//! is its cause. Modes, types of data and checks of peers are what a caller chooses.
 
 mod content;
 mod fault;

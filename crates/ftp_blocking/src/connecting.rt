@@ -13,7 +13,7 @@ impl<K: Drop, E: Encoding, B: Drop> ImplFtpStream<TcpTransport, K, E, B> {
     /// was read (RFC 959, section 5.4).
     ///
     /// # Errors
-    /// The last address's fault where each refused, `NoAddress` where there is none; those of a read of one reply, and
+    /// The last address's error where each refused, `NoAddress` where there is none; those of a read of one reply, and
     /// `OutOfMemory`. The connection is closed then.
     pub fn connect<R>(rt: &R, addresses: &[SocketAddr]) -> FtpResult<Self>
     where
@@ -28,7 +28,7 @@ impl<K: Drop, E: Encoding, B: Drop> ImplFtpStream<TcpTransport, K, E, B> {
     /// which is 21 of most servers (RFC 959, section 5.2). A name is looked up first, and its addresses are tried in turn.
     ///
     /// # Errors
-    /// Those of `connect`; before them the fault of the look-up, or `Io(InvalidInput)` where the text is no address.
+    /// Those of `connect`; before them the error of the look-up, or `Io(InvalidInput)` where the text is no address.
     pub fn connect_to<R>(rt: &R, address: &str) -> FtpResult<Self>
     where
         R: Net<Listener = TcpListener, Stream = TcpStream> + Clock + AllocGlobal,
@@ -88,7 +88,7 @@ impl<K: Drop, E: Encoding, B: Drop> ImplFtpStream<TcpTransport, K, E, B> {
     /// limit to how long the greeting is waited for. No time at all asks for no connection.
     ///
     /// # Errors
-    /// `TimedOut` where the time passed or was zero; the address's fault; those of a read of one reply, and
+    /// `TimedOut` where the time passed or was zero; the address's error; those of a read of one reply, and
     /// `OutOfMemory`. The connection is closed then.
     pub fn connect_timeout<R>(rt: &R, address: SocketAddr, limit: Duration) -> FtpResult<Self>
     where

@@ -23,8 +23,9 @@ where
     /// as by `retr_as_stream`.
     ///
     /// # Errors
-    /// Those of a data command. The fault of the source or of the data connection, `SourceTooLarge`, or `OutOfMemory` for a
-    /// buffer: then the transfer is left. The fault of the data connection's close comes before that of the last reply.
+    /// Those of a data command. The error of the source or of the data connection, `SourceTooLarge`, or `OutOfMemory`
+    /// for a buffer: then the transfer is left. The error of the data connection's close comes before that of the last
+    /// reply.
     pub fn put_file<R: Wait + AllocGlobal, S: Read>(
         &self,
         rt: &R,
@@ -99,9 +100,9 @@ where
     /// nothing. The offset is taken as by `retr_as_stream`. The client is busy until then.
     ///
     /// # Errors
-    /// Those of a data command. The fault of the data connection, where what came was written, or of the writer, where a
-    /// front of that was; `SourceTooLarge` past 2^63 - 1 bytes; `OutOfMemory` for a buffer: they come before the fault of the
-    /// last reply, which is read all the same.
+    /// Those of a data command. The error of the data connection, where what came was written, or of the writer, where
+    /// a front of that was; `SourceTooLarge` past 2^63 - 1 bytes; `OutOfMemory` for a buffer: they come before the
+    /// error of the last reply, which is read all the same.
     pub fn write_to<R: Wait + AllocGlobal, W: Write, P: Progress>(
         &self,
         rt: &R,
@@ -122,7 +123,7 @@ where
     /// by `retr_as_stream`. The client is busy until the reader returns.
     ///
     /// # Errors
-    /// Those of a data command. The reader's fault comes before that of the last reply, which is read all the same.
+    /// Those of a data command. The reader's error comes before that of the last reply, which is read all the same.
     pub fn retr<R: Wait + AllocGlobal, D: Drop, F: DownloadReader<Tr::Conn, D>>(
         &self,
         rt: &R,

@@ -1,6 +1,6 @@
 //! The calls of a client that ask the server something: the session's call of that name, in one hold of the lock.
 //!
-//! The answer is in the reply's text. A reply that doesn't say it is a fault, after which the session goes on.
+//! The answer is in the reply's text. A reply that doesn't say it is an error, after which the session goes on.
 
 use super::ImplFtpStream;
 use ftp_base::encoding::Encoding;

@@ -81,7 +81,7 @@ where
     /// last reply (226, 250; RFC 959, section 5.4). Whatever that is, the transfer is over.
     ///
     /// # Errors
-    /// Those of a read of one reply; before them, of an upload, the fault of the close.
+    /// Those of a read of one reply; before them, of an upload, the error of the close.
     pub fn finish<R: Wait + AllocGlobal>(self, rt: &R) -> FtpResult<()> {
         let TransferStream { transfer, session } = self;
         let mut held = session.lock(rt);

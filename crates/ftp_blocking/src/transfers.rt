@@ -105,7 +105,7 @@ where
     /// (226, 250). The offset is taken as by `retr_as_stream`.
     ///
     /// # Errors
-    /// Those of a data command. A fault of the data comes before the last reply's.
+    /// Those of a data command. An error of the data comes before the last reply's.
     pub fn retr_as_buffer<R: Wait + AllocGlobal>(&self, rt: &R, path: &str) -> FtpResult<Vec<u8>>
     where
         Tr: Transport<R>,
@@ -117,7 +117,8 @@ where
     /// `File::from_line` reads a line.
     ///
     /// # Errors
-    /// Those of a data command; `BadResponse` where the data can't be read to its end, after a fault of the last reply.
+    /// Those of a data command; `BadResponse` where the data can't be read to its end, after an error of the last
+    /// reply.
     pub fn list<R: Wait + AllocGlobal>(&self, rt: &R, path: Option<&str>) -> FtpResult<Vec<String>>
     where
         Tr: Transport<R>,

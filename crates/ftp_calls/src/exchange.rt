@@ -85,7 +85,7 @@ pub enum Ending {
     Opens(bool),
     /// The data connection carries a whole file or listing, and the transfer comes to its end.
     Performs(Task),
-    /// The transfer has come to its end; the fault of an upload's close is told before the reply's.
+    /// The transfer has come to its end; the error of an upload's close is told before the reply's.
     Finishes(Option<ErrorKind>),
     /// The transfer that was left has come to its end, whatever the reply's status is.
     Drains,

@@ -48,7 +48,7 @@ pub(crate) fn stored_whole(command: Command, bytes: Items<u8>) -> Row
     says(command, stored(), Ending::Performs(Task::Store(bytes)))
 }
 
-/// The last reply of a transfer (226, 250), after this fault of the close, if it failed.
+/// The last reply of a transfer (226, 250), after this error of the close, if it failed.
 pub(crate) fn last_reply(fault: Option<ErrorKind>) -> Row
     ensures { result ≡ hears (Codes.Either Status.ClosingDataConnection Status.RequestedFileActionOk)
         (Ending.Finishes fault) }

@@ -16,7 +16,7 @@ abbrev pub AnswersOutcome : Result Outcome Broken → Outcome → Type 0
 AnswersOutcome (Ok heard) due = heard ≡ due
 AnswersOutcome (Err broken) due = Unit {0}
 
--- which faults a read may answer
+-- which errors a read may answer
 abbrev pub MayBreak : (ErrorKind → Type 0) → Result Outcome Broken → Type 0
 MayBreak faults (Ok heard) = Unit {0}
 MayBreak faults (Err OutOfMemory) = Unit {0}

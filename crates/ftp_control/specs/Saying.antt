@@ -18,7 +18,7 @@ due (Some line) = line
 abbrev pub said : Channel → List ℕ
 said c = c.told.sent ++ c.unsent
 
--- the connection failed, which was counted, and its fault is told
+-- the connection failed, which was counted, and its error is told
 pub record FailsToSay (tells : Type 0) (faults : Told → ErrorKind → Type 0) (fault : FtpError) (old new : Channel) : Type 0 where
   pub kind : ErrorKind
   pub is : fault ≡ ConnectionError (Io kind)

@@ -65,7 +65,7 @@ module _ (link : Link) (state : State) (net : Net) (a b : Channel) (line : Optio
   flush_said (Ready (Err fault)) says = failed fault (steps (Ready (Err fault)) says)
   flush_said Pending says = waits (no_line (line_taken link state net a b None line Pending says).whole) (steps Pending says).0
 
-  -- it fails the session only where a fault is told
+  -- it fails the session only where an error is told
   pub flush_fails : (answer : Poll (Result (Unit {0}) FtpError)) → SaysLine link.tells link.writes a b None line answer → b.failed ≡ true → (a.failed ≡ true) ⊎ TellsFault (told_of_line answer)
   flush_fails (Ready (Ok done)) says f = inl (sym (steps (Ready (Ok done)) says).failed ∙ f)
   flush_fails (Ready (Err fault)) says f = inr tt
@@ -104,7 +104,7 @@ module _ (link : Link) where
       subst P (sym due) (record { middle = b; heard = heard; reads = reads; then_reads = subst N same then })
 
   module _ (left less : ℕ) (a b : SessionValue) (heard : Poll (Result Response FtpError)) (some : 0 < left) (is : left ≡ less + 1) (some_due : a.state.unanswered ≡ 0 → ⊥) (reads : ReadsAlone link (expecting []) a b heard) where
-    -- a fault is told
+    -- an error is told
     pub reads_fault : (found : Result Response FtpError) (fault : FtpError) → heard ≡ Ready found → Some fault ≡ fault_told found → ReadsDue left link a b (Ready (Some fault))
     reads_fault found fault given told =
         let H : Poll (Result Response FtpError) → Type 0 = λ h. After (Rest less) (told_by h) b b (Ready (Some fault)) in
@@ -162,7 +162,7 @@ module _ (link : Link) (plain ends : Bool) (Makes : SessionValue → SessionValu
       let C : Poll (Option FtpError) → Type 0 = λ r. CatchesUp link plain old middle r in
       subst P (sym behind) (record { middle = middle; fault = fault; catches_up = subst C is catches; then_makes = then })
 
-  -- a fault of them is the answer
+  -- an error of them is the answer
   pub step_fails : (fault : FtpError) (result : Poll (Option FtpError)) → is_behind call old ≡ true → CatchesUp link plain old middle result → result ≡ Ready (Some fault) → answer ≡ Fault fault → new ≡ middle → InStepIf (is_behind call old) link plain ends Makes old new answer
   step_fails fault result behind catches is told same = first (Some fault) result behind catches is (told, same)
 

@@ -1,4 +1,4 @@
--- Lemmas on faults that are heard in place of a reply.
+-- Lemmas on errors that are heard in place of a reply.
 use Rattle.std.proofs.Common.{◌≡◌, ◌⊎◌, Bool, true, false, Some, inl, inr, refl, sym, ◌∙◌, subst}
 use Rattle.std.specs.declared.io.ErrorKind.{ErrorKind}
 use Rattle.ftp_base.specs.declared.types.fault.FtpError.{FtpError}
@@ -18,7 +18,7 @@ use Rattle.ftp_dialogue.specs.State.{SessionValue}
 use Rattle.ftp_dialogue.specs.Steps.Moving.{EndsFaulty, FaultLeavesIf, HeardFault, after_fault}
 use Rattle.ftp_dialogue.specs.Steps.Stages.{AnswersKind, MayAnswer, TurnOf}
 
--- a fault that is heard is the answer, unless it is a reply of another status that ends a transfer that was left
+-- an error that is heard is the answer, unless it is a reply of another status that ends a transfer that was left
 pub told_fails : (how : Ending) (fault : FtpError) (old mid : SessionValue) → HeardFault fault old mid → mid.channel.failed ≡ true → (old.channel.failed ≡ true) ⊎ IsFault (answer_to_fault how fault)
 told_fails ending.Done fault old mid heard failed = inr tt
 told_fails ending.GivesReply fault old mid heard failed = inr tt
@@ -47,7 +47,7 @@ told_fails ending.Drains OutOfMemory old mid heard failed = inr tt
 told_fails ending.Drains SessionFailed old mid heard failed = inr tt
 told_fails ending.Drains (UnexpectedResponse reply) old mid heard failed = inl (sym (heard.goes_on reply refl) ∙ failed)
 
--- a failure of the connection is a fault
+-- a failure of the connection is an error
 pub told_failure : (how : Ending) (kind : ErrorKind) → (fault : FtpError) × (answer_to_fault how (ConnectionError (Io kind)) ≡ Fault fault)
 told_failure ending.Done kind = (_, refl)
 told_failure ending.GivesReply kind = (_, refl)
@@ -69,7 +69,7 @@ told_failure (ending.Finishes close) kind = (_, refl)
 told_failure ending.Drains kind = (_, refl)
 told_failure ending.Stops kind = (_, refl)
 
--- what is answered where a fault is heard is of the ending's kind
+-- what is answered where an error is heard is of the ending's kind
 told_kind : (how : Ending) (fault : FtpError) → AnswersKind (kind_of how) (answer_to_fault how fault)
 told_kind ending.Done fault = tt
 told_kind ending.GivesReply fault = tt
@@ -108,7 +108,7 @@ fault_answers call turn how begun fault old new told row of ends = go (wants_mem
     go true left = subst M (sym left.0) (turn, inl of, tt)
     go false left = subst M (sym left.0) (turn, inl of, row_answers (row_of call turn) how (answer_to_fault how fault) row (told_kind how fault))
 
--- elsewhere what is answered is a fault
+-- elsewhere what is answered is an error
 pub told_undrained : (how : Ending) (fault : FtpError) → is_draining how ≡ false → (found : FtpError) × (answer_to_fault how fault ≡ Fault found)
 told_undrained ending.Done fault none = (_, refl)
 told_undrained ending.GivesReply fault none = (_, refl)

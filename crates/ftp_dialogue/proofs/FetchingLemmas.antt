@@ -266,7 +266,7 @@ grows_so link view old t u all all' r same held grows waits = go r grows waits
         let D : Option Told → Net = λ d. record view.net { data_conn = d } in
         (is, λ tree. unasked_through link view old net' same (λ h. ap (λ x. D (Some x)) (tie h) ∙ ap D (sym held)) tree, waits refl)
 
--- a fault was heard in its place
+-- an error was heard in its place
 module _ (link : Link) (coding : Coding) (call : Call) (form : Fetch) (answer : Answer) (fault : FtpError) (told : Answer) (old mid new : SessionValue) (going : old.channel.failed ≡ false) where
   abbrev next : Result Response FtpError → Tree
   next = fetch_concluded form answer old.state

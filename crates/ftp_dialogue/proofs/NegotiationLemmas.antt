@@ -402,7 +402,7 @@ still_touched link tree tree' old new still = λ h.
     let came = still.advances.moves.leads.came in
     ([], still.advances.moves.leads.goes.received h ∙ ap (λ c. old.channel.told.received ++ c) still.none, still.untouched.said h, still.untouched.untaken)
 
--- the dialogue ends with a fault
+-- the dialogue ends with an error
 pub still_ends : (link : Link) (tree : Tree) (fault : FtpError) (old new : SessionValue) → Still link tree (Leaf (Fault fault) old.state) old new → Ends link tree (Fault fault) old new
 still_ends link tree fault old new still =
     let moves = still.advances.moves in
@@ -647,7 +647,7 @@ built_walks link coding call turn address stage' old mid result opens beside sti
     let T : Tree → Type 0 = λ t. Still link t next old mid in
     connected_walks link coding call turn address stage' old mid result opens (subst T (sym (constructs address old.state next beside)) (still (on_built old.state next))) on
 
--- it gave a fault, which is the answer
+-- it gave an error, which is the answer
 pub unbuilt_walks : (link : Link) (coding : Coding) (call : Call) (turn : Turn) (address : SocketAddr) (fault : FtpError) (stage' : Stage) (old mid : SessionValue) → negotiates call ≡ true → old.state.settings.stream_builder ≡ true → ((next : Option FtpError → Tree) → Still link (Build address next) (next (Some fault)) old mid) → Walks link coding call (OpeningData (Asking turn (Connection address))) stage' old mid (Done (Fault fault))
 unbuilt_walks link coding call turn address fault stage' old mid opens beside still =
     let next : Tree = later coding call turn old.state in

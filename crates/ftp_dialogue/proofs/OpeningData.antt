@@ -138,7 +138,7 @@ first_plain call plain = own_agrees call true ∙ plain
 pub second_plain : (call : Call) → negotiates call ≡ false → row_agrees (ending_of (row_of call Second)) ≡ false
 second_plain call plain = own_agrees call false ∙ opens_alike call ∙ plain
 
--- a call that gives one kind answers with it, or with a fault
+-- a call that gives one kind answers with it, or with an error
 pub gives_kind : (call : Call) (kind : Kind) (answer : Answer) → MayAnswer call answer → Gives kind call → AnswersKind kind answer ⊎ IsFault answer
 gives_kind call kind answer (First, inl of, answers) gives = inl (let P : Kind → Type 0 = λ k. AnswersKind k answer in subst P gives.0 answers)
 gives_kind call kind answer (Second, inl of, answers) gives = inl (let P : Kind → Type 0 = λ k. AnswersKind k answer in subst P gives.1 answers)

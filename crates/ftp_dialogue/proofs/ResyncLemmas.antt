@@ -75,7 +75,7 @@ unfolding seeking
 seeking_is zero state = refl
 seeking_is (suc left) state = refl
 
--- a reply that ends the search, or a fault in its place, is the answer
+-- a reply that ends the search, or an error in its place, is the answer
 fault_is : (left : ℕ) (state : State) (fault : FtpError) → ((reply : Response) → fault ≡ UnexpectedResponse reply → (left ≡ 0) ⊎ (closes reply ≡ true)) → sought (others left state) state (Err fault) ≡ Leaf (Fault fault) state
 fault_is left state (ConnectionError cause) last = refl
 fault_is left state (SecureError text) last = refl
@@ -278,7 +278,7 @@ module _ (link : Link) (coding : Coding) (call : Call) (turn : Turn) (of : (row_
           stage_of = of;
         }
 
-    -- it is the last, or a fault is heard in its place
+    -- it is the last, or an error is heard in its place
     fault_ends : (fault : FtpError) (mid new : SessionValue) → old.channel.failed ≡ false → next (Err fault) ≡ Leaf (Fault fault) old.state → SoughtBy mid (poll.Ready (Err fault)) → new ≡ after_fault true fault mid → Ends link tree (Fault fault) old new ⊎ Aborts link true tree (Fault fault) old new
     fault_ends fault mid new going is (inl (moves, heard)) leaves =
         let T : Tree → Type 0 = λ t. Moves link tree t old mid in
@@ -309,7 +309,7 @@ module _ (link : Link) (coding : Coding) (call : Call) (turn : Turn) (of : (row_
           stage_of = tt;
         }
 
-    -- what follows a reply of another status, or a fault
+    -- what follows a reply of another status, or an error
     pub sought_on : (fault : FtpError) (stage' : Stage) (step : Step) (mid new : SessionValue) → old.channel.failed ≡ false → FollowsSought turn left fault stage' step → SoughtBy mid (poll.Ready (Err fault)) → new ≡ after_fault true fault mid → BreaksOff link coding call (Resyncing turn (Seeking left)) stage' old new step
     sought_on fault stage' Next mid new going (rest, reply, more, is, open_still, at) heard leaves =
         let S : Stage → Type 0 = λ s. BreaksOff link coding call (Resyncing turn (Seeking left)) s old new Next in

@@ -230,7 +230,7 @@ not_memory DataConnectionAlreadyOpen other = refl
 not_memory OutOfMemory other = absurd (other refl)
 not_memory SessionFailed other = refl
 
--- a read that ends with a fault
+-- a read that ends with an error
 module _ (link : Link) (coding : Coding) (codes : Expected) (ending : Ending) (later : State → Tree) (begun : Bool) (fault : FtpError) (told : Answer) (old mid new : SessionValue) (going : old.channel.failed ≡ false) where
   abbrev heard_next : Result Response FtpError → Tree
   heard_next = concluded coding ending old.state later
@@ -545,7 +545,7 @@ hears_reads link codes next old new (poll.Ready (Err fault)) (inl moved) = inl m
 hears_reads link codes next old new (poll.Ready (Err fault)) (inr aborts) = inr aborts
 hears_reads link codes next old new poll.Pending heard = (heard.0.moves.leads, heard.2)
 
--- a read fails the session only where it gives a fault
+-- a read fails the session only where it gives an error
 pub hears_fail : (link : Link) (codes : Expected) (next : Result Response FtpError → Tree) (old new : SessionValue) (result : Poll (Result Response FtpError)) → Hears link codes next old new result → new.channel.failed ≡ true → (old.channel.failed ≡ true) ⊎ GivesFault result
 hears_fail link codes next old new (poll.Ready (Ok reply)) heard failed = inl (sym heard.0.failed ∙ failed)
 hears_fail link codes next old new (poll.Ready (Err fault)) heard failed = inr tt

@@ -50,7 +50,7 @@ use Rattle.ftp_dialogue.proofs.Hearing.{begun_resumes, entered_rule, play-Hear}
 use Rattle.ftp_dialogue.specs.Link.{Link}
 use Rattle.ftp_base.specs.declared.status.Status.TheVariants.{TransferAborted}
 
--- a fault is no success
+-- an error is no success
 no_success : (found : FtpError) (answer : Answer) (s t : PlayState) → Done (Fault found) s ≡ Done answer t → IsSuccess answer → ⊥
 no_success found answer s t is success =
     let same : answer ≡ Fault found = cc in

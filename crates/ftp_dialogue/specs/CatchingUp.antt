@@ -52,19 +52,19 @@ told_of_line (Ready (Ok done)) = Ready None
 told_of_line (Ready (Err fault)) = Ready (Some fault)
 told_of_line Pending = Pending
 
--- a fault is told
+-- an error is told
 abbrev pub TellsFault : Poll (Option FtpError) → Type 0
 TellsFault (Ready None) = ⊥
 TellsFault (Ready (Some fault)) = Unit {0}
 TellsFault Pending = ⊥
 
--- a reply of any status is passed over, and a fault in its place is told
+-- a reply of any status is passed over, and an error in its place is told
 abbrev pub fault_told : Result Response FtpError → Option FtpError
 fault_told (Ok reply) = None
 fault_told (Err (UnexpectedResponse reply)) = None
 fault_told (Err fault) = Some fault
 
--- what comes after a part that was done, was waited for, or gave a fault
+-- what comes after a part that was done, was waited for, or gave an error
 abbrev pub After : (SessionValue → SessionValue → Poll (Option FtpError) → Type 0) → Poll (Option FtpError) → SessionValue → SessionValue → Poll (Option FtpError) → Type 0
 After Next (Ready None) middle new result = Next middle new result
 After Next (Ready (Some fault)) middle new result = (result ≡ Ready (Some fault)) × (new ≡ middle)
@@ -102,8 +102,8 @@ pub record CatchesUp (link : Link) (plain : Bool) (old new : SessionValue) (resu
   pub flushes : Flushes link old flushed flush
   pub then_reads : After (ReadsDueUnless plain link) flush flushed new result
 
--- then the call is made, but for a read of the last reply of a transfer that was left, which is among them; a fault is the
--- answer
+-- then the call is made, but for a read of the last reply of a transfer that was left, which is among them; an error is
+-- the answer
 abbrev pub MakesThen : Option FtpError → Bool → (SessionValue → SessionValue → Answer → Type 0) → SessionValue → SessionValue → Answer → Type 0
 MakesThen (Some fault) ends Makes middle new answer = (answer ≡ Fault fault) × (new ≡ middle)
 MakesThen None true Makes middle new answer = (answer ≡ Nothing) × (new ≡ middle)

@@ -3,7 +3,7 @@ use Rattle.std.specs.Prelude.{ℕ, List, Option, Some, None, Result, Ok}
 use Rattle.std.specs.Str.Lossy.{utf8_lossy}
 use Rattle.std.specs.declared.io.ErrorKind.{ErrorKind}
 
--- the text that bytes stand for, and the bytes that stand for a text, or the kind of fault where there are none
+-- the text that bytes stand for, and the bytes that stand for a text, or the kind of error where there are none
 pub record Coding : Type 0 where
   pub decode : List ℕ → List ℕ
   pub encode : List ℕ → Result (List ℕ) ErrorKind

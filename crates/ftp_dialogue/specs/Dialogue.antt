@@ -94,9 +94,9 @@ pub data End : Type 0 where
   There : End
 
 -- what is left of a call: a command's line, or its refusal, is said; a reply of one of these statuses is heard, or
--- a fault in its place; the address of an end of the control connection is looked up; the transport is asked for
--- something; the caller's builder is asked for a connection to an address, and makes one or gives a fault; something is
--- done on the data connection; or the call ends with this answer, in this state
+-- an error in its place; the address of an end of the control connection is looked up; the transport is asked for
+-- something; the caller's builder is asked for a connection to an address, and makes one or gives an error; something
+-- is done on the data connection; or the call ends with this answer, in this state
 pub data Tree : Type 0 where
   Say : Result (List ℕ) ConnectionError → Tree → Tree
   Hear : Expected → (Result Response FtpError → Tree) → Tree
@@ -138,7 +138,7 @@ abbrev pub at_port : ℕ → SocketAddr → SocketAddr
 at_port port (V4 address) = V4 (record address { port = port })
 at_port port (V6 address) = V6 (record address { port = port })
 
--- what the address leads to that a request came to; where there is none the fault is the answer
+-- what the address leads to that a request came to; where there is none the error is the answer
 abbrev pub on_address : State → (SocketAddr → Tree) → RequestOutcome → Tree
 on_address state next Made = Leaf (Fault (Connection Nowhere)) state
 on_address state next (Address address) = next address
@@ -150,7 +150,7 @@ on_connection state next Made = next
 on_connection state next (Address address) = next
 on_connection state next (Refused fault) = Leaf (Fault (Connection fault)) state
 
--- a connection that the builder makes; its fault is the answer as it is
+-- a connection that the builder makes; its error is the answer as it is
 abbrev pub on_built : State → Tree → Option FtpError → Tree
 on_built state next None = next
 on_built state next (Some fault) = Leaf (Fault fault) state
@@ -249,12 +249,12 @@ with_drained state = record state { counts = one_drained state.counts }
 abbrev pub with_aborted : State → State
 with_aborted state = record state { counts = one_aborted state.counts }
 
--- the fault of a close
+-- the error of a close
 abbrev pub fault_of_close : NetOutcome → Option ErrorKind
 fault_of_close (came.Failed kind) = Some kind
 fault_of_close other = None
 
--- the fault of an upload's close is told before the reply's
+-- the error of an upload's close is told before the reply's
 abbrev pub told_of_close : Bool → NetOutcome → Option ErrorKind
 told_of_close uploads outcome = if uploads then fault_of_close outcome else None
 
@@ -282,8 +282,8 @@ wants_memory DataConnectionAlreadyOpen = false
 wants_memory OutOfMemory = true
 wants_memory SessionFailed = false
 
--- a fault is heard in place of a reply: what is answered, and in which state. Where memory ran out for a transfer's last
--- reply the transfer is left; a transfer that is aborted stays aborted
+-- an error is heard in place of a reply: what is answered, and in which state. Where memory ran out for a transfer's
+-- last reply the transfer is left; a transfer that is aborted stays aborted
 abbrev pub answer_to_fault : Ending → FtpError → Answer
 answer_to_fault (Finishes close) fault = Fault (finish_fault close fault)
 answer_to_fault Drains fault = drain_answer fault
@@ -313,7 +313,7 @@ abbrev pub too_long : Fetch → Answer
 too_long Whole = Fault OutOfMemory
 too_long Listed = Fault BadResponse
 
--- the fault of the data is told before that of the last reply, and after it where a listing is fetched
+-- the error of the data is told before that of the last reply, and after it where a listing is fetched
 abbrev pub fault_or : Answer → FtpError → FtpError
 fault_or (Fault first) fault = first
 fault_or other fault = fault
@@ -342,7 +342,7 @@ fetch_concluded form answer state (Err fault) = Leaf (Fault (first_fault form an
 abbrev pub fetch_ending : Fetch → Answer → State → Tree
 fetch_ending form answer state = Hear (expecting (ClosingDataConnection ∷ RequestedFileActionOk ∷ [])) (fetch_concluded form answer state)
 
--- the data connection is closed first; the fault of an upload's close is the answer, and another's is told to nobody
+-- the data connection is closed first; the error of an upload's close is the answer, and another's is told to nobody
 abbrev pub closed_as : Option ErrorKind → Answer → Answer
 closed_as None answer = answer
 closed_as (Some kind) answer = Fault (Connection (Io kind))
@@ -447,7 +447,7 @@ accepted coding (Finishes close) state reply later = Leaf (finish_answer close) 
 accepted coding Drains state reply later = Leaf Unit (with_drained state)
 accepted coding Stops state reply later = if code_of reply.status == code_of TransferAborted then later state else Leaf Unit (with_aborted state)
 
--- a reply is accepted, or a fault is the answer
+-- a reply is accepted, or an error is the answer
 abbrev pub concluded : Coding → Ending → State → (State → Tree) → Result Response FtpError → Tree
 concluded coding ending state later (Ok reply) = accepted coding ending state reply later
 concluded coding ending state later (Err fault) = Leaf (answer_to_fault ending fault) (after_fault_of ending fault state)
@@ -494,7 +494,7 @@ closes reply = code_of reply.status == code_of NotAvailable
 abbrev pub passing_over : Tree → State → Response → Tree
 passing_over next state reply = if closes reply then Leaf (Fault (UnexpectedResponse reply)) state else next
 
--- the reply to NOOP was read, or another, or a fault in its place
+-- the reply to NOOP was read, or another, or an error in its place
 abbrev pub sought : (Response → Tree) → State → Result Response FtpError → Tree
 sought others state (Ok reply) = Leaf Unit state
 sought others state (Err (UnexpectedResponse reply)) = others reply

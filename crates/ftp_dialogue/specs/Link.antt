@@ -12,7 +12,7 @@ use Rattle.ftp_transport.specs.Told.{Told}
 abbrev pub Builds : Type 1
 Builds = SocketAddr → Result Told FtpError → Type 0
 
--- whether its record is true, and which faults its reads, its writes and a question for an address may answer, the
+-- whether its record is true, and which errors its reads, its writes and a question for an address may answer, the
 -- writes by what was recorded; whether a request may have to wait; and what the caller's builder may answer
 pub record Link : Type 1 where
   pub tells : Type 0

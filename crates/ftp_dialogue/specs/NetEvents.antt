@@ -74,7 +74,7 @@ during_request request d = record { asked = d.asked ++ request ∷ []; closed = 
 
 -- The caller's builder
 
--- the data connection after the builder was asked: the one that it made, or the one of before where it gave a fault
+-- the data connection after the builder was asked: the one that it made, or the one of before where it gave an error
 abbrev pub data_built : Option FtpError → Option Traffic → Option Traffic
 data_built None conn = Some no_traffic
 data_built (Some fault) conn = conn
@@ -129,7 +129,7 @@ settled (Left number) d = parted d
 
 -- What happened, and what it left
 
--- a request was answered; the builder was asked, and made a connection or gave a fault; something was done on the data
+-- a request was answered; the builder was asked, and made a connection or gave an error; something was done on the data
 -- connection; it was closed and handed back, whatever the close came to; or it was let go
 pub data NetEvent : Type 0 where
   Requested : Request → RequestOutcome → NetEvent
@@ -166,7 +166,7 @@ pub record RequestIs (request : Request) (outcome : RequestOutcome) (n m : Net) 
   pub data_is : DataIs request outcome n m
   pub closed : m.closed ≡ n.closed
 
--- the data connection is the one that the builder made, and nothing of it was read or written yet; or it gave a fault
+-- the data connection is the one that the builder made, and nothing of it was read or written yet; or it gave an error
 abbrev pub BuiltIs : Builds → SocketAddr → Option FtpError → Net → Net → Type 0
 BuiltIs builds address None n m = (told : Told) × builds address (Ok told) × (m.data_conn ≡ Some (begun told))
 BuiltIs builds address (Some fault) n m = builds address (Err fault) × (m.data_conn ≡ n.data_conn)

@@ -153,7 +153,7 @@ abbrev pub is_unit : Answer → Bool
 is_unit Nothing = true
 is_unit other = false
 
--- a call goes on after the drain; a fault of the drain is its answer
+-- a call goes on after the drain; an error of the drain is its answer
 abbrev pub after_drain : Played → (PlayState → Played) → Played
 after_drain (Done answer s) next = if is_unit answer then next s else Done answer s
 after_drain (Pending wait s) next = Pending wait s

@@ -208,7 +208,7 @@ pub record Leads (link : Link) (tree tree' : Tree) (old new : SessionValue) : Ty
 abbrev pub KeepsNoReply : List ℕ → SessionValue → SessionValue → Type 0
 KeepsNoReply came old new = (new.channel.kept ≡ []) ⊎ ((new.channel.kept ≡ old.channel.kept) × (came ≡ []) × (new.channel.rule ≡ old.channel.rule))
 
--- an answer is a fault, or that of a leaf of the tree
+-- an answer is an error, or that of a leaf of the tree
 abbrev pub IsOf : Answer → Tree → Type 0
 IsOf answer tree = IsFault answer ⊎ ((state : State) × Within (Leaf answer state) tree)
 
@@ -221,7 +221,7 @@ pub record Completes (link : Link) (tree : Tree) (answer : Answer) (old new : Se
   pub keeps : KeepsNoReply came old new
   pub plays : link.tells → Resumes (modes_of old) old.channel.kept tree → However old came answered new (λ room s t. play room tree s ≡ played.Done answer t)
 
--- a node fails where a line is said, a reply is read or an address is looked up, with a fault that the connection may
+-- a node fails where a line is said, a reply is read or an address is looked up, with an error that the connection may
 -- answer there
 abbrev pub MayFailAt : Link → Tree → Told → ErrorKind → Type 0
 MayFailAt link (Say line next) told kind = link.tells → link.writes told kind
@@ -251,7 +251,7 @@ abbrev pub state_of : Tree → State → State
 state_of (Leaf answer state) other = state
 state_of tree other = other
 
--- where a reply is awaited a fault takes its place; elsewhere it is the answer, and the state stays
+-- where a reply is awaited an error takes its place; elsewhere it is the answer, and the state stays
 abbrev pub answer_at : Tree → FtpError → Answer
 answer_at (Hear codes next) fault = answer_of (next (Err fault)) (Fault fault)
 answer_at tree fault = Fault fault
@@ -261,7 +261,7 @@ state_at (Hear codes next) fault state = state_of (next (Err fault)) state
 state_at tree fault state = state
 
 -- the connection failed at this node, which was counted and is told, and nothing else happened but what the tree says of
--- such a fault
+-- such an error
 pub record Fails (link : Link) (place : Tree) (fault : FtpError) (at new : SessionValue) : Type 0 where
   pub kind : ErrorKind
   pub is : Fault fault ≡ answer_at place (ConnectionError (Io kind))
@@ -364,7 +364,7 @@ pub record PlaysAlone (link : Link) (coding : Coding) (call : Call) (old new : S
 abbrev pub due_of : Call → SessionValue → Bool
 due_of call v = is_due call v.channel.failed v.state.counts.owed
 
--- what is made of a call after the drain: the call goes on, or a fault of the drain is its answer
+-- what is made of a call after the drain: the call goes on, or an error of the drain is its answer
 abbrev pub MakesAfter : Bool → Answer → (SessionValue → SessionValue → Answer → Type 0) → SessionValue → SessionValue → Answer → Type 0
 MakesAfter true first Makes middle new answer = Makes middle new answer
 MakesAfter false first Makes middle new answer = (answer ≡ first) × (new ≡ middle)
@@ -406,14 +406,14 @@ pub record AbortsRead (link : Link) (codes : Expected) (next : Result Response F
   pub going : at.channel.failed ≡ false
   pub cause : FailsRead link fault at new ⊎ ((fault ≡ OutOfMemory) × (new ≡ at) × Untouched link leads.came old at)
 
--- a read of one reply: it is heard, or a fault in its place; or the read is aborted, or waits
+-- a read of one reply: it is heard, or an error in its place; or the read is aborted, or waits
 abbrev pub Reads : Link → Expected → (Result Response FtpError → Tree) → SessionValue → SessionValue → Poll (Result Response FtpError) → Type 0
 Reads link codes next old new (Ready (Ok reply)) = Leads link (Hear codes next) (next (Ok reply)) old new
 Reads link codes next old new (Ready (Err fault)) =
     Leads link (Hear codes next) (next (Err fault)) old new ⊎ AbortsRead link codes next fault old new
 Reads link codes next old new Pending = Leads link (Hear codes next) (Hear codes next) old new × Rests link old new
 
--- a read gives a fault
+-- a read gives an error
 abbrev pub GivesFault : Poll (Result Response FtpError) → Type 0
 GivesFault (Ready (Ok reply)) = ⊥
 GivesFault (Ready (Err fault)) = Unit {0}

@@ -41,13 +41,13 @@ abbrev pub drain_told : Result (Unit {0}) FtpError → Answer
 drain_told (Ok done) = answers.Unit
 drain_told (Err fault) = Fault fault
 
--- the last reply of a transfer that was left is polled: it is read, and the transfer is drained, or a fault is told; or it
--- is waited for, and what came of it is kept
+-- the last reply of a transfer that was left is polled: it is read, and the transfer is drained, or an error is told;
+-- or it is waited for, and what came of it is kept
 abbrev pub PollsDrain : Link → Coding → SessionValue → SessionValue → Poll (Result (Unit {0}) FtpError) → Type 0
 PollsDrain link coding old new (Ready result) = PlaysAlone link coding Drain old new (drain_told result)
 PollsDrain link coding old new Pending = Rests link old new
 
--- once that is over the read is polled; a fault of it is the read's; while it is waited for the read waits, too
+-- once that is over the read is polled; an error of it is the read's; while it is waited for the read waits, too
 abbrev pub ThenReads : Link → Expected → Poll (Result (Unit {0}) FtpError) → SessionValue → SessionValue → Poll (Result Response FtpError) → Type 0
 ThenReads link codes (Ready (Ok done)) middle new result = ReadsAlone link codes middle new result
 ThenReads link codes (Ready (Err fault)) middle new result = (result ≡ Ready (Err fault)) × (new ≡ middle)

@@ -1,7 +1,7 @@
 //! The answers that the text of a reply gives.
 //!
-//! A reply of an accepted status may still not say what was asked for: then the answer is a fault, and the session goes
-//! on. `ftp_answers` reads the texts.
+//! A reply of an accepted status may still not say what was asked for: then the answer is an error, and the session
+//! goes on. `ftp_answers` reads the texts.
 
 ghost use Rattle.std.specs.Prelude.{◌≡◌, IfOk};
 ghost use Rattle.ftp_answers.specs.Answers.{features_in, path_of, second_line_of, size_of};

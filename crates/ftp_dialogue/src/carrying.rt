@@ -115,7 +115,7 @@ pub(super) fn pass_over(outcome: NetOutcome) {
     drop(outcome);
 }
 
-/// The fault of a close that is told before the reply's: that of an upload.
+/// The error of a close that is told before the reply's: that of an upload.
 pub(super) fn told_of_close(uploads: bool, outcome: &NetOutcome) -> Option<ErrorKind>
     ensures { result ≡ told_of_close uploads outcome.now }
 {
@@ -133,7 +133,7 @@ where
     /// close where the transfer is left. A session that has failed makes it, too.
     ///
     /// The answer is `NoTransfer` where it is of a transfer and no data connection is held; `OutOfMemory` where there is
-    /// no memory for a setting or for the bytes that are read; the fault of the read or of the write.
+    /// no memory for a setting or for the bytes that are read; the error of the read or of the write.
     pub fn carry(&mut self, alloc: Global, call: &Call) -> Answer
         requires local { is_local call.now ≡ true }
         ensures carries { CarriesOut Tr.Conn.tells call.now self.old self.new result }

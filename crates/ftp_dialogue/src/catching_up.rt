@@ -45,8 +45,8 @@ impl<Tr: Network> Machine<Tr> {
     }
 
     /// Polls the replies that are due to commands that were dropped, after the unsent tail of a line; before a plain read
-    /// that tail alone. One that waits may be dropped, and polled again. A fault in place of a reply is given, and counted
-    /// where it is one that can't be read.
+    /// that tail alone. One that waits may be dropped, and polled again. An error in place of a reply is given, and
+    /// counted where it is one that can't be read.
     pub fn poll_catch_up<W>(
         &mut self,
         alloc: Global,
@@ -69,8 +69,8 @@ impl<Tr: Network> Machine<Tr> {
         self.poll_due(alloc, w)
     }
 
-    /// Makes a call in step: after the replies that are due to commands that were dropped, where it reads them first. A fault
-    /// of such a read is the answer, and the call isn't made; else the answer is that of `call`.
+    /// Makes a call in step: after the replies that are due to commands that were dropped, where it reads them first.
+    /// An error of such a read is the answer, and the call isn't made; else the answer is that of `call`.
     pub fn call_in_step<E: Encoding, A: Asks<Tr, NeverWaits>>(
         &mut self,
         asker: &A,
@@ -121,8 +121,8 @@ impl<Tr: Network> Machine<Tr> {
 
     /// Polls a read of one reply whose status is among the expected. Where replies are due to commands that were dropped the
     /// unsent tail of a line goes out first, and the reply is one of them. The last reply of a transfer that was left is polled
-    /// before it: while that hasn't come whole the read waits, and what came of it is kept; a fault of its read is the answer;
-    /// once it is over the read itself is polled at once. A read that waits may be dropped and polled again.
+    /// before it: while that hasn't come whole the read waits, and what came of it is kept; an error of its read is the
+    /// answer; once it is over the read itself is polled at once. A read that waits may be dropped and polled again.
     ///
     /// The answer is that of a read of one reply; `SessionFailed` on a session that has failed, and nothing changes.
     pub fn poll_read<W, E: Encoding>(
@@ -207,7 +207,7 @@ fn told_of_line(performed: Poll<FtpResult<()>>) -> Poll<Option<FtpError>>
     }
 }
 
-/// A reply of any status is passed over, and a fault in its place is told.
+/// A reply of any status is passed over, and an error in its place is told.
 fn fault_told(heard: FtpResult<Response>) -> Option<FtpError>
     ensures { result ≡ fault_told heard }
 {

@@ -38,8 +38,8 @@ impl<Tr: Network> Machine<Tr> {
         drains_first(call)
     }
 
-    /// Makes a call, whole, after the last reply of a transfer that was left, where one is due. A fault of that reply's
-    /// read is the answer, and the call isn't made; else the answer is that of `call_alone`.
+    /// Makes a call, whole, after the last reply of a transfer that was left, where one is due. An error of that
+    /// reply's read is the answer, and the call isn't made; else the answer is that of `call_alone`.
     pub fn call<E: Encoding, A: Asks<Tr, NeverWaits>>(
         &mut self,
         asker: &A,
@@ -67,8 +67,8 @@ impl<Tr: Network> Machine<Tr> {
 
     /// Polls a read of one reply whose status is among the expected, after the last reply of a transfer that was left,
     /// where one is due. That reply is polled first: while it hasn't come whole the read waits, and what came of it is
-    /// kept; a fault of its read is the answer; once it is over the read itself is polled at once. A read that waits may
-    /// be dropped and polled again.
+    /// kept; an error of its read is the answer; once it is over the read itself is polled at once. A read that waits
+    /// may be dropped and polled again.
     ///
     /// The answer is that of a read of one reply; `SessionFailed` on a session that has failed, and nothing changes.
     pub(super) fn poll_read_drained<W, E: Encoding>(
@@ -154,7 +154,7 @@ impl<Tr: Network> Machine<Tr> {
         heard
     }
 
-    /// A reply was read, or a fault took its place: it counts where replies are due to commands that were dropped.
+    /// A reply was read, or an error took its place: it counts where replies are due to commands that were dropped.
     fn count_heard(&mut self, heard: &Poll<FtpResult<Response>>)
         ensures { self.new ≡ record self.old { state = after_poll heard.now self.old.state } }
     {

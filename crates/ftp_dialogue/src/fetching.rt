@@ -188,7 +188,8 @@ impl<Tr: Network> Machine<Tr> {
         more
     }
 
-    /// The data connection is closed, and the transfer's last reply is due. The fault of an upload's close is the answer.
+    /// The data connection is closed, and the transfer's last reply is due. The error of an upload's close is the
+    /// answer.
     fn part_fetched<W, A: Asks<Tr, W>>(
         &mut self,
         _asker: &A,
@@ -255,7 +256,7 @@ impl<Tr: Network> Machine<Tr> {
         }
     }
 
-    /// A fault was heard in place of the last reply. Out of memory fails the session, and the transfer is left.
+    /// An error was heard in place of the last reply. Out of memory fails the session, and the transfer is left.
     fn fail_fetch(&mut self, form: Fetch, answer: Answer, fault: FtpError) -> Answer
         ensures { EndsFetch form answer fault self.old self.new result }
     {
@@ -336,7 +337,7 @@ fn too_long(form: Fetch) -> Answer
     }
 }
 
-/// The fault that is told where the last reply isn't as expected: that of the data first, and last for a listing.
+/// The error that is told where the last reply isn't as expected: that of the data first, and last for a listing.
 fn first_fault(form: Fetch, answer: Answer, fault: FtpError) -> FtpError
     ensures { result ≡ first_fault form answer fault }
 {
@@ -349,7 +350,7 @@ fn first_fault(form: Fetch, answer: Answer, fault: FtpError) -> FtpError
     }
 }
 
-/// The answer after a close: its fault, where it is told.
+/// The answer after a close: its error, where it is told.
 fn closed_as(told: Option<ErrorKind>, answer: Answer) -> Answer
     ensures { result ≡ closed_as told answer }
 {
@@ -362,7 +363,7 @@ fn closed_as(told: Option<ErrorKind>, answer: Answer) -> Answer
     }
 }
 
-/// The fault of an answer, or this one where it is none.
+/// The error of an answer, or this one where it is none.
 fn fault_or(answer: Answer, fault: FtpError) -> FtpError
     ensures { result ≡ fault_or answer fault }
 {

@@ -36,7 +36,7 @@ pub struct NetRecord {
 pub enum NetOutcome {
     /// A request of the transport came to this.
     Answered(RequestOutcome),
-    /// The caller's builder made a connection; or gave this fault.
+    /// The caller's builder made a connection; or gave this error.
     Built(Option<FtpError>),
     /// A read gave these bytes; none at the end.
     Read(Bytes),

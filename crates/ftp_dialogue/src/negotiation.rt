@@ -257,7 +257,7 @@ impl<Tr: Network> Machine<Tr> {
         }
     }
 
-    /// The caller's builder makes the connection. Its fault is the call's answer as it is.
+    /// The caller's builder makes the connection. Its error is the call's answer as it is.
     fn construct<W, A: Asks<Tr, W>>(
         &mut self,
         asker: &A,

@@ -59,8 +59,9 @@ impl<Tr: Network> Machine<Tr> {
     /// Reads a reply of one of these statuses. A read that waits may be dropped and made again.
     ///
     /// # Errors
-    /// `UnexpectedResponse` where its status is another, `BadResponse` where its first line opens no reply; the fault of
-    /// the connection, the end of its input, or a reply that is too large, each of which fails the session; `OutOfMemory`.
+    /// `UnexpectedResponse` where its status is another, `BadResponse` where its first line opens no reply; the error
+    /// of the connection, the end of its input, or a reply that is too large, each of which fails the session;
+    /// `OutOfMemory`.
     pub fn hear<W, A: Asks<Tr, W>>(
         &mut self,
         asker: &A,
@@ -298,7 +299,7 @@ fn opened(gives_reply: bool, reply: Response) -> Answer
     }
 }
 
-/// The transfer has come to its end; the answer is this fault of its close, if there is one.
+/// The transfer has come to its end; the answer is this error of its close, if there is one.
 fn finished(close: Option<ErrorKind>, state: &mut State) -> Accepted
     ensures accepts { (coding : Coding) (reply : Heard) →
         Accepts coding (Ending.Finishes close) reply state.old state.new result }
@@ -313,8 +314,8 @@ fn finished(close: Option<ErrorKind>, state: &mut State) -> Accepted
     }
 }
 
-/// The answer where a fault was heard in place of a reply, and what it leaves. Where memory ran out nothing changes, but
-/// that an abort which has begun is one.
+/// The answer where an error was heard in place of a reply, and what it leaves. Where memory ran out nothing changes,
+/// but that an abort which has begun is one.
 pub(crate) fn conclude_fault(
     begun: bool,
     ending: Ending,
@@ -371,8 +372,8 @@ fn lose(begun: bool, ending: Ending, state: &mut State)
     }
 }
 
-/// The answer where a fault was heard in place of the last reply of a transfer that was left: a reply of another status
-/// ends the transfer as well.
+/// The answer where an error was heard in place of the last reply of a transfer that was left: a reply of another
+/// status ends the transfer as well.
 fn drain_answer(fault: FtpError) -> Answer
     ensures { result ≡ drain_answer fault }
 {

@@ -185,7 +185,7 @@ impl<Tr: Network> Machine<Tr> {
     }
 }
 
-/// What follows a reply of another status, or a fault in its place.
+/// What follows a reply of another status, or an error in its place.
 fn follow_reply(turn: Turn, left: u64, fault: FtpError, stage: &mut Stage) -> Step
     ensures { FollowsSought turn left fault stage.new result }
 {

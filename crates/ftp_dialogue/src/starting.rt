@@ -33,7 +33,7 @@ impl<Tr: Network> Machine<Tr> {
     /// Makes a call, whole, by itself: the last reply of a transfer that was left isn't read first.
     ///
     /// The answer is `NoTransfer` where the call is of a transfer and none is held; `SessionFailed` on a session that has
-    /// failed; else what the dialogue comes to, which is a fault where its command has no line, a reply isn't the one
+    /// failed; else what the dialogue comes to, which is an error where its command has no line, a reply isn't the one
     /// that is expected, a connection fails, or memory runs out.
     pub fn call_alone<E: Encoding, A: Asks<Tr, NeverWaits>>(
         &mut self,

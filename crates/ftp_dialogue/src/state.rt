@@ -330,7 +330,7 @@ impl State {
         }
     }
 
-    /// A fault took the place of a reply: what can't be read as one counts as one.
+    /// An error took the place of a reply: what can't be read as one counts as one.
     pub fn answer_faulty(&mut self, fault: &FtpError)
         ensures { self.new ≡ after_faulty fault.now self.old }
     {

@@ -264,7 +264,7 @@ impl<Tr: Network> Machine<Tr> {
         }
     }
 
-    /// A dialogue ends with a fault: out of memory after it has begun fails the session.
+    /// A dialogue ends with an error: out of memory after it has begun fails the session.
     pub(super) fn abort_dialogue(&mut self, begun: bool, fault: &FtpError)
         ensures { self.new ≡ after_fault begun fault.now self.old }
     {
@@ -273,7 +273,7 @@ impl<Tr: Network> Machine<Tr> {
         }
     }
 
-    /// A dialogue ends with a fault in place of a reply: what is answered, and what it leaves.
+    /// A dialogue ends with an error in place of a reply: what is answered, and what it leaves.
     fn end_dialogue(&mut self, begun: bool, ending: Ending, fault: FtpError) -> Answer
         ensures { EndsFaulty begun ending fault self.old self.new result }
     {

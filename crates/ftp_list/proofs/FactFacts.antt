@@ -64,7 +64,7 @@ fault_at entry text fault e (inr ge) le =
     let whole : take (position_or_len semicolon text) text ≡ text = take_all (position_or_len semicolon text) text ge in
     facts_last entry text last ∙ ap (with_piece entry) (sym whole) ∙ e
 
--- a fault of a piece is the answer
+-- an error of a piece is the answer
 pub facts_fault : (entry : Entry) (text : List ℕ) (fault : ParseError) → (with_piece entry (take (position_or_len semicolon text) text) ≡ Err fault) → position_or_len semicolon text ≤ length text → with_facts entry (facts text) ≡ Err fault
 facts_fault entry text fault e le = fault_at entry text fault e (cases_lt (position_or_len semicolon text) (length text)) le
 

@@ -103,7 +103,7 @@ with_piece entry piece =
     then with_fact entry (record { key = before (codes "=") piece; value = before (codes "=") (behind (codes "=") piece) })
     else Ok entry
 
--- the facts in order: later ones replace, the first fault is the answer
+-- the facts in order: later ones replace, the first error is the answer
 abbrev pub with_facts : Entry → List Fact → Result Entry ParseError
 with_facts entry [] = Ok entry
 with_facts entry (fact ∷ others) = with_fact entry fact >>= λ changed. with_facts changed others

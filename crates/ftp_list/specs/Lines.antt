@@ -17,7 +17,7 @@ IsAfterPosix text (Err fault) answer =
     (dos : Result Entry ParseError) × IsDos text dos × IsAfterDos text dos answer
 
 -- What a line says: the file of the first form that gives one, of POSIX, DOS and MLST; where none
--- does, the fault of the last.
+-- does, the error of the last.
 abbrev pub IsListed : List ℕ → ℤ → Result Entry ParseError → Type 0
 IsListed text nanosecond answer =
     (posix : Result Entry ParseError) × IsPosix text nanosecond posix × IsAfterPosix text posix answer

@@ -54,7 +54,7 @@ impl<'r, R: AllocGlobal, Tr: TaskTransport, K: Drop, E: Encoding, B: Drop> Conne
 where
     Tr::Conn: TaskConn,
 {
-    /// A state that connects to these addresses. Where none connects the last fault is given, or else this one.
+    /// A state that connects to these addresses. Where none connects the last error is given, or else this one.
     fn new(
         rt: &'r R,
         transport: Tr,
@@ -234,7 +234,7 @@ where
     /// Connects to the first of these addresses that connects, and reads the server's greeting (220).
     ///
     /// # Errors
-    /// The last fault where none connects; `NoAddress` where there is none. Those of a read of one reply.
+    /// The last error where none connects; `NoAddress` where there is none. Those of a read of one reply.
     pub fn connect<'r, R: AllocGlobal>(
         rt: &'r R,
         transport: Tr,
@@ -255,7 +255,7 @@ where
     /// waits; the state tries its addresses in turn.
     ///
     /// # Errors
-    /// Those of `connect`; before them the fault of the look-up, or `Io(InvalidInput)` where the text is no address.
+    /// Those of `connect`; before them the error of the look-up, or `Io(InvalidInput)` where the text is no address.
     pub fn connect_to<'r, R: Net + AllocGlobal>(
         rt: &'r R,
         transport: Tr,
@@ -297,7 +297,7 @@ where
     /// Connects to this address within this time, and reads the server's greeting (220).
     ///
     /// # Errors
-    /// `TimedOut` where the time has passed, or is zero; the fault of the connect. Those of a read of one reply.
+    /// `TimedOut` where the time has passed, or is zero; the error of the connect. Those of a read of one reply.
     pub fn connect_timeout<'r, R: AllocGlobal>(
         rt: &'r R,
         transport: Tr,

@@ -212,7 +212,7 @@ impl<S: AsyncRead, P: Progress> Copying<S, P> {
     /// Goes on to copy. Ready once the source has ended and all is written.
     ///
     /// # Errors
-    /// The fault of the source, or of the data connection; `SourceTooLarge`, `OutOfMemory`.
+    /// The error of the source, or of the data connection; `SourceTooLarge`, `OutOfMemory`.
     pub(crate) fn poll_copy<C: PollConn<()> + TaskConn + Drop>(
         &mut self,
         transfer: &mut Transfer<C>,
@@ -319,7 +319,7 @@ impl<S: AsyncRead, P: Progress> Copying<S, P> {
     }
 }
 
-/// A fault of the source, or of the data connection.
+/// An error of the source, or of the data connection.
 pub(crate) fn io_fault(kind: ErrorKind) -> FtpError {
     FtpError::ConnectionError(ConnectionError::Io(kind))
 }

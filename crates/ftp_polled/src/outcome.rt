@@ -9,13 +9,14 @@ pub trait Outcome: Drop {
     /// The value of an answer.
     ///
     /// # Errors
-    /// The answer's fault; `AlreadyCompleted` where the answer has no such value, which is none of a call that gives one.
+    /// The answer's error; `AlreadyCompleted` where the answer has no such value, which is none of a call that gives
+    /// one.
     fn of(answer: Answer) -> FtpResult<Self>
     where
         Self: Sized;
 }
 
-/// The fault of an answer without the value that is looked for.
+/// The error of an answer without the value that is looked for.
 fn other<T>(answer: Answer) -> FtpResult<T> {
     match answer {
         Answer::Fault(fault) => Err(fault),

@@ -32,7 +32,7 @@ pub trait RetrReader<C: TaskConn + Drop>: Drop {
         ensures registered { OnPending result (IsArmed cx.new) }
         ensures kept { Keeps cx.old cx.new };
 
-    /// Whether its fault was that of the data connection, which `last_failure` tells then.
+    /// Whether its error was that of the data connection, which `last_failure` tells then.
     fn data_failed(&self) -> bool {
         false
     }
@@ -40,8 +40,8 @@ pub trait RetrReader<C: TaskConn + Drop>: Drop {
 
 /// A download, which a reader reads: `RETR`, the data, and the last reply, in one hold of the lock.
 ///
-/// Dropped while its data is read or its last reply is waited for, it leaves its transfer. The reader's fault leaves it,
-/// too.
+/// Dropped while its data is read or its last reply is waited for, it leaves its transfer. The reader's error leaves
+/// it, too.
 #[derive(Drop)]
 pub struct Retrieve<'r, R, Tr: TaskTransport, K: Drop, E: Encoding, B: Drop, F>
 where
@@ -171,7 +171,7 @@ where
     /// (226, 250). The offset is taken as by `retr_as_stream`.
     ///
     /// # Errors
-    /// Those of a data command; the reader's fault; those of the last reply.
+    /// Those of a data command; the reader's error; those of the last reply.
     pub fn retr<'r, R: AllocGlobal, F: RetrReader<Tr::Conn>>(
         &self,
         rt: &'r R,

@@ -179,8 +179,8 @@ impl<C: PollConn<()> + TaskConn + Drop, W: AsyncWrite, P: Progress> RetrReader<C
 
 /// A download to a writer. It gives how many bytes were written.
 ///
-/// Dropped while its data is read or its last reply is waited for, it leaves its transfer. A fault of the data connection or
-/// of the writer leaves it, too.
+/// Dropped while its data is read or its last reply is waited for, it leaves its transfer. An error of the data
+/// connection or of the writer leaves it, too.
 pub type WriteTo<'r, R, Tr, K, E, B, W, P> = Retrieve<'r, R, Tr, K, E, B, Sink<W, P>>;
 
 impl<Tr: TaskTransport, K: Drop, E: Encoding, B: Drop> ImplAsyncFtpStream<Tr, K, E, B>
@@ -192,9 +192,9 @@ where
     /// nothing. Both may be passed by `&mut`. The writer is flushed. The offset is taken as by `retr_as_stream`.
     ///
     /// # Errors
-    /// Those of a data command. The fault of the data connection, where what came was written, or of the writer, where a
-    /// front of that was; `SourceTooLarge` past 2^63 - 1 bytes; `OutOfMemory` for a buffer: they leave the transfer. Those of
-    /// the last reply.
+    /// Those of a data command. The error of the data connection, where what came was written, or of the writer, where
+    /// a front of that was; `SourceTooLarge` past 2^63 - 1 bytes; `OutOfMemory` for a buffer: they leave the transfer.
+    /// Those of the last reply.
     pub fn write_to<'r, R: AllocGlobal, W: AsyncWrite, P: Progress>(
         &self,
         rt: &'r R,

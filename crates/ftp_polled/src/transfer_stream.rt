@@ -85,8 +85,8 @@ where
     /// section 3.2). Dropped before it has its answer, it leaves the transfer.
     ///
     /// # Errors
-    /// Those of a read of one reply; before them, of an upload, the fault of the close. `NotOwed` where the session owes no
-    /// transfer of this number.
+    /// Those of a read of one reply; before them, of an upload, the error of the close. `NotOwed` where the session
+    /// owes no transfer of this number.
     pub fn finish<R>(self, rt: &R) -> Finish<'_, R, Tr, K, E, B> {
         let TransferStream { transfer, session } = self;
         Finish::new(Ending::new(rt, Hold::of(session), transfer, false))
@@ -111,7 +111,7 @@ where
     /// Reads bytes into the front of the buffer. 0 bytes are the end of the data.
     ///
     /// # Errors
-    /// The fault of the data connection.
+    /// The error of the data connection.
     pub fn poll_read(
         &mut self,
         cx: &mut Context<'_>,
@@ -126,7 +126,7 @@ where
     /// Writes bytes from the front, at least one, where there are any.
     ///
     /// # Errors
-    /// The fault of the data connection.
+    /// The error of the data connection.
     pub fn poll_write(
         &mut self,
         cx: &mut Context<'_>,

@@ -94,7 +94,7 @@ where
     /// (226, 250). The offset is taken as by `retr_as_stream`.
     ///
     /// # Errors
-    /// Those of a data command. A fault of the data comes before the last reply's.
+    /// Those of a data command. An error of the data comes before the last reply's.
     pub fn retr_as_buffer<'r, R: AllocGlobal>(
         &self,
         rt: &'r R,
@@ -107,7 +107,8 @@ where
     /// `File::from_line` reads a line.
     ///
     /// # Errors
-    /// Those of a data command; `BadResponse` where the data can't be read to its end, after a fault of the last reply.
+    /// Those of a data command; `BadResponse` where the data can't be read to its end, after an error of the last
+    /// reply.
     pub fn list<'r, R: AllocGlobal>(
         &self,
         rt: &'r R,

@@ -22,8 +22,8 @@ use tokio::io::AsyncRead;
 /// A source is uploaded: the command, the data, and the last reply, in one hold of the lock. It gives the number of bytes
 /// that were written.
 ///
-/// Dropped while its data is written or its last reply is waited for, it leaves its transfer. A fault of the source or of
-/// the data connection leaves it, too.
+/// Dropped while its data is written or its last reply is waited for, it leaves its transfer. An error of the source or
+/// of the data connection leaves it, too.
 #[derive(Drop)]
 pub struct Upload<
     'r,
@@ -187,8 +187,8 @@ where
     /// `retr_as_stream`.
     ///
     /// # Errors
-    /// Those of a data command; the source's fault and the data connection's, which leave the transfer; `SourceTooLarge`
-    /// past 2^63 - 1 bytes, which does, too; those of the last reply.
+    /// Those of a data command; the source's error and the data connection's, which leave the transfer;
+    /// `SourceTooLarge` past 2^63 - 1 bytes, which does, too; those of the last reply.
     pub fn put_file<'r, R: AllocGlobal, S: AsyncRead>(
         &self,
         rt: &'r R,

@@ -175,7 +175,7 @@ module _ (builds : Builds) (coding : Coding) (outcomes : List NetOutcome) where
             let after : Script = polled_as (Waiting all wait t) Drain (draining s) in
             (begins_call builds coding outcomes left old (without_call after) w call at answers (cancels builds coding outcomes left old after w (Some Drain) at at answers g (inr refl)), refl)
 
-    -- its fault is the call's answer
+    -- its error is the call's answer
     fails_too : (left : List NetOutcome) (w : SessionValue) (at stage' : Stage) (first : Answer) → is_unit first ≡ false → Follows builds coding outcomes left old (poll_script coding start (Some Drain) (draining s)) w None at (answers ++ first ∷ []) → Next w None stage' (answers ++ first ∷ []) left
     fails_too left w at stage' first fault there = to_next w None stage' (answers ++ first ∷ []) left (go (run_with coding start Drain (draining s)) there)
       where

@@ -152,7 +152,7 @@ pub record PollsHere (builds : Builds) (coding : Coding) (call : Call) (stage st
   pub sound : IsSound (Unit {0}) w.channel
   pub stays : v.channel.failed ≡ true → (w.channel.failed ≡ true) × (w.channel.told.failures ≡ v.channel.told.failures) × AreRefused (polled_answer result)
 
--- the drain was polled: it waits, and so does the call; it is over, and the call is polled; or its fault is the answer
+-- the drain was polled: it waits, and so does the call; it is over, and the call is polled; or its error is the answer
 abbrev pub ThenPollsIf : Bool → Builds → Coding → Call → Stage → Stage → Bool → Answer → SessionValue → SessionValue → Poll Answer → Type 0
 ThenPollsIf true builds coding call stage stage' polled first middle w result = PollsHere builds coding call stage stage' middle w result × (polled ≡ true)
 ThenPollsIf false builds coding call stage stage' polled first middle w result = (result ≡ Ready first) × (w ≡ middle)

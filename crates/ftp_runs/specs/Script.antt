@@ -179,7 +179,7 @@ abbrev pub succeeded : List Answer → Bool
 succeeded [] = false
 succeeded (answer ∷ answers) = is_unit (last_of answer answers)
 
--- the drain was polled: the call goes on where it is over; a fault of it is the call's answer
+-- the drain was polled: the call goes on where it is over; an error of it is the call's answer
 abbrev pub drained_as : Coding → PlayState → Call → Script → Ran → Script
 drained_as coding start call s (Finished answers t) =
     let done = polled_as (Finished answers t) Drain (draining s) in

@@ -37,7 +37,7 @@ sent_lines [] = []
 sent_lines (byte ∷ bytes) =
     if byte == 10 then (byte ∷ []) ∷ sent_lines bytes else onto_first byte (sent_lines bytes)
 
--- what stands after a fault's number: the code of the status of an unexpected reply
+-- what stands after an error's number: the code of the status of an unexpected reply
 abbrev pub after_number : FtpError → List ℕ
 after_number (OfConnection cause) = []
 after_number (SecureError cause) = []

@@ -22,7 +22,7 @@ conn_below below (Tcp conn) = Some conn
 conn_below below (Ssl stream) = Some (below stream)
 conn_below below (Gone conn) = None
 
--- a fault of either kind, or that the connection was handed over
+-- an error of either kind, or that the connection was handed over
 abbrev pub AnyFault : (ErrorKind → Type 0) → (ErrorKind → Type 0) → ErrorKind → Type 0
 AnyFault plain secure kind = plain kind ⊎ secure kind ⊎ (kind ≡ NotConnected)
 
@@ -37,7 +37,7 @@ told_below plain below (Ssl stream) = plain (below stream)
 told_below plain below (Gone conn) = gone_after conn.failures conn.last_fault
 
 -- asked for the connection below a plain one gives itself, and one under TLS what its stream may give: a connection of this
--- record, or a fault
+-- record, or an error
 abbrev pub GivesBack : {C : Type 0} {S : Type 0} → (C → Told) → (S → Result Told FtpError → Type 0) → DataStream C S → Result Told FtpError → Type 0
 GivesBack plain gives (Tcp conn) result = result ≡ Ok (plain conn)
 GivesBack plain gives (Ssl stream) result = gives stream result

@@ -18,8 +18,8 @@ pub trait SecureTransport<K: Drop>: SecureNetwork<K> {
     /// Puts a connection under TLS, to a server of this name. One that is under TLS is taken from under it first.
     ///
     /// # Errors
-    /// `SecureError` with the connector's text; the stream's fault, where one under TLS can't be taken from under it. The
-    /// connection is dropped.
+    /// `SecureError` with the connector's text; the stream's error, where one under TLS can't be taken from under it.
+    /// The connection is dropped.
     fn put_under(connector: &K, domain: &str, conn: Self::Conn) -> FtpResult<Self::Conn>
         ensures secures { SecuresBy (Self.gives conn) (Self.answers connector.now domain.now)
             (built_as Self.Conn.told result) }

@@ -23,7 +23,7 @@ pub trait SecureNetwork<K: Drop>: Network {
     /// The record of a connection itself, under whatever TLS.
     ghost told_below: { Self.Conn → Told };
 
-    /// What a connection may answer where it is asked for the one below: one of this record, or a fault.
+    /// What a connection may answer where it is asked for the one below: one of this record, or an error.
     ghost gives: { Self.Conn → Result Told Fault → Type 0 };
 
     /// What a connector may answer for a server of this name and a connection of this record: a stream of this record, in
@@ -40,7 +40,7 @@ pub trait SecureNetwork<K: Drop>: Network {
     /// Takes a connection from under TLS, as after CCC (RFC 2228, section 3; RFC 4217, section 5).
     ///
     /// # Errors
-    /// The stream's fault, where it can't give the connection back. It is dropped.
+    /// The stream's error, where it can't give the connection back. It is dropped.
     fn take_off(conn: Self::Conn) -> FtpResult<Self::Conn>
         ensures gives { gives conn (built_as Self.Conn.told result) }
         ensures below { Self.Conn.tells → IfOk result

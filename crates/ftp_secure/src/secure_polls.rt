@@ -37,13 +37,13 @@ pub trait PollSecureTransport<K: Drop, W>: SecureNetwork<K> {
     /// The record of the connection itself, as it was handed in.
     ghost told_under: { Self.Securing → Told };
 
-    /// What it may come to, where this connector is kept: a connection of this record, or a fault.
+    /// What it may come to, where this connector is kept: a connection of this record, or an error.
     ghost ends_as: { Option (K × Owned Memory) → Self.Securing → Result Told Fault → Type 0 };
 
     /// Begins to put a connection under TLS by the connector that was kept; where none was it stays as it is.
     ///
     /// # Errors
-    /// The stream's fault, where one under TLS can't be taken from under it. The connection is dropped.
+    /// The stream's error, where one under TLS can't be taken from under it. The connection is dropped.
     fn begin_secure(&self, conn: Self::Conn) -> FtpResult<Self::Securing>
         ensures begins { IfOk result (λ securing. (outcome : Result Told Fault) →
             ends_as (Self.kept self.now) securing outcome →

@@ -43,7 +43,7 @@ use Rattle.ftp_session.specs.Commands.{Converses, FollowsIf, HasFailedBefore, Ma
 use Rattle.ftp_session.specs.Handed.{PlaysSeen, as_seen}
 use Rattle.ftp_session.specs.Trees.{drain_reply, drain_tree}
 
--- each fault that is heard ends the dialogue, and is its answer
+-- each error that is heard ends the dialogue, and is its answer
 abbrev pub StopsAtFaults : Tree → Type 0
 StopsAtFaults (Say line next) = StopsAtFaults next
 StopsAtFaults (Hear expected next) =
@@ -90,7 +90,7 @@ converses link coding call tree old new answer why begins same played =
     let Q : Tree → Type 0 = λ t. T t old in
     record { going = going_if old.channel.failed (sym why ∙ played.going); last = played.last; plays = subst Q same (subst P begins played.plays); lets_go = played.lets_go }
 
--- a fault is no success
+-- an error is no success
 no_success : (fault : FtpError) (answer : Answer) (s t : PlayState) → played.Done (Fault fault) s ≡ played.Done answer t → IsSuccess answer → ⊥
 no_success fault answer s t is success =
     let same : answer ≡ Fault fault = cc in

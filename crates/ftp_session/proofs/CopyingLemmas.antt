@@ -91,7 +91,7 @@ so_far_kept tells text r s t old new after count far keeps = record {
   last = far.last;
 }
 
--- other faults aren't that of a source that is too large
+-- other errors aren't that of a source that is too large
 pub io_is_other : (kind : ErrorKind) (size : ℕ) → TooLarge (ConnectionError (Io kind)) size
 io_is_other kind size same = let clash : ConnectionError (Io kind) ≡ ConnectionError SourceTooLarge = same in cc
 

@@ -1,4 +1,4 @@
--- A call that reads a whole data connection answers its bytes or the lines of a listing, or a fault, and nothing else.
+-- A call that reads a whole data connection answers its bytes or the lines of a listing, or an error, and nothing else.
 use Rattle.std.proofs.Common.{◌≡◌, ℕ, zero, suc, Bool, true, false, cond, nat_le, length, List, [], ◌∷◌, ◌++◌, Option, Some, None, Result, Ok, Err, ap, sym, subst}
 use Rattle.std.specs.declared.io.ErrorKind.{ErrorKind}
 use Rattle.ftp_base.specs.declared.command.Command.{Command}

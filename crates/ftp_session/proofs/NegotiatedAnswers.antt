@@ -1,4 +1,4 @@
--- What a call that opens a data connection answers: nothing that its last exchange doesn't give, or a fault.
+-- What a call that opens a data connection answers: nothing that its last exchange doesn't give, or an error.
 use Rattle.std.proofs.Common.{◌≡◌, ◌&&◌, ℕ, zero, suc, Bool, true, false, cond, nat_lt, Option, Some, None, Result, Ok, Err, inl, inr, ◌⊎◌, refl, ap, sym, ◌∙◌, subst}
 use Rattle.std.specs.Net.Socket.{socket_port}
 use Rattle.std.specs.declared.net.socket_addr.SocketAddr.{SocketAddr}
@@ -212,7 +212,7 @@ module _ (Good : Answer → Type 0) (fails : (fault : FtpError) → Good (Fault 
           by (inr aborts) = subst F (sym aborts.is) (fails _)
       made (inr (inr withheld)) = subst F (sym withheld.is) (fails _)
 
--- The last reply of a transfer that was left comes first: it gives nothing, or a fault
+-- The last reply of a transfer that was left comes first: it gives nothing, or an error
 
 drain_answer_told : (fault : FtpError) → (drain_answer fault ≡ answer.Unit) ⊎ IsFault (drain_answer fault)
 drain_answer_told (faults.UnexpectedResponse reply) = inl refl

@@ -1,4 +1,4 @@
--- A call that opens a data connection for its caller answers so, or a fault, and nothing else.
+-- A call that opens a data connection for its caller answers so, or an error, and nothing else.
 use Rattle.std.proofs.Common.{◌≡◌, Bool, true, false, Option, Some, None, Result, Ok, Err, inl, inr, ◌⊎◌, refl, ap, sym, subst}
 use Rattle.ftp_base.specs.declared.command.Command.{Command}
 use Rattle.ftp_base.specs.declared.types.fault.FtpError.{FtpError}

@@ -81,7 +81,7 @@ pub record MakesCommand (link : Link) (tree : State → Tree) (old new : Session
 abbrev pub is_reply_due : SessionValue → Bool
 is_reply_due v = not (v.channel.failed || none_left v.state.counts.owed)
 
--- that reply is read, and then the command is made, or a fault of the read is its answer
+-- that reply is read, and then the command is made, or an error of the read is its answer
 pub record FollowsReply (link : Link) (tree : State → Tree) (old new : SessionValue) (answer : Answer) : Type 0 where
   pub middle : SessionValue
   pub first : Answer

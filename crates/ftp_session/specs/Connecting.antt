@@ -30,14 +30,14 @@ use Rattle.ftp_dialogue.specs.Link.{Link}
 use Rattle.ftp_dialogue.specs.Play.{play}
 use Rattle.ftp_dialogue.specs.State.{SessionValue}
 
--- a request for a connection came to one, or was refused with this fault
+-- a request for a connection came to one, or was refused with this error
 abbrev pub if_connected : Tree → (ConnectionError → Tree) → RequestOutcome → Tree
 if_connected next others Done = next
 if_connected next others (Address address) = next
 if_connected next others (Refused fault) = others fault
 
 -- connections are asked for in turn until there is one, on which the greeting is heard; where each is refused the last
--- fault is the answer, and where none is asked for this one
+-- error is the answer, and where none is asked for this one
 unfoldable pub connecting : Coding → List Request → ConnectionError → State → Tree
 connecting coding [] fault state = Leaf (Fault (Connection fault)) state
 connecting coding (request ∷ requests) fault state =
@@ -78,7 +78,7 @@ pub record ConnectsBy (link : Link) (coding : Coding) (rule : ReplyRule) (refuse
   pub connected : IsConnected link coding refuses requests fault ready asked asked_by told
   pub connects : Connects link coding rule told (first_net asked_by connected.unused closed) new result
 
--- each request was refused, and the last fault is the answer
+-- each request was refused, and the last error is the answer
 pub record NoneConnects (link : Link) (coding : Coding) (refuses : List Supply → ConnectionError → Type 0) (requests : List Request) (fault : ConnectionError) (ready : List Supply) (asked : List Asked) (answer : FtpError) : Type 0 where
   pub last : ConnectionError
   pub is : answer ≡ Connection last

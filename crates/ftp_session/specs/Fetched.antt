@@ -12,7 +12,7 @@ abbrev pub IsListed : Fetch → Type 0
 IsListed Whole = ⊥
 IsListed Listed = Unit {0}
 
--- what such a call answers: bytes or lines, as it was to be, or a fault
+-- what such a call answers: bytes or lines, as it was to be, or an error
 abbrev pub IsFetched : Fetch → Answer → Type 0
 IsFetched form (Fault fault) = Unit {0}
 IsFetched form (Bytes bytes) = IsWhole form

@@ -22,7 +22,7 @@ abbrev pub unless_failed : {T : Type 0} → T → Result (Unit {0}) FtpError →
 unless_failed value (Ok done) = Ok value
 unless_failed value (Err fault) = Err fault
 
--- the fault of the first, or that of the second, or what the first gave
+-- the error of the first, or that of the second, or what the first gave
 abbrev pub first_of : {T : Type 0} → Result T FtpError → Result (Unit {0}) FtpError → Result T FtpError
 first_of (Ok value) ended = unless_failed value ended
 first_of (Err fault) ended = Err fault
@@ -79,7 +79,8 @@ PutsFrom opens ends coding call source source' mark after former kept old new re
 abbrev pub Puts : Link → Link → Coding → Call → Option (List ℕ) → Option (List ℕ) → Option End → Option End → Option End → Option End → SessionValue → SessionValue → Result ℕ FtpError → Type 0
 Puts opens ends coding call source source' mark after former kept old new result = SeesFirst mark old (λ between seen. PutsFrom opens ends coding call source source' between after former kept seen new result)
 
--- a call opens a transfer, a reader is called once on it, and it is brought to its end; the reader's fault is told first
+-- a call opens a transfer, a reader is called once on it, and it is brought to its end; the reader's error is told
+-- first
 pub record OpensAndReads {T : Type 0} (opens ends : Link) (coding : Coding) (call : Call) (Reads : TransferValue → Result T FtpError → TransferValue → Type 0) (mark after former kept : Option End) (old new : SessionValue) (result : Result T FtpError) : Type 0 where
   pub transfer : TransferValue
   pub marked : Option End

@@ -100,7 +100,7 @@ opens false Opened = true
 opens true (OpenedWith reply) = true
 opens replies other = false
 
--- what an answer comes to: a transfer is opened, with this reply or without; or a fault, if it is one
+-- what an answer comes to: a transfer is opened, with this reply or without; or an error, if it is one
 abbrev pub ComesTo : Bool → Answer → Result (Option Response) (Option FtpError) → Type 0
 ComesTo replies answer (Ok reply) = (is_none reply ≡ not replies) × (answer ≡ opened_as reply)
 ComesTo replies answer (Err (Some fault)) = answer ≡ Fault fault
@@ -112,7 +112,7 @@ pub record OpensFrom (link : Link) (coding : Coding) (call : Call) (direction : 
   pub plays : PlaysInStep link coding call old given (opened_as reply)
   pub hands : HandsOut direction given transfer after new
 
--- no transfer is handed out: for this fault, and nothing changes; or for none, and the transfer that is live is left
+-- no transfer is handed out: for this error, and nothing changes; or for none, and the transfer that is live is left
 abbrev pub GivesUp : Option FtpError → FtpError → SessionValue → SessionValue → Type 0
 GivesUp (Some fault) cause old new = (cause ≡ fault) × (new ≡ old)
 GivesUp None cause old new = (cause ≡ ConnectionError NotOwed) × (new ≡ left_if true old)
@@ -137,7 +137,7 @@ pub record Strands (replies : Bool) (number : ℕ) (answer : Answer) (fault : Ft
   pub is : fault ≡ ConnectionError NotOwed
   pub left : new ≡ left_if true given
 
--- a call opens no transfer: this fault is its answer
+-- a call opens no transfer: this error is its answer
 pub record FailsFrom (link : Link) (coding : Coding) (call : Call) (replies : Bool) (old : SessionValue) (fault : FtpError) (new : SessionValue) : Type 0 where
   pub answer : Answer
   pub given : SessionValue
@@ -145,7 +145,7 @@ pub record FailsFrom (link : Link) (coding : Coding) (call : Call) (replies : Bo
   pub ends : ((answer ≡ Fault fault) × (new ≡ given)) ⊎ Strands replies (next_number old.state.counts) answer fault given new
 
 -- what an opening call returns after the look: a transfer, with its reply or without, and the mark of before is kept; or the
--- call's fault, and the marks stay
+-- call's error, and the marks stay
 abbrev pub OpensEither : Link → Coding → Call → Bool → Direction → Option End → Option End → Option End → Option End → SessionValue → SessionValue → Result (Option Response × TransferValue) FtpError → Type 0
 OpensEither link coding call replies direction mark after former kept old new (Ok opened) = (kept ≡ mark) × (is_none opened.0 ≡ not replies) × OpensFrom link coding call direction old opened.0 opened.1 after new
 OpensEither link coding call replies direction mark after former kept old new (Err fault) = (after ≡ mark) × (kept ≡ former) × FailsFrom link coding call replies old fault new

@@ -46,8 +46,8 @@ abbrev pub LooksFirst : Bool → Option End → Option End → SessionValue → 
 LooksFirst true mark after old seen = LooksIf (watches mark old) mark after × (seen ≡ as_seen after old)
 LooksFirst false mark after old seen = (after ≡ mark) × (seen ≡ old)
 
--- the last reply of a transfer that was left was polled: while it is waited for the call waits, too; a fault of it is the
--- answer; once it is over the call is polled
+-- the last reply of a transfer that was left was polled: while it is waited for the call waits, too; an error of it is
+-- the answer; once it is over the call is polled
 abbrev pub ThenStartsIf : Bool → Link → Type 0 → Coding → Call → Stage → Stage → Answer → SessionValue → SessionValue → Poll Answer → Type 0
 ThenStartsIf true link may_wait coding call stage stage' first middle new result = StartsTo link may_wait coding call stage stage' middle new result
 ThenStartsIf false link may_wait coding call stage stage' first middle new result = (result ≡ Ready first) × (new ≡ middle)
@@ -71,9 +71,9 @@ PollsNextIf false link may_wait coding call stage stage' old new result = Starts
 pub record PollsNext (link : Link) (may_wait : Type 0) (coding : Coding) (call : Call) (stage stage' : Stage) (old new : SessionValue) (result : Poll Answer) : Type 0 where
   pub polls : PollsNextIf (due_of call old) link may_wait coding call stage stage' old new result
 
--- replies that are due to commands that were dropped come first: while one is waited for the call waits, too; a fault of one
--- is the answer; once none is due the call is polled, but for a read of the last reply of a transfer that was left, which is
--- among them
+-- replies that are due to commands that were dropped come first: while one is waited for the call waits, too; an error
+-- of one is the answer; once none is due the call is polled, but for a read of the last reply of a transfer that was
+-- left, which is among them
 abbrev pub EndsOrPolls : Bool → Link → Type 0 → Coding → Call → Stage → Stage → SessionValue → SessionValue → Poll Answer → Type 0
 EndsOrPolls true link may_wait coding call stage stage' middle new result = (result ≡ Ready Nothing) × (new ≡ middle)
 EndsOrPolls false link may_wait coding call stage stage' middle new result = PollsNext link may_wait coding call stage stage' middle new result
@@ -129,15 +129,15 @@ Drops tells p old new = DropsUnless p.over tells p old new
 
 -- What an answer comes to
 
--- an answer is neither a fault nor that of a transfer that stands on a data connection under this number
+-- an answer is neither an error nor that of a transfer that stands on a data connection under this number
 pub record OpensNoTransfer (replies : Bool) (number : ℕ) (answer : Answer) (fault : FtpError) (given new : SessionValue) : Type 0 where
   pub no_fault : IsFault answer → ⊥
   pub lacks : opens replies answer ≡ true → (is_none given.net.data_conn ≡ true) ⊎ (is_live number given.state.counts.owed ≡ false)
   pub is : fault ≡ ConnectionError NotOwed
   pub left : new ≡ left_if true given
 
--- an answer opens a transfer under this mark, which is handed out, and the mark of before is kept; or it is a fault, or
--- none that opens one, and the marks stay
+-- an answer opens a transfer under this mark, which is handed out, and the mark of before is kept; or it is an error,
+-- or none that opens one, and the marks stay
 abbrev pub HandsOver : Bool → Direction → End → Answer → Option End → Option End → Option End → Option End → SessionValue → SessionValue → Result (Option Response × TransferValue) FtpError → Type 0
 HandsOver replies direction end answer mark after former kept old new (Ok opened) = (answer ≡ opened_as opened.0) × (is_none opened.0 ≡ not replies) × (opened.1.end ≡ end) × (kept ≡ mark) × HandsOut direction old opened.1 after new
 HandsOver replies direction end answer mark after former kept old new (Err fault) = (after ≡ mark) × (kept ≡ former) × (((answer ≡ Fault fault) × (new ≡ old)) ⊎ OpensNoTransfer replies end.number answer fault old new)

@@ -50,7 +50,7 @@ abbrev pub Saves : Type 0 → Option (List ℕ) → Option (List ℕ) → Transf
 Saves tells writer writer' old new (Ok count) = Saved tells writer writer' old new count
 Saves tells writer writer' old new (Err fault) = SaveFails tells writer writer' old new fault
 
--- what a transfer gives goes to a writer, and the transfer is brought to its end; the fault of the first is told first
+-- what a transfer gives goes to a writer, and the transfer is brought to its end; the error of the first is told first
 pub record Receives (link : Link) (coding : Coding) (writer writer' : Option (List ℕ)) (transfer : TransferValue) (mark after : Option End) (old new : SessionValue) (result : Result ℕ FtpError) : Type 0 where
   pub over : TransferValue
   pub saved : Result ℕ FtpError

@@ -22,7 +22,7 @@ use Rattle.ftp_dialogue.specs.Coding.{Coding}
 use Rattle.ftp_dialogue.specs.Unanswered.{after_faulty, answered_by}
 use Rattle.ftp_dialogue.specs.Dialogue.{Tree, Say, Hear, Leaf, armed, drain_answer, expected_of, expecting, features_answer, line_answer, path_answer, size_answer, time_answer, wants_memory, with_drained}
 
--- an accepted reply gives this answer, a fault is the answer; the state stays
+-- an accepted reply gives this answer, an error is the answer; the state stays
 abbrev pub replied : (Response → Answer) → State → Result Response FtpError → Tree
 replied answer state (Ok reply) = Leaf (answer reply) state
 replied answer state (Err fault) = Leaf (Fault fault) state

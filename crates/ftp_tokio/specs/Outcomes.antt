@@ -18,7 +18,7 @@ no_watch = record { limit = None; turn = None; end = None; late = false }
 abbrev pub conn_over : TcpStream → TokioConn
 conn_over stream = record { stream = Some stream; read_waits = false; write_waits = false; reads = 0; writes = 0; read_watch = no_watch; write_watch = no_watch }
 
--- an error of the system is a fault of its kind
+-- an error of the system is an error of its kind
 abbrev pub with_fault : {A : Type 0} → Result A Error → Result A ConnectionError
 with_fault (Ok value) = Ok value
 with_fault (Err error) = Err (Io (error_kind error))
@@ -37,7 +37,7 @@ accepted_as (Err error) = Err (Io (error_kind error))
 abbrev pub HasNoLimits : TokioTransport → Type 0
 HasNoLimits transport = (transport.limits.read ≡ None) × (transport.limits.write ≡ None)
 
--- a connect whose limits could be set returns its socket, and one that failed its fault
+-- a connect whose limits could be set returns its socket, and one that failed its error
 abbrev pub ComesAs : Result TcpStream Error → Result TokioConn ConnectionError → Type 0
 ComesAs (Ok stream) made = IfOk made (λ conn. conn.stream ≡ Some stream)
 ComesAs (Err error) made = made ≡ Err (Io (error_kind error))

@@ -114,7 +114,7 @@ impl Attempt {
     }
 }
 
-/// The fault of a call of the system.
+/// The error of a call of the system.
 pub(crate) fn fault(error: io::Error) -> ConnectionError
     ensures { result ≡ Io (error_kind error) }
 {

@@ -185,8 +185,8 @@ fn in_a_row(calls: u8, waits: bool) -> u8
     if waits { 0 } else { calls.saturating_add(1) }
 }
 
-/// What a call of a socket that doesn't block results in where it fails: that it waits, or a fault; also where it has waited
-/// for too long.
+/// What a call of a socket that doesn't block results in where it fails: that it waits, or an error; also where it has
+/// waited for too long.
 fn waits_or_fails(kind: ErrorKind, late: bool) -> Result<Poll<usize>, ErrorKind>
     ensures blocks { kind ≡ WouldBlock → late ≡ false → result ≡ Ok Poll.Pending }
     ensures late { kind ≡ WouldBlock → late ≡ true → result ≡ Err TimedOut }

@@ -48,7 +48,7 @@ impl TokioListener {
     /// A listener on this address, and the address that it is bound to.
     ///
     /// # Errors
-    /// The system's fault; out of memory.
+    /// The system's error; out of memory.
     pub fn bind(
         net: &impl Net,
         address: SocketAddr,
@@ -70,7 +70,7 @@ impl TokioListener {
     /// Returns the connection that came, or waits for one within this time, counted from the first call.
     ///
     /// # Errors
-    /// `TimedOut` where the time has passed and no connection came; the system's fault.
+    /// `TimedOut` where the time has passed and no connection came; the system's error.
     pub(crate) fn poll_peer<R: Clock>(
         &mut self,
         rt: &R,

@@ -48,7 +48,7 @@ Asks request outcome (Ready (Ok made)) before after = after ≡ recorded request
 Asks request outcome (Ready (Err full)) before after = after ≡ before
 Asks request outcome Pending before after = after ≡ before
 
--- a fault is the next outcome that was handed in, or one that may come where none is due
+-- an error is the next outcome that was handed in, or one that may come where none is due
 abbrev pub IsDue : (List Supply → ConnectionError → Type 0) → ConnectionError → List Supply → List Supply → Type 0
 IsDue refuses fault before after =
     ((kind : ErrorKind) × (fault ≡ Io kind) × (before ≡ Refuses kind ∷ after)) ⊎ ((after ≡ before) × refuses before fault)
@@ -61,7 +61,7 @@ connects_as told conn = Connects (told conn)
 abbrev pub comes_as : {C : Type 0} → (C → Told) → C × SocketAddr → Supply
 comes_as told made = Peer made.1 (told made.0)
 
--- what a builder answered: a connection of this record, or its fault
+-- what a builder answered: a connection of this record, or its error
 abbrev pub built_as : {C : Type 0} → (C → Told) → Result C FtpError → Result Told FtpError
 built_as told (Ok conn) = Ok (told conn)
 built_as told (Err fault) = Err fault
@@ -73,7 +73,7 @@ Supplies item refuses (Ready (Ok (Err fault))) before after = IsDue refuses faul
 Supplies item refuses (Ready (Err full)) before after = after ≡ before
 Supplies item refuses Pending before after = after ≡ before
 
--- a listener is bound to an address that it may get, or refused with a fault that may come
+-- a listener is bound to an address that it may get, or refused with an error that may come
 abbrev pub Binds : {L : Type 0} → (Result SocketAddr ConnectionError → Type 0) → Poll (Result (Result (L × SocketAddr) ConnectionError) AllocError) → Type 0
 Binds may (Ready (Ok (Ok made))) = may (Ok made.1)
 Binds may (Ready (Ok (Err fault))) = may (Err fault)
@@ -85,7 +85,7 @@ abbrev pub connects_to : Option Duration → List SocketAddr → List Request
 connects_to limit [] = []
 connects_to limit (address ∷ addresses) = Connect address limit ∷ connects_to limit addresses
 
--- each of these was refused in turn: the last fault, or the one from before where there are none
+-- each of these was refused in turn: the last error, or the one from before where there are none
 abbrev pub AreRefused : (List Supply → ConnectionError → Type 0) → List Asked → ConnectionError → ConnectionError → List Supply → List Supply → Type 0
 AreRefused refuses [] fault last before after = (last ≡ fault) × (after ≡ before)
 AreRefused refuses (one ∷ more) fault last before after =
@@ -110,7 +110,7 @@ pub record ConnectsInTurn (refuses : List Supply → ConnectionError → Type 0)
   pub connected : due ≡ Connects told ∷ ready'
   pub recorded_is : asked' ≡ recorded request Done before
 
--- what the requests in turn come to: a connection; the last fault, where each was refused; or memory ran out, or one
+-- what the requests in turn come to: a connection; the last error, where each was refused; or memory ran out, or one
 -- waits, and those before it were refused
 abbrev pub TriesInTurn : {C : Type 0} → (C → Told) → (List Supply → ConnectionError → Type 0) → List Request → List Request → ConnectionError → ConnectionError → Poll (Result (Result C ConnectionError) AllocError) → List Supply → List Supply → List Asked → List Asked → Type 0
 TriesInTurn told refuses requests left fault last (Ready (Ok (Ok conn))) ready ready' asked asked' = ConnectsInTurn refuses requests fault (told conn) ready ready' asked asked'

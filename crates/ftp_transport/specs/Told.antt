@@ -17,7 +17,7 @@ pub record Given : Type 0 where
   pub peer : SocketAddr
 
 -- what went over a connection since its channel began: the bytes that reads gave, whether one met the end, the
--- bytes that writes took; whether this end closed it; how many calls failed, and the last with which fault; and what is
+-- bytes that writes took; whether this end closed it; how many calls failed, and the last with which error; and what is
 -- at hand
 pub record Told : Type 0 where
   pub received : List ℕ
@@ -79,11 +79,11 @@ HasNoRoom (UpTo most) count = most ≤ count
 abbrev pub IsFull : Told → Type 0
 IsFull t = HasNoRoom t.given.room (length t.sent)
 
--- a failure was counted, with its fault; a count stays at its greatest value
+-- a failure was counted, with its error; a count stays at its greatest value
 abbrev pub HasCounted : ErrorKind → Told → Told → Type 0
 HasCounted kind t u = ((t.failures < u.failures) ⊎ (u.failures ≡ 18446744073709551615)) × (u.last_fault ≡ Some kind)
 
--- a call failed with this fault and was counted, and nothing else happened
+-- a call failed with this error and was counted, and nothing else happened
 pub record HasFailed (kind : ErrorKind) (t u : Told) : Type 0 where
   pub same : u ≡ record t { failures = u.failures; last_fault = u.last_fault }
   pub counts : HasCounted kind t u

@@ -194,7 +194,7 @@ impl MemoryConn {
         }
     }
 
-    /// A fault, which is counted.
+    /// An error, which is counted.
     fn fault(&mut self, kind: ErrorKind) -> ErrorKind
         ensures kind { result ≡ kind }
         ensures counted { HasFailed kind self.old self.new }

@@ -1,6 +1,6 @@
 //! The transport over memory, which is handed what its requests come to, and records them.
 //!
-//! A test, or a program that replays a dialogue, supplies connections, peers and faults, and looks at what was asked
+//! A test, or a program that replays a dialogue, supplies connections, peers and errors, and looks at what was asked
 //! and at the data connections that are over.
 
 ghost use Rattle.std.specs.Prelude.{◌≡◌, ◌<◌, OnErr, OnOk, [], ◌∷◌, ◌++◌, length};
@@ -21,8 +21,8 @@ use std::net::SocketAddr;
 use std::time::Duration;
 
 /// A transport over memory. A connect comes to the next item that it was supplied with where that is a connection or a
-/// fault, and is refused else; an accept to the next item where that is a peer or a fault, and else its deadline passes
-/// at once. A listen takes no item.
+/// error, and is refused else; an accept to the next item where that is a peer or an error, and else its deadline
+/// passes at once. A listen takes no item.
 #[derive(Drop)]
 pub struct MemoryTransport {
     ready: VecDeque<Supply>,
@@ -118,7 +118,7 @@ impl MemoryTransport {
     }
 }
 
-/// The next connection, or its fault; a refusal where none is next, and then nothing is taken.
+/// The next connection, or its error; a refusal where none is next, and then nothing is taken.
 fn next_connection(ready: &mut VecDeque<Supply>) -> Result<MemoryConn, ConnectionError>
     ensures { Supplies (connects_as (λ c. c)) over_memory (poll.Ready (Ok result)) ready.old.items
         ready.new.items }
@@ -134,7 +134,7 @@ fn next_connection(ready: &mut VecDeque<Supply>) -> Result<MemoryConn, Connectio
     }
 }
 
-/// The next peer with its address, or its fault; where none is next the deadline passes, and nothing is taken.
+/// The next peer with its address, or its error; where none is next the deadline passes, and nothing is taken.
 fn next_peer(ready: &mut VecDeque<Supply>) -> Result<(MemoryConn, SocketAddr), ConnectionError>
     ensures { Supplies (comes_as (λ c. c)) accepts_over_memory (poll.Ready (Ok result))
         ready.old.items ready.new.items }

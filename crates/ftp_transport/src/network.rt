@@ -40,10 +40,10 @@ pub trait Network: Drop {
     /// What the next requests that take an item come to, in order, as far as it was handed in.
     ghost ready: { Self → List Supply };
 
-    /// Which faults a connect may answer where none was handed in.
+    /// Which errors a connect may answer where none was handed in.
     ghost refuses: { List Supply → Fault → Type 0 };
 
-    /// Which faults an accept may answer where none was handed in.
+    /// Which errors an accept may answer where none was handed in.
     ghost accept_refuses: { List Supply → Fault → Type 0 };
 
     /// The port that it was told to listen on, which no request changes.
@@ -135,7 +135,7 @@ pub trait Transport<R>: Network {
     /// bound to.
     ///
     /// # Errors
-    /// The system's fault; over memory none.
+    /// The system's error; over memory none.
     fn listen(&mut self, rt: &R, address: SocketAddr) -> Listening<Self::Listener>
         ensures asks { Self.Conn.tells → Asks (Listen address) done_at (poll.Ready result)
             (Self.asked self.old) (Self.asked self.new) }
@@ -150,7 +150,7 @@ pub trait Transport<R>: Network {
     /// first accept.
     ///
     /// # Errors
-    /// `TimedOut` where the deadline has passed; the system's fault, or the one that was supplied.
+    /// `TimedOut` where the deadline has passed; the system's error, or the one that was supplied.
     fn accept(
         &mut self,
         rt: &R,
@@ -193,7 +193,7 @@ pub trait PollTransport<R, W>: Network {
     /// bound to.
     ///
     /// # Errors
-    /// The system's fault; over memory none.
+    /// The system's error; over memory none.
     fn poll_listen(
         &mut self,
         rt: &R,
@@ -213,7 +213,7 @@ pub trait PollTransport<R, W>: Network {
     /// first accept.
     ///
     /// # Errors
-    /// `TimedOut` where the deadline has passed; the system's fault, or the one that was supplied.
+    /// `TimedOut` where the deadline has passed; the system's error, or the one that was supplied.
     fn poll_accept(
         &mut self,
         rt: &R,

@@ -58,7 +58,7 @@ impl Tells for TcpConn {
         }
     }
 
-    /// Closes both directions. Where the peer has gone that is no fault.
+    /// Closes both directions. Where the peer has gone that is no error.
     fn close(&mut self) -> Result<(), ErrorKind> {
         match self.stream.shutdown(Shutdown::Both) {
             Ok(()) => Ok(()),
@@ -215,7 +215,7 @@ fn socket_fault(kind: ErrorKind) -> ErrorKind {
     }
 }
 
-/// How a fault under a deadline is told: that the deadline passed is a fault of its own.
+/// How an error under a deadline is told: that the deadline passed is an error of its own.
 fn deadline_fault(kind: ErrorKind) -> ConnectionError {
     match kind {
         ErrorKind::TimedOut => ConnectionError::TimedOut,

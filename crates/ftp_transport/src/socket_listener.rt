@@ -24,7 +24,7 @@ impl TcpConnListener {
     /// A listener on this address, and the address that it is bound to.
     ///
     /// # Errors
-    /// The system's fault.
+    /// The system's error.
     pub fn bind<R>(rt: &R, address: SocketAddr) -> io::Result<(TcpConnListener, SocketAddr)>
     where
         R: Net<Listener = TcpListener, Stream = TcpStream>,
@@ -45,7 +45,7 @@ impl TcpConnListener {
     /// taken, however late it is asked for.
     ///
     /// # Errors
-    /// `TimedOut` where the time has passed and no connection has come; the system's fault.
+    /// `TimedOut` where the time has passed and no connection has come; the system's error.
     pub fn accept_within<R: Clock>(
         &mut self,
         rt: &R,
@@ -94,7 +94,7 @@ impl TcpConnListener {
     }
 }
 
-/// The fault of a call of the system.
+/// The error of a call of the system.
 fn fault(error: io::Error) -> ConnectionError {
     ConnectionError::Io(error.kind())
 }

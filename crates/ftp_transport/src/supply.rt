@@ -11,6 +11,6 @@ pub enum Supply {
     Connects(MemoryConn),
     /// An accept: this connection, from a peer at this address.
     Peer(SocketAddr, MemoryConn),
-    /// Either: a fault of this kind.
+    /// Either: an error of this kind.
     Refuses(ErrorKind),
 }

@@ -1,4 +1,4 @@
-//! The texts of faults.
+//! The texts of errors.
 
 use crate::words::said;
 use ftp_base::encoding::EncodeError;
@@ -9,7 +9,7 @@ use std::alloc::Global;
 use std::fmt;
 use std::io::ErrorKind;
 
-/// The text of a fault, with its number if it has one.
+/// The text of an error, with its number if it has one.
 pub fn fault(alloc: Global, input: &str) -> Result<Vec<u8>, RowError> {
     match input {
         "ReplyTooLarge" => displayed(alloc, &ReplyTooLarge),
@@ -30,14 +30,14 @@ fn displayed<T: fmt::Display>(alloc: Global, value: &T) -> Result<Vec<u8>, RowEr
     said(alloc, &text)
 }
 
-/// The number of a fault and its text.
+/// The number of an error and its text.
 fn numbered(alloc: Global, fault: FtpError) -> Result<Vec<u8>, RowError> {
     let number = fault.number();
     let text = format!(in alloc; "E{number} {fault}")?;
     said(alloc, &text)
 }
 
-/// The fault of a name.
+/// The error of a name.
 fn of_ftp(alloc: Global, name: &str) -> Result<FtpError, RowError> {
     match name {
         "SecureError" => Ok(FtpError::SecureError(Text::from_str(alloc, "no cert")?)),
@@ -54,7 +54,7 @@ fn of_ftp(alloc: Global, name: &str) -> Result<FtpError, RowError> {
     }
 }
 
-/// The connection's fault of a name.
+/// The connection's error of a name.
 fn cause(name: &str) -> Result<ConnectionError, RowError> {
     match name {
         "Io" => Ok(ConnectionError::Io(ErrorKind::ConnectionRefused)),

@@ -66,7 +66,7 @@ pub enum Set {
     Replies,
     /// A greeting, and its text under two encodings.
     Welcomes,
-    /// The name of a fault, and its text.
+    /// The name of an error, and its text.
     Faults,
 }
 

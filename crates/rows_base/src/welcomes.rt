@@ -19,7 +19,7 @@ pub fn welcome(alloc: Global, input: &str) -> Result<Vec<u8>, RowError> {
     Ok(texts.into_bytes())
 }
 
-/// The one fault of a greeting.
+/// The one error of a greeting.
 fn no_memory(_fault: FtpError) -> RowError {
     RowError::OutOfMemory
 }

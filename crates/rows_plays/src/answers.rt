@@ -8,8 +8,8 @@ use rows_text::shown;
 use std::alloc::{AllocError, Global};
 
 /// An answer: `ok`, `ok` and what it gives, `opened`, `opened with` and the reply, `bytes` and those that were read,
-/// `lines` and those of a listing, `count` and how many were written, `NoTransfer`, or the number of the refusal, with the kind of a connection's fault
-/// or the code of an unexpected reply.
+/// `lines` and those of a listing, `count` and how many were written, `NoTransfer`, or the number of the refusal, with
+/// the kind of a connection's error or the code of an unexpected reply.
 pub fn text_of(alloc: Global, answer: &Answer) -> Result<String, AllocError> {
     match answer {
         Answer::Unit => String::from_str(alloc, "ok"),

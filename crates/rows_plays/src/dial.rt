@@ -106,7 +106,7 @@ impl Dial {
         Ok(outcomes)
     }
 
-    /// The fault where nothing is asked for.
+    /// The error where nothing is asked for.
     pub fn fault(&self) -> ConnectionError {
         match self.limit {
             Some(_) => ConnectionError::TimedOut,

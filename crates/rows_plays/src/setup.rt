@@ -238,7 +238,7 @@ fn outcome_of(port: u16, request: Request, next: Option<&Item>) -> (RequestOutco
     }
 }
 
-/// A kind of fault by its name.
+/// A kind of error by its name.
 fn kind(word: &str) -> Result<ErrorKind, RowError> {
     match word {
         "ConnectionRefused" => Ok(ErrorKind::ConnectionRefused),

@@ -23,7 +23,7 @@ pub enum Kind {
     Connects,
     /// `builds`, `builds BYTES`: the session has a builder of data connections, on which these bytes come.
     Builds,
-    /// `builds-not FAULT`: its builder gives this fault.
+    /// `builds-not FAULT`: its builder gives this error.
     BuildsNot,
     /// `encoding NAME`: the encoding of the session's texts.
     Encoding,

@@ -81,7 +81,7 @@ Moves movement s (carried.Unknown here) =
 Moves movement s (carried.Known outcome here) =
     (here.state ≡ s.state) × ((next : NetOutcome → PlayState → Played) → moved_then s.outcomes movement s next ≡ next outcome here)
 
--- one reply is heard: the bytes don't say it yet, or they say this reply, or a fault in its place
+-- one reply is heard: the bytes don't say it yet, or they say this reply, or an error in its place
 abbrev pub HearsAs : Outcome → Expected → PlayState → Heard → Type 0
 HearsAs said codes s (heard.Unknown here) =
     (next : Result Response FtpError → PlayState → Played) → heard_then said codes s next ≡ Pending (Bytes codes.form) here

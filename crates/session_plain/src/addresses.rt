@@ -106,7 +106,7 @@ fn connecting_to(
     }
 }
 
-/// The builder is asked for it. Its fault is the answer.
+/// The builder is asked for it. Its error is the answer.
 #[tactic(auto, unfolding(ftp_dialogue::specs::Play::play))]
 fn built_at(
     alloc: Global,

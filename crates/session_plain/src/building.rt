@@ -18,7 +18,7 @@ use std::net::SocketAddr;
 pub(crate) enum Answered {
     /// Its answer isn't known.
     Unknown(PlayState),
-    /// It made a connection; or gave this fault.
+    /// It made a connection; or gave this error.
     Known(Option<FtpError>, PlayState),
 }
 

@@ -214,7 +214,7 @@ fn hear<E: Encoding>(
     }
 }
 
-/// A reply is accepted, or a fault is the answer.
+/// A reply is accepted, or an error is the answer.
 #[tactic(auto, unfolding(ftp_dialogue::specs::Play::play))]
 fn concluded<E: Encoding>(
     alloc: Global,

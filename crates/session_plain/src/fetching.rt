@@ -125,7 +125,7 @@ fn gathering<E: Encoding>(
     }
 }
 
-/// The data connection is closed; the fault of an upload's close is the answer.
+/// The data connection is closed; the error of an upload's close is the answer.
 #[tactic(auto, unfolding(ftp_dialogue::specs::Play::play))]
 pub(crate) fn closing_data(
     alloc: Global,
@@ -198,7 +198,7 @@ fn fetched_from(play_state: PlayState) -> PlayState
     finished(with_transfer(play_state))
 }
 
-/// What a fault in place of the last reply leaves, by whether memory ran out.
+/// What an error in place of the last reply leaves, by whether memory ran out.
 fn after_fetch(lacks: bool, play_state: PlayState) -> PlayState
     ensures { (fault : Faults) → lacks ≡ wants_memory fault →
         result ≡ record play_state { state = after_fetch fault play_state.state } }
@@ -308,7 +308,7 @@ fn too_long(form: Fetch) -> Answer
     }
 }
 
-/// The fault that is told first: the data's, and a listing's last.
+/// The error that is told first: the data's, and a listing's last.
 fn first_fault(form: Fetch, answer: Answer, fault: FtpError) -> FtpError
     ensures { result ≡ first_fault form answer fault }
 {
@@ -321,7 +321,7 @@ fn first_fault(form: Fetch, answer: Answer, fault: FtpError) -> FtpError
     }
 }
 
-/// The fault of an answer, or this one.
+/// The error of an answer, or this one.
 fn fault_or(answer: Answer, fault: FtpError) -> FtpError
     ensures { result ≡ fault_or answer fault }
 {

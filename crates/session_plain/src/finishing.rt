@@ -43,7 +43,7 @@ pub(crate) fn closing<E: Encoding>(
     }
 }
 
-/// The fault of an upload's close is told before the reply's.
+/// The error of an upload's close is told before the reply's.
 pub(crate) fn told_of_close(uploads: bool, outcome: NetOutcome) -> Option<ErrorKind>
     ensures { result ≡ told_of_close uploads outcome }
 {
@@ -70,7 +70,7 @@ pub(crate) fn finish_answer(close: Option<ErrorKind>) -> Answer
     }
 }
 
-/// What is told where this fault was heard in place of the last reply.
+/// What is told where this error was heard in place of the last reply.
 fn finish_fault(close: Option<ErrorKind>, fault: FtpError) -> FtpError
     ensures { result ≡ finish_fault close fault }
 {
@@ -83,7 +83,7 @@ fn finish_fault(close: Option<ErrorKind>, fault: FtpError) -> FtpError
     }
 }
 
-/// The answer where this fault was heard in place of a reply.
+/// The answer where this error was heard in place of a reply.
 pub(crate) fn answer_to_fault(ending: &Ending, fault: FtpError) -> Answer
     ensures { result ≡ answer_to_fault ending.now fault }
 {
@@ -111,7 +111,7 @@ pub(crate) fn wants_memory(fault: &FtpError) -> bool
     matches!(fault, FtpError::OutOfMemory)
 }
 
-/// What a fault in place of a reply leaves.
+/// What an error in place of a reply leaves.
 pub(crate) fn after_fault(ending: &Ending, fault: &FtpError, mut play_state: PlayState) -> PlayState
     ensures { result ≡ record play_state { state = after_fault_of ending.now fault.now play_state.state } }
 {

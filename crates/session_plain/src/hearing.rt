@@ -17,7 +17,7 @@ use std::alloc::{AllocError, Global};
 pub(crate) enum Heard {
     /// The bytes don't say it yet.
     Unknown(PlayState),
-    /// This reply, or a fault in its place.
+    /// This reply, or an error in its place.
     Known(FtpResult<Response>, PlayState),
 }
 

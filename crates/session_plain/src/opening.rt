@@ -120,7 +120,7 @@ pub(crate) fn with_transfer(mut play_state: PlayState) -> PlayState
     play_state
 }
 
-/// A connection's fault is the answer.
+/// A connection's error is the answer.
 pub(crate) fn fault(cause: ConnectionError, play_state: PlayState) -> Played
     ensures { result ≡ Played.Done (Answer.Fault (FtpError.ConnectionError cause)) play_state }
 {

@@ -32,8 +32,8 @@ use std::test::Fail;
 use std::time::{Clock, Duration};
 
 /// A client's answers to these, with a bar after each: how many bytes, 0 where none are counted, or `E` and the number
-/// of a fault. It connects to the first of these addresses that doesn't refuse, or to the second within a time; where it
-/// doesn't, the fault is the answer.
+/// of an error. It connects to the first of these addresses that doesn't refuse, or to the second within a time; where
+/// it doesn't, the error is the answer.
 pub fn visited<R>(rt: &R, addresses: &[SocketAddr; 2], asks: &str) -> Result<String, Fail>
 where
     R: Net<Listener = TcpListener, Stream = TcpStream> + Clock + Wait + AllocGlobal,
@@ -75,10 +75,10 @@ where
     Ok(())
 }
 
-/// A count, or the number of a fault.
+/// A count, or the number of an error.
 type Counted = Result<u64, u8>;
 
-/// Adds a count or the number of a fault.
+/// Adds a count or the number of an error.
 fn write_count(text: &mut String, count: Counted) -> Result<(), Fail> {
     match count {
         Ok(count) => write!(text, "{count}|")?,

@@ -12,7 +12,7 @@ use std::alloc::Global;
 use std::net::SocketAddr;
 use std::test::Fail;
 
-/// The length of a reply of status 200; 1000 where the read waits, 2000 and the number of a fault.
+/// The length of a reply of status 200; 1000 where the read waits, 2000 and the number of an error.
 fn reply(alloc: Global, channel: &mut ControlChannel<MemoryConn>, polled: bool) -> usize {
     let answer = if polled {
         channel.poll_read_response(alloc, Status::CommandOk, &mut ())

@@ -38,7 +38,7 @@ fn client_of(alloc: Global, input: &[u8]) -> FtpResult<Box<MemoryClient>> {
     boxed(alloc, ImplFtpStream::new(alloc, Box::into_inner(session))?)
 }
 
-/// What a client that is lent answers: 0, or the number of its fault.
+/// What a client that is lent answers: 0, or the number of its error.
 fn lent<R: Wait + AllocGlobal>(rt: &R, client: &MemoryClient) -> u8 {
     number(client.noop(rt))
 }
@@ -76,7 +76,7 @@ enum Deed {
     Rename,
 }
 
-/// Does so twenty times; how often the answer is a fault.
+/// Does so twenty times; how often the answer is an error.
 fn faults<R: Wait + AllocGlobal>(rt: &R, client: &FtpStream, deed: Deed) -> usize {
     let mut faults = 0usize;
     for _ in 0..20 {
@@ -128,7 +128,7 @@ fn received(alloc: Global, pair: Box<Pair>, lines: &str) -> io::Result<(usize, u
     Ok((text.matches(lines).count(), text.len()))
 }
 
-/// What two threads come to that share a client, each with its deed: how often an answer is a fault, how often these
+/// What two threads come to that share a client, each with its deed: how often an answer is an error, how often these
 /// lines stand in what the server received, and how many bytes that is.
 fn shared<R>(
     rt: &R,

@@ -11,7 +11,7 @@ use std::test::Fail;
 use std::thread;
 use std::time::Clock;
 
-/// The numbers of the faults of three calls, and whether the client has failed after each; and where it did.
+/// The numbers of the errors of three calls, and whether the client has failed after each; and where it did.
 fn calls<R>(rt: &R, address: SocketAddr) -> FtpResult<([(u8, bool); 3], [Option<Failure>; 2])>
 where
     R: Net<Listener = TcpListener, Stream = TcpStream> + Wait + Clock + AllocGlobal,

@@ -17,7 +17,7 @@ fn greet(listener: &TcpListener) -> io::Result<()> {
     Ok(())
 }
 
-/// The numbers of the faults of clients that connect to this address, strictly and leniently; by themselves, and on a
+/// The numbers of the errors of clients that connect to this address, strictly and leniently; by themselves, and on a
 /// socket.
 fn faults<R>(rt: &R, address: SocketAddr) -> io::Result<[u8; 4]>
 where

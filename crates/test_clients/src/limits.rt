@@ -15,7 +15,7 @@ use std::time::{Clock, Duration};
 /// The limit, in milliseconds.
 const LIMIT: u64 = 100;
 
-/// The kind of the fault of a call that a connection's fault ended.
+/// The kind of the error of a call that a connection's error ended.
 fn kind_of<T: Drop>(answer: FtpResult<T>) -> Option<ErrorKind> {
     match &answer {
         Err(FtpError::ConnectionError(ConnectionError::Io(kind))) => Some(*kind),
@@ -52,7 +52,7 @@ fn a_reply_that_does_not_come_ends_its_call_and_the_session(rt: HostRuntime) -> 
     Ok(())
 }
 
-/// A download that is read once more than data comes, and left: how many bytes came, and the fault of the second read.
+/// A download that is read once more than data comes, and left: how many bytes came, and the error of the second read.
 fn stalled<R>(rt: &R, client: &FtpStream) -> Result<(usize, Option<ErrorKind>), Fail>
 where
     R: Net<Listener = TcpListener, Stream = TcpStream> + Clock + Wait + AllocGlobal,

@@ -32,7 +32,7 @@ fn add_sent<R: Wait>(rt: &R, client: &MemoryClient, text: &mut String) -> Result
     Ok(())
 }
 
-/// The files that a client lists, each with its size, or the number of a fault; the number of what NOOP fails with
+/// The files that a client lists, each with its size, or the number of an error; the number of what NOOP fails with
 /// afterwards; and what was sent.
 fn listed<R>(rt: &R, replies: &str, data: &str, path: Option<&str>) -> Result<String, Fail>
 where
@@ -154,7 +154,7 @@ fn lines_are_read_from_a_transfer_which_its_client_finishes(rt: HostRuntime) -> 
     Ok(())
 }
 
-/// Adds the text of a reply, or the number of a fault.
+/// Adds the text of a reply, or the number of an error.
 fn add_reply(text: &mut String, reply: FtpResult<Response>) -> Result<(), Fail> {
     match reply {
         Ok(reply) => write!(text, "{reply}|")?,

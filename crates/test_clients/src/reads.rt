@@ -8,8 +8,8 @@ use ftp_transport::MemoryConn;
 use std::alloc::Global;
 use std::test::Fail;
 
-/// The number of the fault of a read of a greeting that has so many letters in its first line, and how many reads of the
-/// connection it takes.
+/// The number of the error of a read of a greeting that has so many letters in its first line, and how many reads of
+/// the connection it takes.
 fn greeting(alloc: Global, letters: usize) -> FtpResult<(u8, u64)> {
     let mut conn = MemoryConn::new(alloc);
     conn.feed(b"220-")?;

@@ -1,4 +1,4 @@
-//! What the tests share: a connection over memory, a session that was greeted, and the numbers of faults.
+//! What the tests share: a connection over memory, a session that was greeted, and the numbers of errors.
 
 use ftp_base::types::FtpResult;
 use ftp_session::session::Session;
@@ -29,7 +29,7 @@ pub fn boxed<T: Drop>(alloc: Global, value: T) -> FtpResult<Box<T>> {
     Ok(Box::new(alloc, value)?)
 }
 
-/// The number of a fault; 0 where there is none.
+/// The number of an error; 0 where there is none.
 pub fn number<T: Drop>(answer: FtpResult<T>) -> u8 {
     match &answer {
         Ok(_) => 0,

@@ -10,8 +10,8 @@ use std::test::Fail;
 /// More calls than a run makes.
 const MOST: u32 = 500;
 
-/// What a run comes to: the number of its fault, whether the session has failed, whether a transfer is live and whether one was
-/// left; the number of the fault of a `NOOP` after it, and whether that sent anything.
+/// What a run comes to: the number of its error, whether the session has failed, whether a transfer is live and whether
+/// one was left; the number of the error of a `NOOP` after it, and whether that sent anything.
 type Came = (u8, bool, bool, bool, u8, bool);
 
 /// How many bytes were sent on the control connection.

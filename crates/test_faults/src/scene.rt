@@ -58,7 +58,8 @@ pub fn session_for<'d>(
     Ok(session)
 }
 
-/// The number of a fault; 0 where there is none, and 100 for a failure of another kind than that of the call that failed.
+/// The number of an error; 0 where there is none, and 100 for a failure of another kind than that of the call that
+/// failed.
 pub fn number<T: Drop>(answer: FtpResult<T>) -> u8 {
     match &answer {
         Ok(_) => 0,

@@ -15,10 +15,10 @@ use std::sync::Wait;
 use std::test::Fail;
 use std::time::{Clock, Duration};
 
-/// An address, or a fault.
+/// An address, or an error.
 type Came = Result<SocketAddr, ConnectionError>;
 
-/// What a connect to this address results in: the address of the other end, or a fault.
+/// What a connect to this address results in: the address of the other end, or an error.
 fn connect<R>(
     rt: &R,
     runtime: &mut Runtime,

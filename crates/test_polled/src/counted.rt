@@ -49,7 +49,7 @@ impl<F: Future> Counted<F> {
     }
 }
 
-/// Polls a call to its answer: the number of its fault, 0 where there is none and 255 where the runtime fails; and how
+/// Polls a call to its answer: the number of its error, 0 where there is none and 255 where the runtime fails; and how
 /// often it was polled.
 pub fn polled<R, F, T>(rt: &R, runtime: &mut Runtime, call: F) -> (u8, u32)
 where

@@ -28,7 +28,7 @@ where
     Ok(Box::new(rt.alloc(), client)?)
 }
 
-/// The kind of the fault of a call that a connection's fault ended.
+/// The kind of the error of a call that a connection's error ended.
 fn kind_of<R, F, T>(rt: &R, runtime: &mut Runtime, state: F) -> io::Result<Option<ErrorKind>>
 where
     R: Wait + Clock + RandomSource + AllocGlobal,

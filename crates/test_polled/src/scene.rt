@@ -105,7 +105,7 @@ where
     Ok((runtime.block_on(rt, connect)??, server))
 }
 
-/// The number of a fault; 0 where there is none.
+/// The number of an error; 0 where there is none.
 pub fn number<T: Drop>(answer: FtpResult<T>) -> u8 {
     match &answer {
         Ok(_) => 0,
@@ -113,7 +113,7 @@ pub fn number<T: Drop>(answer: FtpResult<T>) -> u8 {
     }
 }
 
-/// Polls a state to its answer: the number of its fault, 0 where there is none, and 255 where the runtime fails. A test
+/// Polls a state to its answer: the number of its error, 0 where there is none, and 255 where the runtime fails. A test
 /// that compares it needs no `?` beside what it owns.
 pub fn done<R, F, T>(rt: &R, runtime: &mut LocalRuntime, state: F) -> u8
 where

@@ -51,7 +51,8 @@ fn a_client_connects_to_the_first_that_listens(rt: HostRuntime) -> Result<(), Fa
     Ok(())
 }
 
-/// The numbers of the faults of two calls of a client that connects to this address, and whether it has failed after each.
+/// The numbers of the errors of two calls of a client that connects to this address, and whether it has failed after
+/// each.
 fn cut<R>(rt: &R, address: SocketAddr) -> Result<[(u8, u8); 2], Fail>
 where
     R: Net<Listener = TcpListener, Stream = TcpStream> + Wait + Clock + RandomSource + AllocGlobal,
@@ -114,7 +115,7 @@ fn greet(listener: &TcpListener) -> io::Result<()> {
     Ok(())
 }
 
-/// The numbers of the faults of clients that connect to this address, strictly and leniently.
+/// The numbers of the errors of clients that connect to this address, strictly and leniently.
 fn greeted_so<R>(rt: &R, address: SocketAddr) -> Result<(u8, u8), Fail>
 where
     R: Net<Listener = TcpListener, Stream = TcpStream> + Wait + Clock + RandomSource + AllocGlobal,
@@ -126,7 +127,7 @@ where
     Ok((strict, done(rt, &mut runtime, lenient)))
 }
 
-/// The number of the fault of a client that reads such a greeting leniently on a connection.
+/// The number of the error of a client that reads such a greeting leniently on a connection.
 fn greeted_on<R>(rt: &R) -> io::Result<u8>
 where
     R: Net<Listener = TcpListener, Stream = TcpStream> + Wait + Clock + RandomSource + AllocGlobal,
@@ -149,7 +150,7 @@ fn a_lenient_client_takes_a_greeting_that_opens_with_a_plus(rt: HostRuntime) -> 
     Ok(())
 }
 
-/// The number of the fault of a client that connects to a listener within this time.
+/// The number of the error of a client that connects to a listener within this time.
 fn fault_within<R>(rt: &R, limit: Duration) -> Result<u8, Fail>
 where
     R: Net<Listener = TcpListener, Stream = TcpStream> + Wait + Clock + RandomSource + AllocGlobal,
@@ -169,8 +170,8 @@ fn a_client_connects_within_its_limit_or_not_at_all(rt: HostRuntime) -> Result<(
     Ok(())
 }
 
-/// The numbers of the faults of a client that is set to wait a fifth of a second for its server, and of its download, and
-/// how often that was polled.
+/// The numbers of the errors of a client that is set to wait a fifth of a second for its server, and of its download,
+/// and how often that was polled.
 fn active<R>(rt: &R, scene: &mut Scene) -> (u8, (u8, u32))
 where
     R: Net<Listener = TcpListener, Stream = TcpStream> + Wait + Clock + RandomSource + AllocGlobal,
@@ -217,7 +218,7 @@ impl PassiveStreamBuilder<TokioConn> for BuildsNone {
 /// A client with such a builder.
 type Building = ImplAsyncFtpStream<TokioTransport, NoTlsConnector, Utf8Encoding, BuildsNone>;
 
-/// The numbers of the faults of the setting and of a download whose data connection such a builder is to make.
+/// The numbers of the errors of the setting and of a download whose data connection such a builder is to make.
 fn building<R>(rt: &R, address: SocketAddr) -> Result<(u8, u8), Fail>
 where
     R: Net<Listener = TcpListener, Stream = TcpStream> + Wait + Clock + RandomSource + AllocGlobal,

@@ -21,7 +21,7 @@ fn greet(listener: &TcpListener) -> io::Result<()> {
     server.write_all(b"220 ready\r\n")
 }
 
-/// The number of the fault of a client that connects to this text.
+/// The number of the error of a client that connects to this text.
 fn fault_at<R>(rt: &R, address: &str) -> io::Result<u8>
 where
     R: Net<Listener = TcpListener, Stream = TcpStream> + Wait + Clock + RandomSource + AllocGlobal,

@@ -23,7 +23,7 @@ fn limit() -> Duration {
     Duration::from_secs(5)
 }
 
-/// A transport that is supplied with a connection, a fault and a peer, and listens on port 1024.
+/// A transport that is supplied with a connection, an error and a peer, and listens on port 1024.
 fn supplied(alloc: Global) -> FtpResult<Box<Network>> {
     let mut below = MemoryTransport::new(alloc);
     below.listens_on(1024);
@@ -33,8 +33,8 @@ fn supplied(alloc: Global) -> FtpResult<Box<Network>> {
     Ok(Box::new(alloc, Secured::new(alloc, below))?)
 }
 
-/// Connects twice, listens and accepts: the fault of the second connect, and the addresses that the listener and the peer
-/// have.
+/// Connects twice, listens and accepts: the error of the second connect, and the addresses that the listener and the
+/// peer have.
 fn asks(network: &mut Network) -> FtpResult<(Option<ConnectionError>, SocketAddr, SocketAddr)> {
     drop(network.connect(&(), at(21))??);
     let fault = match network.connect_timeout(&(), at(22), limit())? {
@@ -133,7 +133,7 @@ fn data_connections_are_secured_once_a_connector_is_kept(rt: HostRuntime) -> Res
     Ok(())
 }
 
-/// The number of the fault of a data connection that a connector refuses, of which nothing is kept.
+/// The number of the error of a data connection that a connector refuses, of which nothing is kept.
 fn refused(alloc: Global) -> FtpResult<(u8, (usize, usize))> {
     let mut network = with_two(alloc)?;
     let seal = Seal::new(alloc, "clear")?;

@@ -111,7 +111,7 @@ fn one_that_a_connector_took_is_not_connected(rt: HostRuntime) -> Result<(), Fai
     Ok(())
 }
 
-/// The number of the fault that a call answered; 0 where there is none.
+/// The number of the error that a call answered; 0 where there is none.
 pub fn number<T: Drop>(answer: FtpResult<T>) -> u8 {
     match &answer {
         Ok(_) => 0,
@@ -120,7 +120,7 @@ pub fn number<T: Drop>(answer: FtpResult<T>) -> u8 {
 }
 
 /// How many bytes are left to read on the connection that is taken from under TLS, to a server of this name; the number of
-/// the fault where it can't be.
+/// the error where it can't be.
 fn taken_back(alloc: Global, domain: Option<&str>) -> Result<(usize, u8), FtpError> {
     let stream = stream_to(alloc, domain)?;
     match Box::into_inner(stream).into_tcp_stream() {
@@ -156,7 +156,7 @@ fn the_connection_below_can_be_changed(rt: HostRuntime) -> Result<(), Fail> {
     Ok(())
 }
 
-/// The text with which a connector refused a server of this name, and the number of the fault.
+/// The text with which a connector refused a server of this name, and the number of the error.
 fn refused(alloc: Global, domain: &str) -> FtpResult<(Option<Text>, u8)> {
     match stream_to(alloc, Some(domain)) {
         Ok(_) => Ok((None, 0)),

@@ -157,14 +157,14 @@ fn listed(alloc: Global, input: &[u8]) -> FtpResult<(u8, u8)> {
     Ok((list, number(session.noop(alloc))))
 }
 
-/// Whether the fault of a download is the reset, and the number of the refusal of the command after it.
+/// Whether the error of a download is the reset, and the number of the refusal of the command after it.
 fn downloaded(alloc: Global, input: &[u8]) -> FtpResult<(bool, u8)> {
     let mut session = session_on(alloc, input)?;
     let reset = is_reset(session.retr_as_buffer(alloc, &(), "a"));
     Ok((reset, number(session.noop(alloc))))
 }
 
-/// How many bytes of a download were written whose data are reset, whether its fault is the reset, and whether the data
+/// How many bytes of a download were written whose data are reset, whether its error is the reset, and whether the data
 /// connection at that address is told to have failed; and that of the download after it, for which there is no connection.
 fn written(alloc: Global, bytes: &mut Vec<u8>) -> FtpResult<(u8, bool, u8, bool)> {
     let both = b"220 r\r\n227 x (10,0,0,1,4,0).\r\n150 b\r\n426 n\r\n227 x (10,0,0,2,4,1).\r\n";
@@ -181,7 +181,7 @@ fn at(host: [u8; 4], port: u16) -> Option<Failure> {
     Some(Failure::Data(Some(SocketAddr::from((host, port)))))
 }
 
-/// Whether this is the fault of a connection that was reset.
+/// Whether this is the error of a connection that was reset.
 fn is_reset(answer: FtpResult<Vec<u8>>) -> bool {
     let reset = match &answer {
         Err(FtpError::ConnectionError(fault)) => fault.kind() == ErrorKind::ConnectionReset,

@@ -73,7 +73,7 @@ pub fn sent(session: &MemorySession) -> &[u8] {
     session.get_ref().sent()
 }
 
-/// The number of a fault; 0 where there is none.
+/// The number of an error; 0 where there is none.
 pub fn number<T: Drop>(answer: FtpResult<T>) -> u8 {
     match &answer {
         Ok(_) => 0,

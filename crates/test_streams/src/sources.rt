@@ -32,7 +32,7 @@ impl Read for Stumbling {
     }
 }
 
-/// How many bytes an upload of this source answers, or 1000 and the number of its fault.
+/// How many bytes an upload of this source answers, or 1000 and the number of its error.
 fn put(alloc: Global, session: &mut MemorySession, source: &mut Stumbling) -> u64 {
     match session.put_file(alloc, &(), "f", source) {
         Ok(count) => count,
@@ -82,7 +82,7 @@ fn what_a_source_gave_before_its_fault_is_uploaded(rt: HostRuntime) -> Result<()
     Ok(())
 }
 
-/// Reads two bytes, and gives them as a number; or gives a fault.
+/// Reads two bytes, and gives them as a number; or gives an error.
 #[derive(Drop)]
 struct Pair {
     fails: bool,
@@ -99,7 +99,7 @@ impl DownloadReader<MemoryConn, u16> for Pair {
     }
 }
 
-/// What a download by a reader gives, or the number of its fault, where the last reply is this; and what the command
+/// What a download by a reader gives, or the number of its error, where the last reply is this; and what the command
 /// after it answers.
 fn pair_of(alloc: Global, replies: &str, fails: bool) -> Result<(u16, u8), Fail> {
     let mut session = greeted(alloc, replies)?;

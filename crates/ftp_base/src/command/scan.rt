@@ -19,7 +19,7 @@ pub struct Span {
     pub end: usize,
 }
 
-/// Finds the first `(d,d,d,d,d,d)`, each `d` a run of digits, and answers the spans of the six
+/// Finds the first `(d,d,d,d,d,d)`, each `d` a run of digits, and returns the spans of the six
 /// runs.
 pub fn pasv_port(text: &str) -> Option<[Span; 6]>
     ensures { MatchOption result
@@ -34,7 +34,7 @@ pub fn pasv_port(text: &str) -> Option<[Span; 6]>
     None
 }
 
-/// Finds the first `(|||d|)`, `d` a run of digits, and answers the span of the run.
+/// Finds the first `(|||d|)`, `d` a run of digits, and returns the span of the run.
 pub fn epsv_port(text: &str) -> Option<Span>
     ensures { MatchOption result
         (StandsNowhere (IsExtended text.now)) (StandsFirst (IsExtended text.now)) }
@@ -48,7 +48,7 @@ pub fn epsv_port(text: &str) -> Option<Span>
     None
 }
 
-/// Finds the first fourteen digits with no byte of a word on either side, and answers the spans of
+/// Finds the first fourteen digits with no byte of a word on either side, and returns the spans of
 /// the year, the month, the day, the hour, the minute and the second.
 pub fn mdtm(text: &str) -> Option<[Span; 6]>
     ensures { MatchOption result
@@ -63,7 +63,7 @@ pub fn mdtm(text: &str) -> Option<[Span; 6]>
     None
 }
 
-/// Finds the digits after the last white space of a text whose end is trimmed, and answers their
+/// Finds the digits after the last white space of a text whose end is trimmed, and returns their
 /// span; `None` where no white space is before them, or anything but digits after it.
 pub fn size(text: &str) -> Option<Span>
     ensures { MatchOption result

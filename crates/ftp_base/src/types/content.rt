@@ -1,4 +1,4 @@
-//! Bytes and text that replies, commands and faults hold.
+//! Bytes and text that replies, commands and errors hold.
 //!
 //! A `Vec<u8>` and a `String` have a capacity and an address, which say nothing of what they hold. Here a contract
 //! sees the bytes and nothing else, so that two replies with the same bytes are the same value. Both types are made

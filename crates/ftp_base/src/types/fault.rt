@@ -1,9 +1,9 @@
 //! What can go wrong, one variant a cause.
 //!
-//! A caller matches on a fault to learn what to do next, so each cause has a variant of its own and none holds a
-//! text for a program to read. [`FtpError`] is what calls of the client answer; [`ConnectionError`] is its part that
-//! a connection, or what goes over it, can answer, and has a kind of the standard library. Where memory ran out the
-//! fault takes none.
+//! A caller matches on an error to learn what to do next, so each cause has a variant of its own and none holds a
+//! text for a program to read. [`FtpError`] is what calls of the client return; [`ConnectionError`] is its part that
+//! concerns a connection, or what goes over it, and has a kind of the standard library. The error for out of memory
+//! allocates nothing.
 
 ghost use Rattle.std.specs.Prelude.{◌≡◌, ◌≢◌, ◌⊎◌, Some, codes};
 ghost use Rattle.std.specs.IoError.{error_kind};
@@ -19,16 +19,16 @@ use std::io::ErrorKind;
 use std::{fmt, io};
 use thiserror::Error;
 
-/// What a call of the client answers.
+/// What a call of the client returns.
 pub type FtpResult<T> = Result<T, FtpError>;
 
 /// Why a call of the client failed.
 #[derive(Clone, Debug, Drop, Error)]
 pub enum FtpError {
-    /// A connection failed, or what went over it can't be sent or taken.
+    /// A connection failed, or what went over it can't be sent or accepted.
     #[error("Connection error: {0}")]
     ConnectionError(ConnectionError),
-    /// The connector refused to secure a connection, with this text.
+    /// The connector failed to secure a connection, with this text.
     #[error("Secure error: {0}")]
     SecureError(Text),
     /// The reply's status isn't one that the command allows, or its text lacks what the command asks for.
@@ -37,7 +37,7 @@ pub enum FtpError {
     /// The reply doesn't follow the grammar of replies.
     #[error("Response contains an invalid syntax")]
     BadResponse,
-    /// Never answered: addresses are handed in. The variant is kept for its name.
+    /// Never returned: addresses are handed in. The variant is kept for its name.
     #[error("Invalid address")]
     InvalidAddress,
     /// A transfer is live, and the command would open another.
@@ -72,7 +72,7 @@ impl FtpError {
 /// What went wrong with a connection, or with what goes over it.
 #[derive(Clone, Copy, Debug, PartialEq, Eq, Drop)]
 pub enum ConnectionError {
-    /// A connection, a listener, or what the caller handed in answered a fault of this kind.
+    /// A connection, a listener, or what the caller handed in failed with an error of this kind.
     Io(ErrorKind),
     /// The input ended before a reply's first byte or in the middle of a reply.
     UnexpectedEof,
@@ -84,7 +84,7 @@ pub enum ConnectionError {
     EncodedWithoutCrlf,
     /// CR or LF stands in the encoded command before the line end that closes it.
     EncodedLineBreak,
-    /// The encoding refused the command's text, for a cause of this kind.
+    /// The encoding failed on the command's text, with an error of this kind.
     Encoding(ErrorKind),
     /// A deadline passed, or too many strangers connected.
     TimedOut,
@@ -99,7 +99,7 @@ pub enum ConnectionError {
 }
 
 impl ConnectionError {
-    /// The kind of fault, as `std::io::Error` would tell it.
+    /// The kind of error, as `std::io::Error` has it.
     pub fn kind(&self) -> ErrorKind
         ensures { result ≡ kind_of self.now }
     {

@@ -13,7 +13,7 @@ use std::net::IpAddr;
 /// Who opens a data connection, and how it is asked for.
 #[derive(Clone, Copy, Debug, PartialEq, Eq)]
 pub enum Mode {
-    /// The server opens it to an address that PORT or EPRT tells.
+    /// The server opens it to an address that PORT or EPRT names.
     Active,
     /// The client opens it to the address and port of the reply to PASV.
     Passive,

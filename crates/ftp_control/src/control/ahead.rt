@@ -71,7 +71,7 @@ impl ReadAhead {
     /// Reads bytes, where none is left. Returns whether any came, and not the end of the input.
     ///
     /// # Errors
-    /// A fault of the connection.
+    /// An error of the connection.
     pub(crate) fn fill<W, C: PollConn<W>>(
         &mut self,
         conn: &mut C,

@@ -7,7 +7,7 @@
 //! anything else. So a call that is dropped in the middle leaves at most a part of a reply to be read on, and a part of
 //! a line to be sent on, and never a byte that belongs to something else.
 //!
-//! A fault of the connection, an input that ended or a reply that is too large fails the channel for good: it reads
+//! An error of the connection, an input that ended or a reply that is too large fails the channel for good: it reads
 //! and sends nothing from then on.
 
 ghost use Rattle.std.specs.Prelude.{◌≡◌, ◌||◌, Ok, [], false, true};
@@ -76,7 +76,7 @@ impl<C: Tells + Drop> ControlChannel<C> {
     /// waits.
     ///
     /// # Errors
-    /// A fault of the connection, after which the channel has failed, or out of memory. Neither loses a byte.
+    /// An error of the connection, after which the channel has failed, or out of memory. Neither loses a byte.
     pub(crate) fn poll_outcome<W>(
         &mut self,
         alloc: Global,
@@ -155,7 +155,7 @@ impl<C: Tells + Drop> ControlChannel<C> {
         }
     }
 
-    /// From now on the channel has failed, as after a fault in the middle of a dialogue.
+    /// From now on the channel has failed, as after an error in the middle of a dialogue.
     pub fn fail(&mut self)
         ensures { self.new ≡ record self.old { failed = true } }
     {
@@ -196,7 +196,7 @@ impl<C: Tells + Drop> ControlChannel<C> {
     /// Sends the unsent tail of a line.
     ///
     /// # Errors
-    /// A fault of the connection, after which the channel has failed.
+    /// An error of the connection, after which the channel has failed.
     pub(crate) fn poll_flush<W>(&mut self, w: &mut W) -> Result<Poll<()>, ErrorKind>
     where
         C: PollConn<W>,

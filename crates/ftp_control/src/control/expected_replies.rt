@@ -26,7 +26,7 @@ impl<C: Tells + Drop> ControlChannel<C> {
     /// # Errors
     /// `SessionFailed` where the channel has failed, and nothing is read. `UnexpectedResponse` with a reply
     /// of another status, `BadResponse` where a first line opens no reply: both are consumed. `UnexpectedEof` and
-    /// `ReplyTooLarge` (RFC 959, section 4.2), or a fault of the connection: then the channel has failed.
+    /// `ReplyTooLarge` (RFC 959, section 4.2), or an error of the connection: then the channel has failed.
     /// `OutOfMemory`: what was read is kept.
     pub fn poll_read_response_in<W>(
         &mut self,

@@ -22,7 +22,7 @@ pub(crate) struct Outbox {
 /// Sends what is unsent, as far as there is room. `Pending` says that the connection waits for room.
 ///
 /// # Errors
-/// A fault of the connection, whose bytes stay unsent.
+/// An error of the connection, whose bytes stay unsent.
 pub(crate) fn flush<W, C: PollConn<W>>(
     conn: &mut C,
     outbox: &mut Outbox,

@@ -22,7 +22,7 @@ use std::alloc::Global;
 /// Reads what is sought as far as it has come. Returns `Waits` where the connection waits.
 ///
 /// # Errors
-/// A fault of the connection; out of memory for what comes next, which then stays ahead. What was read is kept.
+/// An error of the connection; out of memory for what comes next, which then stays ahead. What was read is kept.
 pub(crate) fn hear<W, C: PollConn<W>>(
     alloc: Global,
     conn: &mut C,

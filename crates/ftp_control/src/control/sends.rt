@@ -23,7 +23,7 @@ impl<C: Tells + Drop> ControlChannel<C> {
     /// begins to go out; dropped while it waits and called again, the call resumes where it stopped.
     ///
     /// # Errors
-    /// `SessionFailed` where the channel has failed, and nothing is sent. A fault of the connection, after
+    /// `SessionFailed` where the channel has failed, and nothing is sent. An error of the connection, after
     /// which the channel has failed.
     pub fn poll_perform<W>(&mut self, line: &mut Option<WireLine>, w: &mut W) -> Poll<FtpResult<()>>
     where
@@ -59,7 +59,7 @@ impl<C: Tells + Drop> ControlChannel<C> {
     /// # Errors
     /// `SessionFailed` where the channel has failed. `LineBreak`, the encoding's error, `EncodedWithoutCrlf` or
     /// `EncodedLineBreak` where the command has no wire line, or `OutOfMemory`: nothing is sent then, and
-    /// nothing changes. A fault of the connection, after which the channel has failed.
+    /// nothing changes. An error of the connection, after which the channel has failed.
     pub fn perform<E: Encoding>(
         &mut self,
         alloc: Global,

@@ -25,7 +25,7 @@ impl<C: Tells + Drop> ControlChannel<C> {
     /// # Errors
     /// `SessionFailed` where the channel has failed, and `BadResponse` where a whole line of a reply under way is
     /// kept: nothing is read then. `ReplyTooLarge` for a line of more than 262,144 bytes, `UnexpectedEof` where
-    /// the input ended before a byte, or a fault of the connection: then the channel has failed. `OutOfMemory`:
+    /// the input ended before a byte, or an error of the connection: then the channel has failed. `OutOfMemory`:
     /// what was read is kept.
     pub fn poll_read_line<W>(&mut self, alloc: Global, w: &mut W) -> Poll<FtpResult<Bytes>>
     where

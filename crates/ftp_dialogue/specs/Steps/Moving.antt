@@ -230,13 +230,13 @@ pub record TakesLine (link : Link) (line line' : Option (List ℕ)) (old new : S
   pub stays : line' ≡ line → NothingTouched link old new
   pub begins : line' ≡ None → (line ≡ None) ⊎ (link.tells → length (said old.channel) < length (said new.channel))
 
--- a fault that was heard in place of a reply: memory didn't run out, and after a reply of another status the session goes
--- on
+-- an error that was heard in place of a reply: memory didn't run out, and after a reply of another status the session
+-- goes on
 pub record HeardFault (fault : FtpError) (old new : SessionValue) : Type 0 where
   pub other : fault ≡ OutOfMemory → ⊥
   pub goes_on : (reply : Response) → fault ≡ UnexpectedResponse reply → new.channel.failed ≡ old.channel.failed
 
--- a reply is heard, or a fault in its place; or it is waited for, or the read is aborted
+-- a reply is heard, or an error in its place; or it is waited for, or the read is aborted
 abbrev pub Hears : Link → Expected → (Result Response FtpError → Tree) → SessionValue → SessionValue → Poll (Result Response FtpError) → Type 0
 Hears link codes next old new (poll.Ready (Ok reply)) = Advances link (Hear codes next) (next (Ok reply)) old new × Takes link (Hear codes next) old new
 Hears link codes next old new (poll.Ready (Err fault)) =
@@ -256,7 +256,8 @@ abbrev pub done_as : Result Answer AllocError → Accepted
 done_as (Ok answer) = accepts.Done answer
 done_as (Err full) = accepts.NoMemory
 
--- what a fault that is heard in place of a reply comes to: where memory ran out before the dialogue has begun nothing more
+-- what an error that is heard in place of a reply comes to: where memory ran out before the dialogue has begun nothing
+-- more
 abbrev pub FaultLeavesIf : Bool → Bool → Ending → FtpError → State → State → Answer → Type 0
 FaultLeavesIf true begun ending fault state state' told = (told ≡ Fault fault) × (state' ≡ (if begun then after_fault_of ending fault state else state))
 FaultLeavesIf false begun ending fault state state' told = (told ≡ answer_to_fault ending fault) × (state' ≡ after_fault_of ending fault state)
@@ -268,7 +269,7 @@ FaultLeaves begun ending fault state state' told = FaultLeavesIf (wants_memory f
 abbrev pub after_fault : Bool → FtpError → SessionValue → SessionValue
 after_fault begun fault v = if wants_memory fault && begun then failed_from v else v
 
--- a dialogue ends with a fault in place of a reply
+-- a dialogue ends with an error in place of a reply
 abbrev pub EndsFaulty : Bool → Ending → FtpError → SessionValue → SessionValue → Answer → Type 0
 EndsFaulty begun ending fault old new told =
     (new ≡ record (after_fault begun fault old) { state = new.state }) × FaultLeaves begun ending fault (after_fault begun fault old).state new.state told
@@ -552,7 +553,7 @@ Sends link rest rest' old new (Ok (poll.Ready done)) = (count : ℕ) × (rest' �
 Sends link rest rest' old new (Err kind) = MovesBy link (movement.Write rest) old new (came.Failed kind)
 Sends link rest rest' old new (Ok poll.Pending) = (rest' ≡ rest) × ((tree : Tree) → Still link tree tree old new) × link.asks_wait
 
--- a fault was heard in place of the last reply: what is answered, and what it leaves
+-- an error was heard in place of the last reply: what is answered, and what it leaves
 abbrev pub FetchFailsIf : Bool → Fetch → Answer → FtpError → State → State → Answer → Type 0
 FetchFailsIf true form answer fault state state' told = (told ≡ Fault fault) × (state' ≡ with_abandoned state)
 FetchFailsIf false form answer fault state state' told = (told ≡ Fault (first_fault form answer fault)) × (state' ≡ with_fetched state)

@@ -243,7 +243,7 @@ abbrev pub FirstNode : Coding → Turn → Exchange → Result Stage FtpError �
 FirstNode coding turn exchange (Ok stage) = NodeOf coding turn exchange stage
 FirstNode coding turn exchange (Err fault) = NotBegun coding (Exchanges exchange) fault
 
--- an answer of a kind, or a fault
+-- an answer of a kind, or an error
 abbrev pub AnswersKind : Kind → Answer → Type 0
 AnswersKind kind answer.Unit = kind ≡ Nothing
 AnswersKind kind (answer.Reply reply) = kind ≡ Replies
@@ -271,7 +271,7 @@ TurnOf call (Restart offset) = negotiates call ≡ true
 TurnOf call (Closed close) = finishes call ≡ true
 TurnOf call Aborted = aborts call ≡ true
 
--- the kind of an answer is that of some exchange of the call, or it is a fault
+-- the kind of an answer is that of some exchange of the call, or it is an error
 abbrev pub MayAnswer : Call → Answer → Type 0
 MayAnswer call answer = (turn : Turn) × (TurnOf call turn ⊎ IsFault answer) × AnswersKind (given_by (row_of call turn)) answer
 
@@ -354,7 +354,7 @@ GoesOnTo call turn stage step.Next = (next : Turn) × (next_turn call turn ≡ S
 GoesOnTo call turn stage step.Pending = ⊥
 GoesOnTo call turn stage (step.Done last) = (next_turn call turn ≡ None) × (last ≡ answer.Unit)
 
--- what follows another reply than that to NOOP, or a fault in its place
+-- what follows another reply than that to NOOP, or an error in its place
 abbrev pub FollowsSought : Turn → ℕ → FtpError → Stage → Step → Type 0
 FollowsSought turn left fault stage step.Next =
     (rest : ℕ) × (reply : Response) × (left ≡ suc rest) × (fault ≡ UnexpectedResponse reply) × (closes reply ≡ false) × (stage ≡ Resyncing turn (resync.Seeking rest))

@@ -28,7 +28,7 @@ where
     /// Connects to the first of these addresses that doesn't refuse, in their order, and reads the greeting (220).
     ///
     /// # Errors
-    /// The last address's fault where each refused, `NoAddress` where there is none; else those of the greeting's
+    /// The last address's error where each refused, `NoAddress` where there is none; else those of the greeting's
     /// read, and the connection is closed then.
     pub fn connect<R>(
         alloc: Global,
@@ -94,7 +94,7 @@ where
     /// at all asks for no connection.
     ///
     /// # Errors
-    /// `TimedOut` where the time passed or was zero; the address's fault; those of the greeting's read, and the
+    /// `TimedOut` where the time passed or was zero; the address's error; those of the greeting's read, and the
     /// connection is closed then.
     pub fn connect_timeout<R>(
         alloc: Global,
@@ -128,7 +128,7 @@ where
     }
 
     /// Connects to the first of these addresses that doesn't refuse, each within this time where there is a limit;
-    /// where there is no address this is the fault. Replies are read by this rule.
+    /// where there is no address this is the error. Replies are read by this rule.
     fn connect_in_turn<R>(
         alloc: Global,
         rt: &R,

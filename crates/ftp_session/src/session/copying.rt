@@ -30,7 +30,7 @@ const BLOCK: usize = 65_536;
 /// # Errors
 /// `Io` of the kind that the source answers, an interruption only after 64 tries in a row were interrupted again, or of
 /// that which the data connection answers; `SourceTooLarge` where more than 2^63 - 1 bytes would be written;
-/// `OutOfMemory`. What the source gave before its fault has been written.
+/// `OutOfMemory`. What the source gave before its error has been written.
 pub(super) fn copy<C: Conn + Drop, S: Read, P: Progress>(
     alloc: Global,
     text: bool,

@@ -31,8 +31,8 @@ where
     /// (226, 250). Whatever that is, the transfer is over.
     ///
     /// # Errors
-    /// Those of a read of one reply; before them, of an upload, the fault of the close. `NotOwed` where the session owes
-    /// no transfer of this number: that is left, and nothing of the session changes. On a session that has failed
+    /// Those of a read of one reply; before them, of an upload, the error of the close. `NotOwed` where the session
+    /// owes no transfer of this number: that is left, and nothing of the session changes. On a session that has failed
     /// `SessionFailed`, whichever transfer it is; where there is no memory for the record of the data connection
     /// `OutOfMemory`; the transfer is left then.
     pub fn finish(&mut self, alloc: Global, transfer: Transfer<Tr::Conn>) -> FtpResult<()>

@@ -36,8 +36,9 @@ where
     /// the offset that `resume_transfer` set, if it did; the offset is taken away.
     ///
     /// # Errors
-    /// Those of a data command: `DataConnectionAlreadyOpen` where a transfer is live, and nothing is said. A fault of the
-    /// data comes before the last reply's; `OutOfMemory` where there is no memory for the bytes, and the session goes on.
+    /// Those of a data command: `DataConnectionAlreadyOpen` where a transfer is live, and nothing is said. An error of
+    /// the data comes before the last reply's; `OutOfMemory` where there is no memory for the bytes, and the session
+    /// goes on.
     pub fn retr_as_buffer<R>(&mut self, alloc: Global, rt: &R, path: &str) -> FtpResult<Vec<u8>>
     where
         Tr: Transport<R>,
@@ -55,8 +56,8 @@ where
     /// `resume_transfer` is taken away, and `REST` isn't sent.
     ///
     /// # Errors
-    /// Those of a data command: `DataConnectionAlreadyOpen` where a transfer is live, and nothing is said. A fault of the
-    /// last reply comes before `BadResponse`, where the data failed; `OutOfMemory` where there is no memory for the
+    /// Those of a data command: `DataConnectionAlreadyOpen` where a transfer is live, and nothing is said. An error of
+    /// the last reply comes before `BadResponse`, where the data failed; `OutOfMemory` where there is no memory for the
     /// lines, and the session goes on.
     pub fn list<R>(&mut self, alloc: Global, rt: &R, path: Option<&str>) -> FtpResult<Vec<String>>
     where

@@ -53,10 +53,10 @@ where
     /// `resume_transfer` set, if it did; the offset is taken away.
     ///
     /// # Errors
-    /// Those of a data command: `DataConnectionAlreadyOpen` where a transfer is live, and nothing is said. The fault of
+    /// Those of a data command: `DataConnectionAlreadyOpen` where a transfer is live, and nothing is said. The error of
     /// the source or of the data connection, `SourceTooLarge` where more than 2^63 - 1 bytes would be written,
     /// `OutOfMemory` for a buffer: what the source gave before is written, the last reply isn't read, and the transfer is
-    /// left. The fault of the data connection's close comes before that of the last reply. `OutOfMemory` for the last
+    /// left. The error of the data connection's close comes before that of the last reply. `OutOfMemory` for the last
     /// reply leaves the transfer, and the session has failed.
     pub fn put_file<R, S: Read>(
         &mut self,
@@ -153,8 +153,8 @@ where
     ///
     /// # Errors
     /// Those of a data command: `DataConnectionAlreadyOpen` where a transfer is live, and nothing is said. The reader's
-    /// fault, whatever the last reply is, which is read all the same; else the fault of the last reply. `OutOfMemory` for
-    /// the last reply leaves the transfer, and the session has failed.
+    /// error, whatever the last reply is, which is read all the same; else the error of the last reply. `OutOfMemory`
+    /// for the last reply leaves the transfer, and the session has failed.
     pub fn retr<R, D: Drop, F: DownloadReader<Tr::Conn, D>>(
         &mut self,
         alloc: Global,
@@ -184,10 +184,11 @@ where
     /// if it did; the offset is taken away.
     ///
     /// # Errors
-    /// Those of a data command: `DataConnectionAlreadyOpen` where a transfer is live, and nothing is said. The fault of the
-    /// data connection, where what came was written, or of the writer, where a front of that was; `SourceTooLarge` where more
-    /// than 2^63 - 1 bytes come; `OutOfMemory` for a buffer: whatever the last reply is, which is read all the same. Else the
-    /// fault of the last reply. `OutOfMemory` for that leaves the transfer, and the session has failed.
+    /// Those of a data command: `DataConnectionAlreadyOpen` where a transfer is live, and nothing is said. The error of
+    /// the data connection, where what came was written, or of the writer, where a front of that was; `SourceTooLarge`
+    /// where more than 2^63 - 1 bytes come; `OutOfMemory` for a buffer: whatever the last reply is, which is read all
+    /// the same. Else the error of the last reply. `OutOfMemory` for that leaves the transfer, and the session has
+    /// failed.
     pub fn write_to<R, W: Write, P: Progress>(
         &mut self,
         alloc: Global,
@@ -343,7 +344,7 @@ fn unless_failed<T: Drop>(value: T, ended: FtpResult<()>) -> FtpResult<T>
     }
 }
 
-/// The fault of the first, or that of the second, or what the first gave.
+/// The error of the first, or that of the second, or what the first gave.
 fn first_of<T: Drop>(read: FtpResult<T>, ended: FtpResult<()>) -> FtpResult<T>
     ensures { result ≡ first_of read ended }
 {

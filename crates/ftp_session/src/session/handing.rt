@@ -80,7 +80,7 @@ pub trait HandsTransfers<C: Tells + Drop> {
     /// answer.
     ///
     /// # Errors
-    /// The answer's fault. `NotOwed` where it opens no transfer of this number: one that is live is left then.
+    /// The answer's error. `NotOwed` where it opens no transfer of this number: one that is live is left then.
     fn hand_over(
         &mut self,
         mark: NewMark,
@@ -109,7 +109,7 @@ impl<Tr: Network, K: Drop, E: Encoding, B: Drop> HandsTransfers<Tr::Conn> for Se
     /// answer. The look at a later call is at this mark.
     ///
     /// # Errors
-    /// The answer's fault. `NotOwed` where it opens no transfer of this number: one that is live is left then.
+    /// The answer's error. `NotOwed` where it opens no transfer of this number: one that is live is left then.
     fn hand_over(
         &mut self,
         mark: NewMark,
@@ -158,7 +158,7 @@ fn next_number<Tr: Network>(machine: &Machine<Tr>) -> u64
     machine.state.counts.next_number()
 }
 
-/// Why no transfer is handed out. Where there is no fault, which no dialogue comes to, the transfer that is live is
+/// Why no transfer is handed out. Where there is no error, which no dialogue comes to, the transfer that is live is
 /// left, if there is one.
 fn give_up<Tr: Network>(machine: &mut Machine<Tr>, fault: Option<FtpError>) -> FtpError
     ensures { GivesUp fault result machine.old machine.new }
@@ -172,7 +172,7 @@ fn give_up<Tr: Network>(machine: &mut Machine<Tr>, fault: Option<FtpError>) -> F
     }
 }
 
-/// What the answer of an opening call comes to: its reply, where that is part of it; or a fault, if it is one.
+/// What the answer of an opening call comes to: its reply, where that is part of it; or an error, if it is one.
 fn opened(answer: Answer, replies: bool) -> Result<Option<Response>, Option<FtpError>>
     ensures { ComesTo replies answer result }
 {

@@ -124,8 +124,8 @@ pub trait DropsCalls {
     /// There is no memory for the end of a call that has begun: the session has failed.
     fn fail(&mut self);
 
-    /// A whole file met this fault. Where it is one of input or output the data connection failed, or what the caller handed
-    /// in, which `last_failure` tells from then on.
+    /// A whole file met this error. Where it is one of input or output the data connection failed, or what the caller
+    /// handed in, which `last_failure` tells from then on.
     fn note_failure(&mut self, fault: &FtpError, data_failed: bool);
 }
 
@@ -222,8 +222,8 @@ impl<Tr: Network, K: Drop, E: Encoding, B: Drop> DropsCalls for Session<Tr, K, E
         self.machine.channel.fail();
     }
 
-    /// A whole file met this fault. Where it is one of input or output the data connection failed, or what the caller handed
-    /// in, which `last_failure` tells from then on. Nothing else changes.
+    /// A whole file met this error. Where it is one of input or output the data connection failed, or what the caller
+    /// handed in, which `last_failure` tells from then on. Nothing else changes.
     fn note_failure(&mut self, fault: &FtpError, data_failed: bool)
         ensures machine { self.new.machine ≡ self.old.machine }
         ensures mark { self.new.mark ≡ self.old.mark }

@@ -49,7 +49,7 @@ impl<'p, P: Progress> Watch<'p, P> {
         }
     }
 
-    /// The data connection failed: this is the call's fault.
+    /// The data connection failed: this is the call's error.
     pub(super) fn fault(&mut self, kind: ErrorKind) -> FtpError
         ensures { result ≡ FtpError.ConnectionError (ConnectionError.Io kind) }
     {

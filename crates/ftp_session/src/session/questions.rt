@@ -1,8 +1,8 @@
 //! The calls of a session that ask the server something, a method each.
 //!
 //! What they answer is in the text of the reply: a path (RFC 959, section 4.1.3), the facts of a file, its time and its
-//! size (RFC 3659), the server's features (RFC 2389). A reply of the right status that doesn't say it is a fault, which
-//! leaves the session as it would be after the answer.
+//! size (RFC 3659), the server's features (RFC 2389). A reply of the right status that doesn't say it is an error,
+//! which leaves the session as it would be after the answer.
 
 ghost use Rattle.std.specs.Prelude.{◌≡◌, IfOk, option_map};
 ghost use Rattle.ftp_calls.specs.declared.call.Call.{Call as Called};

@@ -19,8 +19,8 @@ const BUFFER: usize = 65_536;
 ///
 /// # Errors
 /// `Io` of the kind that the data connection or the writer answers, an interruption of the writer only after 64 tries in a
-/// row were interrupted again; `SourceTooLarge` where more than 2^63 - 1 bytes come; `OutOfMemory`. What came before a fault
-/// of the data connection has been written.
+/// row were interrupted again; `SourceTooLarge` where more than 2^63 - 1 bytes come; `OutOfMemory`. What came before an
+/// error of the data connection has been written.
 pub(super) fn save<C: Conn + Drop, W: Write, P: Progress>(
     alloc: Global,
     transfer: &mut Transfer<C>,

@@ -93,7 +93,7 @@ impl<Tr: Network, K: Drop, E: Encoding, B: Drop> Session<Tr, K, E, B> {
     }
 
     /// Lets this builder make passive data connections from now on, in the transport's place, each to the address that
-    /// the transport would have been asked for. Its fault is answered as it is, and the session goes on.
+    /// the transport would have been asked for. Its error is answered as it is, and the session goes on.
     pub fn set_passive_stream_builder(&mut self, builder: B)
         ensures set { self.new.machine ≡
             with_settings (λ s. record s { stream_builder = true }) self.old.machine }

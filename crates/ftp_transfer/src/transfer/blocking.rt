@@ -15,7 +15,7 @@ impl<C: Conn + Drop> Transfer<C> {
     /// buffer, too, for which the connection isn't asked.
     ///
     /// # Errors
-    /// A fault of the connection.
+    /// An error of the connection.
     pub fn read(&mut self, buffer: &mut [u8]) -> Result<usize, ErrorKind>
         ensures told { C.tells → 0 < length buffer.old →
             ReadTells (as_poll result) buffer.new self.old.told self.new.told }
@@ -35,7 +35,7 @@ impl<C: Conn + Drop> Transfer<C> {
     /// Writes bytes from the front, at least one where there is one. For no bytes the connection isn't asked.
     ///
     /// # Errors
-    /// A fault of the connection.
+    /// An error of the connection.
     pub fn write(&mut self, bytes: &[u8]) -> Result<usize, ErrorKind>
         ensures told { C.tells → 0 < length bytes.now →
             WriteTells (as_poll result) bytes.now self.old.told self.new.told }

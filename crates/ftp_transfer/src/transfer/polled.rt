@@ -16,7 +16,7 @@ impl<C: Tells + Drop> Transfer<C> {
     /// Reads bytes into the front of the buffer, as [`Transfer::read`] does, or returns that the connection waits.
     ///
     /// # Errors
-    /// A fault of the connection.
+    /// An error of the connection.
     pub fn poll_read<W>(&mut self, w: &mut W, buffer: &mut [u8]) -> Result<Poll<usize>, ErrorKind>
     where
         C: PollConn<W>,
@@ -41,7 +41,7 @@ impl<C: Tells + Drop> Transfer<C> {
     /// Writes bytes from the front, as [`Transfer::write`] does, or returns that the connection waits.
     ///
     /// # Errors
-    /// A fault of the connection.
+    /// An error of the connection.
     pub fn poll_write<W>(&mut self, w: &mut W, bytes: &[u8]) -> Result<Poll<usize>, ErrorKind>
     where
         C: PollConn<W>,

@@ -1,6 +1,6 @@
 //! A transfer as a reader and a writer of std.
 //!
-//! Each call is the transfer's own, and a fault is an error of the same kind.
+//! Each call is the transfer's own, and an error is an error of the same kind.
 
 ghost use Rattle.std.specs.Prelude.{◌≡◌, ◌<◌, IfOk, None, Ok, length};
 ghost use Rattle.std.specs.Io.{ReadsAtMost, WritesAtMost};

@@ -17,7 +17,7 @@ impl<C: Tells + Drop> Transfer<C> {
     /// task, or asks to be polled again at once.
     ///
     /// # Errors
-    /// The fault of the connection.
+    /// The error of the connection.
     pub fn poll_read_in(
         &mut self,
         cx: &mut Context<'_>,
@@ -44,7 +44,7 @@ impl<C: Tells + Drop> Transfer<C> {
     /// to be polled again at once.
     ///
     /// # Errors
-    /// The fault of the connection.
+    /// The error of the connection.
     pub fn poll_write_in(
         &mut self,
         cx: &mut Context<'_>,

@@ -25,7 +25,7 @@ pub enum DemoError {
 /// Greets itself, sends NOOP and QUIT, and prints both sides: five lines.
 ///
 /// # Errors
-/// A fault of a socket or of the output, or of the session.
+/// An error of a socket or of the output, or of the session.
 pub fn demo<R>(rt: &R) -> Result<(), DemoError>
 where
     R: Net<Listener = TcpListener, Stream = TcpStream> + Wait + AllocGlobal + Print,

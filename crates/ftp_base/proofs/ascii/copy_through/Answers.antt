@@ -54,7 +54,7 @@ returns-in_err-write_all_retrying-clause-err g c =
     OnErr-always _ _ (Copies-front_piece _ _ _ _ _ _ _ _ _ _ _ copied c.in_ok-taken.ensures.bytes.0 (c.in_ok-encode.ensures.written copied.given copied.last) c.clear.ensures.items
     (rw (← c.deref.ensures.value) c.in_err-write_all_retrying.ensures.err))
 
--- a fault of the reader or the writer, in the copy's answer
+-- an error of the reader or the writer, in the copy's answer
 io_fault : (result : Result ℕ FtpError) (kind : ErrorKind) → IsErrAnd result (λ fault. fault ≡ ConnectionError (Io kind)) → IfErr result IsCopyFault
 io_fault (Ok count) kind is = tt
 io_fault (Err fault) kind is = inl (kind, is)

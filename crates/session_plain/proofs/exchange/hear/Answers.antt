@@ -20,7 +20,7 @@ returns-in-Unknown g c = λ room later.
     let due = rw (formed, under) at came in
     rw formed (due (λ heard t. play room (concluded coding c.args.ending s.state later heard) t))
 
--- they say it, or a fault takes its place
+-- they say it, or an error takes its place
 pub returns-in-Known : goal.returns-in-Known
 unfolding play
 returns-in-Known g c =

@@ -12,7 +12,7 @@ returns-in-Unknown c = λ room later.
     let due = rw c.form_of-reply_form.ensures at came in
     rw c.form_of-reply_form.ensures (due (λ heard t. play room (fetch_concluded c.args.form c.args.answer s.state heard) t))
 
--- they say it, or a fault takes its place
+-- they say it, or an error takes its place
 pub returns-in-Known : goal.returns-in-Known
 unfolding play
 returns-in-Known c = λ room later.
