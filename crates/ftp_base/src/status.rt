@@ -5,7 +5,7 @@
 //! its code, so that statuses are ordered by their codes however they are listed here. The texts are those of the Rust
 //! crate suppaftp, in its spelling.
 
-ghost use Rattle.std.specs.Prelude.{◌≡◌, ◌≢◌, ℕ, Some};
+ghost use Rattle.std.specs.Prelude.{◌≡◌, Some};
 ghost use Rattle.ftp_base.specs.Status.{code_of, description_of, status_of};
 
 use std::error::Error;

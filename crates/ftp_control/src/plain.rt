@@ -3,9 +3,9 @@
 //! The contract of each function is an equation with a definition. The tests compare the read loop with it; nothing of
 //! the client calls it.
 
-ghost use Rattle.std.specs.Prelude.{◌≡◌, ◌∷◌, [], ◌++◌, IfOk};
+ghost use Rattle.std.specs.Prelude.{◌≡◌, ◌∷◌, [], IfOk};
 ghost use Rattle.ftp_control.specs.Law.{OneForm, SettledStays, StrictAsLenient};
-ghost use Rattle.ftp_control.specs.Grammar.{whole_lines, rest, last_line, lines, to_end, reply_in, within, outcome, has_line_feed};
+ghost use Rattle.ftp_control.specs.Grammar.{whole_lines, rest, lines, to_end, reply_in, within, outcome, has_line_feed};
 ghost use Rattle.ftp_control.specs.Found.{after_line};
 ghost use Rattle.ftp_control.specs.Lenient.{to_list_end};
 

@@ -4,7 +4,7 @@
 //! The transfer has been left since the call began, so that nothing but its count is to be done once the replies are read;
 //! where `ABOR` can't go out it stays so.
 
-ghost use Rattle.std.specs.Prelude.{◌≡◌, ◌⊎◌, IfOk, IfErr, Ok, true, false};
+ghost use Rattle.std.specs.Prelude.{◌≡◌, IfOk, IfErr, Ok, true, false};
 ghost use Rattle.ftp_base.specs.Command.{text_of};
 ghost use Rattle.ftp_base.specs.Wire.{wire};
 ghost use Rattle.ftp_base.specs.declared.command.Command.TheVariants.{Abor};

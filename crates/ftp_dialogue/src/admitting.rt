@@ -6,24 +6,21 @@
 ghost use Rattle.std.specs.Prelude.{◌≡◌, true, false};
 ghost use Rattle.ftp_calls.specs.Exchanges.{negotiates};
 ghost use Rattle.ftp_dialogue.specs.Coding.{Coding};
-ghost use Rattle.ftp_dialogue.specs.Dialogue.{Here, There, at_port};
 ghost use Rattle.ftp_dialogue.specs.Link.{asking, polling};
-ghost use Rattle.ftp_dialogue.specs.Promises.{failed_from};
-ghost use Rattle.ftp_dialogue.specs.Steps.Moving.{ConnectsTo, LetsIn, LooksUp, Meets, TurnsAway, Walks};
-ghost use Rattle.ftp_dialogue.specs.Steps.Stages.{OpeningOf, WayOf, first_by};
+ghost use Rattle.ftp_dialogue.specs.Steps.Moving.{LetsIn, Meets, TurnsAway, Walks};
+ghost use Rattle.ftp_dialogue.specs.Steps.Stages.{OpeningOf};
 
 use super::asks::Asks;
 use super::machine::Machine;
 use super::negotiation::refused;
-use super::stage::{Asking, Opened, OpeningData, Stage, Step, Transferring, go_on, go_to};
+use super::stage::{Asking, Opened, OpeningData, Stage, Step, Transferring, go_to};
 use super::{Answer, Call};
-use ftp_base::types::{ConnectionError, FtpError, Mode};
+use ftp_base::types::{ConnectionError, FtpError};
 use ftp_calls::exchange::Turn;
 use ftp_transport::{Network, PollConn, RequestOutcome};
 use futures::task::Poll;
 use std::alloc::AllocError;
-use std::io::ErrorKind;
-use std::net::{SocketAddr, SocketAddrV4, SocketAddrV6};
+use std::net::SocketAddr;
 
 /// How many strangers one data command drops.
 const STRANGERS: u64 = 1000;

@@ -10,12 +10,12 @@ ghost use Rattle.ftp_dialogue.specs.Coding.{Coding};
 ghost use Rattle.ftp_dialogue.specs.Dialogue.{Here, There, at_port};
 ghost use Rattle.ftp_dialogue.specs.Link.{asking, polling};
 ghost use Rattle.ftp_dialogue.specs.Promises.{failed_from};
-ghost use Rattle.ftp_dialogue.specs.Steps.Moving.{ConnectsTo, LetsIn, LooksUp, Meets, TurnsAway, Walks};
-ghost use Rattle.ftp_dialogue.specs.Steps.Stages.{OpeningOf, WayOf, first_by};
+ghost use Rattle.ftp_dialogue.specs.Steps.Moving.{ConnectsTo, LooksUp, Walks};
+ghost use Rattle.ftp_dialogue.specs.Steps.Stages.{WayOf, first_by};
 
 use super::asks::Asks;
 use super::machine::Machine;
-use super::stage::{Asking, Opened, OpeningData, Stage, Step, Transferring, go_on, go_to};
+use super::stage::{Asking, OpeningData, Stage, Step, go_on, go_to};
 use super::{Answer, Call};
 use ftp_base::types::{ConnectionError, FtpError, Mode};
 use ftp_calls::exchange::Turn;

@@ -1,13 +1,10 @@
 //! A session whose server has sent more replies than were read comes back into step (RFC 959, section 4.1.3): `NOOP` goes
 //! out, and replies are read until its own.
 
-ghost use Rattle.std.specs.Prelude.{◌≡◌, IfOk, IfErr, Ok, Result, Some, false};
-ghost use Rattle.futures.specs.declared.task.Poll.TheVariants as poll;
+ghost use Rattle.std.specs.Prelude.{◌≡◌, IfOk, IfErr, Ok, Some, false};
 ghost use Rattle.ftp_base.specs.Command.{text_of};
 ghost use Rattle.ftp_base.specs.Wire.{wire};
 ghost use Rattle.ftp_base.specs.declared.command.Command.TheVariants.{Noop};
-ghost use Rattle.ftp_base.specs.declared.types.reply.Response.{Response as Heard};
-ghost use Rattle.ftp_base.specs.declared.types.fault.FtpError.{FtpError as Faults};
 ghost use Rattle.ftp_control.specs.Refusal.{IsRefusalOf};
 ghost use Rattle.ftp_transport.specs.Told.{EndsAsTold};
 ghost use Rattle.ftp_dialogue.specs.Coding.{Coding, coding_of};

@@ -9,7 +9,6 @@ ghost use Rattle.ftp_base.specs.Command.{text_of};
 ghost use Rattle.ftp_base.specs.Wire.{wire};
 ghost use Rattle.ftp_control.specs.Refusal.{IsRefusalOf};
 ghost use Rattle.ftp_dialogue.specs.Coding.{coding_of};
-ghost use Rattle.ftp_calls.specs.Exchanges.{row_of};
 ghost use Rattle.ftp_dialogue.specs.Steps.Stages.{Begins, FirstNode, GoesOnTo, TurnOf, is_later};
 
 use super::gathered::Gathered;

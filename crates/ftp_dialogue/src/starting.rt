@@ -4,26 +4,22 @@ ghost use Rattle.std.specs.Prelude.{◌≡◌, ◌<◌, ◌⊎◌, None, Some, t
 ghost use Rattle.futures.specs.declared.task.Poll.TheVariants as poll;
 ghost use Rattle.ftp_transport.specs.Told.{EndsAsTold};
 ghost use Rattle.ftp_dialogue.specs.Coding.{Coding, coding_of};
-ghost use Rattle.ftp_dialogue.specs.Dialogue.{Tree, armed, dialogue};
+ghost use Rattle.ftp_dialogue.specs.Dialogue.{dialogue};
 ghost use Rattle.ftp_calls.specs.Exchanges.{finishes, is_local, is_read, negotiates};
 ghost use Rattle.ftp_dialogue.specs.Link.{asking, blocking, polling};
 ghost use Rattle.ftp_dialogue.specs.Play.{Lacking};
 ghost use Rattle.ftp_dialogue.specs.Promises.{HasFault, Rests, begun_by, refusal_of};
 ghost use Rattle.ftp_dialogue.specs.Steps.Polls.{MayPollAt, RefusesFrom, StageIn, StartsTo, entered_at, entered_stage, entered_state, entered_tree, first_stage, is_first, polled_answer};
-ghost use Rattle.ftp_dialogue.specs.Steps.Moving.{BeginsExchange, Concludes, EndsFaulty, HasBegun, Made, PollSteps, PollsTo, Quiet, Steps, Tracks, after_fault};
-ghost use Rattle.ftp_dialogue.specs.Steps.Stages.{MayAnswer, PollAnswers, StageAfter, StageOf, StepAnswers, begun_at, nodes_left, remaining};
+ghost use Rattle.ftp_dialogue.specs.Steps.Moving.{HasBegun, Made, PollsTo, Steps};
+ghost use Rattle.ftp_dialogue.specs.Steps.Stages.{MayAnswer, StageOf, begun_at, remaining};
 
 use super::asks::Asks;
 use super::machine::Machine;
-use super::nodes::{Accepted, accept, conclude_fault, wants_memory};
-use super::stage::{
-    Aborting, Awaits, OpeningData, Stage, Step, Transferring, begin, go_on, go_to, is_later,
-};
+use super::stage::{Aborting, OpeningData, Stage, Transferring, go_to};
 use super::{Answer, Call, Owed};
 use ftp_base::encoding::Encoding;
-use ftp_base::types::{FtpError, Response};
-use ftp_calls::exchange::{Ending, Turn, aborts, finishes, negotiates, uploads};
-use ftp_control::control::WireLine;
+use ftp_base::types::FtpError;
+use ftp_calls::exchange::{Turn, aborts, finishes, negotiates, uploads};
 use ftp_transport::{Conn, Network, NeverWaits, PollConn};
 use futures::task::Poll;
 use std::alloc::Global;

@@ -3,18 +3,16 @@
 //! `step` does one node and is the only function that does I/O; `poll_call` makes steps until the call has its answer
 //! or the connection waits. A step that waits may be dropped and made again.
 
-ghost use Rattle.std.specs.Prelude.{◌≡◌, ◌<◌, ◌⊎◌, None, Some, true, false};
+ghost use Rattle.std.specs.Prelude.{◌≡◌, ◌<◌, ◌⊎◌, true, false};
 ghost use Rattle.futures.specs.declared.task.Poll.TheVariants as poll;
 ghost use Rattle.ftp_transport.specs.Told.{EndsAsTold};
 ghost use Rattle.ftp_dialogue.specs.Coding.{Coding, coding_of};
-ghost use Rattle.ftp_dialogue.specs.Dialogue.{Tree, armed, dialogue};
-ghost use Rattle.ftp_calls.specs.Exchanges.{finishes, is_local, is_read, negotiates};
-ghost use Rattle.ftp_dialogue.specs.Link.{asking, blocking, polling};
-ghost use Rattle.ftp_dialogue.specs.Play.{Lacking};
-ghost use Rattle.ftp_dialogue.specs.Promises.{HasFault, Rests, begun_by, refusal_of};
-ghost use Rattle.ftp_dialogue.specs.Steps.Polls.{MayPollAt, RefusesFrom, StageIn, StartsTo, entered_at, entered_stage, entered_state, entered_tree, first_stage, is_first, polled_answer};
-ghost use Rattle.ftp_dialogue.specs.Steps.Moving.{BeginsExchange, Concludes, EndsFaulty, HasBegun, Made, PollSteps, PollsTo, Quiet, Steps, Tracks, after_fault};
-ghost use Rattle.ftp_dialogue.specs.Steps.Stages.{MayAnswer, PollAnswers, StageAfter, StageOf, StepAnswers, begun_at, nodes_left, remaining};
+ghost use Rattle.ftp_dialogue.specs.Dialogue.{Tree, armed};
+ghost use Rattle.ftp_calls.specs.Exchanges.{finishes, is_read, negotiates};
+ghost use Rattle.ftp_dialogue.specs.Link.{asking, polling};
+ghost use Rattle.ftp_dialogue.specs.Promises.{Rests};
+ghost use Rattle.ftp_dialogue.specs.Steps.Moving.{BeginsExchange, Concludes, EndsFaulty, HasBegun, PollSteps, Quiet, Steps, Tracks, after_fault};
+ghost use Rattle.ftp_dialogue.specs.Steps.Stages.{PollAnswers, StageAfter, StageOf, StepAnswers, begun_at, nodes_left, remaining};
 
 use super::asks::Asks;
 use super::machine::Machine;
@@ -22,12 +20,12 @@ use super::nodes::{Accepted, accept, conclude_fault, wants_memory};
 use super::stage::{
     Aborting, Awaits, OpeningData, Stage, Step, Transferring, begin, go_on, go_to, is_later,
 };
-use super::{Answer, Call, Owed};
+use super::{Answer, Call};
 use ftp_base::encoding::Encoding;
 use ftp_base::types::{FtpError, Response};
-use ftp_calls::exchange::{Ending, Turn, aborts, finishes, negotiates, uploads};
+use ftp_calls::exchange::{Ending, Turn, finishes, negotiates};
 use ftp_control::control::WireLine;
-use ftp_transport::{Conn, Network, NeverWaits, PollConn};
+use ftp_transport::{Conn, Network, PollConn};
 use futures::task::Poll;
 use std::alloc::Global;
 use std::mem;

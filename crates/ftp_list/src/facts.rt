@@ -7,7 +7,7 @@ ghost use Rattle.std.specs.Prelude.{◌≡◌, ◌≤◌, ◌==◌, ◌-◌, tru
 ghost use Rattle.std.specs.List.{position_or_len, after_last, list_all};
 ghost use Rattle.ftp_list.specs.Pex.{pex_of_bits};
 ghost use Rattle.ftp_list.specs.Listing.{UnlessMemory};
-ghost use Rattle.ftp_list.specs.Facts.{facts, type_of, is_octal, is_mode, with_mode, mode_fact, with_type, with_size, with_modify, with_time, with_fact, with_facts, with_piece, named, mlsx_name, mlsx_facts, mlsd, mlst};
+ghost use Rattle.ftp_list.specs.Facts.{facts, type_of, is_octal, is_mode, mode_fact, with_type, with_size, with_modify, with_time, with_fact, with_facts, with_piece, named, mlsx_name, mlsx_facts, mlsd, mlst};
 
 use crate::error::{ParseError, ParseResult};
 use crate::file::File;

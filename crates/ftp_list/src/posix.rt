@@ -4,7 +4,7 @@
 //! of blanks among them. Names may hold blanks, so the name is the last part and takes all that
 //! is left. The date is tested before the size.
 ghost use Rattle.std.specs.Prelude.{◌≡◌, ◌+◌, ◌<◌, slice_index, IfOk};
-ghost use Rattle.ftp_list.specs.Listing.{UnlessMemory, posix_shapes, is_granted, pex_from, posix_name, posix_type, posix_entry, IsPosix, seconds_since};
+ghost use Rattle.ftp_list.specs.Listing.{UnlessMemory, is_granted, pex_from, posix_name, posix_type, posix_entry, IsPosix, seconds_since};
 
 use crate::class::Class::{Blank, Digit, Kind, NotLineFeed, NotSpace, Permission};
 use crate::dates::{Present, present_at};

@@ -2,8 +2,7 @@
 //!
 //! A part of a class is as long as its run, cut where it has a greatest length. The other forms
 //! have at most five characters, and are tried from their greatest length down.
-ghost use Rattle.std.specs.Prelude.{◌≡◌, ◌≤◌, ◌<◌, ◌-◌, ℕ, true, false, length, take, MatchOption, slice_index_or, ⊤};
-ghost use Rattle.ftp_list.specs.Shapes.{is_form};
+ghost use Rattle.std.specs.Prelude.{◌≡◌, ◌≤◌, ◌<◌, ◌-◌, ℕ, true, false, length, MatchOption, slice_index_or, ⊤};
 ghost use Rattle.ftp_list.specs.Rows.{IsLongest, IsGreatestOpen};
 
 use crate::class::Class;

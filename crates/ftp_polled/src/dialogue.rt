@@ -1,7 +1,5 @@
 //! The states of calls that give a value: commands and their replies, reads of one reply, whole files and listings.
 
-ghost use Rattle.futures.specs.Poll.{OnPending};
-
 use crate::calling::Calling;
 use crate::outcome::Outcome;
 use ftp_base::encoding::Encoding;

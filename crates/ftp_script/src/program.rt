@@ -1,7 +1,6 @@
 //! `suppaftp play`: a script in, its transcript out.
 
 ghost use Rattle.std.specs.Prelude.{◌≡◌, ◌<◌, IfOk, IfErr, IfSome, length};
-ghost use Rattle.std.specs.Io.KnownBytes.{Appends, IsAtEnd, Keeps};
 ghost use Rattle.ftp_script.specs.Program.{IsFault, Ends, Ran, Reports};
 ghost use Rattle.ftp_script.specs.Script.{script_of};
 

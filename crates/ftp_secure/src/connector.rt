@@ -1,6 +1,6 @@
 //! What puts connections under TLS.
 
-ghost use Rattle.std.specs.Prelude.{◌≡◌, ℕ, IfOk, List, Result};
+ghost use Rattle.std.specs.Prelude.{ℕ, IfOk, List, Result};
 ghost use Rattle.ftp_transport.specs.Told.{Told};
 ghost use Rattle.ftp_secure.specs.Connectors.{IsUnused, secured_as};
 ghost use Rattle.ftp_secure.specs.Continues.{Continues};

@@ -1,6 +1,5 @@
 //! A connection that may be under TLS, as one whose calls block.
 
-ghost use Rattle.std.specs.Prelude.{◌≡◌};
 ghost use Rattle.ftp_secure.specs.Streams.{AnyFault, told_in_clear};
 
 use crate::data_stream::DataStream;

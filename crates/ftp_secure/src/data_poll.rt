@@ -1,6 +1,5 @@
 //! A connection that may be under TLS, as one that is polled, and in a task.
 
-ghost use Rattle.std.specs.Prelude.{◌≡◌};
 ghost use Rattle.ftp_secure.specs.Streams.{AnyFault, StreamNeeds};
 
 use crate::data_stream::DataStream;

@@ -2,7 +2,7 @@
 //!
 //! A blanket impl makes a `PollSecureTransport` of every `SecureTransport`, so whatever stands above is written once.
 
-ghost use Rattle.std.specs.Prelude.{◌≡◌, ℕ, IfErr, IfOk, List, Option, Result};
+ghost use Rattle.std.specs.Prelude.{◌≡◌, ℕ, IfErr, IfOk, Option, Result};
 ghost use Rattle.std.specs.declared.alloc.Global.{Global as Memory};
 ghost use Rattle.std.specs.declared.string.String.{String as Owned};
 ghost use Rattle.futures.specs.Task.{Covers, Keeps};

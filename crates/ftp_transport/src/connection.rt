@@ -4,7 +4,7 @@
 //! and with which error the connection failed, and what it was given. A theorem about a client holds for each
 //! connection whose record is true (`tells`).
 
-ghost use Rattle.std.specs.Prelude.{◌≡◌, ◌<◌, ◌≤◌, IfErr, Ok, length, true};
+ghost use Rattle.std.specs.Prelude.{◌≡◌, ◌<◌, IfErr, Ok, length, true};
 ghost use Rattle.std.specs.declared.io.ErrorKind.{ErrorKind as Kind};
 ghost use Rattle.futures.specs.declared.task.Poll.TheVariants as poll;
 ghost use Rattle.ftp_transport.specs.Memory.{IsGiven};

@@ -40,7 +40,7 @@ pub struct MemoryConn {
 
 impl Model for MemoryConn {
     ghost use Rattle.std.specs.Prelude.{◌≡◌, ◌≤◌, length, take, drop, true};
-    ghost use Rattle.ftp_transport.specs.Told.{Told, Given};
+    ghost use Rattle.ftp_transport.specs.Told.{Told};
 
     ghost Value = { Told };
 

@@ -5,7 +5,7 @@
 
 ghost use Rattle.std.specs.Prelude.{◌≡◌, ◌<◌, OnErr, OnOk, [], ◌∷◌, ◌++◌, length};
 ghost use Rattle.futures.specs.declared.task.Poll.TheVariants as poll;
-ghost use Rattle.ftp_transport.specs.Asking.{Asks, Supplies, comes_as, connects_as, done, done_at};
+ghost use Rattle.ftp_transport.specs.Asking.{Asks, Supplies, comes_as, connects_as, done};
 ghost use Rattle.ftp_transport.specs.Memory.{accepts_over_memory, binds_over_memory, nothing_asked, over_memory};
 
 use super::{

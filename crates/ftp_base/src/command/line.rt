@@ -4,8 +4,8 @@
 //! afterwards, since an encoding may make a line break of another character, or lose the one at the end. A test changes
 //! nothing and allocates nothing.
 
-ghost use Rattle.std.specs.Prelude.{◌≡◌, ◌+◌, IsOk, MatchOption, length, take, ◌-◌, if◌then◌else◌};
-ghost use Rattle.ftp_base.specs.Line.{text_fault, encoded_fault, ends_in_crlf, before_crlf, has_line_break};
+ghost use Rattle.std.specs.Prelude.{◌≡◌, IsOk, MatchOption, ◌-◌, if◌then◌else◌};
+ghost use Rattle.ftp_base.specs.Line.{text_fault, encoded_fault, before_crlf, has_line_break};
 
 use crate::types::{ConnectionError, FtpError, FtpResult};
 

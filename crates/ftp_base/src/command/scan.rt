@@ -8,7 +8,7 @@
 ghost use Rattle.std.specs.Prelude.{◌≡◌, ◌<◌, ◌≤◌, ◌+◌, ℕ, List, ◌∷◌, length, slice_index, IsTrue, ◌↔◌, MatchOption, IfSome, IfNone};
 ghost use Rattle.ftp_base.specs.declared.command.scan.Span.{Span};
 ghost use Rattle.std.specs.Char.{IsAsciiDigit};
-ghost use Rattle.ftp_base.specs.Scan.{StandsAt, AreDigits, IsNumber, AreFields, IsPassive, IsExtended, IsTimestamp, IsTrailingSize, EndsInSpace, is_word_byte, StandsNowhere, StandsFirst, LacksFields, IsMark};
+ghost use Rattle.ftp_base.specs.Scan.{StandsAt, AreDigits, IsNumber, IsPassive, IsExtended, IsTimestamp, IsTrailingSize, EndsInSpace, is_word_byte, StandsNowhere, StandsFirst, LacksFields, IsMark};
 
 /// A part of a text: the place of its first byte, and the place after its last.
 #[derive(Clone, Copy, Debug, PartialEq, Eq)]

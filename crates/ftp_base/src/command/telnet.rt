@@ -4,7 +4,7 @@
 //! text in UTF-8 has that byte, but one in Latin-1 may. What a server sends is undone the same way, and a single byte
 //! 255 stays.
 
-ghost use Rattle.std.specs.Prelude.{◌≡◌, Ok, Err, IfOk, IfErr, OnErr};
+ghost use Rattle.std.specs.Prelude.{◌≡◌, Ok, IfOk, IfErr};
 ghost use Rattle.ftp_base.specs.Telnet.{escaped, unescaped};
 
 use crate::types::{FtpError, FtpResult};

@@ -4,7 +4,7 @@
 //! lie in a map, so each name stands once and they are gone through in the order of names, whatever the order of the
 //! reply. A contract sees the names with their values, and not the map's tree.
 
-ghost use Rattle.std.specs.Prelude.{◌≡◌, ◌==◌, ℕ, List, [], length, not, is_none, Option, None, Some, MatchOption, OnOk, OnErr, string_bytes};
+ghost use Rattle.std.specs.Prelude.{◌≡◌, ◌==◌, [], length, not, is_none, Option, None, Some, MatchOption, OnOk, OnErr, string_bytes};
 ghost use Rattle.std.specs.Option.{option_map};
 ghost use Rattle.std.specs.Cmp.{partial_equiv_from_equiv};
 ghost use Rattle.std.specs.Map.Iter.{ShowsInOrder, deref_pair};

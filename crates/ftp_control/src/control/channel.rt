@@ -44,9 +44,8 @@ pub struct ControlChannel<C: Tells + Drop> {
 }
 
 impl<C: Tells + Drop> Model for ControlChannel<C> {
-    ghost use Rattle.std.specs.Prelude.{◌≡◌, ◌≤◌, [], length, drop};
+    ghost use Rattle.std.specs.Prelude.{◌≡◌, [], length, drop};
     ghost use Rattle.ftp_control.specs.Channel.{Channel, IsSound};
-    ghost use Rattle.ftp_control.specs.Inside.UnderWay.{IsUnderWay};
     ghost use Rattle.ftp_control.specs.Inside.Held.{Holds};
 
     ghost Value = { Channel };

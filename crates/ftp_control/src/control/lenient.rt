@@ -3,7 +3,7 @@
 //!
 //! Strictly a reply ends alike whatever is asked of it, so none of this has a say there.
 
-ghost use Rattle.std.specs.Prelude.{◌≡◌, codes, nat_eq};
+ghost use Rattle.std.specs.Prelude.{◌≡◌};
 ghost use Rattle.std.specs.List.{starts_with};
 ghost use Rattle.ftp_base.specs.Features.{is_last};
 ghost use Rattle.ftp_control.specs.Lenient.{by_dash, lists, opens_list};

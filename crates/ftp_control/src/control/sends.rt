@@ -3,11 +3,11 @@
 //! Only a `WireLine` can be sent, and it is sent whole: the rest of a line that a dropped call has begun goes out before
 //! the next one. So whatever is dropped, and whenever, a server sees whole commands in the order in which they began.
 
-ghost use Rattle.std.specs.Prelude.{◌≡◌, ◌++◌, Ok, Err, Some, None, [], IfOk, IfErr, true, false};
+ghost use Rattle.std.specs.Prelude.{◌≡◌, Ok, Err, Some, [], true, false};
 ghost use Rattle.futures.specs.declared.task.Poll.TheVariants as poll;
 ghost use Rattle.ftp_base.specs.Command.{text_of};
 ghost use Rattle.ftp_base.specs.Wire.{wire};
-ghost use Rattle.ftp_control.specs.Saying.{SaysLine, said};
+ghost use Rattle.ftp_control.specs.Saying.{SaysLine};
 ghost use Rattle.ftp_control.specs.Performing.{Performs};
 
 use super::{ControlChannel, WireLine};

@@ -4,7 +4,7 @@
 //! the wire for them is written then: 64 KiB at most. Of a text that takes one buffer more; other bytes are written from
 //! where they were read to.
 
-ghost use Rattle.std.specs.Prelude.{◌≡◌, ◌+◌, ◌<◌, ◌≤◌, IfErr, IfOk, List, ℕ, Ok, OnErr, drop, false, length, take, true};
+ghost use Rattle.std.specs.Prelude.{◌≡◌, ◌+◌, ◌<◌, ◌≤◌, IfOk, List, ℕ, Ok, OnErr, drop, false, length, take, true};
 ghost use Rattle.std.specs.Io.KnownBytes.{Consumes, IsAtEnd, Keeps};
 ghost use Rattle.ftp_base.specs.Ascii.{ends_in_return};
 ghost use Rattle.ftp_session.specs.Copying.{Copies, SendsAll, SendsPiece, WritesAll};

@@ -11,7 +11,6 @@ ghost use Rattle.ftp_dialogue.specs.Link.{asking, built_by, polling};
 ghost use Rattle.ftp_dialogue.specs.Promises.{failed_from};
 ghost use Rattle.ftp_dialogue.specs.Steps.Moving.{withheld};
 ghost use Rattle.ftp_dialogue.specs.Steps.Polls.{StageIn, StartsTo};
-ghost use Rattle.ftp_dialogue.specs.Steps.Stages.{StageOf};
 ghost use Rattle.ftp_calls.specs.Exchanges.{is_local};
 ghost use Rattle.ftp_session.specs.Polled.{Drops, LooksFirst, PollsCall, PollsInStep, PollsNext};
 

@@ -4,7 +4,7 @@
 //! size (RFC 3659), the server's features (RFC 2389). A reply of the right status that doesn't say it is an error,
 //! which leaves the session as it would be after the answer.
 
-ghost use Rattle.std.specs.Prelude.{◌≡◌, IfOk, option_map};
+ghost use Rattle.std.specs.Prelude.{◌≡◌, option_map};
 ghost use Rattle.ftp_calls.specs.declared.call.Call.{Call as Called};
 ghost use Rattle.ftp_session.specs.Calls.{features_answer, size_answer, text_answer, time_answer};
 ghost use Rattle.ftp_dialogue.specs.Coding.{chosen};

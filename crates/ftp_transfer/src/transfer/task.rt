@@ -1,6 +1,6 @@
 //! Reads and writes in a task of an event loop.
 
-ghost use Rattle.std.specs.Prelude.{◌≡◌, ◌<◌, IfErr, Ok, length};
+ghost use Rattle.std.specs.Prelude.{◌≡◌, ◌<◌, Ok, length};
 ghost use Rattle.futures.specs.Task.{IsArmed, Keeps};
 ghost use Rattle.futures.specs.declared.task.Poll.TheVariants as poll;
 ghost use Rattle.ftp_transport.specs.Told.{ReadTells, ReadsAtMost, WriteTells, WritesSome};
