@@ -13,7 +13,7 @@ use ftp_base::command::number;
 use ftp_base::command::scan::{self, Span};
 use std::net::{Ipv4Addr, SocketAddr, SocketAddrV4};
 
-/// Why a reply tells no address.
+/// Why a reply holds no address.
 #[derive(Clone, Copy, Debug, PartialEq, Eq)]
 pub enum NoAddress {
     /// None stands in its text in the form that is due, or a number of the first is above 255.
@@ -51,7 +51,7 @@ pub fn read_extended_port(body: &[u8]) -> Result<u16, NoAddress>
     }
 }
 
-/// The address that the first six numbers of a text tell.
+/// The address in the first six numbers of a text.
 fn first_address(text: &str) -> Option<SocketAddr>
     ensures { result ≡ option_and_then address_of (passive_numbers text.now) }
 {
@@ -66,7 +66,7 @@ fn first_address(text: &str) -> Option<SocketAddr>
     Some(SocketAddr::V4(SocketAddrV4::new(ip, port)))
 }
 
-/// The port that the first number between bars tells.
+/// The port in the first number between bars.
 fn first_port(text: &str) -> Result<u16, NoAddress>
     ensures { result ≡ port_of (extended_number text.now) }
 {

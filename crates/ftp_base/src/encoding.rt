@@ -1,9 +1,8 @@
 //! How text becomes bytes on the control connection, and bytes text.
 //!
-//! RFC 959 has ASCII there, and RFC 2640 UTF-8, but servers use what they like, so a caller may bring an encoding.
-//! Both of its calls are functions of their argument: the same text always has the same bytes. That is what lets a
-//! contract name the line that a command becomes. An encoding may refuse a text, and only memory can keep it from
-//! reading bytes.
+//! RFC 959 has ASCII there, and RFC 2640 UTF-8, but servers use what they like, so a caller may bring an encoding. Both
+//! of its calls are functions of their argument: the same text always has the same bytes. That is what lets a contract
+//! name the line that a command becomes. Encoding a text may fail; reading bytes fails only where an allocation does.
 
 ghost use Rattle.std.specs.Prelude.{◌≡◌, ℕ, List, Result, Ok, Err, IfOk, IfErr, string_bytes, vec_items};
 ghost use Rattle.std.specs.Str.Lossy.{utf8_lossy};

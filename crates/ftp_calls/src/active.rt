@@ -11,7 +11,7 @@ use ftp_base::types::Text;
 use std::alloc::{AllocError, Global};
 use std::net::{SocketAddr, SocketAddrV4};
 
-/// The command for a listener at this address. An IPv6 address that holds an IPv4 address is told as it stands.
+/// The command for a listener at this address. An IPv6 address that holds an IPv4 address is sent as it stands.
 ///
 /// # Errors
 /// `AllocError`.

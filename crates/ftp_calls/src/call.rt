@@ -27,7 +27,7 @@ use std::alloc::{AllocError, Global};
 use std::net::SocketAddr;
 use std::time::Duration;
 
-/// What a session is told to do, without a word to the server.
+/// A setting of a session, of which nothing is sent.
 #[derive(Clone, Drop)]
 pub enum Setting {
     /// Who opens data connections, and how they are asked for.
@@ -87,11 +87,11 @@ pub enum Call {
     Feat,
     /// A caller-supplied line, and the statuses that its reply may have.
     CustomCommand(Text, Items<Status>),
-    /// A reply of this status is read; nothing is said.
+    /// A reply of this status is read; nothing is sent.
     ReadResponse(Status),
-    /// A reply of one of these statuses is read; nothing is said.
+    /// A reply of one of these statuses is read; nothing is sent.
     ReadResponseIn(Items<Status>),
-    /// The next transfer begins at this offset, in bytes; nothing is said or heard.
+    /// The next transfer begins at this offset, in bytes; nothing is sent or received.
     ResumeTransfer(u64),
     /// A data connection is opened, and `RETR` (150, 125).
     RetrAsStream(Text),
@@ -115,7 +115,7 @@ pub enum Call {
     PutFile(Text, Items<u8>),
     /// `APPE` (125, 150), likewise.
     AppendFile(Text, Items<u8>),
-    /// A setting changes; nothing is said or heard, and a session that has failed takes it, too.
+    /// A setting changes; nothing is sent or received, and a session that has failed accepts it, too.
     Set(Setting),
     /// At most so many bytes are read from the transfer's data connection, in one read.
     Read(usize),
@@ -127,7 +127,7 @@ pub enum Call {
     /// left.
     Abort,
     /// The transfer is left: its data connection is closed, and its last reply is still owed. A session that has failed
-    /// takes it, too.
+    /// accepts it, too.
     Leave,
     /// The last reply of a transfer that was left is read (226, 250); a reply of another status ends it as well.
     Drain,
@@ -468,7 +468,7 @@ fn optional_text(alloc: Global, text: Option<&str>) -> Result<Option<Text>, Allo
     }
 }
 
-/// The answer of a call in a run.
+/// The result of a call in a run.
 #[derive(Drop)]
 pub enum Answer {
     /// The call succeeded.

@@ -1,5 +1,5 @@
-//! What each call says and hears (RFC 959, sections 4.1, 5.4 and 6): one row a turn, which is an exchange or a change
-//! of settings. A call that opens a data connection negotiates before its own row.
+//! What each call sends and receives (RFC 959, sections 4.1, 5.4 and 6): one row a turn, which is an exchange or a
+//! change of settings. A call that opens a data connection negotiates before its own row.
 //!
 //! All that the machine does with a call follows from its row.
 
@@ -55,21 +55,21 @@ pub enum Codes {
 pub enum Ending {
     /// The call is done.
     Done,
-    /// The reply is the answer.
+    /// The reply is returned.
     GivesReply,
-    /// The reply is the answer, of a command that was dropped where one is due.
+    /// The reply is returned, that of a dropped command where one is due.
     TakesReply,
     /// The reply is the server's greeting.
     Greets,
-    /// The path between the reply's quotes is the answer.
+    /// The path between the reply's quotes is returned.
     GivesPath,
-    /// The reply's second line is the answer.
+    /// The reply's second line is returned.
     GivesSecondLine,
-    /// The time that the reply tells is the answer.
+    /// The time in the reply is returned.
     GivesTime,
-    /// The number of bytes that the reply tells is the answer.
+    /// The number of bytes in the reply is returned.
     GivesSize,
-    /// The features that the reply lists are the answer.
+    /// The features that the reply lists are returned.
     GivesFeatures,
     /// Transfers are of text from now on, or aren't.
     SetsText(bool),
@@ -77,15 +77,15 @@ pub enum Ending {
     GoesOn(Status),
     /// The next exchange follows.
     Continues,
-    /// The reply tells the address to connect to.
+    /// The reply holds the address to connect to.
     GivesAddress,
-    /// The reply tells the port to connect to.
+    /// The reply holds the port to connect to.
     GivesPort,
-    /// The data connection carries a transfer from now on; the reply is part of the answer, or isn't.
+    /// The data connection carries a transfer from now on; the reply is part of the result, or isn't.
     Opens(bool),
     /// The data connection carries a whole file or listing, and the transfer comes to its end.
     Performs(Task),
-    /// The transfer has come to its end; the error of an upload's close is told before the reply's.
+    /// The transfer has come to its end; the error of an upload's close goes before the reply's.
     Finishes(Option<ErrorKind>),
     /// The transfer that was left has come to its end, whatever the reply's status is.
     Drains,
@@ -93,7 +93,7 @@ pub enum Ending {
     Stops,
 }
 
-/// As what the bytes of a whole data connection are given.
+/// As what the bytes of a whole data connection are returned.
 #[derive(Clone, Copy)]
 pub enum Fetch {
     /// As they are.
@@ -105,16 +105,16 @@ pub enum Fetch {
 /// What is done with a whole data connection.
 #[derive(Drop)]
 pub enum Task {
-    /// It is read to its end; what came is the answer.
+    /// It is read to its end; what came is returned.
     Fetch(Fetch),
-    /// These bytes are written; the answer is how many went out.
+    /// These bytes are written; how many went out is returned.
     Store(Items<u8>),
 }
 
 /// One command and its reply, or one reply.
 #[derive(Drop)]
 pub struct Exchange {
-    /// What is said, if anything.
+    /// What is sent, if anything.
     pub says: Option<Command>,
     /// The statuses that are accepted.
     pub hears: Codes,
@@ -127,13 +127,13 @@ pub struct Exchange {
 pub enum Row {
     /// A command and its reply, or a reply alone.
     Exchanges(Exchange),
-    /// Nothing is said or heard: the next transfer begins at this offset, in bytes, and the call is done.
+    /// Nothing is sent or received: the next transfer begins at this offset, in bytes, and the call is done.
     Arms(u64),
-    /// `NOOP`, and replies are read until its own; beside a live transfer nothing is said.
+    /// `NOOP`, and replies are read until its own; beside a live transfer nothing is sent.
     Resyncs,
-    /// Nothing is said or heard: a setting changes.
+    /// Nothing is sent or received: a setting changes.
     Sets(Setting),
-    /// Nothing is said or heard: bytes go over the data connection.
+    /// Nothing is sent or received on the control connection: bytes go over the data connection.
     Moves(Movement),
 }
 
@@ -232,7 +232,7 @@ pub fn finishes(call: &Call) -> bool
     matches!(call, Call::Finish | Call::Abort)
 }
 
-/// Whether a call is a plain read of one reply, and says nothing.
+/// Whether a call is a plain read of one reply, and sends nothing.
 pub fn is_read(call: &Call) -> bool
     ensures { result ≡ is_read call.now }
 {
@@ -242,7 +242,7 @@ pub fn is_read(call: &Call) -> bool
     )
 }
 
-/// Whether a call says a command at this turn, rather than that it hears a reply alone.
+/// Whether a call sends a command at this turn, rather than that it reads a reply alone.
 pub fn says_at(call: &Call, turn: Turn) -> bool
     ensures { result ≡ says_at call.now turn }
 {
@@ -253,7 +253,7 @@ pub fn says_at(call: &Call, turn: Turn) -> bool
     }
 }
 
-/// Whether a call says a command of its own.
+/// Whether a call sends a command of its own.
 fn says_own(call: &Call) -> bool
     ensures first { result ≡ says_at call.now Turn.First }
     ensures second { result ≡ says_at call.now Turn.Second }
@@ -295,8 +295,8 @@ pub fn of_transfer(call: &Call) -> bool
     )
 }
 
-/// Whether the last reply of a transfer that was left is read before a call says or hears anything of its own. That is so
-/// of each that goes over the control connection, but of the greeting and of those of a transfer.
+/// Whether the last reply of a transfer that was left is read before a call sends or receives anything of its own. That
+/// is so of each that goes over the control connection, but of the greeting and of those of a transfer.
 pub fn drains_first(call: &Call) -> bool
     ensures { result ≡ drains_first call.now }
 {

@@ -474,7 +474,7 @@ not_listing Plain is = cc
 not_listing System is = cc
 not_listing Features is = cc
 
--- what some form doesn't end goes on under the form of the phase that it comes to
+-- what some form doesn't end goes on under the form of the phase that it reaches
 record StillWaits (rule : ReplyRule) (phase : Phase) (bytes reply line : List ℕ) : Type 0 where
   pub before : outcome rule (waiting_form (phase_after rule phase reply line)) bytes false ≡ Waits
   pub goes_on : line_verdict rule (waiting_form (phase_after rule phase reply line)) phase reply line ≡ GoesOn

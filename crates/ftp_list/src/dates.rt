@@ -2,7 +2,7 @@
 //!
 //! A time is day number times 86,400 plus seconds, with no time zone: listings name none, and are
 //! read as UTC. Days come from the calendar of `jiff_core`, which knows the leap years; a number
-//! out of its range is refused before it is asked, so that no cast can lose anything.
+//! out of its range is rejected before it is asked, so that no cast can lose anything.
 ghost use Rattle.std.specs.Prelude.{◌≡◌, IfSome, ◌<◌, ◌^◌, length};
 ghost use Rattle.jiff_core.specs.Calendar.{IsEpochDay, IsYear};
 ghost use Rattle.ftp_list.specs.Dates.{second_at, day_number, clock_of, half_clock_of, month_of, number_among, IsUtcYear, IsSecond, whole_second};

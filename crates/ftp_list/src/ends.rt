@@ -1,9 +1,9 @@
-//! Where parts can end, to refuse a line in no memory.
+//! Where parts can end, to reject a line without an allocation.
 //!
-//! From the first and the last place where the part before it can end, each shape gives those
-//! where it can end itself. Every split ends its parts within these bounds, so a shape that
-//! stands at no place within them means that there is none. Most lines that are refused are
-//! refused here; a line that passes may still have no split, and the table of rows decides.
+//! From the first and the last place where the part before it can end, each shape gives those where
+//! it can end itself. Every split ends its parts within these bounds, so a shape that stands at no
+//! place within them means that there is none. Most lines that are rejected are rejected here; a
+//! line that passes may still have no split, and the table of rows decides.
 ghost use Rattle.std.specs.Prelude.{◌≡◌, ◌≤◌, ◌+◌, ℕ, true, false, length, drop};
 ghost use Rattle.ftp_list.specs.Split.{HasNoSplit};
 ghost use Rattle.ftp_list.specs.Rows.{Fits, IsFirstStand};

@@ -93,7 +93,7 @@ fn file_named(alloc: Global, name: &[char]) -> Result<File, AllocError>
     })
 }
 
-// The facts in order: later ones replace, the first error is the answer.
+// The facts in order: later ones replace, the first error is returned.
 fn with_all_facts(alloc: Global, file: File, text: &[char]) -> ParseResult<File>
     ensures { result ≡ with_facts file (facts text.now) }
 {

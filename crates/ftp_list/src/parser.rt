@@ -1,8 +1,8 @@
 //! The parsers, one for each form of a line, and one that tries them in turn.
 //!
 //! They work over characters, since blanks past ASCII count as blanks. Most lines are ASCII and
-//! short: their characters stand on the stack, and such a line takes memory for the answer and,
-//! in the POSIX and DOS forms, for short lists of its parts.
+//! short: their characters stand on the stack, and such a line takes memory for the result and, in
+//! the POSIX and DOS forms, for short lists of its parts.
 ghost use Rattle.std.specs.Prelude.{◌≡◌};
 ghost use Rattle.std.specs.Str.{chars};
 ghost use Rattle.ftp_list.specs.Listing.{UnlessMemory, IsPosix, IsDos};

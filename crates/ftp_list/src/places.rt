@@ -111,7 +111,7 @@ pub fn part_before<'a>(text: &'a [char], marker: &[char]) -> &'a [char]
     front(text, place_of(text, marker))
 }
 
-/// What stands behind the first marker, or nothing.
+/// What stands after the first marker, or nothing.
 pub fn part_behind<'a>(text: &'a [char], marker: &[char]) -> &'a [char]
     ensures { result.now ≡ behind marker.now text.now }
 {

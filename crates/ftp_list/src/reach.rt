@@ -54,8 +54,8 @@ fn longest_tried(form: Form, text: &[char]) -> Option<usize>
     }
 }
 
-/// The greatest length of a part of the shape at the front of the text behind which the row,
-/// which is indexed by how many characters are left, is true.
+/// The greatest length of a part of the shape at the front of the text after which the row, which
+/// is indexed by how many characters are left, is true.
 pub fn longest_open(shape: Shape, text: &[char], row: &[bool]) -> Option<usize>
     requires { length text.now < length row.now }
     ensures { IsGreatestOpen row.now shape text.now result }

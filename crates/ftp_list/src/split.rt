@@ -72,7 +72,7 @@ fn split_by_longest(
     Ok(Some(lengths))
 }
 
-// Takes the longest part behind which the later shapes can split the rest.
+// Takes the longest part after which the later shapes can split the rest.
 fn split_by_table(
     alloc: Global,
     shapes: &[Shape],

@@ -13,8 +13,8 @@ pub trait Secures<C: Tells>: Drop {
     /// Connections under TLS.
     type Stream: TlsStream<C>;
 
-    /// What it may answer for a server of this name and a connection of this record: a stream of this record, in clear,
-    /// or the text of a refusal.
+    /// What it may return for a server of this name and a connection of this record: a stream of this record, in clear,
+    /// or the text of an error.
     ghost answers: { Self → List ℕ → Told → Result Told (List ℕ) → Type 0 };
 }
 

@@ -21,7 +21,7 @@ pub trait TlsHandshake<C: Tells, S: TlsStream<C>>: Drop {
     /// The record of the connection as it was handed in.
     ghost handed: { Self → Told };
 
-    /// What it may answer: a stream of this record, in clear, or the text of a refusal.
+    /// What it may return: a stream of this record, in clear, or the text of an error.
     ghost may_answer: { Self → Result Told (List ℕ) → Type 0 };
 
     /// Whether it may have to wait.
@@ -30,7 +30,7 @@ pub trait TlsHandshake<C: Tells, S: TlsStream<C>>: Drop {
     /// What it waits for: the sources of the event loop that fire once it has come.
     ghost needs: { Self → ℕ → Type 0 };
 
-    /// Goes on with the handshake. It isn't polled again after it has answered.
+    /// Resumes the handshake. It isn't polled again after it was ready.
     ///
     /// # Errors
     /// Why the connection can't be put under TLS, in words. It is dropped.

@@ -17,17 +17,17 @@ use crate::secured::Secured;
 use ftp_base::types::FtpResult;
 use ftp_transport::Network;
 
-/// A transport whose connections can be put under TLS by a connector of type `K`, and be taken from under it. How they are put
-/// under it say `SecureTransport`, which blocks, and `PollSecureTransport`.
+/// A transport whose connections can be put under TLS by a connector of type `K`, and be taken from under it.
+/// `SecureTransport`, which blocks, and `PollSecureTransport` put them under it.
 pub trait SecureNetwork<K: Drop>: Network {
     /// The record of a connection itself, under whatever TLS.
     ghost told_below: { Self.Conn → Told };
 
-    /// What a connection may answer where it is asked for the one below: one of this record, or an error.
+    /// What a connection may return where it is asked for the one below: one of this record, or an error.
     ghost gives: { Self.Conn → Result Told Fault → Type 0 };
 
-    /// What a connector may answer for a server of this name and a connection of this record: a stream of this record, in
-    /// clear, or the text of a refusal.
+    /// What a connector may return for a server of this name and a connection of this record: a stream of this record,
+    /// in clear, or the text of an error.
     ghost answers: { K → List ℕ → Told → Result Told (List ℕ) → Type 0 };
 
     /// The connector that was kept, and the server's name.

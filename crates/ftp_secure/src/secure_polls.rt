@@ -37,7 +37,7 @@ pub trait PollSecureTransport<K: Drop, W>: SecureNetwork<K> {
     /// The record of the connection itself, as it was handed in.
     ghost told_under: { Self.Securing → Told };
 
-    /// What it may come to, where this connector is kept: a connection of this record, or an error.
+    /// What it may result in, where this connector is kept: a connection of this record, or an error.
     ghost ends_as: { Option (K × Owned Memory) → Self.Securing → Result Told Fault → Type 0 };
 
     /// Begins to put a connection under TLS by the connector that was kept; where none was it stays as it is.

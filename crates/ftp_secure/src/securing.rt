@@ -11,10 +11,10 @@ pub enum Securing<C, H> {
     Under(H),
 }
 
-/// What a step comes to.
+/// What a step results in.
 #[derive(Drop)]
 pub enum SecureStep<S, C> {
-    /// The handshake waits, and goes on from here.
+    /// The handshake waits, and resumes from here.
     Waits(S),
     /// The connection under TLS, or why there is none.
     Done(FtpResult<C>),

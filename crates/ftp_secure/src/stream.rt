@@ -15,7 +15,7 @@ pub trait TlsStream<C: Tells>: Tells + Drop {
     /// The connection below, as it is now.
     ghost below: { Self → C };
 
-    /// What it may answer where it is asked for that connection: one of this record, or an error.
+    /// What it may return where it is asked for that connection: one of this record, or an error.
     ghost gives: { Self → Result Told Fault → Type 0 };
 
     /// Ends TLS, and returns the connection below (RFC 4217, section 5).

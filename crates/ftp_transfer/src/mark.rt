@@ -1,10 +1,10 @@
 //! The mark of a transfer, by which a session learns from any thread that the transfer was left.
 //!
 //! A transfer can be dropped in mid-way while another thread holds its session, and a drop can't wait for that. So it
-//! stores one word, which the session loads before its next command; whatever the server still has to say of the
-//! transfer is read then. The transfer holds one end of the mark, its session the other. Each end has a seat of its
-//! own at the word, and each step is one atomic step of one seat: a `leave` stores, and nothing else does; a look
-//! loads. No step waits or allocates.
+//! stores one word, which the session loads before its next command; whatever the server still has to send for the
+//! transfer is read then. The transfer holds one end of the mark, its session the other. Each end has a seat of its own
+//! at the word, and each step is one atomic step of one seat: a `leave` stores, and nothing else does; a look loads. No
+//! step waits or allocates.
 
 ghost use Rattle.std.specs.Prelude.{◌≡◌, [], IfOk};
 

@@ -86,7 +86,7 @@ impl<C: Tells + Drop> Transfer<C> {
     }
 
     /// Leaves the transfer: closes the data connection, then stores the mark, and returns the receipt for it. In stream
-    /// mode the close is the end of an upload's file (RFC 959, section 3.4.1). A close that fails is told to nobody.
+    /// mode the close is the end of an upload's file (RFC 959, section 3.4.1). An error of the close is discarded.
     pub fn leave(self) -> Left
         ensures { result ≡ self.end }
     {

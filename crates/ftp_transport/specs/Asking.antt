@@ -1,4 +1,4 @@
--- What a transport is asked, what that comes to, and where the outcomes come from.
+-- What a transport is asked, what that results in, and where the outcomes come from.
 use Rattle.std.specs.Prelude.{◌≡◌, ◌⊎◌, List, [], ◌∷◌, ◌++◌, Option, Result, Ok, Err}
 use Rattle.std.specs.declared.alloc.AllocError.{AllocError}
 use Rattle.std.specs.declared.io.ErrorKind.{ErrorKind}
@@ -98,7 +98,7 @@ pub record RefusedInTurn (refuses : List Supply → ConnectionError → Type 0) 
   pub refused : AreRefused refuses answered fault last ready ready'
   pub recorded_are : asked' ≡ asked ++ answered
 
--- the first of these requests were made in order: each was refused but for the last, which came to the connection of
+-- the first of these requests were made in order: each was refused but for the last, which returned the connection of
 -- this record, the next one that was handed in
 pub record ConnectsInTurn (refuses : List Supply → ConnectionError → Type 0) (requests : List Request) (fault : ConnectionError) (told : Told) (ready ready' : List Supply) (asked asked' : List Asked) : Type 0 where
   pub request : Request
@@ -110,7 +110,7 @@ pub record ConnectsInTurn (refuses : List Supply → ConnectionError → Type 0)
   pub connected : due ≡ Connects told ∷ ready'
   pub recorded_is : asked' ≡ recorded request Done before
 
--- what the requests in turn come to: a connection; the last error, where each was refused; or memory ran out, or one
+-- what the requests in turn result in: a connection; the last error, where each was refused; or memory ran out, or one
 -- waits, and those before it were refused
 abbrev pub TriesInTurn : {C : Type 0} → (C → Told) → (List Supply → ConnectionError → Type 0) → List Request → List Request → ConnectionError → ConnectionError → Poll (Result (Result C ConnectionError) AllocError) → List Supply → List Supply → List Asked → List Asked → Type 0
 TriesInTurn told refuses requests left fault last (Ready (Ok (Ok conn))) ready ready' asked asked' = ConnectsInTurn refuses requests fault (told conn) ready ready' asked asked'

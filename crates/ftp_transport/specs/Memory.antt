@@ -55,8 +55,8 @@ more_room more sent (UpTo room) = UpTo (min (room + more) 18446744073709551615)
 abbrev pub widened : ℕ → Told → Told
 widened more t = record t { given = record t.given { room = more_room more (length t.sent) t.given.room } }
 
--- a transport over memory: what it was asked, with the outcomes, and what its next requests come to; the data connections
--- that were closed, and of how many there is room for a record; and the port that its listeners get
+-- a transport over memory: what it was asked, with the outcomes, and what its next requests result in; the data
+-- connections that were closed, and of how many there is room for a record; and the port that its listeners get
 pub record Asking : Type 0 where
   pub answered : List Asked
   pub ready : List Supply

@@ -13,16 +13,16 @@ use super::Tells;
 use ftp_base::types::FtpResult;
 use std::net::SocketAddr;
 
-/// Makes passive data connections to the addresses that it is asked for (RFC 959, section 3.2). It answers at once: a
+/// Makes passive data connections to the addresses that it is asked for (RFC 959, section 3.2). It isn't polled: a
 /// polled client waits for it as a blocking one does.
 pub trait PassiveStreamBuilder<C: Tells>: Drop {
-    /// What it may answer for an address: a connection of this record, or an error.
+    /// What it may return for an address: a connection of this record, or an error.
     ghost answers: { Self → Address → Result Told Faults → Type 0 };
 
     /// A connection to this address, on which nothing of the transfer was read or written yet.
     ///
     /// # Errors
-    /// Its own: the call that asked for the connection answers the error as it is.
+    /// Its own: the call that asked for the connection returns the error as it is.
     fn build(&self, address: SocketAddr) -> FtpResult<C>
         ensures answers { answers self.now address (built_as C.told result) };
 }

@@ -1,7 +1,7 @@
 //! A list of addresses, tried in turn.
 //!
-//! It is polled, so that a client that waits can drop it and go on where it was; over a transport that blocks it never
-//! waits. The last error is kept, which is the answer where no address connects.
+//! It is polled, so that a client that waits can drop it and resume where it stopped; over a transport that blocks it
+//! never waits. The last error is kept, which is returned where no address connects.
 
 ghost use Rattle.std.specs.Prelude.{◌≡◌, ◌≤◌, Ok, Err, drop, length};
 ghost use Rattle.futures.specs.declared.task.Poll.TheVariants as poll;
@@ -16,14 +16,14 @@ use std::time::Duration;
 /// How far a list of addresses was tried.
 #[derive(Clone, Copy, Debug)]
 pub struct Tried {
-    /// How many of them refused.
+    /// How many of them failed.
     pub count: usize,
-    /// The error of the last one; before the first, what is answered where there is none.
+    /// The error of the last one; before the first, what is returned where there is none.
     pub fault: ConnectionError,
 }
 
-/// Connects to the first of these addresses that doesn't refuse, each within this time where there is a limit. Those
-/// that were tried before aren't tried again. Where each refuses, the last error is the answer.
+/// Connects to the first of these addresses that accepts, each within this time where there is a limit. Those that were
+/// tried before aren't tried again. Where each fails, the last error is returned.
 pub fn poll_connect_in_turn<Tr, R, W>(
     transport: &mut Tr,
     rt: &R,

@@ -1,8 +1,8 @@
 //! What a connection does, and what it records of it.
 //!
 //! A record is a ghost: no program can look at it, and it costs nothing. It says what was received and sent, how often
-//! and with which error the connection failed, and what it was given. A theorem about a client holds for each
-//! connection whose record is true (`tells`).
+//! and with which error the connection failed, and what is at hand. A theorem about a client holds for each connection
+//! whose record is true (`tells`).
 
 ghost use Rattle.std.specs.Prelude.{◌≡◌, ◌<◌, IfErr, Ok, length, true};
 ghost use Rattle.std.specs.declared.io.ErrorKind.{ErrorKind as Kind};
@@ -27,7 +27,7 @@ pub trait Tells {
     fn begin(&mut self)
         ensures { tells → told self.new ≡ begun (told self.old) };
 
-    /// Which errors the three calls below may answer.
+    /// Which errors the three calls below may return.
     ghost end_faults: { Kind → Type 0 };
 
     /// The address of this end.
@@ -62,10 +62,10 @@ pub trait PollConn<W>: Tells {
     /// Whether a call may have to wait.
     ghost may_wait: { Type 0 };
 
-    /// Which errors a read may answer.
+    /// Which errors a read may return.
     ghost read_faults: { Kind → Type 0 };
 
-    /// Which errors a write may answer, by what the connection has recorded.
+    /// Which errors a write may return, by what the connection has recorded.
     ghost write_faults: { Told → Kind → Type 0 };
 
     /// Reads bytes into the front of the buffer. 0 bytes are the end of the input.
@@ -92,10 +92,10 @@ pub trait PollConn<W>: Tells {
 
 /// A connection whose calls return only when they are done.
 pub trait Conn: Tells {
-    /// Which errors a read may answer.
+    /// Which errors a read may return.
     ghost blocking_read_faults: { Kind → Type 0 };
 
-    /// Which errors a write may answer, by what the connection has recorded.
+    /// Which errors a write may return, by what the connection has recorded.
     ghost blocking_write_faults: { Told → Kind → Type 0 };
 
     /// Reads bytes into the front of the buffer. 0 bytes are the end of the input.

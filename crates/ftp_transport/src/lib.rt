@@ -3,7 +3,7 @@
 //! There are two ways to wait, a trait each: `Conn` blocks, `PollConn` says through a `W` that it waits. A blanket impl
 //! makes a `PollConn` of every `Conn`, so whatever stands above is written once, over `PollConn`. A `TaskConn` can
 //! register a task of an event loop for what a poll of it waits for. `MemoryConn` records all its traffic, and what is
-//! proved of a client is said of such a record; `TcpConn` is a socket, of which nothing can be proved.
+//! proved of a client is stated of such a record; `TcpConn` is a socket, of which nothing can be proved.
 #![tactic(auto)]
 
 mod builder;

@@ -1,4 +1,4 @@
-//! The transport over memory, which is handed what its requests come to, and records them.
+//! The transport over memory, which is handed what its requests result in, and records them.
 //!
 //! A test, or a program that replays a dialogue, supplies connections, peers and errors, and looks at what was asked
 //! and at the data connections that are over.
@@ -20,9 +20,9 @@ use std::marker::Model;
 use std::net::SocketAddr;
 use std::time::Duration;
 
-/// A transport over memory. A connect comes to the next item that it was supplied with where that is a connection or a
-/// error, and is refused else; an accept to the next item where that is a peer or an error, and else its deadline
-/// passes at once. A listen takes no item.
+/// A transport over memory. A connect returns the next item that it was supplied with where that is a connection or an
+/// error, and else is refused; an accept returns the next item where that is a peer or an error, and else its deadline
+/// passes at once. A listen consumes no item.
 #[derive(Drop)]
 pub struct MemoryTransport {
     ready: VecDeque<Supply>,
@@ -51,7 +51,7 @@ impl Model for MemoryTransport {
 }
 
 impl MemoryTransport {
-    /// A transport that refuses each connection, and whose listeners get port 0. Nothing is allocated.
+    /// A transport on which each connect is refused, and whose listeners get port 0. Nothing is allocated.
     pub fn new(alloc: Global) -> MemoryTransport
         ensures { result ≡ nothing_asked }
     {
@@ -63,7 +63,7 @@ impl MemoryTransport {
         }
     }
 
-    /// Adds what a request comes to, after those that were supplied before.
+    /// Adds what a request results in, after those that were supplied before.
     ///
     /// # Errors
     /// Where an allocation fails, and nothing changes.
@@ -99,7 +99,7 @@ impl MemoryTransport {
         self.closed.as_slice()
     }
 
-    /// What a connect comes to. Where an allocation fails nothing was asked.
+    /// What a connect results in. Where an allocation fails nothing was asked.
     fn answer_connect(&mut self, request: Request) -> Connected<MemoryConn>
         ensures asks { Asks request done (poll.Ready result) self.old.answered self.new.answered }
         ensures supplies { Supplies (connects_as (λ c. c)) over_memory (poll.Ready result)
@@ -118,7 +118,7 @@ impl MemoryTransport {
     }
 }
 
-/// The next connection, or its error; a refusal where none is next, and then nothing is taken.
+/// The next connection, or its error; a refusal where none is next, and then nothing is consumed.
 fn next_connection(ready: &mut VecDeque<Supply>) -> Result<MemoryConn, ConnectionError>
     ensures { Supplies (connects_as (λ c. c)) over_memory (poll.Ready (Ok result)) ready.old.items
         ready.new.items }
@@ -134,7 +134,7 @@ fn next_connection(ready: &mut VecDeque<Supply>) -> Result<MemoryConn, Connectio
     }
 }
 
-/// The next peer with its address, or its error; where none is next the deadline passes, and nothing is taken.
+/// The next peer with its address, or its error; where none is next the deadline passes, and nothing is consumed.
 fn next_peer(ready: &mut VecDeque<Supply>) -> Result<(MemoryConn, SocketAddr), ConnectionError>
     ensures { Supplies (comes_as (λ c. c)) accepts_over_memory (poll.Ready (Ok result))
         ready.old.items ready.new.items }

@@ -2,10 +2,10 @@
 //!
 //! A session holds a transport beside its control connection, for the connections that it will need later: it asks for
 //! one to the server, or listens and accepts the server's. What a transport was asked is on record, as traffic is, and
-//! so is what it was handed to answer with; a data connection that is over is handed back, and kept in that record.
-//! There are two ways to wait, a trait each: `Transport` blocks, `PollTransport` says through a `W` that it waits; a
-//! blanket impl makes the second of the first, so whatever stands above is written once. Both are passed their runtime,
-//! an `R`, which is nothing over memory.
+//! so is what it was handed to return; a data connection that is over is handed back, and kept in that record. There
+//! are two ways to wait, a trait each: `Transport` blocks, `PollTransport` says through a `W` that it waits; a blanket
+//! impl makes the second of the first, so whatever stands above is written once. Both are passed their runtime, an `R`,
+//! which is nothing over memory.
 
 ghost use Rattle.std.specs.Prelude.{◌≡◌, ◌∷◌, ◌++◌, [], ℕ, List, OnErr, OnOk, Result};
 ghost use Rattle.std.specs.declared.net.socket_addr.SocketAddr.{SocketAddr as Address};
@@ -37,19 +37,19 @@ pub trait Network: Drop {
     /// What it was asked, and with what outcome, in order.
     ghost asked: { Self → List Asked };
 
-    /// What the next requests that take an item come to, in order, as far as it was handed in.
+    /// What the next requests that consume an item result in, in order, as far as it was handed in.
     ghost ready: { Self → List Supply };
 
-    /// Which errors a connect may answer where none was handed in.
+    /// Which errors a connect may return where none was handed in.
     ghost refuses: { List Supply → Fault → Type 0 };
 
-    /// Which errors an accept may answer where none was handed in.
+    /// Which errors an accept may return where none was handed in.
     ghost accept_refuses: { List Supply → Fault → Type 0 };
 
     /// The port that it was told to listen on, which no request changes.
     ghost port: { Self → ℕ };
 
-    /// What a listen on this address may come to, by that port.
+    /// What a listen on this address may result in, by that port.
     ghost binds: { ℕ → Address → Result Address Fault → Type 0 };
 
     /// The data connections that are over, in the order in which they were handed back.
@@ -166,8 +166,7 @@ pub trait Transport<R>: Network {
         ensures port { Self.port self.new ≡ Self.port self.old };
 }
 
-/// A transport that may have to wait, and says so through a `W`. A request that waits is made again until it is
-/// answered.
+/// A transport that may have to wait, and says so through a `W`. A request that waits is made again until it is ready.
 pub trait PollTransport<R, W>: Network {
     /// Whether a request may have to wait.
     ghost may_wait: { Type 0 };

@@ -1,6 +1,6 @@
 //! The transport over memory as one that may be polled beside connections that wait.
 //!
-//! What a request comes to was handed in before, so a poll is the call that blocks, and never waits.
+//! What a request results in was handed in before, so a poll is the call that blocks, and never waits.
 
 use super::{
     Accepted, Connected, Listening, MemoryConn, MemoryListener, MemoryTransport, PollTransport,

@@ -1,6 +1,6 @@
 //! How much may be written.
 //!
-//! A connection over memory can be told to take so many bytes and no more, which is how a full send buffer is played.
+//! A connection over memory can be set to accept so many bytes and no more, which is how a full send buffer is played.
 
 /// How many bytes may be written on a connection before a write has to wait.
 #[derive(Clone, Copy, Debug, PartialEq, Eq)]

@@ -207,7 +207,7 @@ where
     }
 }
 
-/// How a failed read or write of a socket is told: the system says `WouldBlock` where the socket's limit passed.
+/// The error of a failed read or write of a socket: the system's is `WouldBlock` where the socket's limit passed.
 fn socket_fault(kind: ErrorKind) -> ErrorKind {
     match kind {
         ErrorKind::WouldBlock => ErrorKind::TimedOut,
@@ -215,7 +215,7 @@ fn socket_fault(kind: ErrorKind) -> ErrorKind {
     }
 }
 
-/// How an error under a deadline is told: that the deadline passed is an error of its own.
+/// The error returned for one under a deadline: that the deadline passed is an error of its own.
 fn deadline_fault(kind: ErrorKind) -> ConnectionError {
     match kind {
         ErrorKind::TimedOut => ConnectionError::TimedOut,

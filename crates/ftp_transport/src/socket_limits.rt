@@ -1,7 +1,7 @@
 //! How long the calls of a socket may wait.
 //!
-//! The system keeps the limits of reads and writes: a call that waits longer fails with `WouldBlock`, which
-//! `TcpConn` tells as `TimedOut`.
+//! The system keeps the limits of reads and writes: a call that waits longer fails with `WouldBlock`, which `TcpConn`
+//! returns as `TimedOut`.
 
 use std::io;
 use std::net::{Net, SocketAddr, TcpListener, TcpStream};

@@ -42,7 +42,7 @@ impl TcpConnListener {
     }
 
     /// Accepts a connection within this time, counted from the listener's first accept. A connection that has come is
-    /// taken, however late it is asked for.
+    /// accepted, however late it is asked for.
     ///
     /// # Errors
     /// `TimedOut` where the time has passed and no connection has come; the system's error.

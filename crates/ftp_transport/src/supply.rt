@@ -1,10 +1,10 @@
-//! What a transport's requests come to, over memory.
+//! What a transport's requests result in, over memory.
 
 use super::MemoryConn;
 use std::io::ErrorKind;
 use std::net::SocketAddr;
 
-/// What the next request that takes one comes to.
+/// What the next request that consumes one results in.
 #[derive(Drop)]
 pub enum Supply {
     /// A connect: this connection.

@@ -1,10 +1,10 @@
 //! Connections and transports whose waits wake a task of an event loop.
 //!
 //! What a poll does is the same in a task as over memory, so it is polled with nothing at hand (`PollConn<()>`), and a
-//! wait is data: the answer `Pending`. What a task needs besides stands here, apart from every dialogue: after a poll
+//! wait is data: the result `Pending`. What a task needs besides stands here, apart from every dialogue: after a poll
 //! that waits, the connections and the transport are asked to register the task for what they wait for. A connection
-//! knows that from its last call. Where what was waited for came between the two the task hears so, and polls again: no
-//! wake-up is lost.
+//! knows that from its last call. Where what was waited for came between the two the task learns so, and polls again:
+//! no wake-up is lost.
 
 ghost use Rattle.std.specs.Prelude.{◌≡◌, ℕ};
 ghost use Rattle.futures.specs.Task.{Covers, IsArmed, Keeps};

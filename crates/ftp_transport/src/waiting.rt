@@ -1,4 +1,4 @@
-//! What a task is told after a poll that waits.
+//! What a task learns after a poll that waits.
 
 ghost use Rattle.std.specs.Prelude.{◌≡◌};
 ghost use Rattle.futures.specs.Task.{IsArmed, Keeps};
@@ -19,7 +19,7 @@ pub enum Waiting {
 }
 
 impl Waiting {
-    /// What a task is told that waits in two places: that the wait is over, where it is in either; else that it is
+    /// What a task learns that waits in two places: that the wait is over, where it is in either; else that it is
     /// registered, where it is in either.
     pub fn or(self, other: Waiting) -> Waiting
         ensures { result ≡ first_over self other }

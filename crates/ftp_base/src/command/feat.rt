@@ -20,8 +20,8 @@ pub fn is_last_line(line: &str) -> bool
     begins_with(line, "211 ")
 }
 
-/// The features that the lines of a reply tell, its first line first. A later line takes the
-/// place of an earlier one of its name.
+/// The features that the lines of a reply list, its first line first. A later line takes the place of an earlier one of
+/// its name.
 ///
 /// # Errors
 /// `BadResponse` where there is no line, the first begins neither with `211 ` nor with `211-`, or

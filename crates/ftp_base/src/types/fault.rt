@@ -216,7 +216,7 @@ impl From<ErrorKind> for FtpError {
     }
 }
 
-/// For a program that computes with dates beside the client: what it lacks is a date, as where a reply tells of one that
+/// For a program that computes with dates beside the client: what it lacks is a date, as where a reply holds one that
 /// doesn't exist.
 impl From<jiff_core::Error> for FtpError {
     ghost from_gives = { λ cause error. ((cause ≡ date.OutOfMemory) × (error ≡ fault.OutOfMemory)) ⊎

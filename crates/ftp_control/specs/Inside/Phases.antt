@@ -1,4 +1,4 @@
--- The phases of a lenient reply: whether its lines have come to a list of features.
+-- The phases of a lenient reply: whether its lines have reached a list of features.
 use Rattle.std.specs.Prelude.{ℕ, Bool, true, false, ◌&&◌, List, [], ◌∷◌, if◌then◌else◌}
 use Rattle.ftp_control.specs.declared.control.rule.ReplyRule.{ReplyRule}
 use Rattle.ftp_control.specs.declared.control.form.ReplyForm.{ReplyForm}
@@ -37,7 +37,7 @@ in_list Past = false
 abbrev pub is_listing : ReplyForm → Phase → Bool
 is_listing form phase = lists form && in_list phase
 
--- the form under which lines that have come to a phase say nothing yet
+-- the form under which lines that have reached a phase say nothing yet
 abbrev pub waiting_form : Phase → ReplyForm
 waiting_form InReply = Features
 waiting_form InList = Features

@@ -1,4 +1,4 @@
--- What one more line of a reply comes to.
+-- What one more line of a reply results in.
 use Rattle.std.specs.Prelude.{ℕ, Bool, ◌&&◌, not, List, if◌then◌else◌}
 use Rattle.ftp_control.specs.declared.control.outcome.Outcome.{Outcome}
 use Rattle.ftp_control.specs.declared.control.outcome.Outcome.TheVariants.{Whole, Bad, Ended, Waits}
@@ -27,17 +27,17 @@ abbrev pub verdict : ReplyRule → ReplyForm → Bool → Phase → List ℕ →
 verdict rule form is_first phase reply line =
     if is_first && not (opens rule line) then Refused else line_verdict rule form phase reply line
 
--- what the end of the input comes to after these bytes, in a list or not
+-- what the end of the input results in after these bytes, in a list or not
 abbrev pub ended_by : Bool → List ℕ → Outcome
 ended_by listing bytes = if listing then Whole bytes 211 else Ended
 
--- what a verdict on the last line of these bytes comes to, where a list is listed or not after it
+-- what a verdict on the last line of these bytes results in, where a list is listed or not after it
 abbrev pub outcome_by : Bool → Bool → Verdict → List ℕ → Outcome
 outcome_by ended listing Refused bytes = Bad bytes
 outcome_by ended listing (Ends code) bytes = Whole bytes code
 outcome_by ended listing GoesOn bytes = if ended then ended_by listing bytes else Waits
 
--- the phase that a verdict on the last line leaves, where the line came to this one
+-- the phase that a verdict on the last line leaves, where the line reached this one
 abbrev pub phase_left : Bool → Verdict → Phase → Phase
 phase_left ended Refused phase = InReply
 phase_left ended (Ends code) phase = InReply

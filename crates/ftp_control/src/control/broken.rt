@@ -1,7 +1,7 @@
 //! How a read fails where the server did nothing wrong.
 //!
-//! What a server does wrong is an `Outcome`, since it takes bytes and the next read goes on behind them. An error of
-//! the connection or a failed allocation takes none, and says nothing of the reply.
+//! What a server does wrong is an `Outcome`, since it consumes bytes and the next read begins after them. An error of
+//! the connection or a failed allocation consumes none, and says nothing of the reply.
 
 use std::io::ErrorKind;
 

@@ -1,11 +1,11 @@
 //! The control channel: a connection, the bytes of the reply under way, and the line that goes out.
 //!
-//! How it works: received bytes lie ahead until a read looks at them. Those of the reply under way are moved, line by line,
-//! into one buffer, which holds a part of a reply and nothing after it. A read that is settled empties the buffer, and what
-//! came after the reply stays ahead; one that waits leaves the buffer, so that the next read goes on there, whoever makes it.
-//! A line is moved into the outbox whole before its first byte is written; what isn't sent of it goes out before
-//! anything else. So a call that is dropped in the middle leaves at most a part of a reply to be read on, and a part of
-//! a line to be sent on, and never a byte that belongs to something else.
+//! How it works: received bytes lie ahead until a read looks at them. Those of the reply under way are moved, line by
+//! line, into one buffer, which holds a part of a reply and nothing after it. A read that is settled empties the
+//! buffer, and what came after the reply stays ahead; one that waits leaves the buffer, so that the next read resumes
+//! there, whoever makes it. A line is moved into the outbox whole before its first byte is written; what isn't sent of
+//! it goes out before anything else. So a call that is dropped in the middle leaves at most a part of a reply to be
+//! read on, and a part of a line to be sent on, and never a byte that belongs to something else.
 //!
 //! An error of the connection, an input that ended or a reply that is too large fails the channel for good: it reads
 //! and sends nothing from then on.
@@ -209,7 +209,7 @@ impl<C: Tells + Drop> ControlChannel<C> {
         result
     }
 
-    /// Takes a line whole, to go out.
+    /// Queues a whole line, to go out.
     pub(crate) fn push(&mut self, line: WireLine)
         requires { self.old.unsent ≡ [] }
         ensures taken { self.new ≡ record self.old { unsent = line } }

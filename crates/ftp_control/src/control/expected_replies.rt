@@ -1,8 +1,8 @@
 //! Reads of a reply whose status is among those expected.
 //!
 //! Where replies are read leniently, which statuses those are also decides the reply's form: where 211 is among them, a
-//! first line `211-` may be the whole answer, as to `STAT`; the answer to `FEAT` has a form of its own. The status is tested once the reply is whole, so a
-//! reply that wasn't expected is consumed and given to the caller.
+//! first line `211-` may be the whole answer, as to `STAT`; the answer to `FEAT` has a form of its own. The status is
+//! tested once the reply is whole, so a reply that wasn't expected is consumed and returned to the caller.
 
 ghost use Rattle.std.specs.Prelude.{◌≡◌, Err, true, false, ◌∷◌, []};
 ghost use Rattle.futures.specs.declared.task.Poll.TheVariants as poll;

@@ -1,6 +1,6 @@
 //! The lines of a reply (RFC 959, section 4.2).
 //!
-//! A reply begins with a code; a first line with `-` behind the code opens a reply of several lines, which ends with a
+//! A reply begins with a code; a first line with `-` after the code opens a reply of several lines, which ends with a
 //! line of a code and a space. Servers deviate from this, so what opens and what ends a reply is a `ReplyRule`, and how
 //! far it reaches a `ReplyForm`. A line is judged once, when its LF has come or the input has ended.
 

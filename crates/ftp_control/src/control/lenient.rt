@@ -1,4 +1,4 @@
-//! What lenient replies have beside the grammar: a dash that ends a reply of 211, and the list of features behind it
+//! What lenient replies have beside the grammar: a dash that ends a reply of 211, and the list of features after it
 //! (RFC 2389, section 3.2).
 //!
 //! Strictly a reply ends alike whatever is asked of it, so none of this has a say there.

@@ -1,7 +1,7 @@
 //! The line that goes out, as far as it hasn't yet.
 //!
-//! A connection may take a part of what is written. The line stays whole here, with how much of it went out, so that
-//! sending goes on at that byte after a wait, and after a call that was dropped.
+//! A connection may accept a part of what is written. The line stays whole here, with how much of it went out, so that
+//! sending resumes at that byte after a wait, and after a call that was dropped.
 
 ghost use Rattle.std.specs.Prelude.{◌≡◌, ◌≤◌, IfErr, Ok, length, drop};
 ghost use Rattle.futures.specs.declared.task.Poll.TheVariants as poll;

@@ -1,7 +1,7 @@
 //! What a read of a reply results in.
 //!
 //! Each outcome but `Waits` is settled: bytes that come later don't change it, and it says which bytes it has consumed,
-//! so that the next read begins behind them.
+//! so that the next read begins after them.
 
 use ftp_base::types::Bytes;
 

@@ -1,8 +1,8 @@
 //! The bytes of the reply under way.
 //!
-//! Where its last line begins is kept beside them, and whether its lines have come to a list of features, so a line is
-//! judged when it ends and no byte is looked at again: a reply of many lines takes time in proportion to its bytes. A reply of more than [`REPLY_LIMIT`] bytes is given up, so
-//! a server can't make a client fill its memory.
+//! Where its last line begins is kept beside them, and whether its lines have reached a list of features, so a line is
+//! judged when it ends and no byte is looked at again: a reply of many lines takes time in proportion to its bytes. A
+//! reply of more than [`REPLY_LIMIT`] bytes is given up, so a server can't make a client fill its memory.
 
 ghost use Rattle.std.specs.Prelude.{◌≡◌, ◌≤◌, ◌+◌, Ok, nat_eq, false, true, [], ◌++◌, drop, length, vec_len, vec_capacity};
 ghost use Rattle.ftp_control.specs.Grammar.{outcome, reply_limit};
@@ -22,7 +22,7 @@ use std::mem;
 /// How many bytes a reply may have.
 pub const REPLY_LIMIT: usize = 262_144;
 
-/// The bytes of the reply under way, where its last line begins, and what its whole lines have come to.
+/// The bytes of the reply under way, where its last line begins, and the phase that its whole lines have reached.
 #[derive(Drop)]
 pub(crate) struct ReplyBuffer {
     pub(crate) bytes: Vec<u8>,
@@ -83,7 +83,7 @@ pub(super) fn take_reply_end(
     settle(alloc, reply, form, phase, true, verdict)
 }
 
-/// The outcome by a verdict on the last line, with which the reply's lines come to this phase.
+/// The outcome by a verdict on the last line, with which the reply's lines reach this phase.
 fn settle(
     alloc: Global,
     reply: &mut ReplyBuffer,

@@ -1,7 +1,7 @@
 //! Commands that go out.
 //!
-//! Only a `WireLine` can be sent, and it is sent whole: the rest of a line that a dropped call has begun goes out before
-//! the next one. So whatever is dropped, and whenever, a server sees whole commands in the order in which they began.
+//! Only a `WireLine` can be sent, and it is sent whole: the unsent tail of a dropped call's line goes out before the
+//! next one. So whatever is dropped, and whenever, a server sees whole commands in the order in which they began.
 
 ghost use Rattle.std.specs.Prelude.{◌≡◌, Ok, Err, Some, [], true, false};
 ghost use Rattle.futures.specs.declared.task.Poll.TheVariants as poll;

@@ -1,7 +1,7 @@
 //! Reads of one line at a time, for the lines after a reply.
 //!
 //! Where a whole line of a reply under way is kept, a line can't be told from the reply that it is part of: such a read
-//! is refused, and nothing is lost.
+//! fails with an error, and nothing is lost.
 
 ghost use Rattle.std.specs.Prelude.{◌≡◌, ◌≢◌, Err, [], true, false};
 ghost use Rattle.futures.specs.declared.task.Poll.TheVariants as poll;

@@ -1,8 +1,8 @@
 //! The one form in which anything reaches the wire: a line that is one command.
 //!
 //! A file name may hold a line break, or become one under an encoding. The text is tested before it is encoded and the
-//! bytes are tested afterwards, so neither can begin a second command; a line that fails either test is refused and
-//! can't be made. The bytes are private, and what is sent takes nothing else.
+//! bytes are tested afterwards, so neither can begin a second command; a line that fails either test can't be made. The
+//! bytes are private, and nothing else can be sent.
 
 ghost use Rattle.std.specs.Prelude.{◌≡◌, Ok, IfOk, IfErr, true};
 ghost use Rattle.ftp_base.specs.Command.{text_of};

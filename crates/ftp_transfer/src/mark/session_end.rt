@@ -34,7 +34,7 @@ impl SessionEnd {
         self.number
     }
 
-    /// Whether the transfer was left, by one load. After an answer true every later one is true.
+    /// Whether the transfer was left, by one load. After a result true every later one is true.
     pub fn look(&mut self) -> bool
         ensures loaded { self.new ≡ loaded result self.old }
         ensures stays { Contains self.old.loads true → result ≡ true }
