@@ -16,7 +16,7 @@ use Rattle.ftp_control.proofs.Outcomes.{nothing_under_way}
 use Rattle.ftp_control.proofs.WireLines.{line_behind}
 use Rattle.ftp_control.specs.Inside.UnderWay.{IsUnderWay}
 use Rattle.ftp_control.specs.Reading.{HearTells}
-use Rattle.ftp_control.specs.Inside.ReadLoop.{Hears, TakesAll}
+use Rattle.ftp_control.specs.Inside.ReadLoop.{ReadsSought, TakesAll}
 use Rattle.ftp_control.specs.Sending.{IsLines, is_wire_line}
 use Rattle.ftp_control.specs.Channel.{IsEndOf}
 use Rattle.ftp_control.specs.Inside.Held.{Holds}
@@ -55,7 +55,7 @@ end_with_more : (part whole more : List ℕ) → IsEndOf part whole → IsEndOf 
 end_with_more part whole more a = record { front = a.front; is = ap (λ w. w ++ more) a.is ∙ append_assoc a.front part more }
 
 -- after a read
-pub read_holds : (tells : Type 0) (t u : Told) (kept kept' : List ℕ) (start start' : ℕ) (phase phase' : Phase) (ahead ahead' line : List ℕ) (sent : ℕ) (ended ended' failed failed' : Bool) (rule : ReplyRule) (says : List ℕ → Bool → Outcome) (result : Result Outcome Broken) → Holds tells t kept start phase ahead line sent ended failed rule → IsUnderWay rule kept' start' phase' → length ahead' ≤ 8192 → (tells → u.ended ≡ ended') → Hears tells says kept kept' ahead ahead' ended ended' t u result → Holds tells u kept' start' phase' ahead' line sent ended' failed' rule
+pub read_holds : (tells : Type 0) (t u : Told) (kept kept' : List ℕ) (start start' : ℕ) (phase phase' : Phase) (ahead ahead' line : List ℕ) (sent : ℕ) (ended ended' failed failed' : Bool) (rule : ReplyRule) (says : List ℕ → Bool → Outcome) (result : Result Outcome Broken) → Holds tells t kept start phase ahead line sent ended failed rule → IsUnderWay rule kept' start' phase' → length ahead' ≤ 8192 → (tells → u.ended ≡ ended') → ReadsSought tells says kept kept' ahead ahead' ended ended' t u result → Holds tells u kept' start' phase' ahead' line sent ended' failed' rule
 read_holds tells t u kept kept' start start' phase phase' ahead ahead' line sent ended ended' failed failed' rule says result held under bound known heard = record {
   under_way = under;
   within = held.within;

@@ -10,7 +10,7 @@ use Rattle.ftp_transport.specs.Told.{Told, IsDry, HasFailed, after_read, after_e
 use Rattle.ftp_control.specs.Reading.{after_input, GoesOn, HearTells}
 use Rattle.ftp_control.specs.Grammar.{reply_limit}
 use Rattle.ftp_control.specs.Inside.Ahead.{Fills}
-use Rattle.ftp_control.specs.Inside.ReadLoop.{TakesAll, Takes, Hears}
+use Rattle.ftp_control.specs.Inside.ReadLoop.{TakesAll, Takes, ReadsSought}
 
 -- what was looked at so far, where it says nothing yet
 pub record LooksSoFar (says : List ℕ → Bool → Outcome) (kept kept' ahead ahead' : List ℕ) : Type 0 where
@@ -103,7 +103,7 @@ module _ (tells : Type 0) (says : List ℕ → Bool → Outcome) (kept now later
     taken_split = so_far.split ∙ looks.split
 
     -- what lies ahead settles it
-    pub look_settles : (heard ≡ Waits → ⊥) → Hears tells says kept later ahead after first false t u (Ok heard)
+    pub look_settles : (heard ≡ Waits → ⊥) → ReadsSought tells says kept later ahead after first false t u (Ok heard)
     look_settles settled = record {
       came = so_far.came;
       taken = looks.taken;
@@ -127,7 +127,7 @@ module _ (tells : Type 0) (says : List ℕ → Bool → Outcome) (kept now later
         go Waits other e = absurd (other refl)
 
   -- there is no room for what lies ahead
-  pub memory_hears : Takes says now later left after (Err OutOfMemory) → Hears tells says kept later ahead after first false t u (Err OutOfMemory)
+  pub memory_hears : Takes says now later left after (Err OutOfMemory) → ReadsSought tells says kept later ahead after first false t u (Err OutOfMemory)
   memory_hears looks = record {
     came = so_far.came;
     taken = looks.taken;
@@ -176,7 +176,7 @@ module _ (tells : Type 0) (says : List ℕ → Bool → Outcome) (kept now later
     }
 
     -- the connection waits
-    pub waits_hears : (v : Told) → (tells → (v ≡ u) × IsDry v) → Hears tells says kept later ahead [] first false t v (Ok Waits)
+    pub waits_hears : (v : Told) → (tells → (v ≡ u) × IsDry v) → ReadsSought tells says kept later ahead [] first false t v (Ok Waits)
     waits_hears v told = record {
       came = so_far.came;
       taken = later;
@@ -193,7 +193,7 @@ module _ (tells : Type 0) (says : List ℕ → Bool → Outcome) (kept now later
     }
 
     -- the read fails, and nothing is lost
-    pub fails_hears : (kind : ErrorKind) (v : Told) → (tells → HasFailed kind u v) → Hears tells says kept later ahead [] first false t v (Err (Connection kind))
+    pub fails_hears : (kind : ErrorKind) (v : Told) → (tells → HasFailed kind u v) → ReadsSought tells says kept later ahead [] first false t v (Err (Connection kind))
     fails_hears kind v told = record {
       came = so_far.came;
       taken = later;
@@ -215,8 +215,8 @@ module _ (tells : Type 0) (says : List ℕ → Bool → Outcome) (kept now later
     fills_on false new v fills = let P : List ℕ → Type 0 = λ l. SoFar tells says kept later ahead l first true t v in subst P (sym fills.leaves) (end_comes v fills.told)
 
     -- it couldn't be
-    pub fill_fails : (kind : ErrorKind) (new : List ℕ) (v : Told) → Fills tells (Err kind) new u v → Hears tells says kept later ahead new first false t v (Err (Connection kind))
-    fill_fails kind new v fills = let P : List ℕ → Type 0 = λ l. Hears tells says kept later ahead l first false t v (Err (Connection kind)) in subst P (sym fills.leaves) (fails_hears kind v fills.told)
+    pub fill_fails : (kind : ErrorKind) (new : List ℕ) (v : Told) → Fills tells (Err kind) new u v → ReadsSought tells says kept later ahead new first false t v (Err (Connection kind))
+    fill_fails kind new v fills = let P : List ℕ → Type 0 = λ l. ReadsSought tells says kept later ahead l first false t v (Err (Connection kind)) in subst P (sym fills.leaves) (fails_hears kind v fills.told)
 
 -- what is kept and ahead has grown, or the input has ended
 pub fill_smaller : (any : Bool) (before after came : ℕ) → before ≡ after → after ≤ reply_limit → came ≤ 8192 → (any ≡ true → 0 < came) → cond (not any) 0 (270337 - (after + came)) < 270337 - before
@@ -229,7 +229,7 @@ some_came tells true new t u fills is = fills.leaves
 some_came tells false new t u fills is = let clash : false ≡ true = is in cc
 
 -- the end settles it
-pub end_settles : (tells : Type 0) (says : List ℕ → Bool → Outcome) (kept now ahead left : List ℕ) (first : Bool) (t u : Told) → SoFar tells says kept now ahead left first true t u → (later : List ℕ) (heard : Outcome) → (heard ≡ Waits → ⊥) → (says now false ≡ Waits → heard ≡ says now true) → TakesAll (Ok heard) now later → Hears tells says kept later ahead left first true t u (Ok heard)
+pub end_settles : (tells : Type 0) (says : List ℕ → Bool → Outcome) (kept now ahead left : List ℕ) (first : Bool) (t u : Told) → SoFar tells says kept now ahead left first true t u → (later : List ℕ) (heard : Outcome) → (heard ≡ Waits → ⊥) → (says now false ≡ Waits → heard ≡ says now true) → TakesAll (Ok heard) now later → ReadsSought tells says kept later ahead left first true t u (Ok heard)
 end_settles tells says kept now ahead left first t u so_far later heard settled is whole = record {
   came = so_far.came;
   taken = now;

@@ -8,7 +8,7 @@ use Rattle.ftp_control.specs.declared.control.outcome.Outcome.{Outcome}
 use Rattle.ftp_control.specs.declared.control.outcome.Outcome.TheVariants.{Whole, Bad, TooLarge, Ended, Waits}
 use Rattle.ftp_control.specs.Grammar.{outcome, line_outcome, whole_lines, reply_limit}
 use Rattle.ftp_control.specs.Reading.{AnswersOutcome, GoesOn}
-use Rattle.ftp_control.specs.Inside.ReadLoop.{TakesAll, Hears}
+use Rattle.ftp_control.specs.Inside.ReadLoop.{TakesAll, ReadsSought}
 use Rattle.ftp_control.specs.Channel.{Channel, untaken, fails_by, LeavesBytes, StaysSettled, TakesSome, ReadsReply, ReadsLine}
 use Rattle.ftp_control.proofs.Law.{answer_stays, line_answer_stays}
 use Rattle.ftp_control.proofs.Outcomes.{line_waits_on}
@@ -105,7 +105,7 @@ answers_line taken ended new at_end (Err broken) waits is = tt
 
 module _ (tells : Type 0) (old new : Channel) (result : Result Outcome Broken) (same : new ≡ record old { told = new.told; kept = new.kept; ahead = new.ahead; ended = new.ended; failed = old.failed || fails_by result }) where
   -- a read of a reply
-  pub reads_reply : (form : ReplyForm) → Hears tells (outcome old.rule form) old.kept new.kept old.ahead new.ahead old.ended new.ended old.told new.told result → ReadsReply tells form old new result
+  pub reads_reply : (form : ReplyForm) → ReadsSought tells (outcome old.rule form) old.kept new.kept old.ahead new.ahead old.ended new.ended old.told new.told result → ReadsReply tells form old new result
   reads_reply form heard =
       record {
         came = heard.came;
@@ -122,7 +122,7 @@ module _ (tells : Type 0) (old new : Channel) (result : Result Outcome Broken) (
       }
 
   -- a read of one line
-  pub reads_line : (form : ReplyForm) → outcome old.rule form old.kept false ≡ Waits → whole_lines old.kept ≡ [] → Hears tells line_outcome old.kept new.kept old.ahead new.ahead old.ended new.ended old.told new.told result → ReadsLine tells old new result
+  pub reads_line : (form : ReplyForm) → outcome old.rule form old.kept false ≡ Waits → whole_lines old.kept ≡ [] → ReadsSought tells line_outcome old.kept new.kept old.ahead new.ahead old.ended new.ended old.told new.told result → ReadsLine tells old new result
   reads_line form waits none heard =
       record {
         came = heard.came;

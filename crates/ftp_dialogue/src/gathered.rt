@@ -1,6 +1,6 @@
 //! The bytes of a data connection, read into one growing buffer.
 
-ghost use Rattle.std.specs.Prelude.{◌≡◌, ◌≤◌, ◌-◌, drop, take, vec_len, IfOk, Ok, OnErr};
+ghost use Rattle.std.specs.Prelude.{◌≡◌, ◌≤◌, ◌+◌, ◌-◌, drop, take, vec_len, IfOk, Ok, OnErr};
 ghost use Rattle.futures.specs.declared.task.Poll.TheVariants as poll;
 ghost use Rattle.ftp_transport.specs.Told.{ReadTells, ReadsAtMost};
 ghost use Rattle.ftp_dialogue.specs.Dialogue.{chunk};
@@ -13,8 +13,11 @@ use std::alloc::{AllocError, Global};
 use std::io::ErrorKind;
 use std::marker::Model;
 
-/// How many bytes a read asks for.
+/// How many bytes a read asks for at most.
 const CHUNK: usize = 65_536;
+
+/// How many bytes the first read asks for.
+const FIRST: usize = 8_192;
 
 /// The bytes that were read so far, at the front of a buffer that has room for more.
 #[derive(Drop)]
@@ -24,13 +27,14 @@ pub struct Gathered {
 }
 
 impl Model for Gathered {
-    ghost use Rattle.std.specs.Prelude.{◌≤◌, ℕ, List, take, vec_len};
+    ghost use Rattle.std.specs.Prelude.{◌≤◌, ◌+◌, ℕ, List, take, vec_len};
+    ghost use Rattle.ftp_dialogue.specs.Dialogue.{chunk};
 
     ghost Value = { List ℕ };
 
     ghost view = { λ g. take g.filled g.buffer.items };
 
-    ghost invariant = { λ g. g.filled ≤ vec_len g.buffer };
+    ghost invariant = { λ g. (g.filled ≤ vec_len g.buffer) × (vec_len g.buffer ≤ g.filled + chunk) };
 }
 
 /// What a read came to.
@@ -112,7 +116,11 @@ pub(super) fn fitted(mut buffer: Vec<u8>) -> Bytes
     Bytes::from_vec(buffer)
 }
 
-/// Reads once into a buffer, after its filled bytes, and makes room before. Nothing is read where there is no memory.
+/// Reads once into a buffer, after its filled bytes. It asks for as many bytes as are filled, within the limits of the
+/// first read and of each; where less than half of them have room, the buffer grows first.
+///
+/// # Errors
+/// There is no memory to grow, and nothing is read.
 fn read_after<W, Tr: Network, A: Asks<Tr, W>>(
     asker: &A,
     conn: &mut Tr::Conn,
@@ -121,19 +129,23 @@ fn read_after<W, Tr: Network, A: Asks<Tr, W>>(
     filled: usize,
 ) -> Result<Result<Poll<usize>, ErrorKind>, AllocError>
     requires fits { filled ≤ vec_len buffer.old }
+    requires room { vec_len buffer.old ≤ filled + chunk }
     requires may { A.may_ask }
     ensures within { filled ≤ vec_len buffer.new }
+    ensures room { vec_len buffer.new ≤ filled + chunk }
     ensures front { take filled buffer.new.items ≡ take filled buffer.old.items }
-    ensures bound { IfOk result (λ read. ReadsAtMost read chunk) }
     ensures holds { IfOk result (λ read. ReadsAtMost read (vec_len buffer.new - filled)) }
     ensures waits { result ≡ Ok (Ok poll.Pending) → A.may_wait }
     ensures told { IfOk result (λ read. Tr.Conn.tells →
         ReadTells read (drop filled buffer.new.items) (Tr.Conn.told conn.old) (Tr.Conn.told conn.new)) }
     ensures none { OnErr result (Tr.Conn.told conn.new ≡ Tr.Conn.told conn.old) }
 {
-    let Some(end) = filled.checked_add(CHUNK) else {
-        return Err(AllocError);
-    };
-    buffer.resize(end, 0)?;
+    let asked = filled.max(FIRST).min(CHUNK);
+    if buffer.len() - filled < asked / 2 {
+        let Some(end) = filled.checked_add(asked) else {
+            return Err(AllocError);
+        };
+        buffer.resize(end, 0)?;
+    }
     Ok(asker.read(conn, w, &mut buffer[filled..]))
 }

@@ -15,6 +15,14 @@ use ftp_transport::{
 use futures::task::{Context, Poll};
 use std::alloc::{AllocError, Global};
 
+/// A call that begins, in memory of its own; none where there is none for it.
+fn boxed(alloc: Global, call: Result<Call, AllocError>) -> Option<Box<PolledCall>> {
+    let Ok(call) = call else {
+        return None;
+    };
+    Box::new(alloc, PolledCall::new(call)).ok()
+}
+
 /// A call of a client, until it has its answer or is dropped.
 pub(crate) struct Calling<'r, R, Tr: TaskTransport, K: Drop, E: Encoding, B: Drop>
 where
@@ -22,11 +30,18 @@ where
 {
     rt: &'r R,
     hold: Hold<Session<Tr, K, E, B>>,
-    // None where there was no memory for the call's texts.
-    call: Option<PolledCall>,
+    // In memory of its own, so that a future that moves moves little. None where there was no memory for it.
+    call: Option<Box<PolledCall>>,
 }
 
-impl<'r, R, Tr: TaskTransport, K: Drop, E: Encoding, B: Drop> Calling<'r, R, Tr, K, E, B>
+impl<'r, R: AllocGlobal, Tr: TaskTransport, K: Drop, E: Encoding, B: Drop> Calling<
+    'r,
+    R,
+    Tr,
+    K,
+    E,
+    B,
+>
 where
     Tr::Conn: TaskConn,
 {
@@ -39,7 +54,7 @@ where
         Calling {
             rt,
             hold: Hold::on(shared),
-            call: call.ok().map(PolledCall::new),
+            call: boxed(rt.alloc(), call),
         }
     }
 }

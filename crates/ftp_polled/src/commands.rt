@@ -21,7 +21,7 @@ where
     Tr::Conn: TaskConn,
 {
     /// The state of a call.
-    pub(crate) fn dialogue<'r, R, A>(
+    pub(crate) fn dialogue<'r, R: AllocGlobal, A>(
         &self,
         rt: &'r R,
         call: Result<Call, AllocError>,

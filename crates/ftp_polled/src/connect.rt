@@ -4,7 +4,7 @@ ghost use Rattle.futures.specs.Poll.{OnPending};
 ghost use Rattle.futures.specs.Task.{IsArmed, Keeps};
 
 use crate::client::ImplAsyncFtpStream;
-use crate::outcome::Outcome;
+use crate::from_answer::FromAnswer;
 use crate::waiting::wait;
 use ftp_base::encoding::Encoding;
 use ftp_base::types::{ConnectionError, FtpError, FtpResult};
@@ -167,7 +167,11 @@ where
         };
         let alloc = self.rt.alloc();
         match session.poll_call(alloc, self.rt, &mut self.greeting, &mut ()) {
-            Poll::Ready(answer) => Poll::Ready(client_of(alloc, Outcome::of(answer), session)),
+            Poll::Ready(answer) => Poll::Ready(client_of(
+                alloc,
+                FromAnswer::from_answer(answer),
+                session,
+            )),
             Poll::Pending => {
                 let waits = wait(&mut session, cx);
                 drop(mem::replace(&mut self.session, Some(session)));

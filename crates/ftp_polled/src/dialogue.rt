@@ -1,7 +1,7 @@
 //! The states of calls that give a value: commands and their replies, reads of one reply, whole files and listings.
 
 use crate::calling::Calling;
-use crate::outcome::Outcome;
+use crate::from_answer::FromAnswer;
 use ftp_base::encoding::Encoding;
 use ftp_base::types::{FtpResult, Response};
 use ftp_transport::{PassiveStreamBuilder, PollConn, PollTransport, TaskConn, TaskTransport};
@@ -42,7 +42,7 @@ where
     }
 }
 
-impl<'r, R: AllocGlobal, Tr, K: Drop, E: Encoding, B, A: Outcome> Future
+impl<'r, R: AllocGlobal, Tr, K: Drop, E: Encoding, B, A: FromAnswer> Future
     for Dialogue<'r, R, Tr, K, E, B, A>
 where
     Tr: PollTransport<R, ()> + TaskTransport,
@@ -53,7 +53,7 @@ where
 
     fn poll(&mut self, cx: &mut Context<'_>) -> Poll<FtpResult<A>> {
         match self.calling.poll_answer(cx) {
-            Poll::Ready(answer) => Poll::Ready(A::of(answer)),
+            Poll::Ready(answer) => Poll::Ready(A::from_answer(answer)),
             Poll::Pending => Poll::Pending,
         }
     }

@@ -3,8 +3,8 @@
 ghost use Rattle.futures.specs.Poll.{OnPending};
 ghost use Rattle.futures.specs.Task.{IsArmed, Keeps};
 
+use crate::from_answer::FromAnswer;
 use crate::hold::Hold;
-use crate::outcome::Outcome;
 use crate::waiting::wait;
 use ftp_base::encoding::Encoding;
 use ftp_base::types::{ConnectionError, FtpError, FtpResult};
@@ -105,7 +105,7 @@ where
         }
         match session.poll_call(self.rt.alloc(), self.rt, &mut self.call, &mut ()) {
             Poll::Ready(answer) => {
-                let ended = Outcome::of(answer);
+                let ended = FromAnswer::from_answer(answer);
                 if fails_session(self.whole, &ended) {
                     session.fail();
                 }

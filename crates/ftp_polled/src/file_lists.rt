@@ -6,7 +6,7 @@ ghost use Rattle.futures.specs.Task.{IsArmed, Keeps};
 
 use crate::calling::Calling;
 use crate::client::ImplAsyncFtpStream;
-use crate::outcome::Outcome;
+use crate::from_answer::FromAnswer;
 use ftp_base::encoding::Encoding;
 use ftp_base::types::{Features, FtpError, FtpResult};
 use ftp_calls::call::{list_call, mlsd_call};
@@ -114,7 +114,7 @@ fn turn_after(answer: Answer) -> FtpResult<Turn> {
 /// # Errors
 /// The answer's; `OutOfMemory`.
 fn facts_in<R: AllocGlobal>(rt: &R, answer: Answer) -> FtpResult<Listing> {
-    let lines: Vec<String> = Outcome::of(answer)?;
+    let lines: Vec<String> = FromAnswer::from_answer(answer)?;
     Ok(Listing::of_mlsd(rt.alloc(), &lines)?)
 }
 
@@ -123,7 +123,7 @@ fn facts_in<R: AllocGlobal>(rt: &R, answer: Answer) -> FtpResult<Listing> {
 /// # Errors
 /// The answer's; `BadResponse` where the present moment can't be read; `OutOfMemory`.
 fn files_in<R: Clock + AllocGlobal>(rt: &R, answer: Answer) -> FtpResult<Listing> {
-    let lines: Vec<String> = Outcome::of(answer)?;
+    let lines: Vec<String> = FromAnswer::from_answer(answer)?;
     match Timestamp::now(rt) {
         Ok(now) => Ok(Listing::of_list(rt.alloc(), &lines, now)?),
         Err(_) => Err(FtpError::BadResponse),

@@ -58,14 +58,18 @@ impl<S: Drop> Hold<S> {
         ensures registered { OnPending result (IsArmed cx.new) }
         ensures kept { Keeps cx.old cx.new }
     {
-        match mem::replace(self, Hold::Gone) {
-            Hold::Lacks => Poll::Ready(Err(AllocError)),
-            Hold::Waits(queued) => self.poll_queued(queued, cx),
-            held => {
-                self.put(held);
-                Poll::Ready(Ok(()))
-            }
+        if !self.waits() {
+            return Poll::Ready(Ok(()));
         }
+        match mem::replace(self, Hold::Gone) {
+            Hold::Waits(queued) => self.poll_queued(queued, cx),
+            _ => Poll::Ready(Err(AllocError)),
+        }
+    }
+
+    /// Whether the lock is neither held nor was let go.
+    fn waits(&self) -> bool {
+        matches!(self, Hold::Waits(_) | Hold::Lacks)
     }
 
     /// Goes on to wait for the lock.

@@ -4,8 +4,8 @@ ghost use Rattle.futures.specs.Poll.{OnPending};
 ghost use Rattle.futures.specs.Task.{IsArmed, Keeps};
 
 use crate::client::ImplAsyncFtpStream;
+use crate::from_answer::FromAnswer;
 use crate::hold::Hold;
-use crate::outcome::Outcome;
 use crate::waiting::wait;
 use ftp_base::encoding::Encoding;
 use ftp_base::types::{ConnectionError, FtpError, FtpResult};
@@ -62,7 +62,7 @@ where
             return Poll::Ready(Ok(()));
         };
         match session.poll_call(self.rt.alloc(), self.rt, call, &mut ()) {
-            Poll::Ready(answer) => Poll::Ready(Outcome::of(answer)),
+            Poll::Ready(answer) => Poll::Ready(FromAnswer::from_answer(answer)),
             Poll::Pending => wait(session, cx),
         }
     }

@@ -1,13 +1,13 @@
 //! The polled client: each call is a future, which a runtime of `tokio` polls.
 //!
-//! Its calls are those of the blocking client, under the same names; each returns a state at once, and nothing is sent
-//! before that is polled. A state that waits may be dropped.
+//! Its calls are those of the blocking client, under the same names; each returns a future at once, and nothing is sent
+//! before that is polled. A future that waits may be dropped.
 
 pub use ftp_polled::{
     Abort, Adjust, AllowStdIo, AsyncNoTlsStream, AsyncTlsConnector, AsyncTlsStream, Connect,
-    ControlSocket, Dialogue, Failed, Finish, ImplAsyncFtpStream, LastFailure, Lines, ListEntries,
-    ListFiles, Lock, OpenTransfer, OpenWithReply, Outcome, ReadReply, RetrReader, Retrieve, Settle,
-    Sink, StreamLines, TransferStream, Upload, Welcome, WriteTo,
+    ControlSocket, Dialogue, Failed, Finish, FromAnswer, ImplAsyncFtpStream, LastFailure, Lines,
+    ListEntries, ListFiles, Lock, OpenTransfer, OpenWithReply, ReadReply, RetrReader, Retrieve,
+    Settle, Sink, StreamLines, TransferStream, Upload, Welcome, WriteTo,
 };
 pub use ftp_tokio::{TokioConn, TokioListener, TokioTransport};
 pub use ftp_transport::PassiveStreamBuilder;

@@ -41,7 +41,7 @@ pub record Takes (says : List ℕ → Bool → Outcome) (kept kept' ahead ahead'
 
 -- a run of the loop: it returns what is said of the bytes that it took of those kept, ahead and read, where those kept
 -- said nothing yet
-pub record Hears (tells : Type 0) (says : List ℕ → Bool → Outcome) (kept kept' ahead ahead' : List ℕ) (ended ended' : Bool) (t u : Told) (result : Result Outcome Broken) : Type 0 where
+pub record ReadsSought (tells : Type 0) (says : List ℕ → Bool → Outcome) (kept kept' ahead ahead' : List ℕ) (ended ended' : Bool) (t u : Told) (result : Result Outcome Broken) : Type 0 where
   pub came : List ℕ
   pub taken : List ℕ
   pub split : (kept ++ ahead) ++ came ≡ taken ++ ahead'

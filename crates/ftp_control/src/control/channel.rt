@@ -18,7 +18,7 @@ ghost use Rattle.ftp_control.specs.Channel.{fails_by};
 use super::ahead::ReadAhead;
 use super::lenient::Phase;
 use super::outbox::{Outbox, flush};
-use super::read_loop::hear;
+use super::read_loop::read_sought;
 use super::reply_buffer::ReplyBuffer;
 use super::sought::Sought;
 use super::{Broken, Outcome, ReplyForm, ReplyRule, WireLine};
@@ -91,7 +91,7 @@ impl<C: Tells + Drop> ControlChannel<C> {
         ensures given { C.Tells.tells → IsGiven self.old.told → IsGiven self.new.told }
         ensures reads { ReadsReply C.Tells.tells form self.old self.new result }
     {
-        let result = hear(
+        let result = read_sought(
             alloc,
             &mut self.conn,
             &mut self.ahead,

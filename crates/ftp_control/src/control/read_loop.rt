@@ -6,7 +6,7 @@
 ghost use Rattle.std.specs.Prelude.{◌≡◌, ◌≤◌, Ok, [], length, true};
 ghost use Rattle.ftp_control.specs.declared.control.outcome.Outcome.TheVariants as outcomes;
 ghost use Rattle.ftp_control.specs.Inside.UnderWay.{IsUnderWay};
-ghost use Rattle.ftp_control.specs.Inside.ReadLoop.{CanSeek, Hears, Takes, says_of};
+ghost use Rattle.ftp_control.specs.Inside.ReadLoop.{CanSeek, ReadsSought, Takes, says_of};
 ghost use Rattle.ftp_transport.specs.Told.{EndsAsTold};
 ghost use Rattle.ftp_transport.specs.Memory.{IsGiven};
 ghost use Rattle.ftp_control.specs.Reading.{MayBreak};
@@ -23,7 +23,7 @@ use std::alloc::Global;
 ///
 /// # Errors
 /// An error of the connection; out of memory for what comes next, which then stays ahead. What was read is kept.
-pub(crate) fn hear<W, C: PollConn<W>>(
+pub(crate) fn read_sought<W, C: PollConn<W>>(
     alloc: Global,
     conn: &mut C,
     ahead: &mut ReadAhead,
@@ -47,7 +47,7 @@ pub(crate) fn hear<W, C: PollConn<W>>(
     ensures fault { MayBreak C.read_faults result }
     ensures given { C.Tells.tells → IsGiven (C.Tells.told conn.old) →
         IsGiven (C.Tells.told conn.new) }
-    ensures heard { Hears C.Tells.tells (says_of rule sought) reply.old.bytes.items
+    ensures heard { ReadsSought C.Tells.tells (says_of rule sought) reply.old.bytes.items
         reply.new.bytes.items ahead.old ahead.new ended.old ended.new (C.Tells.told conn.old)
         (C.Tells.told conn.new) result }
 {

@@ -9,7 +9,7 @@ ghost use Rattle.ftp_control.specs.Grammar.{whole_lines};
 ghost use Rattle.ftp_control.specs.LineAnswer.{AnswersLine, line_answer};
 
 use super::channel::fails;
-use super::read_loop::hear;
+use super::read_loop::read_sought;
 use super::sought::Sought;
 use super::{Broken, ControlChannel, Outcome};
 use ftp_base::types::{Bytes, ConnectionError, FtpError, FtpResult, ReplyTooLarge};
@@ -44,7 +44,7 @@ impl<C: Tells + Drop> ControlChannel<C> {
         if self.reply.line_start != 0 {
             return Poll::Ready(Err(FtpError::BadResponse));
         }
-        let heard = hear(
+        let heard = read_sought(
             alloc,
             &mut self.conn,
             &mut self.ahead,

@@ -4,7 +4,7 @@ use Rattle.ftp_control.specs.Inside.UnderWay.{IsUnderWay}
 use Rattle.ftp_transport.specs.Memory.{IsGiven}
 use Rattle.ftp_transport.specs.Told.{EndsAsTold}
 use Rattle.ftp_control.proofs.ReadLoop.{SoFar}
-use Rattle.ftp_control.proofs.control.read_loop.hear.Given as goal
+use Rattle.ftp_control.proofs.control.read_loop.read_sought.Given as goal
 
 -- what was read so far says nothing yet
 abbrev pub invariant-loop-ended : goal.invariant-loop-ended

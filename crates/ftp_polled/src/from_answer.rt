@@ -5,13 +5,13 @@ use ftp_session::session::Answer;
 use jiff::civil::DateTime;
 
 /// A value that a call gives.
-pub trait Outcome: Drop {
+pub trait FromAnswer: Drop {
     /// The value of an answer.
     ///
     /// # Errors
     /// The answer's error; `AlreadyCompleted` where the answer has no such value, which is none of a call that gives
     /// one.
-    fn of(answer: Answer) -> FtpResult<Self>
+    fn from_answer(answer: Answer) -> FtpResult<Self>
     where
         Self: Sized;
 }
@@ -24,8 +24,8 @@ fn other<T>(answer: Answer) -> FtpResult<T> {
     }
 }
 
-impl Outcome for () {
-    fn of(answer: Answer) -> FtpResult<()> {
+impl FromAnswer for () {
+    fn from_answer(answer: Answer) -> FtpResult<()> {
         match answer {
             Answer::Unit => Ok(()),
             answer => other(answer),
@@ -33,8 +33,8 @@ impl Outcome for () {
     }
 }
 
-impl Outcome for Response {
-    fn of(answer: Answer) -> FtpResult<Response> {
+impl FromAnswer for Response {
+    fn from_answer(answer: Answer) -> FtpResult<Response> {
         match answer {
             Answer::Reply(reply) => Ok(reply),
             answer => other(answer),
@@ -42,8 +42,8 @@ impl Outcome for Response {
     }
 }
 
-impl Outcome for String {
-    fn of(answer: Answer) -> FtpResult<String> {
+impl FromAnswer for String {
+    fn from_answer(answer: Answer) -> FtpResult<String> {
         match answer {
             Answer::Text(text) => Ok(text.into_string()),
             answer => other(answer),
@@ -51,8 +51,8 @@ impl Outcome for String {
     }
 }
 
-impl Outcome for DateTime {
-    fn of(answer: Answer) -> FtpResult<DateTime> {
+impl FromAnswer for DateTime {
+    fn from_answer(answer: Answer) -> FtpResult<DateTime> {
         match answer {
             Answer::Time(time) => Ok(time),
             answer => other(answer),
@@ -60,8 +60,8 @@ impl Outcome for DateTime {
     }
 }
 
-impl Outcome for usize {
-    fn of(answer: Answer) -> FtpResult<usize> {
+impl FromAnswer for usize {
+    fn from_answer(answer: Answer) -> FtpResult<usize> {
         match answer {
             Answer::Size(size) => Ok(size),
             answer => other(answer),
@@ -69,8 +69,8 @@ impl Outcome for usize {
     }
 }
 
-impl Outcome for Features {
-    fn of(answer: Answer) -> FtpResult<Features> {
+impl FromAnswer for Features {
+    fn from_answer(answer: Answer) -> FtpResult<Features> {
         match answer {
             Answer::Features(features) => Ok(features),
             answer => other(answer),
@@ -78,8 +78,8 @@ impl Outcome for Features {
     }
 }
 
-impl Outcome for Vec<u8> {
-    fn of(answer: Answer) -> FtpResult<Vec<u8>> {
+impl FromAnswer for Vec<u8> {
+    fn from_answer(answer: Answer) -> FtpResult<Vec<u8>> {
         match answer {
             Answer::Bytes(bytes) => Ok(bytes.into_vec()),
             answer => other(answer),
@@ -87,8 +87,8 @@ impl Outcome for Vec<u8> {
     }
 }
 
-impl Outcome for Vec<String> {
-    fn of(answer: Answer) -> FtpResult<Vec<String>> {
+impl FromAnswer for Vec<String> {
+    fn from_answer(answer: Answer) -> FtpResult<Vec<String>> {
         match answer {
             Answer::Lines(lines) => Ok(lines.into_vec()),
             answer => other(answer),

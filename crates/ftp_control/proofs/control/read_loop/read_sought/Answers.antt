@@ -3,7 +3,7 @@ use Rattle.futures.specs.declared.task.Poll.TheVariants.{Ready}
 use Rattle.ftp_transport.specs.Told.{Told}
 use Rattle.ftp_control.proofs.Outcomes.{too_little}
 use Rattle.ftp_control.proofs.ReadLoop.{nothing_so_far, fills_on, fill_fails, fill_smaller, some_came, fill_known, none_came}
-use Rattle.ftp_control.proofs.control.read_loop.hear.Goals as goal
+use Rattle.ftp_control.proofs.control.read_loop.read_sought.Goals as goal
 
 pub loop-ended-init : goal.loop-ended-init
 loop-ended-init g c = record {
