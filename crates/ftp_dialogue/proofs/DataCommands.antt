@@ -1,4 +1,4 @@
--- What holds of the trees of calls that open a data connection, and of all that they come to.
+-- What holds of the trees of calls that open a data connection, and of all that they result in.
 use Rattle.std.proofs.Common.{◌≡◌, ℕ, zero, suc, Bool, true, false, ◌&&◌, nat_le, nat_lt, drop, length, cond, is_none, List, [], ◌∷◌, ◌++◌, Option, Some, None, Result, Ok, Err, inl, inr, refl, ap, sym, ◌∙◌, subst, append-nil, append_assoc}
 use Rattle.std.specs.List.{AllByRecursion}
 use Rattle.std.proofs.lemmas.List.Elements.{All-from_recursion}
@@ -266,7 +266,7 @@ module _ (peer : SocketAddr) (Sort : Request → Type 0) (state : State) (admits
         go (Some fault) = none
         go None = opening_data_keeps state.settings.mode refl
 
--- What a tree comes to
+-- What a tree results in
 
 -- no offset is left, and after these requests there are more of this sort alone
 pub record Reaches (Sort : Request → Type 0) (before : List Request) (played : Played) : Type 0 where
@@ -373,7 +373,7 @@ module _ (Sort : Request → Type 0) where
       go (Left number) = record { none = r.none; more = r.more; asked = r.asked; sorted = r.sorted }
   finally_reaches before (Pending how s) r = r
 
--- What a call comes to
+-- What a call results in
 
 module _ (coding : Coding) (call : Call) (opens_is : negotiates call ≡ true) where
   -- it is of the control connection, and of no transfer that is held

@@ -557,7 +557,7 @@ advances_on link tree tree' last a b c first second = record {
 
 -- A call that has its answer lets go of what it doesn't need
 
--- a tree comes to its answer, and what isn't needed is let go
+-- a tree reaches its answer, and what isn't needed is let go
 pub record Finishes (link : Link) (tree : Tree) (answer : Answer) (old new : SessionValue) : Type 0 where
   pub came : List ℕ
   pub answered : List NetEvent

@@ -676,7 +676,7 @@ module _ (link : Link) (coding : Coding) (how : Opening) (peer from : SocketAddr
   abbrev waiting : Tree
   waiting = accepting opened peer left old.state
 
-  -- what the request came to
+  -- what the request resulted in
   abbrev pub Knocks : Type 0
   Knocks = Still link (Ask (Accept old.state.settings.active_deadline) (knocks opened peer left old.state)) (knocks opened peer left old.state (Address from)) old mid
 
@@ -735,7 +735,7 @@ module _ (link : Link) (coding : Coding) (how : Opening) (peer from : SocketAddr
       let P : Tree → Type 0 = λ t. Ends link t (Fault fault) old mid in
       subst P (sym (accepting_is opened peer left old.state)) (still_ends link _ fault old mid still)
 
--- what a request for a peer came to
+-- what a request for a peer resulted in
 pub meets_walks : (link : Link) (coding : Coding) (call : Call) (turn : Turn) (peer : SocketAddr) (left : ℕ) (how : Opening) (outcome : RequestOutcome) (stage' : Stage) (old mid new : SessionValue) (result : Step) → negotiates call ≡ true → OpeningOf call how → ((next : RequestOutcome → Tree) → Still link (Ask (Accept old.state.settings.active_deadline) next) (next outcome) old mid) → Meets outcome turn peer left how stage' mid new result → Walks link coding call (OpeningData (Asking turn (Accepting peer left how))) stage' old new result
 meets_walks link coding call turn peer left how (Address from) stage' old mid new result opens may still meets =
     let here = still (knocks (opened_by coding how old.state) peer left old.state) in

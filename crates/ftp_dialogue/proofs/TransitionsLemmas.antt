@@ -71,7 +71,7 @@ row_refused link coding Resyncs cause later v is = let clash : Ok [] ≡ Err cau
 row_refused link coding (Sets setting) cause later v is = let clash : Ok [] ≡ Err cause = is in cc
 row_refused link coding (row.Moves movement) cause later v is = let clash : Ok [] ≡ Err cause = is in cc
 
--- where an exchange doesn't begin for want of memory the state stays, since no reply of an abort is awaited
+-- where an exchange doesn't begin since memory ran out the state stays, since no reply of an abort is awaited
 fault_stays : (ending : Ending) (state : State) → is_aborting ending ≡ false → after_fault_of ending OutOfMemory state ≡ state
 fault_stays ending.Done state none = refl
 fault_stays ending.GivesReply state none = refl

@@ -138,7 +138,7 @@ abbrev pub at_port : ℕ → SocketAddr → SocketAddr
 at_port port (V4 address) = V4 (record address { port = port })
 at_port port (V6 address) = V6 (record address { port = port })
 
--- what the address leads to that a request came to; where there is none the error is the answer
+-- what the address that a request resulted in leads to; where there is none the error is the answer
 abbrev pub on_address : State → (SocketAddr → Tree) → RequestOutcome → Tree
 on_address state next Made = Leaf (Fault (Connection Nowhere)) state
 on_address state next (Address address) = next address
@@ -342,7 +342,7 @@ fetch_concluded form answer state (Err fault) = Leaf (Fault (first_fault form an
 abbrev pub fetch_ending : Fetch → Answer → State → Tree
 fetch_ending form answer state = Hear (expecting (ClosingDataConnection ∷ RequestedFileActionOk ∷ [])) (fetch_concluded form answer state)
 
--- the data connection is closed first; the error of an upload's close is the answer, and another's is told to nobody
+-- the data connection is closed first; the error of an upload's close is the answer, and another's is discarded
 abbrev pub closed_as : Option ErrorKind → Answer → Answer
 closed_as None answer = answer
 closed_as (Some kind) answer = Fault (Connection (Io kind))
@@ -365,7 +365,7 @@ most_reads = 9223372036854775808
 abbrev pub grown : Fetch → List ℕ → (List ℕ → Tree) → (Answer → Tree) → Tree
 grown form all on over = if nat_le (length all) most_bytes then on all else over (too_long form)
 
--- what a read came to: bytes, the end, a failure, or that there was no memory
+-- what a read resulted in: bytes, the end, a failure, or that there was no memory
 abbrev pub on_data : Coding → Fetch → List ℕ → (List ℕ → Tree) → (Answer → Tree) → NetOutcome → Tree
 on_data coding form all on over (came.Read []) = over (fetched coding form all)
 on_data coding form all on over (came.Read (byte ∷ bytes)) = grown form (all ++ byte ∷ bytes) on over
@@ -393,7 +393,7 @@ wire_data text bytes = if text then crlf bytes else bytes
 abbrev pub giving_up : FtpError → State → Tree
 giving_up fault state = Leaf (Fault fault) (with_abandoned state)
 
--- what a write of bytes came to: so many of them have gone out, or a failure
+-- what a write of bytes resulted in: so many of them have gone out, or a failure
 abbrev pub on_sent : List ℕ → (List ℕ → Tree) → State → NetOutcome → Tree
 on_sent rest on state (came.Wrote count) = on (drop count rest)
 on_sent rest on state (came.Failed kind) = giving_up (Connection (Io kind)) state

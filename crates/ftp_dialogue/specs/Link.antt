@@ -60,6 +60,6 @@ asking builds asks_wait link = record link { asks_wait = asks_wait; builds = bui
 abbrev pub unasked : Link → Link
 unasked link = asking builds_nothing ⊥ link
 
--- a polled connection over memory: no read fails and no question, and a write fails only for want of memory
+-- a polled connection over memory: no read fails and no question, and a write fails only where an allocation does
 abbrev pub over_memory : Builds → Link
 over_memory builds = building builds (Unit {0}) (λ kind. ⊥) (λ told kind. kind ≡ kinds.OutOfMemory) (λ kind. ⊥) ⊥

@@ -130,7 +130,7 @@ settled (Left number) d = parted d
 -- What happened, and what it left
 
 -- a request was answered; the builder was asked, and made a connection or gave an error; something was done on the data
--- connection; it was closed and handed back, whatever the close came to; or it was let go
+-- connection; it was closed and handed back, whatever the close resulted in; or it was let go
 pub data NetEvent : Type 0 where
   Requested : Request → RequestOutcome → NetEvent
   Constructed : SocketAddr → Option FtpError → NetEvent

@@ -1,4 +1,4 @@
--- What a dialogue comes to: its answer, or that it waits. All that the server sends is known at once, and so is
+-- What a dialogue results in: its answer, or that it waits. All that the server sends is known at once, and so is
 -- the room for what is said.
 use Rattle.std.specs.Prelude.{ℕ, Bool, true, false, ◌&&◌, ◌||◌, List, [], ◌∷◌, ◌++◌, length, nat_le, Option, is_none, Result, Ok, Err, if◌then◌else◌}
 use Rattle.ftp_base.specs.Status.{status_of}
@@ -85,7 +85,7 @@ abbrev pub address_at : End → PlayState → SocketAddr
 address_at Here s = s.local
 address_at There s = s.peer
 
--- what a tree comes to, from here, in this room
+-- what a tree results in, from here, in this room
 unfoldable pub play : Rooms → Tree → PlayState → Played
 play room (Say (Ok line) next) s = said_then room line s (λ t. play room next t)
 play room (Say (Err cause) next) s = Done (Fault (fault.ConnectionError cause)) s
@@ -132,7 +132,7 @@ refusal call failed lacks = if of_transfer call && lacks then Lacking else refus
 abbrev pub leaving : PlayState → PlayState
 leaving s = record s { state = with_left s.state; net_record = parted s.net_record }
 
--- what a call comes to; once the session has failed it says and hears nothing, and a transfer that it would bring to
+-- what a call results in; once the session has failed it says and hears nothing, and a transfer that it would bring to
 -- its end is left
 abbrev pub play_unless : Refusal → Rooms → Coding → Call → PlayState → Played
 play_unless Taken room coding call s = finally (play room (dialogue coding call s.state) (record s { state = entered call s.state }))
@@ -162,10 +162,10 @@ abbrev pub play_drained_if : Bool → Rooms → Coding → Call → PlayState �
 play_drained_if true room coding call s = after_drain (play_call room coding Drain s) (λ t. play_call room coding call t)
 play_drained_if false room coding call s = play_call room coding call s
 
--- what a call comes to, after the last reply of a transfer that was left
+-- what a call results in, after the last reply of a transfer that was left
 abbrev pub play_drained : Rooms → Coding → Call → PlayState → Played
 play_drained room coding call s = play_drained_if (is_due call s.failed s.state.counts.owed) room coding call s
 
--- what a call comes to depends on what happens beside the control connection
+-- what a call results in depends on what happens beside the control connection
 abbrev pub needs_data : Call → Bool
 needs_data call = negotiates call || of_transfer call

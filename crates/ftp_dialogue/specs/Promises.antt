@@ -212,7 +212,7 @@ KeepsNoReply came old new = (new.channel.kept ≡ []) ⊎ ((new.channel.kept ≡
 abbrev pub IsOf : Answer → Tree → Type 0
 IsOf answer tree = IsFault answer ⊎ ((state : State) × Within (Leaf answer state) tree)
 
--- a tree comes to its answer
+-- a tree reaches its answer
 pub record Completes (link : Link) (tree : Tree) (answer : Answer) (old new : SessionValue) : Type 0 where
   pub is_of : IsOf answer tree
   pub came : List ℕ
@@ -326,7 +326,7 @@ refusal_of call v = refusal call v.channel.failed (lacks_of call v)
 abbrev pub IsRefused : Type 0 → Call → SessionValue → SessionValue → Answer → Type 0
 IsRefused tells call old new answer = Refuses (refusal_of call old) tells call old new answer
 
--- a call, whole: it is refused, or its dialogue comes to its answer or is aborted; one that is none of the control
+-- a call, whole: it is refused, or its dialogue reaches its answer or is aborted; one that is none of the control
 -- connection says and hears nothing there
 
 -- where a call begins

@@ -1,5 +1,5 @@
 //! A transfer is aborted (RFC 959, section 4.1.3): `ABOR` goes out, the data connection is closed, and what the server
-//! says of it is read.
+//! replies is read.
 //!
 //! The transfer has been left since the call began, so that nothing but its count is to be done once the replies are read;
 //! where `ABOR` can't go out it stays so.
@@ -118,7 +118,7 @@ impl<Tr: Network> Machine<Tr> {
         }
     }
 
-    /// The data connection is closed, whatever that comes to, and the server's answer is due.
+    /// The data connection is closed, whatever that results in, and the server's answer is due.
     fn part<W, A: Asks<Tr, W>>(
         &mut self,
         _asker: &A,
@@ -168,7 +168,7 @@ pub(super) fn is_out(stage: &Stage) -> bool
 /// The line of `ABOR`.
 ///
 /// # Errors
-/// The encoding refuses it or spoils its end, or `OutOfMemory`.
+/// The encoding fails on it or spoils its end, or `OutOfMemory`.
 fn abort_line<E: Encoding>(alloc: Global, encoding: &E) -> FtpResult<WireLine>
     ensures line { IfOk result (λ line. wire (E.encoded encoding.now) (text_of Abor) ≡ Ok line) }
     ensures refused { IfErr result (IsRefusalOf (wire (E.encoded encoding.now) (text_of Abor))) }

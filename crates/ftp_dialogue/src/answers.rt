@@ -1,6 +1,6 @@
 //! The answers that the text of a reply gives.
 //!
-//! A reply of an accepted status may still not say what was asked for: then the answer is an error, and the session
+//! A reply of an accepted status may still not hold what was asked for: then the answer is an error, and the session
 //! goes on. `ftp_answers` reads the texts.
 
 ghost use Rattle.std.specs.Prelude.{◌≡◌, IfOk};
@@ -48,7 +48,7 @@ pub fn line_answer<E: Encoding>(
     }
 }
 
-/// The time that a reply tells; `BadResponse` where it tells none.
+/// The time in a reply; `BadResponse` where it holds none.
 pub fn time_answer(reply: &Response) -> Answer
     ensures answer { result ≡ time_answer (time_of reply.now.body) }
     ensures kind { AnswersKind Times result }
@@ -59,7 +59,7 @@ pub fn time_answer(reply: &Response) -> Answer
     }
 }
 
-/// The number of bytes that a reply tells; `BadResponse` where it tells none.
+/// The number of bytes in a reply; `BadResponse` where it holds none.
 pub fn size_answer(reply: &Response) -> Answer
     ensures answer { result ≡ size_answer (size_of reply.now.body) }
     ensures kind { AnswersKind Sizes result }

@@ -1,6 +1,6 @@
 //! How the machine asks its transport, and the caller's builder.
 //!
-//! Most calls ask nothing, and take no runtime; so the machine is passed what asks for it: a runtime, by which its
+//! Most calls ask nothing, and need no runtime; so the machine is passed what asks for it: a runtime, by which its
 //! transport is polled, with the builder, where there is one; or nothing, of which no contract says anything.
 
 ghost use Rattle.std.specs.Prelude.{◌≡◌, ◌<◌, ◌⊎◌, length, None, Ok, Result};
@@ -30,7 +30,7 @@ pub trait Asks<Tr: Network, W> {
     /// Whether a request may have to wait.
     ghost may_wait: { Type 0 };
 
-    /// What the builder may answer for an address.
+    /// What the builder may return for an address.
     ghost builds: { Self → Address → Result Told Faults → Type 0 };
 
     /// Asks the builder for a connection to this address.

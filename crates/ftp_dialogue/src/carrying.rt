@@ -1,6 +1,6 @@
 //! What is done beside the control connection: bytes on the data connection, its end, and settings.
 //!
-//! Such a call says and hears nothing, so a session that has failed takes it, too, and it never waits.
+//! Such a call sends no command and reads no reply, so a session that has failed makes it, too, and it never waits.
 
 ghost use Rattle.std.specs.Prelude.{◌≡◌, ◌<◌, ℕ, length, None, Some, is_none, true, false};
 ghost use Rattle.ftp_calls.specs.Exchanges.{finishes, is_local};
@@ -46,7 +46,7 @@ impl<Tr: Network> Machine<Tr> {
         Some(Answer::Fault(FtpError::SessionFailed))
     }
 
-    /// Whether a call lacks its transfer: none is held; or, where it hears the end of one that was left, none was.
+    /// Whether a call lacks its transfer: none is held; or, where it drains one that was left, none was.
     fn lacks(&self, call: &Call) -> bool
         ensures { result ≡ lacks call.now (is_none self.now.net.data_conn) self.now.state.counts.owed }
     {
@@ -57,7 +57,7 @@ impl<Tr: Network> Machine<Tr> {
         }
     }
 
-    /// The transfer is left, and its data connection is closed, whatever that comes to.
+    /// The transfer is left, and its data connection is closed, whatever that results in.
     fn leave(&mut self)
         ensures { LeavesIf true Tr.Conn.tells self.old self.new }
     {
@@ -110,12 +110,12 @@ impl<Tr: Network> Machine<Tr> {
     }
 }
 
-/// What a close came to is told to nobody.
+/// What a close resulted in is discarded.
 pub(super) fn pass_over(outcome: NetOutcome) {
     drop(outcome);
 }
 
-/// The error of a close that is told before the reply's: that of an upload.
+/// The error of a close that goes before the reply's: that of an upload.
 pub(super) fn told_of_close(uploads: bool, outcome: &NetOutcome) -> Option<ErrorKind>
     ensures { result ≡ told_of_close uploads outcome.now }
 {
@@ -132,7 +132,7 @@ where
     /// Makes a call that is none of the control connection: a setting, one read or write on the data connection, or its
     /// close where the transfer is left. A session that has failed makes it, too.
     ///
-    /// The answer is `NoTransfer` where it is of a transfer and no data connection is held; `OutOfMemory` where there is
+    /// Returns `NoTransfer` where it is of a transfer and no data connection is held; `OutOfMemory` where there is
     /// no memory for a setting or for the bytes that are read; the error of the read or of the write.
     pub fn carry(&mut self, alloc: Global, call: &Call) -> Answer
         requires local { is_local call.now ≡ true }
@@ -240,7 +240,7 @@ fn write_once<C: Conn>(conn: &mut C, bytes: &[u8]) -> NetOutcome
     }
 }
 
-/// What was done on the data connection is the answer.
+/// The answer by what was done on the data connection.
 fn moved_answer(outcome: NetOutcome) -> Answer
     ensures { result ≡ moved_answer outcome }
 {

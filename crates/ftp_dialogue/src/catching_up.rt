@@ -1,9 +1,9 @@
 //! Replies that are due to commands that were dropped (RFC 959, sections 4.2 and 5.4).
 //!
 //! A server answers its commands in their order, so that such replies come before those of a later call. They are read
-//! before that says or hears anything of its own, after the unsent tail of the line that was begun last, without which the
-//! server would answer nothing. Each is counted as it is read, so a read of them that waits may be dropped, and goes on
-//! with the next call.
+//! before that sends or receives anything of its own, after the unsent tail of the line that was begun last, without
+//! which the server would answer nothing. Each is counted as it is read, so a read of them that waits may be dropped,
+//! and resumes with the next call.
 
 ghost use Rattle.std.specs.Prelude.{◌≡◌, ◌⊎◌, true, false};
 ghost use Rattle.futures.specs.declared.task.Poll.TheVariants as poll;
@@ -44,9 +44,9 @@ impl<Tr: Network> Machine<Tr> {
         (drains_first(call) || drains(call)) && !(live && (negotiates(call) || resyncs(call)))
     }
 
-    /// Polls the replies that are due to commands that were dropped, after the unsent tail of a line; before a plain read
-    /// that tail alone. One that waits may be dropped, and polled again. An error in place of a reply is given, and
-    /// counted where it is one that can't be read.
+    /// Polls the replies that are due to commands that were dropped, after the unsent tail of a line; before a plain
+    /// read that tail alone. One that waits may be dropped, and polled again. An error in place of a reply is returned,
+    /// and counted where it is one that can't be read.
     pub fn poll_catch_up<W>(
         &mut self,
         alloc: Global,
@@ -70,7 +70,7 @@ impl<Tr: Network> Machine<Tr> {
     }
 
     /// Makes a call in step: after the replies that are due to commands that were dropped, where it reads them first.
-    /// An error of such a read is the answer, and the call isn't made; else the answer is that of `call`.
+    /// An error of such a read is returned, and the call isn't made; else the answer is that of `call`.
     pub fn call_in_step<E: Encoding, A: Asks<Tr, NeverWaits>>(
         &mut self,
         asker: &A,
@@ -119,12 +119,13 @@ impl<Tr: Network> Machine<Tr> {
         drained(self.call_alone(&Nothing, alloc, encoding, &Call::Drain))
     }
 
-    /// Polls a read of one reply whose status is among the expected. Where replies are due to commands that were dropped the
-    /// unsent tail of a line goes out first, and the reply is one of them. The last reply of a transfer that was left is polled
-    /// before it: while that hasn't come whole the read waits, and what came of it is kept; an error of its read is the
-    /// answer; once it is over the read itself is polled at once. A read that waits may be dropped and polled again.
+    /// Polls a read of one reply whose status is among the expected. Where replies are due to commands that were
+    /// dropped the unsent tail of a line goes out first, and the reply is one of them. The last reply of a transfer
+    /// that was left is polled before it: while that hasn't come whole the read waits, and what came of it is kept; an
+    /// error of its read is returned; once it is over the read itself is polled at once. A read that waits may be
+    /// dropped and polled again.
     ///
-    /// The answer is that of a read of one reply; `SessionFailed` on a session that has failed, and nothing changes.
+    /// Returns what a read of one reply does; `SessionFailed` on a session that has failed, and nothing changes.
     pub fn poll_read<W, E: Encoding>(
         &mut self,
         alloc: Global,
@@ -207,7 +208,7 @@ fn told_of_line(performed: Poll<FtpResult<()>>) -> Poll<Option<FtpError>>
     }
 }
 
-/// A reply of any status is passed over, and an error in its place is told.
+/// A reply of any status is passed over, and an error in its place is returned.
 fn fault_told(heard: FtpResult<Response>) -> Option<FtpError>
     ensures { result ≡ fault_told heard }
 {

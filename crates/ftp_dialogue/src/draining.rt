@@ -1,8 +1,8 @@
 //! The last reply of a transfer that was left (RFC 959, section 5.4).
 //!
-//! The server sends it whether it is asked for or not, so it is read before a command says or hears anything of its own.
-//! Whatever its status is, the transfer has come to its end; a reply that can't be read, or a connection that fails, is the
-//! call's answer.
+//! The server sends it whether it is asked for or not, so it is read before a command sends or receives anything of its
+//! own. Whatever its status is, the transfer has come to its end; a reply that can't be read, or a connection that
+//! fails, is the call's error.
 
 ghost use Rattle.std.specs.Prelude.{◌≡◌, ◌⊎◌, false, true, None, Some, if◌then◌else◌};
 ghost use Rattle.futures.specs.declared.task.Poll.TheVariants as poll;
@@ -39,7 +39,7 @@ impl<Tr: Network> Machine<Tr> {
     }
 
     /// Makes a call, whole, after the last reply of a transfer that was left, where one is due. An error of that
-    /// reply's read is the answer, and the call isn't made; else the answer is that of `call_alone`.
+    /// reply's read is returned, and the call isn't made; else the answer is that of `call_alone`.
     pub fn call<E: Encoding, A: Asks<Tr, NeverWaits>>(
         &mut self,
         asker: &A,
@@ -67,10 +67,10 @@ impl<Tr: Network> Machine<Tr> {
 
     /// Polls a read of one reply whose status is among the expected, after the last reply of a transfer that was left,
     /// where one is due. That reply is polled first: while it hasn't come whole the read waits, and what came of it is
-    /// kept; an error of its read is the answer; once it is over the read itself is polled at once. A read that waits
+    /// kept; an error of its read is returned; once it is over the read itself is polled at once. A read that waits
     /// may be dropped and polled again.
     ///
-    /// The answer is that of a read of one reply; `SessionFailed` on a session that has failed, and nothing changes.
+    /// Returns what a read of one reply does; `SessionFailed` on a session that has failed, and nothing changes.
     pub(super) fn poll_read_drained<W, E: Encoding>(
         &mut self,
         alloc: Global,
@@ -188,7 +188,7 @@ pub(super) fn drained(answer: Answer) -> FtpResult<()>
     }
 }
 
-/// The answer of a call, unless the call gave nothing and succeeded: the drain before a call is over then.
+/// The answer of a call, unless the call returned nothing and succeeded: the drain before a call is over then.
 pub fn unless_unit(answer: Answer) -> Option<Answer>
     ensures { result ≡ (if is_unit answer then None else Some answer) }
 {

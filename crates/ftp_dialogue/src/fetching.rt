@@ -1,7 +1,7 @@
 //! A whole file or listing goes over a data connection, and its transfer is brought to its end (RFC 959, sections 4.1.3
 //! and 5.4).
 //!
-//! Bytes that come are read into one growing buffer, which is the answer, or of which the lines of a listing are made.
+//! Bytes that come are read into one growing buffer, which is returned, or of which the lines of a listing are made.
 //! Whatever comes of them, the data connection is closed and the transfer's last reply is read; only then is the
 //! transfer counted, as opened and as finished.
 
@@ -188,8 +188,7 @@ impl<Tr: Network> Machine<Tr> {
         more
     }
 
-    /// The data connection is closed, and the transfer's last reply is due. The error of an upload's close is the
-    /// answer.
+    /// The data connection is closed, and the transfer's last reply is due. The error of an upload's close is returned.
     fn part_fetched<W, A: Asks<Tr, W>>(
         &mut self,
         _asker: &A,
@@ -256,7 +255,7 @@ impl<Tr: Network> Machine<Tr> {
         }
     }
 
-    /// An error was heard in place of the last reply. Out of memory fails the session, and the transfer is left.
+    /// An error was read in place of the last reply. Out of memory fails the session, and the transfer is left.
     fn fail_fetch(&mut self, form: Fetch, answer: Answer, fault: FtpError) -> Answer
         ensures { EndsFetch form answer fault self.old self.new result }
     {
@@ -337,7 +336,7 @@ fn too_long(form: Fetch) -> Answer
     }
 }
 
-/// The error that is told where the last reply isn't as expected: that of the data first, and last for a listing.
+/// The error that is returned where the last reply isn't as expected: that of the data first, and last for a listing.
 fn first_fault(form: Fetch, answer: Answer, fault: FtpError) -> FtpError
     ensures { result ≡ first_fault form answer fault }
 {
@@ -350,7 +349,7 @@ fn first_fault(form: Fetch, answer: Answer, fault: FtpError) -> FtpError
     }
 }
 
-/// The answer after a close: its error, where it is told.
+/// The answer after a close: its error, where that is returned.
 fn closed_as(told: Option<ErrorKind>, answer: Answer) -> Answer
     ensures { result ≡ closed_as told answer }
 {

@@ -37,7 +37,7 @@ impl Model for Gathered {
     ghost invariant = { λ g. (g.filled ≤ vec_len g.buffer) × (vec_len g.buffer ≤ g.filled + chunk) };
 }
 
-/// What a read came to.
+/// What a read resulted in.
 #[derive(Drop)]
 pub(crate) enum More {
     /// There are more bytes.

@@ -21,8 +21,8 @@ ghost use Rattle.ftp_dialogue.specs.declared.state.Owed.TheVariants.{Live};
 use crate::Call;
 
 /// While a transfer is live no other is opened: unless the session has failed, the call fails with
-/// `DataConnectionAlreadyOpen`. Nothing is said or consumed, the transport is asked for nothing, the data connection stays
-/// as it is, and of what the session keeps the offset alone is taken away (RFC 959, section 3.2).
+/// `DataConnectionAlreadyOpen`. Nothing is sent or consumed, the transport is asked for nothing, the data connection
+/// stays as it is, and of what the session keeps the offset alone is taken away (RFC 959, section 3.2).
 pub fn a_live_transfer_refuses_another(call: &Call)
     requires { negotiates call.now ≡ true }
     ensures refused { (coding : Coding) (room : Room) (s : PlayState) (number : ℕ) →

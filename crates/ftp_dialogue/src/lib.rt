@@ -1,9 +1,9 @@
 //! The dialogues of RFC 959 on one control connection (sections 5.4 and 6), and the machine that plays them.
 //!
-//! Each dialogue is a row of `ftp_calls::exchange`: what is said, which statuses are heard, how it ends. One `Machine`
-//! plays all of them, polled; a blocking call is the same poll over a connection that never waits. It is a session
-//! without its encoding, without its caller's builder and without the marks of the transfers that were handed out:
-//! those are the session's (`ftp_session`), which passes them to the machine call by call.
+//! Each dialogue is a row of `ftp_calls::exchange`: what is sent, which statuses are accepted, how it ends. One
+//! `Machine` plays all of them, polled; a blocking call is the same poll over a connection that never waits. It is a
+//! session without its encoding, without its caller's builder and without the marks of the transfers that were handed
+//! out: those are the session's (`ftp_session`), which passes them to the machine call by call.
 //!
 //! `model` has the records that the definitions of runs speak of, which programs that compute these definitions use,
 //! too. `laws` has what holds of every call that opens a data connection.

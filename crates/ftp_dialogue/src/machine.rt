@@ -95,7 +95,7 @@ impl<Tr: Network> Machine<Tr> {
         }
     }
 
-    /// Where the last error of input or output was met, if there was one. No call depends on it, and no clause says it.
+    /// Where the last error of input or output was met, if there was one. No call depends on it, and no clause has it.
     pub fn last_failure(&self) -> Option<Failure> {
         self.failures.last()
     }

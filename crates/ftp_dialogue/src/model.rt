@@ -1,4 +1,4 @@
-//! What the definitions of runs speak of: where a run stands, what a call and a run come to, and what events made of
+//! What the definitions of runs speak of: where a run stands, what a call and a run result in, and what events made of
 //! a session.
 //!
 //! They are types of code and not of specs alone, so that the definitions can be computed, and a session be compared
@@ -31,14 +31,14 @@ pub struct NetRecord {
     pub data_conn: Option<Traffic>,
 }
 
-/// What the transport or the builder was asked for, or what was done on the data connection, came to.
+/// What a request of the transport or the builder, or a step on the data connection, resulted in.
 #[derive(Clone, Drop)]
 pub enum NetOutcome {
-    /// A request of the transport came to this.
+    /// A request of the transport resulted in this.
     Answered(RequestOutcome),
-    /// The caller's builder made a connection; or gave this error.
+    /// The caller's builder made a connection; or returned this error.
     Built(Option<FtpError>),
-    /// A read gave these bytes; none at the end.
+    /// A read returned these bytes; none at the end.
     Read(Bytes),
     /// A write took so many bytes.
     Wrote(usize),
@@ -46,7 +46,7 @@ pub enum NetOutcome {
     Closed,
     /// A read, a write or a close failed.
     Failed(ErrorKind),
-    /// There was no memory for what a read would give, or for what came of all reads.
+    /// There was no memory for what a read would return, or for what came of all reads.
     NoMemory,
 }
 
@@ -56,7 +56,7 @@ pub enum NetOutcome {
 pub struct PlayState {
     /// Whether the session has failed.
     pub failed: bool,
-    /// All that was said: it goes out as far as there is room.
+    /// All that was to be sent: it goes out as far as there is room.
     pub said: Bytes,
     /// The unsent tail of a line that was begun before, which goes out before the next line.
     pub unsent: Bytes,
@@ -79,7 +79,7 @@ pub struct PlayState {
 /// What a call waits for.
 #[derive(Clone, Copy, Debug, PartialEq, Eq)]
 pub enum Wait {
-    /// Room for the line that was said last.
+    /// Room for the last line.
     Room,
     /// More bytes, or their end, for a reply of this form.
     Bytes(ReplyForm),
@@ -87,7 +87,7 @@ pub enum Wait {
     Outcome,
 }
 
-/// What a call comes to.
+/// What a call results in.
 #[derive(Drop)]
 pub enum Played {
     /// Its answer, and where the run stands then.

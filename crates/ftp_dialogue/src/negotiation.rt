@@ -257,7 +257,7 @@ impl<Tr: Network> Machine<Tr> {
         }
     }
 
-    /// The caller's builder makes the connection. Its error is the call's answer as it is.
+    /// The caller's builder makes the connection. Its error is returned as it is.
     fn construct<W, A: Asks<Tr, W>>(
         &mut self,
         asker: &A,
@@ -319,7 +319,7 @@ impl<Tr: Network> Machine<Tr> {
         address
     }
 
-    /// Memory ran out after a reply was taken: the session has failed.
+    /// Memory ran out after a reply was consumed: the session has failed.
     pub(super) fn lack_memory(&mut self) -> Step
         ensures done { result ≡ Step.Done (Answer.Fault FtpError.OutOfMemory) }
         ensures failed { self.new ≡ failed_from self.old }
@@ -340,7 +340,7 @@ fn first_by(mode: Mode, offset: u64) -> Stage
     }
 }
 
-/// A connection was made, or refused.
+/// A connection was made, or the request failed.
 fn connected(call: &Call, turn: Turn, outcome: RequestOutcome, stage: &mut Stage) -> Step
     ensures connects { ConnectsTo call.now turn outcome stage.new result }
 {
@@ -351,7 +351,7 @@ fn connected(call: &Call, turn: Turn, outcome: RequestOutcome, stage: &mut Stage
     }
 }
 
-/// A request was refused.
+/// A request failed.
 pub(super) fn refused(fault: ConnectionError) -> Step
     ensures { result ≡ Step.Done (Answer.Fault (FtpError.ConnectionError fault)) }
 {

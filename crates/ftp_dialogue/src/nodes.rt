@@ -1,7 +1,7 @@
-//! The nodes of a dialogue: a line is said, a reply is heard, a reply is accepted.
+//! The nodes of a dialogue: a line is sent, a reply is read, a reply is accepted.
 //!
 //! Each is one step on the channel or on the session's state, with a contract that says what the dialogue's tree says
-//! of it, for whatever comes behind it (`(next : ..) → ..`).
+//! of it, for whatever comes after it (`(next : ..) → ..`).
 
 ghost use Rattle.std.specs.Prelude.{◌≡◌, Result, false, if◌then◌else◌};
 ghost use Rattle.futures.specs.declared.task.Poll.TheVariants as poll;
@@ -142,7 +142,7 @@ impl<Tr: Network> Machine<Tr> {
     }
 }
 
-/// What an accepted reply comes to.
+/// What an accepted reply results in.
 #[derive(Drop)]
 pub(crate) enum Accepted {
     /// The next exchange.
@@ -252,7 +252,7 @@ fn aborted(reply: &Response, state: &mut State) -> Accepted
     Accepted::Done(Answer::Unit)
 }
 
-/// The reply tells the address to connect to. Behind a router that rewrites addresses its host is the control peer's.
+/// The reply holds the address to connect to. Behind a router that rewrites addresses its host is the control peer's.
 fn address_told(reply: Response, state: &State) -> Accepted
     ensures accepts { (coding : Coding) →
         Accepts coding Ending.GivesAddress reply state.now state.now result }
@@ -273,7 +273,7 @@ fn address_told(reply: Response, state: &State) -> Accepted
     }
 }
 
-/// The reply tells the port to connect to.
+/// The reply holds the port to connect to.
 fn port_told(reply: Response) -> Accepted
     ensures accepts { (coding : Coding) (state : States) →
         Accepts coding Ending.GivesPort reply state state result }
@@ -314,7 +314,7 @@ fn finished(close: Option<ErrorKind>, state: &mut State) -> Accepted
     }
 }
 
-/// The answer where an error was heard in place of a reply, and what it leaves. Where memory ran out nothing changes,
+/// The answer where an error was read in place of a reply, and what it leaves. Where memory ran out nothing changes,
 /// but that an abort which has begun is one.
 pub(crate) fn conclude_fault(
     begun: bool,
@@ -372,7 +372,7 @@ fn lose(begun: bool, ending: Ending, state: &mut State)
     }
 }
 
-/// The answer where an error was heard in place of the last reply of a transfer that was left: a reply of another
+/// The answer where an error was read in place of the last reply of a transfer that was left: a reply of another
 /// status ends the transfer as well.
 fn drain_answer(fault: FtpError) -> Answer
     ensures { result ≡ drain_answer fault }

@@ -50,7 +50,7 @@ impl<Tr: Network> Machine<Tr> {
         }
     }
 
-    /// Asks the caller's builder for a connection, and keeps it; or gives its error. What it is asked is put on the
+    /// Asks the caller's builder for a connection, and keeps it; or returns its error. What it is asked is put on the
     /// transport's record first.
     pub(super) fn ask_to_build<W, A: Asks<Tr, W>>(
         &mut self,

@@ -62,7 +62,7 @@ impl<Tr: Network> Machine<Tr> {
         }
     }
 
-    /// `NOOP` is put into a line; beside a live transfer nothing is said.
+    /// `NOOP` is put into a line; beside a live transfer nothing is sent.
     fn word_noop<W, E: Encoding, A: Asks<Tr, W>>(
         &mut self,
         _asker: &A,
@@ -209,7 +209,7 @@ fn closes(reply: &Response) -> bool
 /// The line of `NOOP`.
 ///
 /// # Errors
-/// The encoding refuses it or spoils its end, or `OutOfMemory`.
+/// The encoding fails on it or spoils its end, or `OutOfMemory`.
 fn noop_line<E: Encoding>(alloc: Global, encoding: &E) -> FtpResult<WireLine>
     ensures line { IfOk result (λ line. wire (E.encoded encoding.now) (text_of Noop) ≡ Ok line) }
     ensures refused { IfErr result (IsRefusalOf (wire (E.encoded encoding.now) (text_of Noop))) }

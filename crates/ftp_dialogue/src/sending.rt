@@ -1,6 +1,6 @@
 //! A whole upload: a file's bytes are written to the data connection (RFC 959, section 4.1.3).
 //!
-//! Where they can't be, the transfer is left, and what the server says of it is read before the next command.
+//! Where they can't be, the transfer is left, and what the server replies is read before the next command.
 
 ghost use Rattle.std.specs.Prelude.{◌≡◌, ◌<◌, is_none, false, length};
 ghost use Rattle.ftp_calls.specs.declared.exchange.Fetch.TheVariants.{Whole};

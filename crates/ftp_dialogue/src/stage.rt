@@ -2,7 +2,7 @@
 //!
 //! A stage is the node of the call's dialogue that comes next, with what it needs: a line that wasn't begun, the
 //! statuses that a reply may have, a setting that changes, what is asked. It also keeps whether something of the
-//! dialogue was said or heard, on which depends what a failed allocation leaves.
+//! dialogue was sent or consumed, on which depends what a failed allocation leaves.
 
 ghost use Rattle.std.specs.Prelude.{◌≡◌, Ok, IfOk, IfErr, true, false};
 ghost use Rattle.ftp_base.specs.Command.{text_of};
@@ -32,7 +32,7 @@ pub enum Stage {
     Saying(Option<WireLine>, Awaits),
     /// Its reply is read.
     Hearing(Awaits),
-    /// Nothing is said or heard: the next transfer begins at this offset, in bytes.
+    /// Nothing is sent or received: the next transfer begins at this offset, in bytes.
     Arming(Turn, u64),
     /// The reply to `NOOP` is sought among those that come before it.
     Resyncing(Turn, Resyncing),
@@ -123,7 +123,7 @@ pub enum Asking {
 pub struct Awaits {
     /// Of which exchange.
     pub(super) turn: Turn,
-    /// Whether something of the dialogue was said or taken.
+    /// Whether something of the dialogue was sent or consumed.
     pub(super) begun: bool,
     /// The statuses that are accepted.
     pub(super) hears: Codes,

@@ -1,4 +1,4 @@
-//! A call begins, or goes on where it has begun: it is refused, or its dialogue is played.
+//! A call begins, or resumes where it stopped: it fails at once, or its dialogue is played.
 
 ghost use Rattle.std.specs.Prelude.{◌≡◌, ◌<◌, ◌⊎◌, None, Some, true, false};
 ghost use Rattle.futures.specs.declared.task.Poll.TheVariants as poll;
@@ -28,9 +28,9 @@ use std::mem;
 impl<Tr: Network> Machine<Tr> {
     /// Makes a call, whole, by itself: the last reply of a transfer that was left isn't read first.
     ///
-    /// The answer is `NoTransfer` where the call is of a transfer and none is held; `SessionFailed` on a session that has
-    /// failed; else what the dialogue comes to, which is an error where its command has no line, a reply isn't the one
-    /// that is expected, a connection fails, or memory runs out.
+    /// Returns `NoTransfer` where the call is of a transfer and none is held; `SessionFailed` on a session that has
+    /// failed; else what the dialogue results in, which is an error where its command has no line, a reply isn't the
+    /// one that is expected, a connection fails, or memory runs out.
     pub fn call_alone<E: Encoding, A: Asks<Tr, NeverWaits>>(
         &mut self,
         asker: &A,
@@ -107,10 +107,10 @@ impl<Tr: Network> Machine<Tr> {
         }
     }
 
-    /// Goes on with a call as far as it gets, unless it is refused. One that waits may be dropped, or polled again at the
+    /// Plays a call as far as it gets, unless it fails at once. One that waits may be dropped, or polled again at the
     /// stage that it has reached.
     ///
-    /// The answer is that of `call_alone`; where the session has failed since the call began it is `SessionFailed`.
+    /// Returns what `call_alone` does; where the session has failed since the call began `SessionFailed`.
     pub fn poll_started<W, E: Encoding, A: Asks<Tr, W>>(
         &mut self,
         asker: &A,
@@ -135,7 +135,7 @@ impl<Tr: Network> Machine<Tr> {
         self.poll_taken(asker, alloc, encoding, call, stage, w)
     }
 
-    /// The answer of a call that isn't made: where it begins it is refused, later its session has failed.
+    /// The answer of a call that isn't made: that of `refuse` where it begins, later that of `failed_since`.
     fn refuse_at(&mut self, call: &Call, stage: &Stage) -> Option<Answer>
         requires channel { is_local call.now ≡ false }
         ensures taken { result ≡ None → (MayPollAt stage.now call.now self.old) ×
@@ -162,7 +162,7 @@ impl<Tr: Network> Machine<Tr> {
         }
     }
 
-    /// Goes on with a call that isn't refused.
+    /// Plays a call that doesn't fail at once.
     fn poll_taken<W, E: Encoding, A: Asks<Tr, W>>(
         &mut self,
         asker: &A,

@@ -16,10 +16,10 @@ use ftp_control::control::ReplyRule;
 use std::marker::Model;
 use std::time::Duration;
 
-/// How many seconds a session waits for an active data connection, unless it is told otherwise.
+/// How many seconds a session waits for an active data connection, unless it is set otherwise.
 pub const ACTIVE_DEADLINE_SECONDS: u64 = 60;
 
-/// What a session was told to do.
+/// The settings of a session.
 #[derive(Clone, Drop)]
 pub struct Settings {
     /// Who opens data connections.
@@ -247,7 +247,7 @@ impl Counts {
         self.finished
     }
 
-    /// How many were aborted: `ABOR` went out, whatever the server said of it.
+    /// How many were aborted: `ABOR` went out, whatever the server replied.
     pub fn aborted(&self) -> u64
         ensures { result ≡ self.now.aborted }
     {
@@ -265,13 +265,13 @@ impl Counts {
 /// What a session keeps beside its control channel.
 #[derive(Clone, Drop)]
 pub struct State {
-    /// What it was told to do.
+    /// Its settings.
     pub settings: Settings,
     /// The transfers that it counted.
     pub counts: Counts,
     /// Whether the transfer that is live, or that was opened last, is an upload.
     pub uploads: bool,
-    /// What the server greeted with, once the greeting was taken.
+    /// What the server greeted with, once the greeting was accepted.
     pub welcome: Option<WelcomeMessage>,
     /// How many commands were dropped whose replies haven't been read.
     pub unanswered: u64,

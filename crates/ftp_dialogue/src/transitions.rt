@@ -218,7 +218,7 @@ impl<Tr: Network> Machine<Tr> {
         }
     }
 
-    /// A reply is accepted. Out of memory fails the session, since the reply was taken.
+    /// A reply is accepted. Out of memory fails the session, since the reply was consumed.
     fn accept_reply<E: Encoding>(
         &mut self,
         alloc: Global,
@@ -271,7 +271,7 @@ impl<Tr: Network> Machine<Tr> {
         }
     }
 
-    /// A dialogue ends with an error in place of a reply: what is answered, and what it leaves.
+    /// A dialogue ends with an error in place of a reply: what is returned, and what it leaves.
     fn end_dialogue(&mut self, begun: bool, ending: Ending, fault: FtpError) -> Answer
         ensures { EndsFaulty begun ending fault self.old self.new result }
     {
@@ -279,7 +279,7 @@ impl<Tr: Network> Machine<Tr> {
         conclude_fault(begun, ending, fault, &mut self.state)
     }
 
-    /// Goes on with a call as far as it gets.
+    /// Plays a call as far as it gets.
     pub(super) fn poll_call<W, E: Encoding, A: Asks<Tr, W>>(
         &mut self,
         asker: &A,

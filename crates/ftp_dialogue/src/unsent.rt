@@ -68,7 +68,7 @@ impl Unsent {
     /// Writes some of the bytes, from the front.
     ///
     /// # Errors
-    /// What the connection answers; then the same bytes are left.
+    /// What the connection returns; then the same bytes are left.
     pub(super) fn write_some<W, Tr: Network, A: Asks<Tr, W>>(
         &mut self,
         asker: &A,

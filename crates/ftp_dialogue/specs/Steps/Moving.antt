@@ -1,5 +1,5 @@
 -- What a step of a dialogue does: whatever the server still sends, and whatever room there is, the tree before it and
--- the tree after it come to the same. Beside what is promised it keeps how much is kept of a reply under way.
+-- the tree after it result in the same. Beside what is promised it keeps how much is kept of a reply under way.
 use Rattle.std.specs.Prelude.{◌++◌, ◌==◌, ◌≡◌, ◌<◌, ◌≤◌, ◌+◌, ◌⊎◌, nat_le, ◌∷◌, ℕ, zero, suc, Bool, true, false, ◌&&◌, if◌then◌else◌, Option, None, List, [], drop, length, Result, Ok, Err}
 use Rattle.futures.specs.declared.task.Poll.{Poll}
 use Rattle.futures.specs.declared.task.Poll.TheVariants as poll
@@ -135,7 +135,7 @@ pub record Advances (link : Link) (tree tree' : Tree) (old new : SessionValue) :
   pub moves : Moves link tree tree' old new
   pub failed : new.channel.failed ≡ old.channel.failed
 
--- a tree comes to its answer
+-- a tree reaches its answer
 pub record Ends (link : Link) (tree : Tree) (answer : Answer) (old new : SessionValue) : Type 0 where
   pub completes : Completes link tree answer old new
   pub fails : new.channel.failed ≡ true → (old.channel.failed ≡ true) ⊎ IsFault answer
@@ -256,8 +256,8 @@ abbrev pub done_as : Result Answer AllocError → Accepted
 done_as (Ok answer) = accepts.Done answer
 done_as (Err full) = accepts.NoMemory
 
--- what an error that is heard in place of a reply comes to: where memory ran out before the dialogue has begun nothing
--- more
+-- what an error that is heard in place of a reply results in: where memory ran out before the dialogue has begun
+-- nothing more
 abbrev pub FaultLeavesIf : Bool → Bool → Ending → FtpError → State → State → Answer → Type 0
 FaultLeavesIf true begun ending fault state state' told = (told ≡ Fault fault) × (state' ≡ (if begun then after_fault_of ending fault state else state))
 FaultLeavesIf false begun ending fault state state' told = (told ≡ answer_to_fault ending fault) × (state' ≡ after_fault_of ending fault state)
@@ -529,7 +529,7 @@ CarriesOut tells call old new answer = IsRefused tells call old new answer ⊎ C
 
 -- A whole data connection
 
--- a read of the data connection came to this, and all that was read is this now
+-- a read of the data connection resulted in this, and all that was read is this now
 abbrev pub ReadsBy : Link → SessionValue → SessionValue → NetOutcome → Type 0
 ReadsBy link old new outcome = MovesBy link (movement.Read chunk) old new outcome
 
