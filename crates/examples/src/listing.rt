@@ -5,8 +5,8 @@ use std::io;
 use std::time::Clock;
 use suppaftp::ListParser;
 
-/// Prints the name and the size of the entry that a line in the POSIX form tells of. A line that names no year is of
-/// the last twelve months, so the parser is told the present moment.
+/// Prints the name and the size of the entry of a line in the POSIX form. A line that names no year is of
+/// the last twelve months, so the parser is passed the present moment.
 pub fn print_entry<R>(rt: &R, line: &str) -> io::Result<()>
 where
     R: Clock + AllocGlobal + Print + Eprint,

@@ -1,9 +1,9 @@
 //! The calls of a client, a method each: the session's call of that name, in one hold of the lock.
 //!
-//! What each says and hears is its row in `ftp_calls::exchange`. A call fails with `LineBreak`, `EncodedWithoutCrlf`,
-//! `EncodedLineBreak` or `Encoding` where its command has no line that can be sent, with `UnexpectedResponse` or
-//! `BadResponse` where the server's reply isn't accepted, with `OutOfMemory`, and with another `ConnectionError` where
-//! the connection fails; each later call then fails with `SessionFailed`.
+//! What each sends and receives is its row in `ftp_calls::exchange`. A call fails with `LineBreak`,
+//! `EncodedWithoutCrlf`, `EncodedLineBreak` or `Encoding` where its command has no line that can be sent, with
+//! `UnexpectedResponse` or `BadResponse` where the server's reply isn't accepted, with `OutOfMemory`, and with another
+//! `ConnectionError` where the connection fails; each later call then fails with `SessionFailed`.
 
 use super::ImplFtpStream;
 use ftp_base::encoding::Encoding;

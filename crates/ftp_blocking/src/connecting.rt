@@ -9,11 +9,11 @@ use std::net::{Net, SocketAddr, TcpListener, TcpStream, ToSocketAddrs};
 use std::time::{Clock, Duration};
 
 impl<K: Drop, E: Encoding, B: Drop> ImplFtpStream<TcpTransport, K, E, B> {
-    /// A client on the first of these addresses that doesn't refuse, in their order, once the server's greeting (220)
+    /// A client on the first of these addresses that accepts, in their order, once the server's greeting (220)
     /// was read (RFC 959, section 5.4).
     ///
     /// # Errors
-    /// The last address's error where each refused, `NoAddress` where there is none; those of a read of one reply, and
+    /// The last address's error where each failed, `NoAddress` where there is none; those of a read of one reply, and
     /// `OutOfMemory`. The connection is closed then.
     pub fn connect<R>(rt: &R, addresses: &[SocketAddr]) -> FtpResult<Self>
     where

@@ -17,9 +17,9 @@ impl<Tr: Network, K: Drop, E: Encoding, B: PassiveStreamBuilder<Tr::Conn>> ImplF
 where
     Tr::Conn: Conn,
 {
-    /// Uploads all that a source gives to this file, in the place of what it held: `STOR` (125, 150; RFC 959, section
-    /// 4.1.3), the bytes, and the last reply (226, 250). Returns how many bytes were written. They are a text, whose lines
-    /// end in CR LF on the wire (RFC 959, section 3.1.1.1), until a `TYPE` of another kind is accepted. The offset is taken
+    /// Uploads all of a source to this file, in the place of what it held: `STOR` (125, 150; RFC 959, section 4.1.3),
+    /// the bytes, and the last reply (226, 250). Returns how many bytes were written. They are a text, whose lines end
+    /// in CR LF on the wire (RFC 959, section 3.1.1.1), until a `TYPE` of another kind is accepted. The offset is used
     /// as by `retr_as_stream`.
     ///
     /// # Errors
@@ -38,7 +38,7 @@ where
         self.session.lock(rt).put_file(rt.alloc(), rt, path, source)
     }
 
-    /// Uploads all that a source gives to the end of this file: `APPE` (125, 150; RFC 959, section 4.1.3), as `put_file`
+    /// Uploads all of a source to the end of this file: `APPE` (125, 150; RFC 959, section 4.1.3), as `put_file`
     /// does.
     ///
     /// # Errors
@@ -57,7 +57,7 @@ where
             .append_file(rt.alloc(), rt, path, source)
     }
 
-    /// Uploads all that a source gives to this file, as `put_file` does, and tells how far it has come.
+    /// Uploads all of a source to this file, as `put_file` does, and reports how far it has come.
     ///
     /// # Errors
     /// Those of `put_file`.
@@ -76,7 +76,7 @@ where
             .put_file_with(rt.alloc(), rt, path, source, progress)
     }
 
-    /// Uploads all that a source gives to the end of this file, as `append_file` does, and tells how far it has come.
+    /// Uploads all of a source to the end of this file, as `append_file` does, and reports how far it has come.
     ///
     /// # Errors
     /// Those of `put_file`.
@@ -96,8 +96,8 @@ where
     }
 
     /// Downloads this file to a writer: `RETR` (150, 125; RFC 959, section 4.1.3), the bytes as they come, and the last
-    /// reply (226, 250). Returns how many bytes were written, and tells how far the download has come; `NoProgress` is told
-    /// nothing. The offset is taken as by `retr_as_stream`. The client is busy until then.
+    /// reply (226, 250). Returns how many bytes were written, and reports how far the download has come; `NoProgress`
+    /// ignores that. The offset is used as by `retr_as_stream`. The client is busy until then.
     ///
     /// # Errors
     /// Those of a data command. The error of the data connection, where what came was written, or of the writer, where
@@ -118,9 +118,9 @@ where
             .write_to(rt.alloc(), rt, path, writer, progress)
     }
 
-    /// Downloads this file to a reader of the caller's: `RETR` (150, 125; RFC 959, section 4.1.3), the reader, which is
-    /// called once on the transfer, and the last reply (226, 250). Returns what the reader returned. The offset is taken as
-    /// by `retr_as_stream`. The client is busy until the reader returns.
+    /// Downloads this file to the caller's reader: `RETR` (150, 125; RFC 959, section 4.1.3), the reader, which is
+    /// called once on the transfer, and the last reply (226, 250). Returns what the reader returned. The offset is used
+    /// as by `retr_as_stream`. The client is busy until the reader returns.
     ///
     /// # Errors
     /// Those of a data command. The reader's error comes before that of the last reply, which is read all the same.

@@ -19,7 +19,7 @@ impl<Tr: Network, K: Drop, E: Encoding, B: Drop> ImplFtpStream<Tr, K, E, B> {
     /// times. No client is asked, and no reply is read.
     ///
     /// # Errors
-    /// `BadResponse` where the stream returns an error, or gives more than 2^63 - 1 bytes; `OutOfMemory`.
+    /// `BadResponse` where the stream returns an error, or more than 2^63 - 1 bytes; `OutOfMemory`.
     pub fn get_lines_from_stream<R: AllocGlobal, S: Read>(
         rt: &R,
         stream: &mut S,

@@ -1,6 +1,6 @@
 //! The calls of a client that ask the server something: the session's call of that name, in one hold of the lock.
 //!
-//! The answer is in the reply's text. A reply that doesn't say it is an error, after which the session goes on.
+//! The result is in the reply's text. A reply that doesn't hold it is an error, after which the session goes on.
 
 use super::ImplFtpStream;
 use ftp_base::encoding::Encoding;
@@ -34,7 +34,7 @@ where
     /// When a file was last changed, in UTC: `MDTM` (213; RFC 3659, section 3).
     ///
     /// # Errors
-    /// Those of a command and its reply; `BadResponse` where the reply isn't UTF-8 or tells no date and time.
+    /// Those of a command and its reply; `BadResponse` where the reply isn't UTF-8 or holds no date and time.
     pub fn mdtm<R: Wait + AllocGlobal>(&self, rt: &R, path: &str) -> FtpResult<DateTime> {
         self.session.lock(rt).mdtm(rt.alloc(), path)
     }

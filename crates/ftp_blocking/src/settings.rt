@@ -44,7 +44,7 @@ impl<Tr: Network, K: Drop, E: Encoding, B: Drop> ImplFtpStream<Tr, K, E, B> {
     }
 
     /// Lets this builder make passive data connections from now on, in the transport's place, each to the address that
-    /// the transport would have been asked for. Its error is answered as it is.
+    /// the transport would have been asked for. Its error is returned as it is.
     pub fn set_passive_stream_builder<R: Wait>(&self, rt: &R, builder: B) {
         self.session.lock(rt).set_passive_stream_builder(builder);
     }

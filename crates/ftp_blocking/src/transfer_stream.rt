@@ -88,7 +88,7 @@ where
         held.finish(rt.alloc(), transfer)
     }
 
-    /// Aborts the transfer: `ABOR` goes out, the data connection is closed, and what the server says of it is read (226,
+    /// Aborts the transfer: `ABOR` goes out, the data connection is closed, and what the server replies is read (226,
     /// or 426 and then 226; RFC 959, section 4.1.3). Once `ABOR` is out the transfer is over, whatever is read.
     ///
     /// # Errors

@@ -1,8 +1,8 @@
 //! The calls that open data connections, a method each: the session's call of that name, in one hold of the lock.
 //!
-//! Each fails with `DataConnectionAlreadyOpen` while a transfer is live, and says nothing then. The transfer of before is
-//! over once it was finished, or once it was left: a call reads the last reply of one that was left before anything of its
-//! own.
+//! Each fails with `DataConnectionAlreadyOpen` while a transfer is live, and sends nothing then. The transfer of before
+//! is over once it was finished, or once it was left: a call reads the last reply of one that was left before anything
+//! of its own.
 
 use super::ImplFtpStream;
 use crate::TransferStream;
@@ -40,7 +40,7 @@ where
         Ok(TransferStream::new(transfer, session))
     }
 
-    /// Opens an upload to this file: `STOR` (125, 150; RFC 959, section 4.1.3). The offset is taken as by
+    /// Opens an upload to this file: `STOR` (125, 150; RFC 959, section 4.1.3). The offset is used as by
     /// `retr_as_stream`.
     ///
     /// # Errors
@@ -58,7 +58,7 @@ where
         Ok(TransferStream::new(transfer, session))
     }
 
-    /// Opens an upload to the end of this file: `APPE` (125, 150; RFC 959, section 4.1.3). The offset is taken as by
+    /// Opens an upload to the end of this file: `APPE` (125, 150; RFC 959, section 4.1.3). The offset is used as by
     /// `retr_as_stream`.
     ///
     /// # Errors
@@ -79,8 +79,8 @@ where
         Ok(TransferStream::new(transfer, session))
     }
 
-    /// Opens a data connection by a caller-supplied line, whose reply's status is among the expected, and gives that
-    /// reply. The offset is taken as by `retr_as_stream`.
+    /// Opens a data connection by a caller-supplied line, whose reply's status is among the expected, and returns that
+    /// reply. The offset is used as by `retr_as_stream`.
     ///
     /// # Errors
     /// Those of a data command: `LineBreak` where CR or LF stands in the line.
@@ -101,8 +101,8 @@ where
         Ok((reply, TransferStream::new(transfer, session)))
     }
 
-    /// Downloads this file, whole and as it is: `RETR` (150, 125; RFC 959, section 4.1.3), its bytes, and the last reply
-    /// (226, 250). The offset is taken as by `retr_as_stream`.
+    /// Downloads this file, whole and as it is: `RETR` (150, 125; RFC 959, section 4.1.3), its bytes, and the last
+    /// reply (226, 250). The offset is used as by `retr_as_stream`.
     ///
     /// # Errors
     /// Those of a data command. An error of the data comes before the last reply's.

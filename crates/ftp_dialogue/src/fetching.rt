@@ -36,7 +36,7 @@ use std::io::ErrorKind;
 /// How many bytes can be held.
 const MOST_BYTES: usize = (1 << 63) - 1;
 
-/// How many reads are made: each but the last gives a byte.
+/// How many reads are made: each but the last returns a byte.
 const MOST_READS: u64 = 1 << 63;
 
 impl<Tr: Network> Machine<Tr> {

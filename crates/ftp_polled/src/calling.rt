@@ -65,8 +65,8 @@ where
     Tr::Conn: PollConn<()> + TaskConn,
     B: PassiveStreamBuilder<Tr::Conn>,
 {
-    /// Goes on with the call, once the lock is held, and lets the lock go with its answer. A call that gave its answer
-    /// gives `AlreadyCompleted`.
+    /// Continues the call, once the lock is held, and lets the lock go with its answer. A call that returned its answer
+    /// fails with `AlreadyCompleted`.
     pub(crate) fn poll_answer(&mut self, cx: &mut Context<'_>) -> Poll<Answer>
         ensures registered { OnPending result (IsArmed cx.new) }
         ensures kept { Keeps cx.old cx.new }
@@ -78,7 +78,7 @@ where
         }
     }
 
-    /// Goes on with the call under the lock.
+    /// Continues the call under the lock.
     fn poll_held(&mut self, cx: &mut Context<'_>) -> Poll<Answer>
         ensures registered { OnPending result (IsArmed cx.new) }
         ensures kept { Keeps cx.old cx.new }

@@ -197,7 +197,7 @@ where
         self.dialogue(rt, custom_call(rt.alloc(), line, expected))
     }
 
-    /// Reads one reply of this status. Nothing is said.
+    /// Reads one reply of this status. Nothing is sent.
     ///
     /// # Errors
     /// Those of a read of one reply.
@@ -209,7 +209,7 @@ where
         self.dialogue(rt, Ok(Call::ReadResponse(expected)))
     }
 
-    /// Reads one reply whose status is among the expected. Nothing is said.
+    /// Reads one reply whose status is among the expected. Nothing is sent.
     ///
     /// # Errors
     /// Those of a read of one reply.

@@ -38,7 +38,7 @@ where
     // Whether replies are read leniently.
     lenient: bool,
     session: Option<Session<Tr, K, E, B>>,
-    // Why there is no session, until it is told.
+    // Why there is no session, until it is returned.
     fault: Option<FtpError>,
     greeting: PolledCall,
 }
@@ -54,7 +54,7 @@ impl<'r, R: AllocGlobal, Tr: TaskTransport, K: Drop, E: Encoding, B: Drop> Conne
 where
     Tr::Conn: TaskConn,
 {
-    /// A state that connects to these addresses. Where none connects the last error is given, or else this one.
+    /// A state that connects to these addresses. Where none connects the last error is returned, or else this one.
     fn new(
         rt: &'r R,
         transport: Tr,
@@ -105,7 +105,7 @@ where
     Tr::Conn: PollConn<()> + TaskConn,
     B: PassiveStreamBuilder<Tr::Conn>,
 {
-    /// Goes on to connect.
+    /// Continues to connect.
     fn poll_conn(&mut self, cx: &mut Context<'_>) -> Poll<FtpResult<()>>
         ensures registered { OnPending result (IsArmed cx.new) }
         ensures kept { Keeps cx.old cx.new }
@@ -154,7 +154,7 @@ where
         }
     }
 
-    /// Goes on to read the greeting.
+    /// Continues to read the greeting.
     fn poll_greeting(
         &mut self,
         cx: &mut Context<'_>,

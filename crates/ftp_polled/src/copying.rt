@@ -1,7 +1,7 @@
 //! A source is copied to a transfer, some reads and writes a poll: a text's lines end in CR LF on the wire (RFC 959, section
 //! 3.1.1.1).
 //!
-//! The source is read by at most 8,192 bytes at once, until a block is full, the source waits or gives no more; what stands
+//! The source is read by at most 8,192 bytes at once, until a block is full, the source waits or ends; what stands
 //! on the wire for the block is written then: 64 KiB at most.
 
 ghost use Rattle.std.specs.Prelude.{◌≡◌, Some};
@@ -209,7 +209,7 @@ impl<S: AsyncRead, P: Progress> Copying<S, P> {
         Ok(())
     }
 
-    /// Goes on to copy. Ready once the source has ended and all is written.
+    /// Continues to copy. Ready once the source has ended and all is written.
     ///
     /// # Errors
     /// The error of the source, or of the data connection; `SourceTooLarge`, `OutOfMemory`.

@@ -1,4 +1,4 @@
-//! The states of calls that give a value: commands and their replies, reads of one reply, whole files and listings.
+//! The states of calls that return a value: commands and their replies, reads of one reply, whole files and listings.
 
 use crate::calling::Calling;
 use crate::from_answer::FromAnswer;
@@ -9,12 +9,12 @@ use futures::Future;
 use futures::task::{Context, Poll};
 use std::marker::PhantomData;
 
-/// A call that gives an `A`.
+/// A call that returns an `A`.
 ///
-/// Dropped, it lets the lock go. The last reply of a transfer that was left, where it was waited for, is read by the next
-/// call. Once a line of the call itself was begun its reply is, too, before that call says or hears anything of its own;
-/// a plain read takes it for its answer. A whole file or listing that is dropped once its command was accepted leaves its
-/// transfer.
+/// Dropped, it lets the lock go. The last reply of a transfer that was left, where it was waited for, is read by the
+/// next call. Once a line of the call itself was begun its reply is, too, before that call sends or receives anything
+/// of its own; a plain read returns it. A whole file or listing that is dropped once its command was accepted leaves
+/// its transfer.
 #[derive(Drop)]
 pub struct Dialogue<'r, R, Tr: TaskTransport, K: Drop, E: Encoding, B: Drop, A>
 where

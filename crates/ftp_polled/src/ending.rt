@@ -73,7 +73,7 @@ where
     Tr::Conn: PollConn<()> + TaskConn,
     B: PassiveStreamBuilder<Tr::Conn>,
 {
-    /// Goes on with the end, once the lock is held, and lets the lock go with its answer.
+    /// Continues the end, once the lock is held, and lets the lock go with its answer.
     pub(crate) fn poll_ended(&mut self, cx: &mut Context<'_>) -> Poll<FtpResult<()>>
         ensures registered { OnPending result (IsArmed cx.new) }
         ensures kept { Keeps cx.old cx.new }
@@ -85,7 +85,7 @@ where
         }
     }
 
-    /// Goes on with the end under the lock.
+    /// Continues the end under the lock.
     fn poll_held(&mut self, cx: &mut Context<'_>) -> Poll<FtpResult<()>>
         ensures registered { OnPending result (IsArmed cx.new) }
         ensures kept { Keeps cx.old cx.new }
@@ -152,7 +152,7 @@ where
 /// A transfer is aborted.
 ///
 /// Dropped before `ABOR` has gone out whole, it leaves the transfer, and the unsent tail of `ABOR` goes out before any
-/// other byte; dropped later, the transfer is over. Either way the next call reads what the server says of both first: one
+/// other byte; dropped later, the transfer is over. Either way the next call reads the replies to both first: one
 /// reply of the transfer where it was left, and one of `ABOR`, before which a 426 may come.
 #[derive(Drop)]
 pub struct Abort<'r, R, Tr: TaskTransport, K: Drop, E: Encoding, B: Drop>

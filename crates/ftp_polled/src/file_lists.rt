@@ -52,7 +52,7 @@ where
     Tr::Conn: PollConn<()> + TaskConn,
     B: PassiveStreamBuilder<Tr::Conn>,
 {
-    /// Goes on to ask for the features, and then to list the files.
+    /// Continues to ask for the features, and then to list the files.
     fn poll_entries(&mut self, cx: &mut Context<'_>) -> Poll<FtpResult<Listing>>
         ensures registered { OnPending result (IsArmed cx.new) }
         ensures kept { Keeps cx.old cx.new }
@@ -69,7 +69,7 @@ where
         self.poll_listing(cx)
     }
 
-    /// Goes on to list the files.
+    /// Continues to list the files.
     fn poll_listing(&mut self, cx: &mut Context<'_>) -> Poll<FtpResult<Listing>>
         ensures registered { OnPending result (IsArmed cx.new) }
         ensures kept { Keeps cx.old cx.new }

@@ -1,15 +1,15 @@
-//! What a call's answer is to its caller.
+//! What a call returns, of its answer.
 
 use ftp_base::types::{ConnectionError, Features, FtpError, FtpResult, Response};
 use ftp_session::session::Answer;
 use jiff::civil::DateTime;
 
-/// A value that a call gives.
+/// A value that a call returns.
 pub trait FromAnswer: Drop {
     /// The value of an answer.
     ///
     /// # Errors
-    /// The answer's error; `AlreadyCompleted` where the answer has no such value, which is none of a call that gives
+    /// The answer's error; `AlreadyCompleted` where the answer has no such value, which is none of a call that returns
     /// one.
     fn from_answer(answer: Answer) -> FtpResult<Self>
     where

@@ -50,7 +50,7 @@ impl<S: Drop> Hold<S> {
         })
     }
 
-    /// Goes on to wait for the lock, unless it is held or was let go.
+    /// Continues to wait for the lock, unless it is held or was let go.
     ///
     /// # Errors
     /// Where there is no memory to wait.
@@ -72,7 +72,7 @@ impl<S: Drop> Hold<S> {
         matches!(self, Hold::Waits(_) | Hold::Lacks)
     }
 
-    /// Goes on to wait for the lock.
+    /// Continues to wait for the lock.
     fn poll_queued(
         &mut self,
         queued: Queued<S>,

@@ -55,17 +55,17 @@ where
         self.session.untaken()
     }
 
-    /// The text that the server greeted with, once the greeting was taken.
+    /// The text that the server greeted with, once the greeting was accepted.
     pub fn get_welcome_msg(&self) -> Option<&str> {
         self.session.get_welcome_msg()
     }
 
-    /// Whether the session has failed, as [`ImplAsyncFtpStream::failed`] tells.
+    /// Whether the session has failed, as [`ImplAsyncFtpStream::failed`] returns it.
     pub fn failed(&self) -> bool {
         self.session.failed()
     }
 
-    /// Where the last error of input or output was met, as [`ImplAsyncFtpStream::last_failure`] tells.
+    /// Where the last error of input or output was met, as [`ImplAsyncFtpStream::last_failure`] returns it.
     pub fn last_failure(&self) -> Option<Failure> {
         self.session.last_failure()
     }
@@ -74,7 +74,7 @@ where
 /// The lock of a client is waited for.
 ///
 /// # Errors
-/// `OutOfMemory` where there is no memory to wait; `AlreadyCompleted` once it was given.
+/// `OutOfMemory` where there is no memory to wait; `AlreadyCompleted` once it was returned.
 #[derive(Drop)]
 pub struct Lock<Tr: TaskTransport, K: Drop, E: Encoding, B: Drop>
 where

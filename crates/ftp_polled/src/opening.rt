@@ -19,7 +19,7 @@ use futures::task::{Context, Poll};
 use std::alloc::{AllocError, Global};
 use std::mem;
 
-/// What an opening gives: the transfer, with the reply of its command where that is asked for.
+/// What an opening returns: the transfer, with the reply of its command where that is asked for.
 pub(crate) type Opened<C> = (Option<Response>, Transfer<C>);
 
 /// A call that opens a transfer, with the lock, which it keeps.
@@ -108,7 +108,7 @@ where
     Tr::Conn: PollConn<()> + TaskConn,
     B: PassiveStreamBuilder<Tr::Conn>,
 {
-    /// Goes on with the opening, once the lock is held. The lock is kept.
+    /// Continues the opening, once the lock is held. The lock is kept.
     pub(crate) fn poll_opened(&mut self, cx: &mut Context<'_>) -> Poll<FtpResult<Opened<Tr::Conn>>>
         ensures registered { OnPending result (IsArmed cx.new) }
         ensures kept { Keeps cx.old cx.new }
@@ -120,7 +120,7 @@ where
         }
     }
 
-    /// Goes on with the opening under the lock.
+    /// Continues the opening under the lock.
     fn poll_held(&mut self, cx: &mut Context<'_>) -> Poll<FtpResult<Opened<Tr::Conn>>>
         ensures registered { OnPending result (IsArmed cx.new) }
         ensures kept { Keeps cx.old cx.new }
@@ -173,19 +173,19 @@ where
     }
 }
 
-/// An opening whose transfer is given with the session, for its end.
+/// An opening whose transfer is returned with the session, for its end.
 #[derive(Drop)]
 struct Streaming<'r, R, Tr: TaskTransport, K: Drop, E: Encoding, B: Drop>
 where
     Tr::Conn: TaskConn,
 {
     opening: Opening<'r, R, Tr, K, E, B>,
-    // The session of the transfer, until that is given; none where there was no memory to share it.
+    // The session of the transfer, until that is returned; none where there was no memory to share it.
     session: Option<Shared<Tr, K, E, B>>,
     is_shared: bool,
 }
 
-/// What a stream's opening gives.
+/// What a stream's opening returns.
 type Streamed<Tr, K, E, B> = (Option<Response>, TransferStream<Tr, K, E, B>);
 
 impl<'r, R: AllocGlobal, Tr, K: Drop, E: Encoding, B> Streaming<'r, R, Tr, K, E, B>
@@ -194,7 +194,7 @@ where
     Tr::Conn: PollConn<()> + TaskConn,
     B: PassiveStreamBuilder<Tr::Conn>,
 {
-    /// Goes on with the opening, and lets the lock go once it is over.
+    /// Continues the opening, and lets the lock go once it is over.
     fn poll_streamed(&mut self, cx: &mut Context<'_>) -> Poll<FtpResult<Streamed<Tr, K, E, B>>>
         ensures registered { OnPending result (IsArmed cx.new) }
         ensures kept { Keeps cx.old cx.new }
@@ -249,7 +249,7 @@ where
     streaming: Streaming<'r, R, Tr, K, E, B>,
 }
 
-/// A call that opens a transfer, and gives the reply to its command with it. Dropped, it leaves what `OpenTransfer` does.
+/// A call that opens a transfer, and returns its command's reply, too. Dropped, it leaves what `OpenTransfer` does.
 #[derive(Drop)]
 pub struct OpenWithReply<'r, R, Tr: TaskTransport, K: Drop, E: Encoding, B: Drop>
 where
@@ -286,7 +286,7 @@ where
     }
 }
 
-/// An opening, with the session that its transfer is given with.
+/// An opening, with the session that its transfer is returned with.
 fn share<'r, R, Tr: TaskTransport, K: Drop, E: Encoding, B: Drop>(
     opening: Opening<'r, R, Tr, K, E, B>,
     shared: &Shared<Tr, K, E, B>,
@@ -342,7 +342,7 @@ where
     }
 }
 
-/// A transfer with the reply to its command, which an opening gives that asks for it.
+/// A transfer with the reply to its command, which an opening returns that asks for it.
 fn with_reply<Tr: TaskTransport, K: Drop, E: Encoding, B: Drop>(
     reply: Option<Response>,
     stream: TransferStream<Tr, K, E, B>,

@@ -20,10 +20,10 @@ pub trait RetrReader<C: TaskConn + Drop>: Drop {
     /// What it makes of the data.
     type Out: Drop;
 
-    /// Goes on to read. Where it waits it has registered the task, as a poll of the transfer does that waits.
+    /// Continues to read. Where it waits it has registered the task, as a poll of the transfer does that waits.
     ///
     /// # Errors
-    /// What the download is answered with; its transfer is left then.
+    /// What the download fails with; its transfer is left then.
     fn poll(
         &mut self,
         transfer: &mut Transfer<C>,
@@ -32,7 +32,7 @@ pub trait RetrReader<C: TaskConn + Drop>: Drop {
         ensures registered { OnPending result (IsArmed cx.new) }
         ensures kept { Keeps cx.old cx.new };
 
-    /// Whether its error was that of the data connection, which `last_failure` tells then.
+    /// Whether its error was that of the data connection, which `last_failure` returns then.
     fn data_failed(&self) -> bool {
         false
     }
@@ -63,7 +63,7 @@ where
     B: PassiveStreamBuilder<Tr::Conn>,
     F: RetrReader<Tr::Conn>,
 {
-    /// Goes on to open the transfer.
+    /// Continues to open the transfer.
     fn poll_opened(&mut self, cx: &mut Context<'_>) -> Poll<FtpResult<()>>
         ensures registered { OnPending result (IsArmed cx.new) }
         ensures kept { Keeps cx.old cx.new }
@@ -81,7 +81,7 @@ where
         }
     }
 
-    /// Goes on to read the data. Once it is read the end of the transfer begins.
+    /// Continues to read the data. Once it is read the end of the transfer begins.
     fn poll_read(
         &mut self,
         mut transfer: Transfer<Tr::Conn>,
@@ -111,7 +111,7 @@ where
         }
     }
 
-    /// Goes on with the end of the transfer.
+    /// Continues the end of the transfer.
     fn poll_ended(&mut self, cx: &mut Context<'_>) -> Poll<FtpResult<F::Out>>
         ensures registered { OnPending result (IsArmed cx.new) }
         ensures kept { Keeps cx.old cx.new }
@@ -127,7 +127,7 @@ where
     }
 }
 
-/// What was read, unless it was given before.
+/// What was read, unless it was returned before.
 fn read_value<T: Drop>(read: Option<T>) -> FtpResult<T> {
     match read {
         Some(read) => Ok(read),
@@ -167,8 +167,8 @@ impl<Tr: TaskTransport, K: Drop, E: Encoding, B: Drop> ImplAsyncFtpStream<Tr, K,
 where
     Tr::Conn: TaskConn,
 {
-    /// Downloads this file by a reader: `RETR` (150, 125; RFC 959, section 4.1.3), the data as it is, and the last reply
-    /// (226, 250). The offset is taken as by `retr_as_stream`.
+    /// Downloads this file by a reader: `RETR` (150, 125; RFC 959, section 4.1.3), the data as it is, and the last
+    /// reply (226, 250). The offset is used as by `retr_as_stream`.
     ///
     /// # Errors
     /// Those of a data command; the reader's error; those of the last reply.

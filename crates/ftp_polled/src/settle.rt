@@ -43,7 +43,7 @@ where
     Tr::Conn: PollConn<()> + TaskConn,
     B: PassiveStreamBuilder<Tr::Conn>,
 {
-    /// Looks at the receipt under the lock, at the first poll, and then goes on to read the reply.
+    /// Looks at the receipt under the lock, at the first poll, and then continues to read the reply.
     fn poll_held(&mut self, cx: &mut Context<'_>) -> Poll<FtpResult<()>>
         ensures registered { OnPending result (IsArmed cx.new) }
         ensures kept { Keeps cx.old cx.new }

@@ -21,7 +21,7 @@ use tokio::io::AsyncWrite;
 /// How many bytes of the data are read at once.
 const BUFFER: usize = 65_536;
 
-/// What reads a download into a writer, and tells how far it has come. It makes of it how many bytes were written.
+/// What reads a download into a writer, and reports how far it has come. It makes of it how many bytes were written.
 #[derive(Drop)]
 pub struct Sink<W: AsyncWrite, P: Progress> {
     writer: W,
@@ -177,7 +177,7 @@ impl<C: PollConn<()> + TaskConn + Drop, W: AsyncWrite, P: Progress> RetrReader<C
     }
 }
 
-/// A download to a writer. It gives how many bytes were written.
+/// A download to a writer. It returns how many bytes were written.
 ///
 /// Dropped while its data is read or its last reply is waited for, it leaves its transfer. An error of the data
 /// connection or of the writer leaves it, too.
@@ -188,8 +188,8 @@ where
     Tr::Conn: PollConn<()> + TaskConn,
 {
     /// Downloads this file to a writer: `RETR` (150, 125; RFC 959, section 4.1.3), the bytes as they come, and the last
-    /// reply (226, 250). It gives how many bytes were written, and tells how far the download has come; `NoProgress` is told
-    /// nothing. Both may be passed by `&mut`. The writer is flushed. The offset is taken as by `retr_as_stream`.
+    /// reply (226, 250). It returns how many bytes were written, and reports its progress; `NoProgress` ignores that.
+    /// Both may be passed by `&mut`. The writer is flushed. The offset is used as by `retr_as_stream`.
     ///
     /// # Errors
     /// Those of a data command. The error of the data connection, where what came was written, or of the writer, where

@@ -23,7 +23,7 @@ const BUFFER: usize = 8_192;
 pub struct StreamLines<S: AsyncRead> {
     alloc: Global,
     stream: S,
-    // What was read; None once the lines were given.
+    // What was read; None once the lines were returned.
     bytes: Option<Vec<u8>>,
     // How often in a row the stream was interrupted.
     interrupted: usize,
@@ -45,7 +45,7 @@ impl<S: AsyncRead> StreamLines<S> {
     /// The lines, once the stream has ended.
     ///
     /// # Errors
-    /// `OutOfMemory`; `AlreadyCompleted` where they were given before.
+    /// `OutOfMemory`; `AlreadyCompleted` where they were returned before.
     fn lines(&mut self) -> FtpResult<Vec<String>> {
         match self.bytes.take() {
             Some(bytes) => Ok(read_listing(self.alloc, &bytes, &Utf8Encoding)?),

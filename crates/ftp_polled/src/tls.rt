@@ -34,7 +34,7 @@ pub trait AsyncTlsConnector<C>: Drop {
     /// Begins to make one, to a server of this name.
     fn connect(&self, domain: &str, conn: C) -> Self::Connecting;
 
-    /// Goes on to make it.
+    /// Continues to make it.
     ///
     /// # Errors
     /// What went wrong, in words.

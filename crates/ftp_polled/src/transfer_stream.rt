@@ -92,8 +92,8 @@ where
         Finish::new(Ending::new(rt, Hold::of(session), transfer, false))
     }
 
-    /// Aborts the transfer: `ABOR` goes out, its data connection is closed, and what the server says of it is read (226, or
-    /// 426 and then 226; RFC 959, section 4.1.3). Dropped before `ABOR` has gone out whole, it leaves the transfer.
+    /// Aborts the transfer: `ABOR` goes out, its data connection is closed, and what the server replies is read (226,
+    /// or 426 and then 226; RFC 959, section 4.1.3). Dropped before `ABOR` has gone out whole, it leaves the transfer.
     ///
     /// # Errors
     /// Those of a command that goes out: where it can't, the transfer is left. Those of a read of one reply; `NotOwed` where
@@ -139,8 +139,8 @@ where
     }
 }
 
-// So that what reads from `tokio`'s readers reads from a transfer, as `get_lines_from_stream` does. What a connection gives
-// no clause says.
+// So that what reads from `tokio`'s readers reads from a transfer, as `get_lines_from_stream` does. What a connection
+// returns is in no clause.
 impl<Tr: TaskTransport, K: Drop, E: Encoding, B: Drop> AsyncRead for TransferStream<Tr, K, E, B>
 where
     Tr::Conn: PollConn<()> + TaskConn,
@@ -162,7 +162,7 @@ where
     }
 }
 
-// So that what writes to `tokio`'s writers writes to a transfer. What a connection takes no clause says.
+// So that what writes to `tokio`'s writers writes to a transfer. What a connection accepts is in no clause.
 impl<Tr: TaskTransport, K: Drop, E: Encoding, B: Drop> AsyncWrite for TransferStream<Tr, K, E, B>
 where
     Tr::Conn: PollConn<()> + TaskConn,

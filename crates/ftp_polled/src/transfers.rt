@@ -1,6 +1,6 @@
 //! The calls that open data connections, a method each, which makes the state of that call.
 //!
-//! Each fails with `DataConnectionAlreadyOpen` while a transfer is live, and says nothing then.
+//! Each fails with `DataConnectionAlreadyOpen` while a transfer is live, and sends nothing then.
 
 use crate::calling::Calling;
 use crate::client::ImplAsyncFtpStream;
@@ -48,7 +48,7 @@ where
         self.open(rt, call, Direction::Download)
     }
 
-    /// Opens an upload to this file: `STOR` (125, 150; RFC 959, section 4.1.3). The offset is taken as by
+    /// Opens an upload to this file: `STOR` (125, 150; RFC 959, section 4.1.3). The offset is used as by
     /// `retr_as_stream`.
     ///
     /// # Errors
@@ -61,7 +61,7 @@ where
         self.open(rt, put_call(rt.alloc(), path), Direction::Upload)
     }
 
-    /// Opens an upload to the end of this file: `APPE` (125, 150; RFC 959, section 4.1.3). The offset is taken as by
+    /// Opens an upload to the end of this file: `APPE` (125, 150; RFC 959, section 4.1.3). The offset is used as by
     /// `retr_as_stream`.
     ///
     /// # Errors
@@ -74,8 +74,8 @@ where
         self.open(rt, append_call(rt.alloc(), path), Direction::Upload)
     }
 
-    /// Opens a data connection by a caller-supplied line, whose reply's status is among the expected, and gives that
-    /// reply. The offset is taken as by `retr_as_stream`.
+    /// Opens a data connection by a caller-supplied line, whose reply's status is among the expected, and returns that
+    /// reply. The offset is used as by `retr_as_stream`.
     ///
     /// # Errors
     /// Those of a data command: `LineBreak` where CR or LF stands in the line.
@@ -90,8 +90,8 @@ where
         OpenWithReply::new(opening, &self.session)
     }
 
-    /// Downloads this file, whole and as it is: `RETR` (150, 125; RFC 959, section 4.1.3), its bytes, and the last reply
-    /// (226, 250). The offset is taken as by `retr_as_stream`.
+    /// Downloads this file, whole and as it is: `RETR` (150, 125; RFC 959, section 4.1.3), its bytes, and the last
+    /// reply (226, 250). The offset is used as by `retr_as_stream`.
     ///
     /// # Errors
     /// Those of a data command. An error of the data comes before the last reply's.

@@ -19,8 +19,8 @@ use std::alloc::AllocError;
 use std::mem;
 use tokio::io::AsyncRead;
 
-/// A source is uploaded: the command, the data, and the last reply, in one hold of the lock. It gives the number of bytes
-/// that were written.
+/// A source is uploaded: the command, the data, and the last reply, in one hold of the lock. It returns the number of
+/// bytes that were written.
 ///
 /// Dropped while its data is written or its last reply is waited for, it leaves its transfer. An error of the source or
 /// of the data connection leaves it, too.
@@ -60,7 +60,7 @@ where
     Tr::Conn: PollConn<()> + TaskConn,
     B: PassiveStreamBuilder<Tr::Conn>,
 {
-    /// Goes on to open the transfer.
+    /// Continues to open the transfer.
     fn poll_opened(&mut self, cx: &mut Context<'_>) -> Poll<FtpResult<()>>
         ensures registered { OnPending result (IsArmed cx.new) }
         ensures kept { Keeps cx.old cx.new }
@@ -90,7 +90,7 @@ where
         }
     }
 
-    /// Goes on to copy the source. Once it has ended the end of the transfer begins.
+    /// Continues to copy the source. Once it has ended the end of the transfer begins.
     fn poll_copied(
         &mut self,
         mut transfer: Transfer<Tr::Conn>,
@@ -118,7 +118,7 @@ where
         }
     }
 
-    /// Goes on with the end of the transfer.
+    /// Continues the end of the transfer.
     fn poll_ended(&mut self, cx: &mut Context<'_>) -> Poll<FtpResult<u64>>
         ensures registered { OnPending result (IsArmed cx.new) }
         ensures kept { Keeps cx.old cx.new }
@@ -182,8 +182,8 @@ where
         }
     }
 
-    /// Uploads a source to this file: `STOR` (125, 150; RFC 959, section 4.1.3), the data, a text's lines ended by CR LF,
-    /// and the last reply (226, 250). It gives the number of bytes that were written. The offset is taken as by
+    /// Uploads a source to this file: `STOR` (125, 150; RFC 959, section 4.1.3), the data, a text's lines ended by CR
+    /// LF, and the last reply (226, 250). It returns the number of bytes that were written. The offset is used as by
     /// `retr_as_stream`.
     ///
     /// # Errors
@@ -198,7 +198,7 @@ where
         self.upload(rt, put_call(rt.alloc(), path), source, NoProgress)
     }
 
-    /// Uploads a source to this file, as `put_file` does, and tells how far it has come. `&mut progress` may be passed, too.
+    /// Uploads a source to this file, as `put_file` does, and reports its progress. `&mut progress` may be passed, too.
     ///
     /// # Errors
     /// Those of `put_file`.
@@ -225,7 +225,7 @@ where
         self.upload(rt, append_call(rt.alloc(), path), source, NoProgress)
     }
 
-    /// Uploads a source to the end of this file, as `append_file` does, and tells how far it has come.
+    /// Uploads a source to the end of this file, as `append_file` does, and reports how far it has come.
     ///
     /// # Errors
     /// Those of `put_file`.

@@ -84,7 +84,7 @@ abbrev state_in : Played → State
 state_in (played.Done answer s) = s.state
 state_in (played.Pending wait s) = s.state
 
--- what a run hears in place of a reply is no want of memory
+-- what a run hears in place of a reply isn't that memory ran out
 abbrev Remembered : Result Response FtpError → Type 0
 Remembered (Ok reply) = Unit {0}
 Remembered (Err fault) = wants_memory fault ≡ false

@@ -92,7 +92,7 @@ use Rattle.ftp_dialogue.specs.Link.{Builds, over_memory}
 use Rattle.ftp_runs.proofs.Carried.{front_fits, outcomes_on, over_at_end, seen_kept, waits_kept, rule_kept, full_room, Carried, carried, carried_none, line_front, all_said}
 use Rattle.ftp_base.specs.declared.command.Command.TheVariants.{Abor}
 
--- what a poll comes to
+-- what a poll results in
 abbrev pub PollFollows : Builds → Coding → List NetOutcome → List NetOutcome → SessionValue → Script → SessionValue → SessionValue → Call → Stage → Stage → List Answer → Poll Answer → Type 0
 PollFollows builds coding outcomes left old s v w call stage stage' answers (Ready answer) =
     Follows builds coding outcomes left old (poll_script coding (start_of old outcomes) (Some call) s) w None stage' (answers ++ answer ∷ []) ⊎ AbortsCall builds coding call stage v w (Some answer)

@@ -1,4 +1,4 @@
--- Lemmas on a call of a script whose answer is told to nobody.
+-- Lemmas on a call of a script whose answer is discarded.
 use Rattle.std.proofs.Common.{◌≡◌, true, false, Some, None, List, [], ◌∷◌, ◌++◌, inl, inr, refl, ap, ◌∙◌, append_assoc}
 use Rattle.futures.specs.declared.task.Poll.TheVariants.{Ready}
 use Rattle.ftp_calls.specs.declared.call.Answer.{Answer}

@@ -182,7 +182,7 @@ module _ (link : Link) (coding : Coding) (calls later : List Call) (call : Call)
     goes : Goes link (reached.ran.came ++ drains.came) (reached.ran.answered ++ drains.answered) old new
     goes = joined_goes link reached.ran.came drains.came reached.ran.answered drains.answered old mid new reached.ran.goes (goes_from link drains.came drains.answered Drain mid new drains.goes)
 
-    -- the run comes to what the drain leads to
+    -- the run results in what the drain leads to
     comes_to : link.tells → Agrees coding old calls → However old (reached.ran.came ++ drains.came) (reached.ran.answered ++ drains.answered) new (λ room s t. run room coding calls s ≡ before_all answers (and_then (after_drain (Done first t) (λ u. play_call room coding call u)) (λ u. run room coding later u)))
     comes_to h agrees room more ended outcomes fit on =
         let ran = reached.ran in

@@ -223,7 +223,7 @@ module _ (builds : Builds) (coding : Coding) where
             subst A (append-nil answers) (holds_at outcomes left old (dropped coding (start_of old outcomes) s.call s) new None stage (answers ++ []) g.0)
         go (inr broke) = let clash : Cancel ≡ Poll = broke.3 in cc
 
-    -- what has happened is what the events come to
+    -- what has happened is what the events result in
     pub happened_scripted : (depth : ℕ) (old : SessionValue) (done : List Event) (answers : List Answer) → Happened depth old done v call stage course answers → ScriptsHold builds depth coding old done new answers
     happened_scripted zero old done answers so_far = tt
     happened_scripted (suc depth) old done answers so_far = (

@@ -34,7 +34,7 @@ unfoldable pub run : Room → Coding → List Call → PlayState → Ran
 run room coding [] s = Finished [] s
 run room coding (call ∷ calls) s = and_then (play_drained room coding call s) (λ t. run room coding calls t)
 
--- a call whose answer is told to nobody
+-- a call whose answer is discarded
 abbrev pub and_on : Played → (PlayState → Ran) → Ran
 and_on (Done answer s) next = next s
 and_on (Pending wait s) next = Waiting [] wait s

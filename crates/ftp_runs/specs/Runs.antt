@@ -28,7 +28,7 @@ abbrev pub before_all : List Answer → Ran → Ran
 before_all [] ran = ran
 before_all (answer ∷ answers) ran = before answer (before_all answers ran)
 
--- a run that got so far: these calls of it are done and come to these answers, and it comes to what is left of it
+-- a run that got so far: these calls of it are done with these answers, and it leads to what is left of it
 -- from here
 pub record RanTo (link : Link) (coding : Coding) (calls to_make : List Call) (old new : SessionValue) (answers : List Answer) : Type 0 where
   pub done : List Call

@@ -162,7 +162,7 @@ without_call s = record s { call = None; polled = false; heard = false }
 abbrev pub draining : Script → Script
 draining s = with_call Drain s
 
--- a call was done that is an item whose answer is told to nobody, and this call is under way
+-- a call was done that is an item whose answer is discarded, and this call is under way
 abbrev pub hidden_to : Call → Option Call → Script → Script → Script
 hidden_to hidden call before after = record after { items = before.items ++ Hidden hidden ∷ []; answers = before.answers; call = call }
 
@@ -194,7 +194,7 @@ abbrev pub poll_next : Coding → PlayState → Option Call → Script → Scrip
 poll_next coding start None s = s
 poll_next coding start (Some call) s = poll_if (is_due call s.failed s.state.counts.owed) coding start call s
 
--- A transfer that is left without a call of its own: where it is held, that is an item whose answer is told to nobody
+-- A transfer that is left without a call of its own: where it is held, that is an item whose answer is discarded
 
 abbrev pub holds_in : Script → Bool
 holds_in s = holds (is_none s.net_record.data_conn) s.state.counts.owed

@@ -64,8 +64,8 @@ pub record Answered (builds : Builds) (outcomes left : List NetOutcome) (old new
   pub net_events : NetEvents builds answered old.net new.net
   pub outcomes_are : outcomes ≡ outcomes_of answered ++ left
 
--- the events come to their script, where these are the outcomes of the transport's requests; what was received and what
--- is unread are the bytes that came; nothing fails, and what is kept of a reply was read by the rule that the script says
+-- the events make their script, where these are the outcomes of the transport's requests; what was received and what is
+-- unread are the bytes that came; nothing fails, and what is kept of a reply was read by the rule that the script says
 pub record HoldsAt (builds : Builds) (outcomes : List NetOutcome) (old : SessionValue) (s : Script) (new : SessionValue) (answers : List Answer) : Type 0 where
   pub at : StandsAt s new answers
   pub left : List NetOutcome
@@ -108,14 +108,14 @@ abbrev pub LeavesThen : Bool → SessionValue → SessionValue → Type 0
 LeavesThen true v w = LeavesHeld v w
 LeavesThen false v w = w ≡ v
 
--- the calls that are done come to these answers, and the call under way to what is left of it, from here
+-- the calls that are done result in these answers, and the call under way in what is left of it, from here
 abbrev pub Reaches : Coding → SessionValue → List Item → List ℕ → List NetEvent → SessionValue → List Answer → Call → Tree → Type 0
 Reaches coding old items came answered v answers call tree =
     (later : List Item) (room : Room) (more : List ℕ) (ended : Bool) (outcomes : List NetOutcome)
     → HasRoomFor room (length v.channel.told.sent) → GoesOn v.channel.ended more ended
     → replay room coding (items ++ Shown call ∷ later) (play_state old (came ++ more) ended (outcomes_of answered ++ outcomes)) ≡ before_all answers (and_then (finally (play room tree (play_state v more ended outcomes))) (λ t. replay room coding later t))
 
--- the calls that are done come to these answers, and to whatever comes after them from here
+-- the calls that are done result in these answers, and in whatever comes after them from here
 abbrev pub Stands : Coding → SessionValue → List Item → List ℕ → List NetEvent → SessionValue → List Answer → Type 0
 Stands coding old items came answered v answers =
     (later : List Item) (room : Room) (more : List ℕ) (ended : Bool) (outcomes : List NetOutcome)
@@ -186,8 +186,8 @@ abbrev pub IsPolled : Coding → PlayState → Option Call → Script → Script
 IsPolled coding start None s here = ⊥
 IsPolled coding start (Some call) s here = IsPolledIf (is_due call s.failed s.state.counts.owed) coding start call s here
 
--- a call was aborted at a Poll, in a session that the events before had come to; the later events find no call under
--- way, and come to `Later`
+-- a call was aborted at a Poll, in a session that the events before had resulted in; the later events find no call
+-- under way, and result in `Later`
 pub record ScriptAborts (builds : Builds) (Later : SessionValue → List Event → List Answer → Type 0) (coding : Coding) (outcomes : List NetOutcome) (old : SessionValue) (form : ReplyForm) (events : List Event) (new : SessionValue) (answers : List Answer) : Type 0 where
   pub before : List Event
   pub later : List Event
@@ -214,7 +214,7 @@ pub record ScriptAborts (builds : Builds) (Later : SessionValue → List Event �
   pub failed : after.channel.failed ≡ true → (new.channel.failed ≡ true) × AreRefused others
 
 -- what happened beside the control connection is told; with these outcomes, whatever others come after them, and for
--- every lawful list, where what an earlier read left of a reply says nothing yet as one of this form: the events come to
+-- every lawful list, where what an earlier read left of a reply says nothing yet as one of this form: the events make
 -- their script, or a call is aborted and the later ones are such a list again; that is said of so many calls that are
 -- aborted
 abbrev pub ScriptsHold : Builds → ℕ → Coding → SessionValue → List Event → SessionValue → List Answer → Type 0

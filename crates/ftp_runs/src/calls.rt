@@ -1,6 +1,6 @@
 //! Lists of calls, made one after another.
 //!
-//! A run stops at no fault: each call has its answer, and a session that has failed refuses the later ones. Its answers
+//! A run stops at no error: each call has its answer, and in a session that has failed the later ones fail. Its answers
 //! are those that the definition gives for all bytes of the server at once, however they came.
 
 ghost use Rattle.std.specs.Prelude.{◌≡◌, ◌≤◌, [], IfOk, IfErr, OnErr, OnOk, length, vec_capacity};
@@ -34,9 +34,9 @@ where
     Tr::Conn: Conn,
 {
     /// Makes these calls, one after another, and returns their answers in order. After a call in which the session
-    /// failed each is answered by `SessionFailed`. Whether a transfer was left that was handed out before is looked at
-    /// once, before the first call. A list is for a session in step: replies that are due to commands that were dropped are
-    /// read by the session's own calls alone.
+    /// failed each fails with `SessionFailed`. Whether a transfer was left that was handed out before is looked at
+    /// once, before the first call. A list is for a session in step: replies that are due to commands that were dropped
+    /// are read by the session's own calls alone.
     ///
     /// # Errors
     /// `OutOfMemory` where there is no memory for the answers, and nothing changes.

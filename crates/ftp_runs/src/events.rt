@@ -1,7 +1,7 @@
 //! Polled runs over memory: lists of events.
 //!
 //! Between two polls of a call anything may happen that happens to a client: bytes come or end, there is room for more,
-//! the call is dropped and another begins. What a run comes to is defined by playing all calls anew at each poll, on
+//! the call is dropped and another begins. What a run results in is defined by playing all calls anew at each poll, on
 //! all bytes that came by then; here each byte is read once.
 
 ghost use Rattle.std.specs.Prelude.{◌≡◌, ◌⊎◌, ◌<◌, ◌≤◌, ◌++◌, [], IfOk, IfErr, OnErr, OnOk, length, option_map, None, Some, vec_len, vec_capacity};
@@ -54,7 +54,7 @@ impl<K: Drop, E: Encoding, B: PassiveStreamBuilder<MemoryConn>> RunEvents
     /// counted, as it is where a client's call is dropped, and would be taken for the next call's.
     ///
     /// A call that brings a transfer to its end takes it as it begins: dropped, it leaves it. `Leave` leaves the
-    /// transfer that is held: before a call under way that wasn't polled, and behind one that was.
+    /// transfer that is held: before a call under way that wasn't polled, and after one that was.
     ///
     /// # Errors
     /// `OutOfMemory` where there is no memory for the answers, and nothing changes; or for the bytes of a `Feed`,
@@ -284,8 +284,8 @@ fn drop_end(
     }
 }
 
-/// The transfer that is held is left: before a call under way that wasn't polled, unless it took the transfer as it began;
-/// and behind one that was.
+/// The transfer that is held is left: before a call under way that wasn't polled, unless it took the transfer as it
+/// began; and after one that was.
 fn leave_now<'e>(
     machine: &mut Machine<MemoryTransport>,
     alloc: Global,
@@ -324,12 +324,12 @@ fn leave_held(machine: &mut Machine<MemoryTransport>, alloc: Global)
     holds_memory(machine);
 }
 
-/// This answer is told to nobody.
+/// This answer is discarded.
 fn told_to_nobody(answer: Answer) {
     drop(answer);
 }
 
-/// Polls a call over memory, after the last reply of a transfer that was left, where one is due. Tells whether the call
+/// Polls a call over memory, after the last reply of a transfer that was left, where one is due. Notes whether the call
 /// itself was polled.
 fn poll_next<E: Encoding, B: PassiveStreamBuilder<MemoryConn>>(
     machine: &mut Machine<MemoryTransport>,
@@ -360,7 +360,7 @@ fn poll_next<E: Encoding, B: PassiveStreamBuilder<MemoryConn>>(
     poll_here(machine, alloc, builder, encoding, call, stage)
 }
 
-/// Polls the drain. Where it waits, what was read of the reply stays, and the next poll of it goes on from there.
+/// Polls the drain. Where it waits, what was read of the reply stays, and the next poll of it resumes there.
 fn poll_drain<E: Encoding, B: PassiveStreamBuilder<MemoryConn>>(
     machine: &mut Machine<MemoryTransport>,
     alloc: Global,

@@ -9,7 +9,7 @@ use ftp_dialogue::model::{NetRecord, PlayState, Wait};
 use ftp_session::session::{Answer, Call, State};
 use ftp_transport::Room;
 
-/// What a list of calls comes to.
+/// What a list of calls results in.
 #[derive(Drop)]
 pub enum Ran {
     /// Their answers, and where the run stands then.
@@ -23,7 +23,7 @@ pub enum Ran {
 pub enum Item {
     /// Its answer is one of the script's.
     Shown(Call),
-    /// Its answer is told to nobody.
+    /// Its answer is discarded.
     Hidden(Call),
 }
 
@@ -40,7 +40,7 @@ pub struct Script {
     pub polled: bool,
     /// Whether the transfer that is held is left once it is over.
     pub leaving: bool,
-    /// Whether it has heard: not while it waits for room for its first line.
+    /// Whether it has begun to read: not while it waits for room for its first line.
     pub heard: bool,
     /// All bytes that came.
     pub bytes: Bytes,
@@ -48,7 +48,7 @@ pub struct Script {
     pub ended: bool,
     /// How much may be written.
     pub room: Room,
-    /// All that was said, the line that waits for room with it.
+    /// All that was to be sent, the line that waits for room with it.
     pub said: Bytes,
     /// The bytes that went out.
     pub sent: Bytes,

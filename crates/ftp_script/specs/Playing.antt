@@ -25,8 +25,8 @@ use Rattle.ftp_script.specs.declared.supplies.DataConn.{DataConn}
 use Rattle.ftp_script.specs.declared.supplies.DataConn.TheVariants.{Gives, Refused}
 use Rattle.ftp_script.specs.Shown.{call_text, end_text}
 
--- a connection over memory: its record is true, no read fails and no question for an address, a write fails only for
--- want of memory or of room, no request waits, and there is no builder
+-- a connection over memory: its record is true, no read fails and no question for an address, a write fails only where
+-- memory or room runs out, no request waits, and there is no builder
 abbrev pub memory : Link
 memory = record { tells = Unit {0}; reads = λ kind. ⊥; writes = λ told kind. (kind ≡ kinds.OutOfMemory) ⊎ ((kind ≡ kinds.WouldBlock) × IsFull told); ends = λ kind. ⊥; asks_wait = ⊥; builds = λ address built. built ≡ Err (ConnectionError NoAddress) }
 

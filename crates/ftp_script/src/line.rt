@@ -64,7 +64,7 @@ fn served_by(bytes: Option<Bytes>) -> Option<Line>
     }
 }
 
-/// The line of a data connection that gives these bytes.
+/// The line of a data connection that delivers these bytes.
 fn data_by(bytes: Option<Bytes>) -> Option<Line>
     ensures { result ≡ data_by bytes }
 {

@@ -1,8 +1,8 @@
 //! Scripts, played.
 //!
-//! The calls of a script are made by a session over a connection over memory that gives what the server sends and then
-//! ends, one after another, so that it is known what went out in each. Its data connections come from a transport over
-//! memory.
+//! The calls of a script are made by a session over a connection over memory that delivers what the server sends and
+//! then ends, one after another, so that it is known what went out in each. Its data connections come from a transport
+//! over memory.
 
 ghost use Rattle.std.specs.Prelude.{◌≡◌, ◌++◌, OnOk, None, IfOk, ℕ, List, [], drop, map};
 ghost use Rattle.ftp_transport.specs.Memory.{fresh_between, unspecified};

@@ -56,7 +56,7 @@ fn play<R: Read, W: Write>(alloc: Global, reader: &mut R, writer: &mut W) -> Res
     }
 }
 
-/// Reads all that a reader gives. An interrupted read is tried again, at most 64 times in a row.
+/// Reads a reader to its end. An interrupted read is tried again, at most 64 times in a row.
 fn read_whole<R: Read>(alloc: Global, reader: &mut R) -> Result<Vec<u8>, PlayError>
     ensures whole { IfOk result (λ text. IfSome (R.remaining reader.old) (λ source. source ≡ text.items)) }
     ensures fault { IfErr result IsFault }

@@ -33,7 +33,7 @@ pub(crate) fn push_call(
     Ok(())
 }
 
-/// Adds the last line: how many bytes of the server were taken.
+/// Adds the last line: how many bytes of the server were consumed.
 pub(crate) fn push_end(alloc: Global, text: &mut Vec<u8>, taken: usize) -> Result<(), AllocError>
     ensures { OnOk result (text.new.items ≡ text.old.items ++ end_text taken) }
 {

@@ -12,7 +12,7 @@ use std::io::ErrorKind;
 /// What becomes of a data connection that is asked for.
 #[derive(Drop)]
 pub(crate) enum DataConn {
-    /// It connects, gives these bytes and then ends.
+    /// It connects, delivers these bytes and then ends.
     Gives(Bytes),
     /// It is refused.
     Refused,

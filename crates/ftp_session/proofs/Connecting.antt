@@ -53,7 +53,7 @@ module _ (coding : Coding) (state : State) (refuses : List Supply → Connection
       let turn : play room (if_connected (dialogue coding Greet state) others one.outcome) next ≡ play room (others refused.0) next = ap (λ o. play room (if_connected (dialogue coding Greet state) others o) next) refused.2 in
       turn ∙ past_refused more left refused.0 last refused.1 ready' here refused.4
 
-  -- the request after them came to a connection
+  -- the request after them returned a connection
   past_connected : (before : List Asked) (request : Request) (left : List Request) (fault last : ConnectionError) (ready due : List Supply) (s : PlayState) → AreRefused refuses before fault last ready due → (let one : Asked = record { request = request; outcome = Done } in play room (connecting coding (requests_of before ++ request ∷ left) fault state) (record s { outcomes = outcomes_in (before ++ one ∷ []) ++ s.outcomes }) ≡ play room (dialogue coding Greet state) (record s { net_record = after_requests (before ++ one ∷ []) s.net_record }))
   unfolding connecting play
   past_connected before request left fault last ready due s refused =
@@ -67,7 +67,7 @@ module _ (coding : Coding) (state : State) (refuses : List Supply → Connection
       ∙ ap (λ d. play room (dialogue coding Greet state) (P d)) (sym (after_request-snoc before one s.net_record))
 
 module _ (link : Link) (coding : Coding) (refuses : List Supply → ConnectionError → Type 0) (requests : List Request) (fault : ConnectionError) (ready ready' : List Supply) (asked asked' : List Asked) where
-  -- the requests in turn came to a connection
+  -- the requests in turn returned a connection
   pub asks_one : (told : Told) → ConnectsInTurn refuses requests fault told ready ready' asked asked' → AsksAll (connecting coding requests fault) (dialogue coding Greet) asked asked'
   asks_one told turn =
       let so_far = turn.refused in
@@ -99,7 +99,7 @@ module _ (link : Link) (coding : Coding) (refuses : List Supply → ConnectionEr
   pub none_connects : (last : ConnectionError) → (link.tells → RefusedInTurn refuses requests [] fault last ready ready' asked asked') → NoneConnects link coding refuses requests fault ready asked (Connection last)
   none_connects last in_turn = record { last = last; is = refl; unused = ready'; asked_by = asked'; in_turn = in_turn; asks = λ h. asks_none last (in_turn h) }
 
--- no session is made on the connection that the requests came to
+-- no session is made on the connection that the requests returned
 pub fails_by : (link : Link) (coding : Coding) (rule : ReplyRule) (refuses : List Supply → ConnectionError → Type 0) (requests : List Request) (fault : ConnectionError) (ready unused : List Supply) (closed : List Told) (asked asked' : List Asked) (told : Told) (answer : FtpError) → (link.tells → ConnectsInTurn refuses requests fault told ready unused asked asked') → FailsToConnect link coding rule told (first_net asked' unused closed) answer → FailsToConnectBy link coding rule refuses requests fault ready closed asked answer
 fails_by link coding rule refuses requests fault ready unused closed asked asked' told answer in_turn (inl (new, connects)) = inr (inl (new, record { told = told; asked_by = asked'; connected = is_connected link coding refuses requests fault ready unused asked asked' told in_turn; connects = connects }))
 fails_by link coding rule refuses requests fault ready unused closed asked asked' told answer in_turn (inr memory) = inr (inr memory)

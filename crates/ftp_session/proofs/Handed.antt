@@ -104,7 +104,7 @@ AfterLook link coding middle new answer (Ok true) = PlaysInStep link coding Drai
 AfterLook link coding middle new answer (Ok false) = (answer ≡ Done) × (new ≡ middle)
 AfterLook link coding middle new answer (Err fault) = (answer ≡ Fault fault) × (new ≡ middle)
 
--- a receipt is settled, by what the look at it came to
+-- a receipt is settled, by what the look at it resulted in
 pub settles_by : (link : Link) (coding : Coding) (receipt : End) (old middle new : SessionValue) (answer : Answer) (begun : Result Bool FtpError) → BeginsToSettle receipt old middle begun → AfterLook link coding middle new answer begun → Settles link coding receipt old new answer
 settles_by link coding receipt old middle new answer begun begins after = unless old.channel.failed begins
   where
@@ -125,7 +125,7 @@ settles_by link coding receipt old middle new answer begun begins after = unless
         (then.0, then.1 ∙ begins.1)
     unless false begins = owing (is_owed receipt.number old.state.counts.owed) begins
 
--- what the look at a receipt comes to, where its transfer is owed
+-- what the look at a receipt results in, where its transfer is owed
 pub begins_owed : (receipt : End) (old middle : SessionValue) (number : ℕ) (failed owed : Bool) → number ≡ receipt.number → failed ≡ old.channel.failed → failed ≡ false → owed ≡ is_owed number old.state.counts.owed → owed ≡ true → middle ≡ left_if true old → BeginsToSettle receipt old middle (Ok true)
 begins_owed receipt old middle number failed owed numbers fails going is owed_now left =
     let P : Bool → Type 0 = λ b. BeginsToSettleIf b old middle (Ok true) in

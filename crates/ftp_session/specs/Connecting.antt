@@ -30,7 +30,7 @@ use Rattle.ftp_dialogue.specs.Link.{Link}
 use Rattle.ftp_dialogue.specs.Play.{play}
 use Rattle.ftp_dialogue.specs.State.{SessionValue}
 
--- a request for a connection came to one, or was refused with this error
+-- a request for a connection returned one, or was refused with this error
 abbrev pub if_connected : Tree → (ConnectionError → Tree) → RequestOutcome → Tree
 if_connected next others Done = next
 if_connected next others (Address address) = next
@@ -57,7 +57,7 @@ abbrev pub after_requests : List Asked → NetRecord → NetRecord
 after_requests [] d = d
 after_requests (one ∷ more) d = after_requests more (after_request one.request one.outcome d)
 
--- these requests were made and came to these outcomes; whatever else is known, a dialogue comes with them to what is
+-- these requests were made with these outcomes; whatever else is known, a dialogue leads with them to what is
 -- left of it
 pub record AsksAll (tree left : State → Tree) (asked asked' : List Asked) : Type 0 where
   pub answered : List Asked

@@ -100,7 +100,7 @@ opens false Opened = true
 opens true (OpenedWith reply) = true
 opens replies other = false
 
--- what an answer comes to: a transfer is opened, with this reply or without; or an error, if it is one
+-- what an answer means: a transfer is opened, with this reply or without; or an error, if it is one
 abbrev pub ComesTo : Bool → Answer → Result (Option Response) (Option FtpError) → Type 0
 ComesTo replies answer (Ok reply) = (is_none reply ≡ not replies) × (answer ≡ opened_as reply)
 ComesTo replies answer (Err (Some fault)) = answer ≡ Fault fault
@@ -224,7 +224,7 @@ BringsToEndIf false link coding call transfer mark after old new answer = Passes
 abbrev pub BringsToEnd : Link → Coding → Call → TransferValue → Option End → Option End → SessionValue → SessionValue → Answer → Type 0
 BringsToEnd link coding call transfer mark after old new answer = BringsToEndIf (is_out transfer.end.number mark old) link coding call transfer mark after old new answer
 
--- the data connection of a transfer that is live stands beside the control connection again, or it comes to the above
+-- the data connection of a transfer that is live stands beside the control connection again, or it results in the above
 abbrev pub TakesBackIf : Bool → TransferValue → Option End → Option End → SessionValue → SessionValue → Result (Unit {0}) FtpError → Type 0
 TakesBackIf true transfer mark after old new (Ok done) = (after ≡ None) × (new ≡ with_data (Some transfer.told) old)
 TakesBackIf true transfer mark after old new (Err fault) = EndsWithout mark after old new (Fault fault)

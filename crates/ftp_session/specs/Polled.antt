@@ -127,7 +127,7 @@ DropsUnless false tells p old new = DropsCall tells p.call p.stage old new
 abbrev pub Drops : Type 0 → UnderWay → SessionValue → SessionValue → Type 0
 Drops tells p old new = DropsUnless p.over tells p old new
 
--- What an answer comes to
+-- What an answer means
 
 -- an answer is neither an error nor that of a transfer that stands on a data connection under this number
 pub record OpensNoTransfer (replies : Bool) (number : ℕ) (answer : Answer) (fault : FtpError) (given new : SessionValue) : Type 0 where

@@ -1,9 +1,9 @@
 //! A session: the dialogues of RFC 959 on one control connection.
 //!
-//! Each dialogue is a row of `ftp_calls::exchange`: what is said, which statuses are heard, how it ends. The machine of
-//! `ftp_dialogue` plays all of them, polled; a blocking call is the same poll over a connection that never waits. A user
-//! holds a `Session`, which is that machine, the encoding of its texts, the builder of its passive data connections and
-//! its end of the mark of the transfer that it handed out.
+//! Each dialogue is a row of `ftp_calls::exchange`: what is sent, which statuses are accepted, how it ends. The machine
+//! of `ftp_dialogue` plays all of them, polled; a blocking call is the same poll over a connection that never waits. A
+//! user holds a `Session`, which is that machine, the encoding of its texts, the builder of its passive data
+//! connections and its end of the mark of the transfer that it handed out.
 
 mod chosen;
 mod client;

@@ -1,7 +1,7 @@
 //! A listener over a socket of tokio, with a deadline.
 //!
 //! The deadline is counted from the listener's first accept: whoever drops a stranger and accepts again gains no time.
-//! Once it has passed the socket is looked at once more, so that a peer that came in time is taken, however late the
+//! Once it has passed the socket is looked at once more, so that a peer that came in time is accepted, however late the
 //! task is polled.
 
 ghost use Rattle.std.specs.Prelude.{◌≡◌, ℕ, true, false, IsSome, IfSome, None, Err};

@@ -1,4 +1,4 @@
--- Lemmas on parts of dialogues: what they come to, and what is left of them.
+-- Lemmas on parts of dialogues: what they result in, and what is left of them.
 use Rattle.std.proofs.Common.{◌≡◌, ℕ, ◌&&◌, nat_lt, None, Result, Ok, Err, IfOk, true, false, subst, ap, ◌∙◌, if◌then◌else◌}
 use Rattle.std.specs.declared.alloc.AllocError.{AllocError}
 use Rattle.std.specs.Net.Socket.{socket_port}

@@ -40,7 +40,7 @@ use Rattle.session_plain.specs.declared.storing.Sent.TheVariants.{Rest, Failed}
 use Rattle.session_plain.specs.declared.exchange.Progress.{Progress}
 use Rattle.session_plain.specs.declared.exchange.Progress.TheVariants.{Stops, Continues}
 
--- the dialogue stops there, or comes to what is after this part, from here
+-- the dialogue stops there, or leads to what is after this part, from here
 abbrev pub ComesTo : Room → (State → Tree) → Played → Progress → Type 0
 ComesTo room after played (Stops there) = played ≡ there
 ComesTo room after played (Continues here) = played ≡ play room (after here.state) here

@@ -1,4 +1,4 @@
-//! A transfer is aborted: `ABOR` goes out, its data connection is closed, and what the server says of it is heard.
+//! A transfer is aborted: `ABOR` goes out, its data connection is closed, and what the server replies is read.
 
 ghost use Rattle.std.specs.Prelude.{◌≡◌, IfOk};
 ghost use Rattle.ftp_dialogue.specs.Coding.{coding_of};
@@ -52,7 +52,7 @@ fn aborting<E: Encoding>(
     }
 }
 
-/// The data connection is closed, and what the server says of it is heard.
+/// The data connection is closed, and what the server replies is read.
 #[tactic(auto, unfolding(ftp_dialogue::specs::Play::play))]
 fn breaking_off<E: Encoding>(
     alloc: Global,

@@ -1,4 +1,4 @@
-//! The address that a reply tells, and the connection to it: the replies to PASV (RFC 959, section 4.1.2) and EPSV
+//! The address in a reply, and the connection to it: the replies to PASV (RFC 959, section 4.1.2) and EPSV
 //! (RFC 2428, section 3).
 
 ghost use Rattle.std.specs.Prelude.{◌≡◌, IfOk, None};
@@ -21,7 +21,7 @@ use ftp_transport::{Request, RequestOutcome};
 use std::alloc::{AllocError, Global};
 use std::net::{SocketAddr, SocketAddrV4, SocketAddrV6};
 
-/// The reply to PASV tells the address. Behind a router that rewrites addresses its host is the control peer's.
+/// The reply to PASV holds the address. Behind a router that rewrites addresses its host is the control peer's.
 #[tactic(auto, unfolding(ftp_dialogue::specs::Play::play))]
 pub(crate) fn to_address(
     alloc: Global,
@@ -44,7 +44,7 @@ pub(crate) fn to_address(
     }
 }
 
-/// The reply to EPSV tells the port.
+/// The reply to EPSV holds the port.
 #[tactic(auto, unfolding(ftp_dialogue::specs::Play::play))]
 pub(crate) fn to_port(
     alloc: Global,
@@ -61,7 +61,7 @@ pub(crate) fn to_port(
     }
 }
 
-/// The reply tells no address, or can't be read.
+/// The reply holds no address, or can't be read.
 fn no_address(reply: Response, cause: NoAddress, play_state: PlayState) -> Progress
     ensures { result ≡ Progress.Stops
         (Played.Done (Answer.Fault (no_address reply cause)) play_state) }
@@ -106,7 +106,7 @@ fn connecting_to(
     }
 }
 
-/// The builder is asked for it. Its error is the answer.
+/// The builder is asked for it. Its error is returned.
 #[tactic(auto, unfolding(ftp_dialogue::specs::Play::play))]
 fn built_at(
     alloc: Global,
@@ -145,7 +145,7 @@ fn dialled(
     }
 }
 
-/// A request was refused.
+/// A request failed.
 fn refused(cause: ConnectionError, play_state: PlayState) -> Progress
     ensures { result ≡ Progress.Stops
         (Played.Done (Answer.Fault (FtpError.ConnectionError cause)) play_state) }

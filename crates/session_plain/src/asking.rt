@@ -11,7 +11,7 @@ use ftp_transport::{Request, RequestOutcome};
 use std::alloc::{AllocError, Global};
 use std::mem;
 
-/// What a request comes to.
+/// What a request results in.
 #[derive(Drop)]
 pub(crate) enum Came {
     /// No outcome of it is known.
@@ -80,7 +80,7 @@ fn after_request(
     })
 }
 
-/// What a request that isn't answered makes of it.
+/// What a request without an outcome makes of it.
 fn during_request(request: Request, before: NetRecord) -> Result<NetRecord, AllocError>
     ensures { IfOk result (λ after. after ≡ during_request request before) }
 {
@@ -121,7 +121,7 @@ fn data_after(
     }
 }
 
-/// The data connection while a request isn't answered.
+/// The data connection while a request has no outcome.
 fn data_meanwhile(request: Request, conn: Option<Traffic>) -> Option<Traffic>
     ensures { result ≡ data_meanwhile request conn }
 {

@@ -13,16 +13,16 @@ use std::alloc::{AllocError, Global};
 use std::mem;
 use std::net::SocketAddr;
 
-/// What the builder comes to.
+/// What the builder results in.
 #[derive(Drop)]
 pub(crate) enum Answered {
-    /// Its answer isn't known.
+    /// Its result isn't known.
     Unknown(PlayState),
-    /// It made a connection; or gave this error.
+    /// It made a connection; or returned this error.
     Known(Option<FtpError>, PlayState),
 }
 
-/// The builder is asked: the next outcome that is known is its answer, if it is one of a builder.
+/// The builder is asked: the next outcome that is known is its result, if it is one of a builder.
 pub(crate) fn built(
     alloc: Global,
     address: SocketAddr,
@@ -56,7 +56,7 @@ pub(crate) fn built(
     Ok(Answered::Known(fault, play_state))
 }
 
-/// What the builder's answer makes of what stands beside the control connection.
+/// What the builder's result makes of what stands beside the control connection.
 fn constructed(
     alloc: Global,
     address: SocketAddr,
@@ -79,7 +79,7 @@ fn constructed(
     })
 }
 
-/// What a question that isn't answered makes of it.
+/// What a question without a result makes of it.
 fn constructing(address: SocketAddr, before: NetRecord) -> Result<NetRecord, AllocError>
     ensures { IfOk result (λ after. after ≡ constructing address before) }
 {
@@ -97,7 +97,7 @@ fn constructing(address: SocketAddr, before: NetRecord) -> Result<NetRecord, All
     })
 }
 
-/// The data connection after the builder's answer.
+/// The data connection after the builder's result.
 fn data_built(alloc: Global, fault: &Option<FtpError>, conn: Option<Traffic>) -> Option<Traffic>
     ensures { result ≡ data_built fault.now conn }
 {

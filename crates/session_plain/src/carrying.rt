@@ -20,7 +20,7 @@ use ftp_session::session::Answer;
 use std::alloc::{AllocError, Global};
 use std::mem;
 
-/// What a movement comes to.
+/// What a movement results in.
 #[derive(Drop)]
 pub(crate) enum Carried {
     /// No outcome of it is known.
@@ -74,12 +74,12 @@ fn leaving(alloc: Global, play_state: PlayState) -> Result<Progress, AllocError>
     }
 }
 
-/// What a close came to is told to nobody.
+/// What a close resulted in is discarded.
 pub(crate) fn pass_over(outcome: NetOutcome) {
     drop(outcome);
 }
 
-/// What is done is the answer.
+/// What is done is returned.
 #[tactic(auto, unfolding(ftp_dialogue::specs::Play::play))]
 fn moving(alloc: Global, movement: Movement, play_state: PlayState) -> Result<Progress, AllocError>
     ensures { IfOk result (λ progress. (room : Room) (later : State → Tree) → ComesTo room later
@@ -92,7 +92,7 @@ fn moving(alloc: Global, movement: Movement, play_state: PlayState) -> Result<Pr
     }
 }
 
-/// What was done on a data connection is the answer.
+/// The answer by what was done on a data connection.
 fn moved_answer(outcome: NetOutcome) -> Answer
     ensures { result ≡ moved_answer outcome }
 {

@@ -14,7 +14,7 @@ use ftp_session::session::{Answer, Call};
 use ftp_transport::{Request, RequestOutcome, Room};
 use std::alloc::{AllocError, Global};
 
-/// What connecting comes to, where these are the requests, and this the error where there is none.
+/// What connecting results in, by these requests, and this error where there is none.
 #[tactic(auto, unfolding(ftp_session::specs::Connecting::connecting, ftp_dialogue::specs::Play::play))]
 pub fn connect_in_turn<E: Encoding>(
     alloc: Global,

@@ -23,7 +23,7 @@ pub(crate) fn is_due(call: &Call, failed: bool, owed: Owed) -> bool
     drains_first(call)
 }
 
-/// What a call comes to after it.
+/// What a call results in after it.
 pub fn play_drained<E: Encoding>(
     alloc: Global,
     room: Room,
@@ -38,7 +38,7 @@ pub fn play_drained<E: Encoding>(
     play_drained_if(alloc, room, encoding, due, call, play_state)
 }
 
-/// What a call comes to, after that reply where it is due.
+/// What a call results in, after that reply where it is due.
 fn play_drained_if<E: Encoding>(
     alloc: Global,
     room: Room,
@@ -57,7 +57,7 @@ fn play_drained_if<E: Encoding>(
     after_drain(alloc, room, encoding, call, drained)
 }
 
-/// What a call comes to once that reply was asked for.
+/// What a call results in once that reply was asked for.
 fn after_drain<E: Encoding>(
     alloc: Global,
     room: Room,
@@ -74,14 +74,14 @@ fn after_drain<E: Encoding>(
     }
 }
 
-/// Whether a call gave nothing, and succeeded.
+/// Whether a call returned nothing, and succeeded.
 fn is_unit(answer: &Answer) -> bool
     ensures { result ≡ is_unit answer.now }
 {
     matches!(answer, Answer::Unit)
 }
 
-/// Whether the last of these calls gave nothing, and succeeded.
+/// Whether the last of these calls returned nothing, and succeeded.
 pub(crate) fn succeeded(answers: &[Answer]) -> bool
     ensures { result ≡ succeeded answers.now }
 {

@@ -185,7 +185,7 @@ fn end_drain<E: Encoding>(
     finish(alloc, here, Item::Shown(Call::Drain), answers, there)
 }
 
-/// Answers that nobody is told.
+/// Answers that are discarded.
 pub(crate) fn pass_over(_answers: Items<Answer>) {}
 
 /// The drain is over, and the call is polled.
@@ -385,7 +385,7 @@ fn seen_in(here: &Script, left: usize) -> usize
     }
 }
 
-/// Whether the call under way has heard, with so many bytes untaken.
+/// Whether the call under way has begun to read, with so many bytes untaken.
 fn heard_in(here: &Script, left: usize) -> bool
     ensures { (bytes : List ℕ) → length bytes ≡ left → result ≡ heard_in here.now bytes }
 {
@@ -396,7 +396,7 @@ fn heard_in(here: &Script, left: usize) -> bool
     }
 }
 
-/// What goes out of what was said.
+/// What goes out of what was to be sent.
 fn front(room: Room, all: Bytes) -> Bytes
     ensures { result ≡ front room all }
 {

@@ -1,4 +1,4 @@
-//! One row of a call on all bytes at once: a line is said, a reply is heard and accepted; or a setting changes, or bytes
+//! One row of a call on all bytes at once: a line is sent, a reply is read and accepted; or a setting changes, or bytes
 //! go over the data connection.
 
 ghost use Rattle.std.specs.Prelude.{◌≡◌, ◌++◌, [], IfOk, IfErr, Ok, Some};
@@ -86,7 +86,7 @@ fn exchange<E: Encoding>(
     }
 }
 
-/// A command is said, where there is one.
+/// A command is sent, where there is one.
 #[tactic(auto, unfolding(ftp_dialogue::specs::Play::play))]
 pub(crate) fn say<E: Encoding>(
     alloc: Global,
@@ -114,7 +114,7 @@ pub(crate) fn say<E: Encoding>(
     }
 }
 
-/// A line is said; the dialogue continues once all of it is within the room.
+/// A line is sent; the dialogue continues once all of it is within the room.
 fn said_then(room: Room, line: &[u8], play_state: PlayState) -> Result<Progress, AllocError>
     ensures { IfOk result (λ progress. (after : State → Tree) → ComesTo room after
         (said_then room line.now play_state (λ here. play room (after play_state.state) here))
@@ -162,7 +162,7 @@ fn form_of_codes(codes: &Codes) -> ReplyForm
     }
 }
 
-/// A line was said after the unsent tail of the one before.
+/// A line was sent after the unsent tail of the one before.
 fn said(line: &[u8], mut play_state: PlayState) -> Result<PlayState, AllocError>
     ensures { IfOk result (λ here. here ≡
         record play_state { said = play_state.said ++ play_state.unsent ++ line.now; unsent = [] }) }
@@ -192,7 +192,7 @@ fn fits(room: Room, all: &[u8]) -> bool
     }
 }
 
-/// One reply is heard.
+/// One reply is read.
 fn hear<E: Encoding>(
     alloc: Global,
     encoding: &E,
@@ -214,7 +214,7 @@ fn hear<E: Encoding>(
     }
 }
 
-/// A reply is accepted, or an error is the answer.
+/// A reply is accepted, or an error is returned.
 #[tactic(auto, unfolding(ftp_dialogue::specs::Play::play))]
 fn concluded<E: Encoding>(
     alloc: Global,

@@ -35,7 +35,7 @@ const CHUNK: usize = 65_536;
 /// How many bytes can be held.
 const MOST_BYTES: usize = (1 << 63) - 1;
 
-/// How many reads are made: each but the last gives a byte.
+/// How many reads are made: each but the last returns a byte.
 const MOST_READS: u64 = 1 << 63;
 
 /// What follows a read.
@@ -125,7 +125,7 @@ fn gathering<E: Encoding>(
     }
 }
 
-/// The data connection is closed; the error of an upload's close is the answer.
+/// The data connection is closed; the error of an upload's close is returned.
 #[tactic(auto, unfolding(ftp_dialogue::specs::Play::play))]
 pub(crate) fn closing_data(
     alloc: Global,
@@ -165,7 +165,7 @@ fn closed_as(told: Option<ErrorKind>, answer: Answer) -> Answer
     }
 }
 
-/// The transfer's last reply is heard, whatever came of the data.
+/// The transfer's last reply is read, whatever came of the data.
 #[tactic(auto, unfolding(ftp_dialogue::specs::Play::play))]
 fn last_reply(
     alloc: Global,
@@ -210,7 +210,7 @@ fn after_fetch(lacks: bool, play_state: PlayState) -> PlayState
     }
 }
 
-/// What follows once the last reply was heard.
+/// What follows once the last reply was read.
 #[tactic(auto, unfolding(ftp_dialogue::specs::Play::play))]
 fn concluded(form: Fetch, answer: Answer, heard: FtpResult<Response>, here: PlayState) -> Played
     ensures { (room : Rooms) → play room (fetch_concluded form answer here.state heard) here ≡ result }
@@ -224,7 +224,7 @@ fn concluded(form: Fetch, answer: Answer, heard: FtpResult<Response>, here: Play
     }
 }
 
-/// What follows a read that came to this.
+/// What follows a read that resulted in this.
 fn follow<E: Encoding>(
     alloc: Global,
     encoding: &E,
@@ -308,7 +308,7 @@ fn too_long(form: Fetch) -> Answer
     }
 }
 
-/// The error that is told first: the data's, and a listing's last.
+/// The error that is returned first: the data's, and a listing's last.
 fn first_fault(form: Fetch, answer: Answer, fault: FtpError) -> FtpError
     ensures { result ≡ first_fault form answer fault }
 {

@@ -1,4 +1,4 @@
-//! The end of a transfer: its data connection is closed, and its last reply is heard; or it is left.
+//! The end of a transfer: its data connection is closed, and its last reply is read; or it is left.
 
 ghost use Rattle.std.specs.Prelude.{◌≡◌, IfOk, if◌then◌else◌};
 ghost use Rattle.ftp_calls.specs.Exchanges.{finishes};
@@ -22,7 +22,7 @@ use std::alloc::{AllocError, Global};
 use std::io::ErrorKind;
 use std::mem;
 
-/// The data connection is closed, and the transfer's last reply is heard.
+/// The data connection is closed, and the transfer's last reply is read.
 #[tactic(auto, unfolding(ftp_dialogue::specs::Play::play))]
 pub(crate) fn closing<E: Encoding>(
     alloc: Global,
@@ -43,7 +43,7 @@ pub(crate) fn closing<E: Encoding>(
     }
 }
 
-/// The error of an upload's close is told before the reply's.
+/// The error of an upload's close goes before the reply's.
 pub(crate) fn told_of_close(uploads: bool, outcome: NetOutcome) -> Option<ErrorKind>
     ensures { result ≡ told_of_close uploads outcome }
 {
@@ -70,7 +70,7 @@ pub(crate) fn finish_answer(close: Option<ErrorKind>) -> Answer
     }
 }
 
-/// What is told where this error was heard in place of the last reply.
+/// What is returned where this error was read in place of the last reply.
 fn finish_fault(close: Option<ErrorKind>, fault: FtpError) -> FtpError
     ensures { result ≡ finish_fault close fault }
 {
@@ -83,7 +83,7 @@ fn finish_fault(close: Option<ErrorKind>, fault: FtpError) -> FtpError
     }
 }
 
-/// The answer where this error was heard in place of a reply.
+/// The answer where this error was read in place of a reply.
 pub(crate) fn answer_to_fault(ending: &Ending, fault: FtpError) -> Answer
     ensures { result ≡ answer_to_fault ending.now fault }
 {

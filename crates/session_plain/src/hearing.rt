@@ -12,7 +12,7 @@ use ftp_control::plain::outcome;
 use ftp_session::model::PlayState;
 use std::alloc::{AllocError, Global};
 
-/// What a reply comes to.
+/// What a reply results in.
 #[derive(Drop)]
 pub(crate) enum Heard {
     /// The bytes don't say it yet.
@@ -21,7 +21,7 @@ pub(crate) enum Heard {
     Known(FtpResult<Response>, PlayState),
 }
 
-/// One reply is heard, of this form and under these statuses.
+/// One reply is read, of this form and under these statuses.
 pub(crate) fn hear_reply(
     alloc: Global,
     form: ReplyForm,
@@ -78,7 +78,7 @@ fn heard_as(
     }
 }
 
-/// A reply was taken.
+/// A reply was consumed.
 fn taken(left: Bytes, mut play_state: PlayState) -> PlayState
     ensures { result ≡ taken left play_state }
 {

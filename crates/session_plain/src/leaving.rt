@@ -159,7 +159,7 @@ fn drop_end<E: Encoding>(
     leave_held(alloc, encoding, first, here)
 }
 
-/// The transfer that is held is left, before the call under way or behind it.
+/// The transfer that is held is left, before the call under way or after it.
 pub(crate) fn leave_now<E: Encoding>(
     alloc: Global,
     encoding: &E,

@@ -1,5 +1,5 @@
 //! Calls, runs and polled runs computed as they are defined, slowly, over all bytes at once. The tests compare a
-//! session with them. What each call says and hears is read from the session's own table, `row_at`.
+//! session with them. What each call sends and receives is read from the session's own table, `row_at`.
 #![tactic(auto)]
 
 mod aborting;

@@ -1,5 +1,5 @@
-//! What an accepted command of a data connection comes to: the connection stands, or the server opens it now, and peers
-//! are accepted until one is let in.
+//! What an accepted command of a data connection results in: the connection stands, or the server opens it now, and
+//! peers are accepted until one is let in.
 
 ghost use Rattle.std.specs.Prelude.{◌≡◌, IfOk};
 ghost use Rattle.ftp_transport.specs.declared.room.Room.{Room as Rooms};
@@ -31,7 +31,7 @@ pub(crate) fn opened_answer(gives_reply: bool, reply: Response) -> Answer
     }
 }
 
-/// The command was accepted, and opens a transfer, which is the answer.
+/// The command was accepted, and opens a transfer, which is returned.
 #[tactic(auto, unfolding(ftp_dialogue::specs::Play::play))]
 pub(crate) fn opens(
     alloc: Global,
@@ -120,7 +120,7 @@ pub(crate) fn with_transfer(mut play_state: PlayState) -> PlayState
     play_state
 }
 
-/// A connection's error is the answer.
+/// A connection's error is returned.
 pub(crate) fn fault(cause: ConnectionError, play_state: PlayState) -> Played
     ensures { result ≡ Played.Done (Answer.Fault (FtpError.ConnectionError cause)) play_state }
 {

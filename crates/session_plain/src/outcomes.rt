@@ -23,7 +23,7 @@ pub(crate) fn next_answer(outcomes: &[NetOutcome]) -> Option<RequestOutcome>
     }
 }
 
-/// The next outcome, if it is a builder's answer.
+/// The next outcome, if it is a builder's result.
 pub(crate) fn next_built(outcomes: &[NetOutcome]) -> Result<Option<Option<FtpError>>, AllocError>
     ensures { IfOk result (λ next. next ≡ next_built outcomes.now) }
 {

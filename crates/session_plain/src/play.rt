@@ -1,5 +1,5 @@
-//! What a call comes to: its turns, after negotiation where it opens a data connection, or after the close of one where
-//! it brings a transfer to its end.
+//! What a call results in: its turns, after negotiation where it opens a data connection, or after the close of one
+//! where it brings a transfer to its end.
 
 ghost use Rattle.std.specs.Prelude.{◌≡◌, IfOk, is_none};
 ghost use Rattle.ftp_dialogue.specs.Coding.{coding_of};
@@ -22,8 +22,8 @@ use ftp_transport::Room;
 use std::alloc::{AllocError, Global};
 use std::mem;
 
-/// What a call comes to. One of a transfer comes to nothing where it lacks it; once the session has failed a call says
-/// and hears nothing.
+/// What a call results in. One of a transfer does nothing where it lacks it; once the session has failed a call sends
+/// and receives nothing.
 pub fn play_call<E: Encoding>(
     alloc: Global,
     room: Room,
@@ -47,7 +47,7 @@ pub fn play_call<E: Encoding>(
     )
 }
 
-/// A call lacks its transfer: none is held; or, where it hears the end of one that was left, none was.
+/// A call lacks its transfer: none is held; or, where it drains one that was left, none was.
 fn lacks(call: &Call, play_state: &PlayState) -> bool
     ensures { result ≡ lacks call.now (is_none play_state.now.net_record.data_conn) play_state.now.state.counts.owed }
 {
@@ -93,7 +93,7 @@ fn ended(alloc: Global, mut play_state: PlayState) -> Result<PlayState, AllocErr
     Ok(play_state)
 }
 
-/// What the dialogue of a call comes to. One that opens a data connection takes the offset away; one that brings a
+/// What the dialogue of a call results in. One that opens a data connection takes the offset away; one that brings a
 /// transfer to its end has left it.
 pub(crate) fn play_dialogue<E: Encoding>(
     alloc: Global,

@@ -1,5 +1,5 @@
-//! A session whose server has sent more replies than were read comes back into step: `NOOP` is said, and replies are heard
-//! until its own, on all bytes at once.
+//! A session whose server has sent more replies than were read comes back into step: `NOOP` is sent, and replies are
+//! read until its own, on all bytes at once.
 
 ghost use Rattle.std.specs.Prelude.{◌≡◌, ◌<◌, IfOk, None};
 ghost use Rattle.ftp_transport.specs.declared.room.Room.{Room as Rooms};
@@ -25,7 +25,7 @@ use std::alloc::{AllocError, Global};
 /// So many replies may come before that to `NOOP`.
 const MOST_PASSED_OVER: u64 = 7;
 
-/// `NOOP` is said, and its reply is heard; beside a live transfer neither.
+/// `NOOP` is sent, and its reply is read; beside a live transfer neither.
 #[tactic(auto, unfolding(ftp_dialogue::specs::Play::play))]
 pub(crate) fn resync<E: Encoding>(
     alloc: Global,
@@ -56,7 +56,7 @@ fn is_beside(play_state: &PlayState) -> bool
     matches!(play_state.state.counts.owed(), Owed::Live(_))
 }
 
-/// The reply to `NOOP` is heard, before which so many others may come.
+/// The reply to `NOOP` is read, before which so many others may come.
 #[tactic(auto, unfolding(ftp_dialogue::specs::Play::play))]
 fn seeking(alloc: Global, left: u64, play_state: PlayState) -> Result<Progress, AllocError>
     ensures { IfOk result (λ progress. (room : Rooms) (later : States → Tree) → ComesTo room later
@@ -73,7 +73,7 @@ fn seeking(alloc: Global, left: u64, play_state: PlayState) -> Result<Progress, 
     }
 }
 
-/// The answer, by what was heard; none where the next reply is.
+/// The answer, by what was read; none where the next reply is.
 fn sought(left: u64, heard: FtpResult<Response>) -> Option<Answer>
     ensures is { result ≡ answer_sought left heard }
     ensures more { result ≡ None → 0 < left }

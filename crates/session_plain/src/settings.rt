@@ -1,4 +1,4 @@
-//! Settings: what a session is told to do.
+//! The settings of a session.
 
 ghost use Rattle.std.specs.Prelude.{◌≡◌};
 ghost use Rattle.ftp_dialogue.specs.Dialogue.{armed, changed, set_to};

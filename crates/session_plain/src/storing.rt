@@ -91,7 +91,7 @@ fn as_items(alloc: Global, bytes: &[u8]) -> Result<Items<u8>, AllocError>
     Ok(Items::from_vec(items))
 }
 
-/// What follows a write of these bytes that came to this.
+/// What follows a write of these bytes that resulted in this.
 fn follow_write(alloc: Global, rest: &[u8], outcome: NetOutcome) -> Result<Sent, AllocError>
     ensures { IfOk result (λ follows. SendsOn rest.now outcome follows) }
 {

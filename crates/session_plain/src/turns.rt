@@ -14,7 +14,7 @@ use ftp_session::session::{Answer, Call};
 use ftp_transport::Room;
 use std::alloc::{AllocError, Global};
 
-/// What a call comes to from this turn on.
+/// What a call results in from this turn on.
 pub(crate) fn from_turn<E: Encoding>(
     alloc: Global,
     room: Room,
@@ -61,7 +61,7 @@ fn later<E: Encoding>(
     }
 }
 
-/// The offset is told, where there is one, and then the command.
+/// The offset is sent, where there is one, and then the command.
 #[tactic(auto, unfolding(ftp_dialogue::specs::Play::play))]
 fn restart_turn<E: Encoding>(
     alloc: Global,

@@ -1,7 +1,7 @@
 //! The session that a client holds: the machine of all dialogues, and the encoding of its texts.
 //!
 //! It is made on a connection, with or without its greeting. What can go wrong later fails a session for good, and a
-//! session that has failed answers each call with `SessionFailed` and touches nothing; the connection is dropped with
+//! session that has failed returns `SessionFailed` from each call and touches nothing; the connection is dropped with
 //! it.
 
 ghost use Rattle.std.specs.Prelude.{◌≡◌, IfOk, MatchResult, Ok, IfErr, OnOk, OnErr, Some, None, length, option_map};
@@ -237,14 +237,14 @@ impl<Tr: Network, K: Drop, E: Encoding, B: Drop> Session<Tr, K, E, B> {
         self.machine.channel.failed()
     }
 
-    /// Where the last error of input or output was met, if there was one: after a call that returned `Io`, where that was.
-    /// Where both the close of an upload and its last reply fail, it is the reply's, though the call returned that of the
-    /// close. It stays until the next is met. No clause says it.
+    /// Where the last error of input or output was met, if there was one: after a call that returned `Io`, where that
+    /// was. Where both the close of an upload and its last reply fail, it is the reply's, though the call returned that
+    /// of the close. It stays until the next is met. No clause has it.
     pub fn last_failure(&self) -> Option<Failure> {
         self.machine.last_failure()
     }
 
-    /// The text that the server greeted with, once the greeting was taken.
+    /// The text that the server greeted with, once the greeting was accepted.
     pub fn get_welcome_msg(&self) -> Option<&str>
         ensures { option_map (λ text. text.now) result ≡
             option_map (λ welcome. welcome.text) self.now.machine.state.welcome }

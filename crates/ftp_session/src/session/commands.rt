@@ -1,6 +1,6 @@
 //! The calls of a session, a method each.
 //!
-//! A method copies its texts into a `Call` and hands it to the machine; what the call says and hears is its row in
+//! A method copies its texts into a `Call` and hands it to the machine; what the call sends and receives is its row in
 //! `ftp_calls::exchange`. Where the copy finds no memory nothing has happened. The contract of each names its own
 //! dialogue, a tree of `specs/Trees.antt`, and says that the method is this dialogue (`PlaysCommand`).
 
@@ -301,7 +301,7 @@ where
         self.perform_for_reply(alloc, custom_call(alloc, line, expected))
     }
 
-    /// Reads one reply of this status: that of a command that was dropped, where one is due. Nothing is said.
+    /// Reads one reply of this status: that of a command that was dropped, where one is due. Nothing is sent.
     ///
     /// # Errors
     /// Those of a read of one reply.
@@ -315,8 +315,8 @@ where
         self.perform_for_reply(alloc, Ok(Call::ReadResponse(expected)))
     }
 
-    /// Reads one reply whose status is among the expected: that of a command that was dropped, where one is due. Nothing is
-    /// said.
+    /// Reads one reply whose status is among the expected: that of a command that was dropped, where one is due.
+    /// Nothing is sent.
     ///
     /// # Errors
     /// Those of a read of one reply.
@@ -359,7 +359,7 @@ where
             .call_in_step(&Nothing, alloc, &self.encoding, call)
     }
 
-    /// Makes a call that gives nothing, whose arguments were copied. Where memory ran out for them nothing happens.
+    /// Makes a call that returns nothing, whose arguments were copied. Where memory ran out for them nothing happens.
     fn perform(&mut self, alloc: Global, call: Result<Call, AllocError>) -> FtpResult<()>
         requires { IfOk call GivesNothing }
         ensures encoding { self.new.encoding ≡ self.old.encoding }
@@ -383,7 +383,7 @@ where
         }
     }
 
-    /// Makes a call that gives its reply, as `perform` does.
+    /// Makes a call that returns its reply, as `perform` does.
     fn perform_for_reply(
         &mut self,
         alloc: Global,
@@ -411,7 +411,7 @@ where
         }
     }
 
-    /// A call isn't made whose arguments found no memory: the session looks, and says why.
+    /// A call isn't made whose arguments found no memory: the session looks, and returns why.
     pub(super) fn withheld_call(&mut self) -> FtpError
         ensures encoding { self.new.encoding ≡ self.old.encoding }
         ensures builder { self.new.builder ≡ self.old.builder }
@@ -425,7 +425,7 @@ where
     }
 }
 
-/// The result of a call that gives nothing.
+/// The result of a call that returns nothing.
 fn unit(answer: Answer) -> FtpResult<()>
     requires { (call : Called) × MayAnswer call answer × GivesNothing call }
     ensures { unit_answer result ≡ answer }
@@ -447,7 +447,7 @@ fn unit(answer: Answer) -> FtpResult<()>
     }
 }
 
-/// The result of a call that gives its reply.
+/// The result of a call that returns its reply.
 fn reply(answer: Answer) -> FtpResult<Response>
     requires { (call : Called) × MayAnswer call answer × GivesReply call }
     ensures { reply_answer result ≡ answer }

@@ -1,7 +1,7 @@
 //! How a session comes to its connection.
 //!
 //! The addresses are asked for in turn, and the greeting is read on the first that connects. What is asked and what it
-//! comes to are nodes of a dialogue (`connecting`), as all requests of a session are.
+//! results in are nodes of a dialogue (`connecting`), as all requests of a session are.
 
 ghost use Rattle.std.specs.Prelude.{◌≡◌, IfOk, MatchResult, Ok, Err, Some, None, length};
 ghost use Rattle.std.specs.Duration.{as_nanos};
@@ -25,10 +25,10 @@ impl<Tr: Network, K: Drop, E: Encoding, B: Drop> Session<Tr, K, E, B>
 where
     Tr::Conn: Conn,
 {
-    /// Connects to the first of these addresses that doesn't refuse, in their order, and reads the greeting (220).
+    /// Connects to the first of these addresses that accepts, in their order, and reads the greeting (220).
     ///
     /// # Errors
-    /// The last address's error where each refused, `NoAddress` where there is none; else those of the greeting's
+    /// The last address's error where each failed, `NoAddress` where there is none; else those of the greeting's
     /// read, and the connection is closed then.
     pub fn connect<R>(
         alloc: Global,
@@ -127,7 +127,7 @@ where
         )
     }
 
-    /// Connects to the first of these addresses that doesn't refuse, each within this time where there is a limit;
+    /// Connects to the first of these addresses that accepts, each within this time where there is a limit;
     /// where there is no address this is the error. Replies are read by this rule.
     fn connect_in_turn<R>(
         alloc: Global,

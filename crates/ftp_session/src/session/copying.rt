@@ -1,7 +1,7 @@
 //! A source is copied to a transfer: a text's lines end in CR LF on the wire (RFC 959, section 3.1.1.1).
 //!
-//! The source is read by at most 8,192 bytes at once, until a buffer is full or the source gives no more, and what stands on
-//! the wire for them is written then: 64 KiB at most. Of a text that takes one buffer more; other bytes are written from
+//! The source is read by at most 8,192 bytes at once, until a buffer is full or the source ends, and what stands on the
+//! wire for them is written then: 64 KiB at most. Of a text that takes one buffer more; other bytes are written from
 //! where they were read to.
 
 ghost use Rattle.std.specs.Prelude.{◌≡◌, ◌+◌, ◌<◌, ◌≤◌, IfOk, List, ℕ, Ok, OnErr, drop, false, length, take, true};
@@ -25,12 +25,12 @@ const PIECE: usize = 8_192;
 /// How many bytes are written at once.
 const BLOCK: usize = 65_536;
 
-/// Copies all that a source gives to a transfer, and returns how many bytes were written.
+/// Copies all of a source to a transfer, and returns how many bytes were written.
 ///
 /// # Errors
-/// `Io` of the kind that the source answers, an interruption only after 64 tries in a row were interrupted again, or of
-/// that which the data connection answers; `SourceTooLarge` where more than 2^63 - 1 bytes would be written;
-/// `OutOfMemory`. What the source gave before its error has been written.
+/// `Io` of the kind of the source's error, an interruption only after 64 tries in a row were interrupted again, or of
+/// the data connection's; `SourceTooLarge` where more than 2^63 - 1 bytes would be written; `OutOfMemory`. What was
+/// read before an error of the source has been written.
 pub(super) fn copy<C: Conn + Drop, S: Read, P: Progress>(
     alloc: Global,
     text: bool,
@@ -91,7 +91,7 @@ fn source_fault(kind: ErrorKind) -> FtpError
     FtpError::ConnectionError(ConnectionError::Io(kind))
 }
 
-/// Fills a buffer from a source, until it is full or the source gives no more. Returns how many bytes were read, and whether
+/// Fills a buffer from a source, until it is full or the source ends. Returns how many bytes were read, and whether
 /// more may come.
 ///
 /// # Errors

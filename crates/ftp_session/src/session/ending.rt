@@ -51,7 +51,7 @@ where
         }
     }
 
-    /// Aborts a transfer: `ABOR` goes out, its data connection is closed, and what the server says of it is read (226, or
+    /// Aborts a transfer: `ABOR` goes out, its data connection is closed, and what the server replies is read (226, or
     /// 426 and then 226; RFC 959, section 4.1.3). Once `ABOR` is out the transfer is over, whatever is read.
     ///
     /// # Errors
@@ -199,7 +199,7 @@ pub(super) fn leave_behind<Tr: Network>(machine: &mut Machine<Tr>)
 }
 
 /// The data connection of a transfer stands beside the control connection again, and its mark is given up. Where there
-/// is no memory for the record that a close will need, or no end of a mark, the transfer is given back.
+/// is no memory for the record that a close will need, or no end of a mark, the transfer is returned.
 fn put_back<Tr: Network>(
     machine: &mut Machine<Tr>,
     mark: &mut Option<SessionEnd>,

@@ -1,4 +1,4 @@
-//! The calls that give all that a data connection carries: a file as bytes, and the lines of a listing (RFC 959,
+//! The calls that return all that a data connection carries: a file as bytes, and the lines of a listing (RFC 959,
 //! sections 4.1.3 and 5.4; RFC 3659, section 7).
 //!
 //! Each opens a data connection, reads it to its end, closes it, and reads the transfer's last reply, also where the data
@@ -36,7 +36,7 @@ where
     /// the offset that `resume_transfer` set, if it did; the offset is taken away.
     ///
     /// # Errors
-    /// Those of a data command: `DataConnectionAlreadyOpen` where a transfer is live, and nothing is said. An error of
+    /// Those of a data command: `DataConnectionAlreadyOpen` where a transfer is live, and nothing is sent. An error of
     /// the data comes before the last reply's; `OutOfMemory` where there is no memory for the bytes, and the session
     /// goes on.
     pub fn retr_as_buffer<R>(&mut self, alloc: Global, rt: &R, path: &str) -> FtpResult<Vec<u8>>
@@ -56,7 +56,7 @@ where
     /// `resume_transfer` is taken away, and `REST` isn't sent.
     ///
     /// # Errors
-    /// Those of a data command: `DataConnectionAlreadyOpen` where a transfer is live, and nothing is said. An error of
+    /// Those of a data command: `DataConnectionAlreadyOpen` where a transfer is live, and nothing is sent. An error of
     /// the last reply comes before `BadResponse`, where the data failed; `OutOfMemory` where there is no memory for the
     /// lines, and the session goes on.
     pub fn list<R>(&mut self, alloc: Global, rt: &R, path: Option<&str>) -> FtpResult<Vec<String>>
@@ -104,7 +104,7 @@ where
     }
 
     /// Makes a call that reads a whole data connection, after the look. Where memory runs out for the call's texts,
-    /// nothing is said.
+    /// nothing is sent.
     fn fetch<R>(&mut self, alloc: Global, rt: &R, call: Result<Call, AllocError>) -> Answer
     where
         Tr: Transport<R>,
@@ -137,7 +137,7 @@ where
     }
 }
 
-/// The result of a call that gives bytes.
+/// The result of a call that returns bytes.
 fn bytes(answer: Answer) -> FtpResult<Vec<u8>>
     requires { IsFetched Whole answer }
     ensures { bytes_answer result ≡ answer }
@@ -159,7 +159,7 @@ fn bytes(answer: Answer) -> FtpResult<Vec<u8>>
     }
 }
 
-/// The result of a call that gives lines.
+/// The result of a call that returns lines.
 fn lines(answer: Answer) -> FtpResult<Vec<String>>
     requires { IsFetched Listed answer }
     ensures { lines_answer result ≡ answer }

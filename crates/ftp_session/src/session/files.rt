@@ -1,8 +1,7 @@
 //! Whole files, from a caller's source or to a caller's reader (RFC 959, sections 3.2 and 4.1.3).
 //!
-//! Each opens a transfer as its stream form does, moves the bytes, and brings the transfer to its end, of which the caller
-//! sees nothing. An upload that breaks off leaves its transfer: the server's last word on it is read before the next
-//! command.
+//! Each opens a transfer as its stream form does, moves the bytes, and brings the transfer to its end, of which the
+//! caller sees nothing. An upload that fails leaves its transfer: its last reply is read before the next command.
 
 ghost use Rattle.std.specs.Prelude.{◌≡◌};
 ghost use Rattle.ftp_dialogue.specs.Coding.{chosen};
@@ -47,15 +46,15 @@ impl<Tr: Network, K: Drop, E: Encoding, B: PassiveStreamBuilder<Tr::Conn>> Sessi
 where
     Tr::Conn: Conn,
 {
-    /// Uploads all that a source gives to this file, in the place of what it held: `STOR` (125, 150), the bytes, and the
-    /// last reply (226, 250). Returns how many bytes were written. They are a text, whose lines end in CR LF on the wire
+    /// Uploads all of a source to this file, in the place of what it held: `STOR` (125, 150), the bytes, and the last
+    /// reply (226, 250). Returns how many bytes were written. They are a text, whose lines end in CR LF on the wire
     /// (RFC 959, section 3.1.1.1), until a `TYPE` of another kind is accepted. The upload begins at the offset that
     /// `resume_transfer` set, if it did; the offset is taken away.
     ///
     /// # Errors
-    /// Those of a data command: `DataConnectionAlreadyOpen` where a transfer is live, and nothing is said. The error of
+    /// Those of a data command: `DataConnectionAlreadyOpen` where a transfer is live, and nothing is sent. The error of
     /// the source or of the data connection, `SourceTooLarge` where more than 2^63 - 1 bytes would be written,
-    /// `OutOfMemory` for a buffer: what the source gave before is written, the last reply isn't read, and the transfer is
+    /// `OutOfMemory` for a buffer: what was read before is written, the last reply isn't read, and the transfer is
     /// left. The error of the data connection's close comes before that of the last reply. `OutOfMemory` for the last
     /// reply leaves the transfer, and the session has failed.
     pub fn put_file<R, S: Read>(
@@ -75,7 +74,7 @@ where
         self.put_file_with(alloc, rt, path, source, &mut NoProgress)
     }
 
-    /// Uploads all that a source gives to this file, as `put_file` does, and tells how far it has come.
+    /// Uploads all of a source to this file, as `put_file` does, and reports how far it has come.
     ///
     /// # Errors
     /// Those of `put_file`.
@@ -100,7 +99,7 @@ where
         }
     }
 
-    /// Uploads all that a source gives to the end of this file: `APPE` (125, 150), as `put_file` does.
+    /// Uploads all of a source to the end of this file: `APPE` (125, 150), as `put_file` does.
     ///
     /// # Errors
     /// Those of `put_file`.
@@ -121,7 +120,7 @@ where
         self.append_file_with(alloc, rt, path, source, &mut NoProgress)
     }
 
-    /// Uploads all that a source gives to the end of this file, as `append_file` does, and tells how far it has come.
+    /// Uploads all of a source to the end of this file, as `append_file` does, and reports how far it has come.
     ///
     /// # Errors
     /// Those of `put_file`.
@@ -146,13 +145,13 @@ where
         }
     }
 
-    /// Downloads this file to a reader of the caller's: `RETR` (150, 125), the reader, which is called once on the
-    /// transfer, and the last reply (226, 250). Returns what the reader returned. The bytes are as they come, and it isn't
-    /// asked for that all of them are read. The download begins at the offset that `resume_transfer` set, if it did; the
+    /// Downloads this file to the caller's reader: `RETR` (150, 125), the reader, which is called once on the transfer,
+    /// and the last reply (226, 250). Returns what the reader returned. The bytes are as they come, and it isn't asked
+    /// for that all of them are read. The download begins at the offset that `resume_transfer` set, if it did; the
     /// offset is taken away.
     ///
     /// # Errors
-    /// Those of a data command: `DataConnectionAlreadyOpen` where a transfer is live, and nothing is said. The reader's
+    /// Those of a data command: `DataConnectionAlreadyOpen` where a transfer is live, and nothing is sent. The reader's
     /// error, whatever the last reply is, which is read all the same; else the error of the last reply. `OutOfMemory`
     /// for the last reply leaves the transfer, and the session has failed.
     pub fn retr<R, D: Drop, F: DownloadReader<Tr::Conn, D>>(
@@ -179,12 +178,12 @@ where
         }
     }
 
-    /// Downloads this file to a writer: `RETR` (150, 125), the bytes as they come, and the last reply (226, 250). Returns how
-    /// many bytes were written, and tells how far the download has come. It begins at the offset that `resume_transfer` set,
-    /// if it did; the offset is taken away.
+    /// Downloads this file to a writer: `RETR` (150, 125), the bytes as they come, and the last reply (226, 250).
+    /// Returns how many bytes were written, and reports how far the download has come. It begins at the offset that
+    /// `resume_transfer` set, if it did; the offset is taken away.
     ///
     /// # Errors
-    /// Those of a data command: `DataConnectionAlreadyOpen` where a transfer is live, and nothing is said. The error of
+    /// Those of a data command: `DataConnectionAlreadyOpen` where a transfer is live, and nothing is sent. The error of
     /// the data connection, where what came was written, or of the writer, where a front of that was; `SourceTooLarge`
     /// where more than 2^63 - 1 bytes come; `OutOfMemory` for a buffer: whatever the last reply is, which is read all
     /// the same. Else the error of the last reply. `OutOfMemory` for that leaves the transfer, and the session has
@@ -210,7 +209,7 @@ where
         }
     }
 
-    /// Writes what a transfer gives to a writer, and brings the transfer to its end.
+    /// Writes a transfer's bytes to a writer, and brings the transfer to its end.
     fn receive<W: Write, P: Progress>(
         &mut self,
         alloc: Global,
@@ -329,7 +328,7 @@ fn lacks_memory(ended: &FtpResult<()>) -> bool
     }
 }
 
-/// What leaving a transfer came to is told to nobody.
+/// What leaving a transfer resulted in is discarded.
 fn pass_over(answer: Answer) {
     drop(answer);
 }
@@ -344,7 +343,7 @@ fn unless_failed<T: Drop>(value: T, ended: FtpResult<()>) -> FtpResult<T>
     }
 }
 
-/// The error of the first, or that of the second, or what the first gave.
+/// The error of the first, or that of the second, or what the first returned.
 fn first_of<T: Drop>(read: FtpResult<T>, ended: FtpResult<()>) -> FtpResult<T>
     ensures { result ≡ first_of read ended }
 {

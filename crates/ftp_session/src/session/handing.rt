@@ -1,6 +1,6 @@
 //! A transfer that was opened is handed out.
 //!
-//! The two ends of its mark are made before anything is said, since there may be no memory for them. One goes with the
+//! The two ends of its mark are made before anything is sent, since there may be no memory for them. One goes with the
 //! transfer, the other stays with the session.
 
 ghost use Rattle.std.specs.Prelude.{◌≡◌, ◌⊎◌, [], IfOk, IfErr, Some, None, true, false, is_none};
@@ -158,7 +158,7 @@ fn next_number<Tr: Network>(machine: &Machine<Tr>) -> u64
     machine.state.counts.next_number()
 }
 
-/// Why no transfer is handed out. Where there is no error, which no dialogue comes to, the transfer that is live is
+/// Why no transfer is handed out. Where there is no error, which no dialogue results in, the transfer that is live is
 /// left, if there is one.
 fn give_up<Tr: Network>(machine: &mut Machine<Tr>, fault: Option<FtpError>) -> FtpError
     ensures { GivesUp fault result machine.old machine.new }
@@ -172,7 +172,7 @@ fn give_up<Tr: Network>(machine: &mut Machine<Tr>, fault: Option<FtpError>) -> F
     }
 }
 
-/// What the answer of an opening call comes to: its reply, where that is part of it; or an error, if it is one.
+/// The result of an opening call: its reply, where that is part of it; or an error, if it is one.
 fn opened(answer: Answer, replies: bool) -> Result<Option<Response>, Option<FtpError>>
     ensures { ComesTo replies answer result }
 {

@@ -1,8 +1,8 @@
 //! How a session learns that a transfer was left which it handed out (RFC 959, section 3.2).
 //!
-//! Whoever holds the transfer may leave it on any thread while another holds the session; that stores its mark. A session
-//! looks at the mark once, as the first step of each call that goes over the control connection: a transfer that was left
-//! by then has its last reply read before the call says or hears anything of its own.
+//! Whoever holds the transfer may leave it on any thread while another holds the session; that stores its mark. A
+//! session looks at the mark once, as the first step of each call that goes over the control connection: a transfer
+//! that was left by then has its last reply read before the call sends or receives anything of its own.
 
 ghost use Rattle.std.specs.Prelude.{◌≡◌};
 ghost use Rattle.ftp_session.specs.Handed.{LooksIf, as_seen, watches};

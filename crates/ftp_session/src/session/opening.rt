@@ -1,6 +1,6 @@
 //! The calls that open a data connection and hand the transfer on it to their caller (RFC 959, sections 3.2 and 4.1.3).
 //!
-//! The mark by which the session learns that the transfer was left is made before anything is said, so a transfer that
+//! The mark by which the session learns that the transfer was left is made before anything is sent, so a transfer that
 //! stands always has one.
 
 ghost use Rattle.std.specs.Prelude.{◌≡◌, IfOk, false, is_none, not};
@@ -32,7 +32,7 @@ where
     /// the offset is taken away.
     ///
     /// # Errors
-    /// Those of a data command: `DataConnectionAlreadyOpen` where a transfer is live, and nothing is said.
+    /// Those of a data command: `DataConnectionAlreadyOpen` where a transfer is live, and nothing is sent.
     pub fn retr_as_stream<R>(
         &mut self,
         alloc: Global,
@@ -55,10 +55,10 @@ where
         ))
     }
 
-    /// Opens an upload to this file: `STOR` (125, 150). The offset is taken as by `retr_as_stream`.
+    /// Opens an upload to this file: `STOR` (125, 150). The offset is used as by `retr_as_stream`.
     ///
     /// # Errors
-    /// Those of a data command: `DataConnectionAlreadyOpen` where a transfer is live, and nothing is said.
+    /// Those of a data command: `DataConnectionAlreadyOpen` where a transfer is live, and nothing is sent.
     pub fn put_with_stream<R>(
         &mut self,
         alloc: Global,
@@ -75,10 +75,10 @@ where
         without_reply(self.open(alloc, rt, put_call(alloc, path), false, Direction::Upload))
     }
 
-    /// Opens an upload to the end of this file: `APPE` (125, 150). The offset is taken as by `retr_as_stream`.
+    /// Opens an upload to the end of this file: `APPE` (125, 150). The offset is used as by `retr_as_stream`.
     ///
     /// # Errors
-    /// Those of a data command: `DataConnectionAlreadyOpen` where a transfer is live, and nothing is said.
+    /// Those of a data command: `DataConnectionAlreadyOpen` where a transfer is live, and nothing is sent.
     pub fn append_with_stream<R>(
         &mut self,
         alloc: Global,
@@ -101,12 +101,12 @@ where
         ))
     }
 
-    /// Opens a data connection by a caller-supplied line, whose reply's status is among the expected, and gives that
-    /// reply. The offset is taken as by `retr_as_stream`.
+    /// Opens a data connection by a caller-supplied line, whose reply's status is among the expected, and returns that
+    /// reply. The offset is used as by `retr_as_stream`.
     ///
     /// # Errors
-    /// Those of a data command: `DataConnectionAlreadyOpen` where a transfer is live, and nothing is said. `LineBreak` where CR or LF
-    /// stands in the line.
+    /// Those of a data command: `DataConnectionAlreadyOpen` where a transfer is live, and nothing is sent. `LineBreak`
+    /// where CR or LF stands in the line.
     pub fn custom_data_command<R>(
         &mut self,
         alloc: Global,
@@ -131,7 +131,7 @@ where
     }
 
     /// Opens a data connection, after the look, and hands the transfer out. Where memory runs out for the call's texts,
-    /// nothing is said.
+    /// nothing is sent.
     fn open<R>(
         &mut self,
         alloc: Global,
@@ -161,7 +161,7 @@ where
         }
     }
 
-    /// Opens a data connection, and hands the transfer out. Where memory runs out for its mark, nothing is said.
+    /// Opens a data connection, and hands the transfer out. Where memory runs out for its mark, nothing is sent.
     fn open_call<R>(
         &mut self,
         alloc: Global,

@@ -1,8 +1,8 @@
 //! Calls that are polled, as the polled client makes them.
 //!
-//! A call under way is a value. Its first poll looks at the mark of the transfer that was handed out: one that was left by
-//! then has its last reply read before the call says or hears anything of its own, however many polls that takes. A call
-//! that waits may be polled again or dropped; a transfer that it holds is left then.
+//! A call under way is a value. Its first poll looks at the mark of the transfer that was handed out: one that was left
+//! by then has its last reply read before the call sends or receives anything of its own, however many polls that
+//! takes. A call that waits may be polled again or dropped; a transfer that it holds is left then.
 
 ghost use Rattle.std.specs.Prelude.{◌≡◌, ◌⊎◌, Some, true, false};
 ghost use Rattle.futures.specs.declared.task.Poll.TheVariants as poll;
@@ -124,7 +124,7 @@ pub trait DropsCalls {
     fn fail(&mut self);
 
     /// A whole file met this error. Where it is one of input or output the data connection failed, or what the caller
-    /// handed in, which `last_failure` tells from then on.
+    /// handed in, which `last_failure` returns from then on.
     fn note_failure(&mut self, fault: &FtpError, data_failed: bool);
 }
 
@@ -142,7 +142,7 @@ where
     /// Polls a call. The first poll looks at the mark; replies that are due to commands that were dropped are polled before
     /// the call, and the last reply of a transfer that was left. A call that waits may be polled again, or dropped by `drop_call`; between its polls no other call may be made.
     ///
-    /// The answer is that of the call; `AlreadyCompleted` of a call that has its answer, and nothing happens.
+    /// Returns the answer of the call; `AlreadyCompleted` from a call that has its answer, and nothing happens.
     fn poll_call(
         &mut self,
         alloc: Global,
@@ -222,7 +222,7 @@ impl<Tr: Network, K: Drop, E: Encoding, B: Drop> DropsCalls for Session<Tr, K, E
     }
 
     /// A whole file met this error. Where it is one of input or output the data connection failed, or what the caller
-    /// handed in, which `last_failure` tells from then on. Nothing else changes.
+    /// handed in, which `last_failure` returns from then on. Nothing else changes.
     fn note_failure(&mut self, fault: &FtpError, data_failed: bool)
         ensures machine { self.new.machine ≡ self.old.machine }
         ensures mark { self.new.mark ≡ self.old.mark }

@@ -1,18 +1,18 @@
-//! Who is told how far a whole file has come.
+//! What a whole file reports its progress to.
 
 ghost use Rattle.std.specs.Prelude.{◌≡◌};
 
 use ftp_base::types::{ConnectionError, FtpError};
 use std::io::ErrorKind;
 
-/// What is told how far an upload or a download has come: a bar on a screen, say.
+/// What an upload or a download reports its progress to: a bar on a screen, say.
 pub trait Progress: Drop {
     /// So many bytes have gone since the transfer began: of an upload to the data connection, with the CR that a text's
     /// lines were given; of a download to the caller's writer. It is called after each piece, of at most 64 KiB.
     fn went(&mut self, so_far: u64);
 }
 
-/// Nobody is told.
+/// Nothing is reported.
 #[derive(Clone, Copy, Debug, PartialEq, Eq)]
 pub struct NoProgress;
 
@@ -26,7 +26,7 @@ impl<P: Progress> Progress for &mut P {
     }
 }
 
-/// Who is told how far a copy has come, and whether the data connection failed in it.
+/// What a copy reports its progress to, and whether the data connection failed in it.
 #[derive(Drop)]
 pub(super) struct Watch<'p, P: Progress> {
     progress: &'p mut P,
@@ -42,7 +42,7 @@ impl<'p, P: Progress> Watch<'p, P> {
         }
     }
 
-    /// Some bytes more have gone, and are so many now. Of none nobody is told.
+    /// Some bytes more have gone, and are so many now. Where none have nothing is reported.
     pub(super) fn went(&mut self, more: usize, so_far: u64) {
         if more > 0 {
             self.progress.went(so_far);

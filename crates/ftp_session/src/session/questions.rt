@@ -1,8 +1,8 @@
 //! The calls of a session that ask the server something, a method each.
 //!
-//! What they answer is in the text of the reply: a path (RFC 959, section 4.1.3), the facts of a file, its time and its
-//! size (RFC 3659), the server's features (RFC 2389). A reply of the right status that doesn't say it is an error,
-//! which leaves the session as it would be after the answer.
+//! What they return is in the text of the reply: a path (RFC 959, section 4.1.3), the facts of a file, its time and its
+//! size (RFC 3659), the server's features (RFC 2389). A reply of the right status that doesn't hold it is an error,
+//! which leaves the session as it would be otherwise.
 
 ghost use Rattle.std.specs.Prelude.{◌≡◌, option_map};
 ghost use Rattle.ftp_calls.specs.declared.call.Call.{Call as Called};
@@ -68,7 +68,7 @@ where
     /// longer word (RFC 3659, section 3).
     ///
     /// # Errors
-    /// Those of a command and its reply; `BadResponse` where the reply isn't UTF-8 or tells no date and time.
+    /// Those of a command and its reply; `BadResponse` where the reply isn't UTF-8 or holds no date and time.
     pub fn mdtm(&mut self, alloc: Global, path: &str) -> FtpResult<DateTime>
         ensures plays { PlaysCommand (blocking Tr.Conn.Conn) (mdtm_tree (chosen E.decoded E.encoded self.old.encoding.0) path.now)
             self.old.mark self.new.mark self.old.machine self.new.machine (time_answer result) }
@@ -126,7 +126,7 @@ where
     }
 }
 
-/// The result of a call that gives a text.
+/// The result of a call that returns a text.
 fn text(answer: Answer) -> FtpResult<String>
     requires { (call : Called) × MayAnswer call answer × GivesText call }
     ensures { text_answer result ≡ answer }
@@ -148,7 +148,7 @@ fn text(answer: Answer) -> FtpResult<String>
     }
 }
 
-/// The result of a call that gives a time.
+/// The result of a call that returns a time.
 fn time(answer: Answer) -> FtpResult<DateTime>
     requires { (call : Called) × MayAnswer call answer × GivesTime call }
     ensures { time_answer result ≡ answer }
@@ -170,7 +170,7 @@ fn time(answer: Answer) -> FtpResult<DateTime>
     }
 }
 
-/// The result of a call that gives a number of bytes.
+/// The result of a call that returns a number of bytes.
 fn size(answer: Answer) -> FtpResult<usize>
     requires { (call : Called) × MayAnswer call answer × GivesSize call }
     ensures { size_answer result ≡ answer }
@@ -192,7 +192,7 @@ fn size(answer: Answer) -> FtpResult<usize>
     }
 }
 
-/// The result of a call that gives features.
+/// The result of a call that returns features.
 fn features(answer: Answer) -> FtpResult<Features>
     requires { (call : Called) × MayAnswer call answer × GivesFeatures call }
     ensures { features_answer result ≡ answer }

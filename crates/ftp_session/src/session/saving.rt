@@ -15,12 +15,12 @@ use std::io::Write;
 /// How many bytes of the data are read at once.
 const BUFFER: usize = 65_536;
 
-/// Writes all that a transfer gives to a writer, and returns how many bytes they were.
+/// Writes all bytes of a transfer to a writer, and returns how many they were.
 ///
 /// # Errors
-/// `Io` of the kind that the data connection or the writer answers, an interruption of the writer only after 64 tries in a
-/// row were interrupted again; `SourceTooLarge` where more than 2^63 - 1 bytes come; `OutOfMemory`. What came before an
-/// error of the data connection has been written.
+/// `Io` of the kind of the data connection's or the writer's error, an interruption of the writer only after 64 tries
+/// in a row were interrupted again; `SourceTooLarge` where more than 2^63 - 1 bytes come; `OutOfMemory`. What came
+/// before an error of the data connection has been written.
 pub(super) fn save<C: Conn + Drop, W: Write, P: Progress>(
     alloc: Global,
     transfer: &mut Transfer<C>,

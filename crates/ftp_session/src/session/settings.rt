@@ -1,7 +1,7 @@
-//! What a session is told to do, without a word to the server.
+//! The settings of a session, of which nothing is sent.
 //!
 //! Settings say how later data connections come about (RFC 959, section 3.2; RFC 2428), and which lines open and end
-//! later replies (section 4.2). They stay as they were set whatever a call comes to.
+//! later replies (section 4.2). They stay as they were set whatever a call results in.
 
 ghost use Rattle.std.specs.Prelude.{◌≡◌, Some, true};
 ghost use Rattle.ftp_base.specs.declared.types.mode.Mode.TheVariants as modes;
@@ -93,7 +93,7 @@ impl<Tr: Network, K: Drop, E: Encoding, B: Drop> Session<Tr, K, E, B> {
     }
 
     /// Lets this builder make passive data connections from now on, in the transport's place, each to the address that
-    /// the transport would have been asked for. Its error is answered as it is, and the session goes on.
+    /// the transport would have been asked for. Its error is returned as it is, and the session goes on.
     pub fn set_passive_stream_builder(&mut self, builder: B)
         ensures set { self.new.machine ≡
             with_settings (λ s. record s { stream_builder = true }) self.old.machine }
