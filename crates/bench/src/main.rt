@@ -1,6 +1,6 @@
 //! Reads listing lines from standard input and parses each as often as the first argument says,
 //! in the form that the second names: `posix`, `dos`, `mlsd`, or `any` for each form in turn.
-//! Standard output gets how many were files, directories, links and refusals, standard error the
+//! Standard output gets how many were files, directories, links and errors, standard error the
 //! lines parsed in a second.
 #![tactic(auto)]
 

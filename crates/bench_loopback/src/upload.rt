@@ -31,7 +31,7 @@ where
     Ok(count)
 }
 
-/// Uploads at most so many bytes as a reader gives them; how many went out.
+/// Uploads at most so many bytes as a reader delivers them; how many went out.
 pub fn from_reader<R>(rt: &R, client: &FtpStream, length: u64, lines: &[u8]) -> FtpResult<u64>
 where
     R: Net<Listener = TcpListener, Stream = TcpStream> + Clock + Wait + AllocGlobal,

@@ -1,4 +1,4 @@
-//! Calls that say one command, and a login.
+//! Calls that send one command, and a login.
 
 ghost use Rattle.std.specs.Prelude.{◌≡◌};
 ghost use Rattle.ftp_session.specs.Calls.{unit_answer};

@@ -1,4 +1,4 @@
-//! What calls say and hear, turn by turn.
+//! What calls send and receive, turn by turn.
 
 ghost use Rattle.std.specs.Prelude.{◌≡◌, IfErr, IfOk, false};
 ghost use Rattle.ftp_calls.specs.Exchanges.{aborting_row, row_of};

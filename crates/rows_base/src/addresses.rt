@@ -1,4 +1,4 @@
-//! The addresses of data connections: those that replies tell, and the command that tells the client's.
+//! The addresses of data connections: those in replies, and the command that sends the client's.
 
 use crate::words::said;
 use ftp_answers::{NoAddress, read_extended_port, read_passive_address};
@@ -24,7 +24,7 @@ pub fn extended(alloc: Global, input: &str) -> Result<Vec<u8>, RowError> {
     }
 }
 
-/// The line of the command that tells an address.
+/// The line of the command that sends an address.
 pub fn command(alloc: Global, input: &str) -> Result<Vec<u8>, RowError> {
     let command = port_command(alloc, value(input)?)?;
     let line = format!(in alloc; "{command}");

@@ -8,9 +8,9 @@ use std::alloc::Global;
 use std::io;
 use std::io::{ErrorKind, Write};
 
-/// What a copy answers, and what was written: `INTERRUPTED TEXT END INTERRUPTED AT_ONCE ROOM`. Each read of the source is
-/// interrupted so many times, and it gives the text, and ends or fails; the writer is interrupted so many times, takes at
-/// most so many bytes at once, and fails when it has no room left.
+/// What a copy returns, and what was written: `INTERRUPTED TEXT END INTERRUPTED AT_ONCE ROOM`. Each read of the source
+/// is interrupted so many times, and it delivers the text, and ends or fails; the writer is interrupted so many times,
+/// takes at most so many bytes at once, and fails when it has no room left.
 pub fn copied(alloc: Global, input: &str) -> Result<Vec<u8>, RowError> {
     let words: Vec<&str> = input.split(' ').collect(alloc)?;
     let [interrupted, text, end, refused, at_once, room] = words.as_slice() else {

@@ -6,7 +6,7 @@ use ftp_base::types::Features;
 use rows_text::{RowError, text_of};
 use std::alloc::Global;
 
-/// The features that a reply lists, sorted by name and joined by `;`, or the number of the refusal.
+/// The features that a reply lists, sorted by name and joined by `;`, or the number of the error.
 pub fn features(alloc: Global, input: &str) -> Result<Vec<u8>, RowError> {
     let text = text_of(alloc, input)?;
     let mut lines = Vec::new(alloc);

@@ -34,8 +34,8 @@ fn lines_in<E: Encoding>(alloc: Global, bytes: &[u8], encoding: &E) -> Result<Ve
     in_brackets(alloc, &lines)
 }
 
-/// The lines of a stream: `INTERRUPTED AT_ONCE END BYTES`. Each read of it is interrupted so many times, and it gives the
-/// bytes, at most so many at once, and then ends or fails.
+/// The lines of a stream: `INTERRUPTED AT_ONCE END BYTES`. Each read of it is interrupted so many times, and it
+/// delivers the bytes, at most so many at once, and then ends or fails.
 pub fn stream(alloc: Global, input: &str) -> Result<Vec<u8>, RowError> {
     let (interrupted, words) = pair(input, " ")?;
     let (at_once, words) = pair(words, " ")?;

@@ -1,4 +1,4 @@
-//! Plays the worked rows of the base crate, of what replies say and of what tells an address, which come by standard
+//! Plays the worked rows of the base crate, of what replies say and of what sends an address, which come by standard
 //! input, and prints a line for each row that differs and one for each set.
 //!
 //! A line `== SET` begins a set, a line `# ..` says where rows come from, and each other line is a row

@@ -1,4 +1,4 @@
-//! The sets of rows, and what a row of each comes to.
+//! The sets of rows, and what a row of each results in.
 
 use crate::{
     addresses, answers, commands, comparisons, copies, faults, features, listings, peers, replies,
@@ -48,7 +48,7 @@ pub enum Set {
     PassiveAddresses,
     /// The bytes of a reply to EPSV, and its port.
     ExtendedPorts,
-    /// An address, and the command that tells it.
+    /// An address, and the command that sends it.
     PortCommands,
     /// A check, a peer and the control connection's peer, and whether the check lets the peer in.
     Peers,
@@ -56,7 +56,7 @@ pub enum Set {
     Uploads,
     /// How many bytes an upload has written and how many more it writes, and how many these are together.
     UploadSizes,
-    /// A source and a writer, and what a copy answers and writes.
+    /// A source and a writer, and what a copy returns and writes.
     Copies,
     /// Bytes, and what goes out for them on a Telnet connection.
     Escaped,
@@ -109,7 +109,7 @@ impl Set {
         NAMES.into_iter().find(|(known, _)| *known == name)
     }
 
-    /// What a row with this input comes to.
+    /// What a row with this input results in.
     pub fn came(self, alloc: Global, input: &str) -> Result<Vec<u8>, RowError> {
         match self {
             Set::Commands => commands::line(alloc, input),

@@ -15,7 +15,7 @@ pub fn end_of(word: &str) -> Result<Option<ErrorKind>, RowError> {
     }
 }
 
-/// A source whose reads are each interrupted so many times. It gives a text, at most so many bytes at once, and then
+/// A source whose reads are each interrupted so many times. It delivers a text, at most so many bytes at once, and then
 /// ends or fails.
 #[derive(Drop)]
 pub struct Source<'a> {

@@ -47,7 +47,7 @@ fn is_same_at_each_cut(alloc: Global, text: &[u8], wire: &[u8]) -> Result<bool, 
     Ok(true)
 }
 
-/// What a copy answers and writes.
+/// What a copy returns and writes.
 fn copied(alloc: Global, text: &[u8], wire: &[u8]) -> Result<Vec<u8>, RowError> {
     let mut source = text;
     let mut written = Vec::new(alloc);
@@ -60,7 +60,7 @@ fn copied(alloc: Global, text: &[u8], wire: &[u8]) -> Result<Vec<u8>, RowError> 
     answered(format!(in alloc; "{count}")?, wire)
 }
 
-/// How many bytes an upload has written with some more: `WRITTEN ADDED`, or the number of the refusal.
+/// How many bytes an upload has written with some more: `WRITTEN ADDED`, or the number of the error.
 pub fn size(alloc: Global, input: &str) -> Result<Vec<u8>, RowError> {
     let (written, added) = pair(input, " ")?;
     let shown = match upload_size(value(written)?, value(added)?) {

@@ -1,4 +1,4 @@
-//! What a row came to, as bytes.
+//! What a row resulted in, as bytes.
 
 use rows_text::RowError;
 use std::alloc::Global;

@@ -1,4 +1,4 @@
-//! What happens beside the control connection, over memory: what requests come to, and what is done on a data
+//! What happens beside the control connection, over memory: what requests result in, and what is done on a data
 //! connection.
 
 use ftp_base::types::Bytes;
@@ -64,7 +64,7 @@ fn stored(alloc: Global, bytes: &[u8]) -> Result<Vec<NetOutcome>, AllocError> {
     Ok(outcomes)
 }
 
-/// Reads give the bytes of a data connection, the last of them none, and then it is closed.
+/// Reads return the bytes of a data connection, the last of them none, and then it is closed.
 fn fetched(
     alloc: Global,
     setup: &Setup,
@@ -79,8 +79,8 @@ fn fetched(
     Ok(outcomes)
 }
 
-/// The one outcome that this call waits for. A read gives as much as is left and wanted, a write takes all bytes, and a
-/// close is done.
+/// The one outcome that this call waits for. A read returns as much as is left and wanted, a write takes all bytes, and
+/// a close is done.
 pub fn next_outcome(
     alloc: Global,
     setup: &Setup,
@@ -96,7 +96,7 @@ pub fn next_outcome(
     Ok(Vec::from_array(alloc, [outcome])?)
 }
 
-/// What the last of these requests comes to.
+/// What the last of these requests results in.
 fn next_answer(alloc: Global, setup: &Setup, asked: &[Request]) -> Result<NetOutcome, RowError> {
     if let Some(Request::Build(_)) = asked.last() {
         return Ok(NetOutcome::Built(setup.fault_of_builder()));
@@ -136,7 +136,7 @@ pub fn waiting<'a>(script: &'a Script, known: &[NetOutcome]) -> Option<&'a Call>
     if waits { Some(call) } else { None }
 }
 
-/// How many of these outcomes are those of requests, or a builder's answers.
+/// How many of these outcomes are those of requests, or a builder's results.
 fn answered(outcomes: &[NetOutcome]) -> usize {
     outcomes
         .iter()
@@ -144,7 +144,7 @@ fn answered(outcomes: &[NetOutcome]) -> usize {
         .count()
 }
 
-/// Those of these outcomes that are requests'; a request of the builder is done, whatever it answered.
+/// Those of these outcomes that are requests'; a request of the builder is done, whatever it returned.
 pub fn of_requests(
     alloc: Global,
     outcomes: &[NetOutcome],

@@ -60,9 +60,9 @@ impl Held for Live {
     }
 }
 
-/// Whether rows can play each of these calls by the client's methods. The greeting can only be the first, which a session
-/// has read before the client is made; and what went out in an upload of one call is told by its session, which the client
-/// doesn't lend.
+/// Whether rows can play each of these calls by the client's methods. The greeting can only be the first, which a
+/// session has read before the client is made; and what went out in an upload of one call is recorded by its session,
+/// which the client doesn't lend.
 pub fn has_methods(calls: &[Call]) -> bool {
     let others = match calls.split_first() {
         Some((Call::Greet, others)) => others,
@@ -234,7 +234,7 @@ fn set<R: Wait>(rt: &R, client: &Client, setting: &Setting) -> Result<Answer, Al
     Ok(Answer::Unit)
 }
 
-/// Where a client stands that gave these answers.
+/// Where a client stands that returned these answers.
 fn stands<R: Wait + AllocGlobal>(
     rt: &R,
     client: &Client,
@@ -252,7 +252,7 @@ fn stands<R: Wait + AllocGlobal>(
     })
 }
 
-/// Whether a session has failed: a client doesn't tell, but its next call does.
+/// Whether a session has failed, by what its next call returns.
 fn has_failed(answer: FtpResult<()>) -> bool {
     let has_failed = matches!(&answer, Err(FtpError::SessionFailed));
     drop(answer);

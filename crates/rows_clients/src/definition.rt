@@ -110,7 +110,7 @@ fn more_outcomes(
     }
 }
 
-/// What these calls come to, where these outcomes are known.
+/// What these calls result in, where these outcomes are known.
 fn played(
     alloc: Global,
     calls: &[Call],
@@ -122,7 +122,7 @@ fn played(
     boxed(alloc, ran)
 }
 
-/// Where a session comes to that connects first, and then makes these calls. Without a connection it makes none.
+/// Where a session stands that connects first, and then makes these calls. Without a connection it makes none.
 fn dialled(alloc: Global, dial: &Dial, others: &[Call], play: &Play) -> Result<RowState, RowError> {
     let outcomes = dial.outcomes(alloc)?;
     let (answers, here) = connected(alloc, dial, play, &outcomes)?;
@@ -137,7 +137,7 @@ fn dialled(alloc: Global, dial: &Dial, others: &[Call], play: &Play) -> Result<R
     stands(alloc, asked, answers_so_far, here, play)
 }
 
-/// What these calls come to of a session that was greeted.
+/// What these calls result in of a session that was greeted.
 fn greeted(
     alloc: Global,
     calls: &[Call],
@@ -149,7 +149,7 @@ fn greeted(
     boxed(alloc, ran)
 }
 
-/// The answer of connecting, where its requests come to these outcomes, and where the run stands then.
+/// The answer of connecting, where its requests have these outcomes, and where the run stands then.
 fn connected(
     alloc: Global,
     dial: &Dial,

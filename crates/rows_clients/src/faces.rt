@@ -27,7 +27,7 @@ pub enum Face {
     Polled,
 }
 
-/// What a row came to on a face.
+/// What a row resulted in on a face.
 #[derive(Drop)]
 pub struct Came {
     /// Its transcript.
@@ -36,7 +36,7 @@ pub struct Came {
     pub failed: bool,
 }
 
-/// What the faces of a row have told beside their transcripts.
+/// What the faces of a row have shown beside their transcripts.
 #[derive(Clone, Copy)]
 pub struct Agreement {
     failed: Option<bool>,
@@ -48,7 +48,7 @@ impl Agreement {
         Agreement { failed: None }
     }
 
-    /// Whether a face tells what those before it told.
+    /// Whether a face shows what those before it showed.
     pub fn agrees(&mut self, came: &Came) -> bool {
         let failed = self.failed.unwrap_or(came.failed);
         self.failed = Some(failed);
@@ -106,7 +106,7 @@ impl Face {
         }
     }
 
-    /// What is due of a row's transcript on it: a client doesn't tell what its transport was asked, nor on which data
+    /// What is due of a row's transcript on it: a client doesn't show what its transport was asked, nor on which data
     /// connections nothing was written, so where the row opens some the lines of that are left out.
     pub fn due(self, alloc: Global, play: &Play, due: &str) -> Result<String, AllocError> {
         if !matches!(self, Face::Client) || !play.opens_data() {
@@ -121,7 +121,7 @@ impl Face {
         Ok(left)
     }
 
-    /// What a row comes to.
+    /// What a row results in.
     pub fn play<R: Wait + RandomSource + AllocGlobal>(
         self,
         rt: &R,

@@ -13,7 +13,7 @@ use rows_text::RowError;
 use session_plain::run_polled;
 use std::alloc::{AllocError, Global};
 
-/// A script that begins: nothing came, and nothing was said.
+/// A script that begins: nothing came, and nothing was sent.
 fn begun(alloc: Global, play: &Play) -> Result<Script, AllocError> {
     let state = play.setup.state()?;
     Ok(Script {

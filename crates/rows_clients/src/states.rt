@@ -117,7 +117,7 @@ impl Held for Live {
     }
 }
 
-/// What a read or a write came to.
+/// What a read or a write resulted in.
 fn moved(outcome: io::Result<Result<usize, ErrorKind>>) -> io::Result<usize> {
     match outcome {
         Ok(Ok(count)) => Ok(count),
@@ -330,7 +330,7 @@ fn set<R: Wait + RandomSource + AllocGlobal>(
     })
 }
 
-/// What a client that gave these answers tells under its lock.
+/// What a client that returned these answers shows under its lock.
 fn told<R: Wait + RandomSource + AllocGlobal>(
     rt: &R,
     client: &Client,
@@ -360,7 +360,7 @@ fn copied(alloc: Global, text: Option<&str>) -> Result<Option<String>, AllocErro
     }
 }
 
-/// Whether a session has failed: a client doesn't tell, but its next call does.
+/// Whether a session has failed, by what its next call returns.
 fn has_failed(answer: FtpResult<()>) -> bool {
     let has_failed = matches!(&answer, Err(FtpError::SessionFailed));
     drop(answer);

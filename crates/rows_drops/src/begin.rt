@@ -16,7 +16,7 @@ use rows_text::RowError;
 /// A polled client over slow connections.
 pub type Client = ImplAsyncFtpStream<SlowTransport>;
 
-/// A call that gives an `A`.
+/// A call that returns an `A`.
 type Gives<'r, R, A> = Dialogue<
     'r,
     R,
@@ -30,11 +30,11 @@ type Gives<'r, R, A> = Dialogue<
 /// A call under way.
 #[derive(Drop)]
 pub enum State<'r, R> {
-    /// A call that gives nothing.
+    /// A call that returns nothing.
     Unit(Gives<'r, R, ()>),
-    /// A call that gives its reply.
+    /// A call that returns its reply.
     Reply(Gives<'r, R, Response>),
-    /// A call that gives a number of bytes.
+    /// A call that returns a number of bytes.
     Size(Gives<'r, R, usize>),
     /// A whole file.
     Bytes(Gives<'r, R, Vec<u8>>),

@@ -1,4 +1,4 @@
-//! What the answers of calls give, and what a row keeps of it.
+//! What the answers of calls hold, and what a row keeps of it.
 
 use crate::slow::SlowTransport;
 use ftp_base::types::{FtpResult, Response};
@@ -37,7 +37,7 @@ impl Gains {
     }
 }
 
-/// What a call gives.
+/// What a call returns.
 pub trait Gives: Drop + Sized {
     /// Its answer; what the row keeps is put by.
     ///

@@ -38,7 +38,7 @@ pub fn play<'r, R: Wait + RandomSource + AllocGlobal>(
     Ok(Played::Whole(scene.take_transcript(rt.alloc())))
 }
 
-/// Makes a step, where these calls are held, the first longer than the second. Tells whether the play goes on.
+/// Makes a step, where these calls are held, the first longer than the second. Returns whether the play goes on.
 fn make<'r, R: Wait + RandomSource + AllocGlobal>(
     rt: &'r R,
     scene: &mut Scene,
@@ -112,7 +112,7 @@ fn hold<'r, R: Wait + RandomSource + AllocGlobal>(
     answer
 }
 
-/// The answer of a step's call is shown, where it has one. Tells whether the play goes on.
+/// The answer of a step's call is shown, where it has one. Returns whether the play goes on.
 fn is_on<R: Wait + RandomSource + AllocGlobal>(
     rt: &R,
     scene: &mut Scene,

@@ -20,7 +20,7 @@ use std::sync::Wait;
 /// A client over slow connections, what a row keeps of its answers, and the transcript so far.
 #[derive(Drop)]
 pub struct Scene {
-    /// What the answers gave.
+    /// What the calls returned.
     pub gains: Gains,
     client: Box<Client>,
     transcript: Transcript,

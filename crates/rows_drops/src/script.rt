@@ -25,7 +25,7 @@ pub enum Kind {
     End,
     /// `discard`: the transfer is dropped.
     Discard,
-    /// `return`: the lent control connection is given back.
+    /// `return`: the lent control connection is returned.
     Return,
     /// `sent`: what was sent since it was last shown.
     Sent,
@@ -145,7 +145,7 @@ impl Script {
     }
 
     /// Goes on to the next number of polls of one of so many first steps, after which the other steps begin anew: all
-    /// combinations come one after another. Tells whether there is one.
+    /// combinations come one after another. Returns whether there is one.
     pub fn advance(&mut self, count: usize) -> bool {
         for place in (0..count).rev() {
             if let Some(step) = self.steps.get_mut(place) {

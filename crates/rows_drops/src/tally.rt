@@ -73,7 +73,7 @@ impl<'a> Tally<'a> {
         Ok(())
     }
 
-    /// Plays a row once, and prints it where it differs. Tells how many of its first steps may go on to
+    /// Plays a row once, and prints it where it differs. Returns how many of its first steps may go on to
     /// another number.
     fn play_once<R: Wait + Print + RandomSource + AllocGlobal>(
         &mut self,

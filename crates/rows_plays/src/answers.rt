@@ -7,8 +7,8 @@ use jiff::civil::DateTime;
 use rows_text::shown;
 use std::alloc::{AllocError, Global};
 
-/// An answer: `ok`, `ok` and what it gives, `opened`, `opened with` and the reply, `bytes` and those that were read,
-/// `lines` and those of a listing, `count` and how many were written, `NoTransfer`, or the number of the refusal, with
+/// An answer: `ok`, `ok` and what it holds, `opened`, `opened with` and the reply, `bytes` and those that were read,
+/// `lines` and those of a listing, `count` and how many were written, `NoTransfer`, or the number of the error, with
 /// the kind of a connection's error or the code of an unexpected reply.
 pub fn text_of(alloc: Global, answer: &Answer) -> Result<String, AllocError> {
     match answer {
@@ -84,7 +84,7 @@ fn features_text(alloc: Global, features: &Features) -> Result<String, AllocErro
     Ok(text)
 }
 
-/// A refusal.
+/// An error.
 fn fault_text(alloc: Global, fault: &FtpError) -> Result<String, AllocError> {
     let number = fault.number();
     match fault {
@@ -108,7 +108,7 @@ pub fn texts_of(alloc: Global, answers: &[Answer]) -> Result<Vec<String>, AllocE
     Ok(texts)
 }
 
-/// The answer of a call that gives nothing.
+/// The answer of a call that returns nothing.
 pub fn unit(outcome: FtpResult<()>) -> Answer {
     match outcome {
         Ok(()) => Answer::Unit,
@@ -116,7 +116,7 @@ pub fn unit(outcome: FtpResult<()>) -> Answer {
     }
 }
 
-/// The answer of a call that gives its reply.
+/// The answer of a call that returns its reply.
 pub fn reply(outcome: FtpResult<Response>) -> Answer {
     match outcome {
         Ok(reply) => Answer::Reply(reply),
@@ -124,7 +124,7 @@ pub fn reply(outcome: FtpResult<Response>) -> Answer {
     }
 }
 
-/// The answer of a call that gives a text.
+/// The answer of a call that returns a text.
 pub fn text(outcome: FtpResult<String>) -> Answer {
     match outcome {
         Ok(text) => Answer::Text(Text::from_string(text)),
@@ -132,7 +132,7 @@ pub fn text(outcome: FtpResult<String>) -> Answer {
     }
 }
 
-/// The answer of a call that gives a time.
+/// The answer of a call that returns a time.
 pub fn time(outcome: FtpResult<DateTime>) -> Answer {
     match outcome {
         Ok(time) => Answer::Time(time),
@@ -140,7 +140,7 @@ pub fn time(outcome: FtpResult<DateTime>) -> Answer {
     }
 }
 
-/// The answer of a call that gives a number of bytes.
+/// The answer of a call that returns a number of bytes.
 pub fn size(outcome: FtpResult<usize>) -> Answer {
     match outcome {
         Ok(size) => Answer::Size(size),
@@ -148,7 +148,7 @@ pub fn size(outcome: FtpResult<usize>) -> Answer {
     }
 }
 
-/// The answer of a call that gives features.
+/// The answer of a call that returns features.
 pub fn features(outcome: FtpResult<Features>) -> Answer {
     match outcome {
         Ok(features) => Answer::Features(features),
@@ -156,7 +156,7 @@ pub fn features(outcome: FtpResult<Features>) -> Answer {
     }
 }
 
-/// The answer of a call that gives bytes.
+/// The answer of a call that returns bytes.
 pub fn bytes(outcome: FtpResult<Vec<u8>>) -> Answer {
     match outcome {
         Ok(bytes) => Answer::Bytes(Bytes::from_vec(bytes)),
@@ -164,7 +164,7 @@ pub fn bytes(outcome: FtpResult<Vec<u8>>) -> Answer {
     }
 }
 
-/// The answer of a call that gives lines.
+/// The answer of a call that returns lines.
 pub fn lines(outcome: FtpResult<Vec<String>>) -> Answer {
     match outcome {
         Ok(lines) => Answer::Lines(Lines::from_vec(lines)),

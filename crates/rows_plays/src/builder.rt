@@ -8,7 +8,7 @@ use std::alloc::{AllocError, Global};
 use std::io::ErrorKind;
 use std::net::SocketAddr;
 
-/// The error that a builder gives.
+/// The error that a builder returns.
 #[derive(Clone, Copy)]
 enum Fault {
     /// `ConnectionRefused`.
@@ -21,7 +21,7 @@ enum Fault {
     OutOfMemory,
 }
 
-/// A builder over memory, which answers the same whatever address it is asked for: an error, or a connection on which
+/// A builder over memory, which returns the same whatever address it is asked for: an error, or a connection on which
 /// these bytes come.
 #[derive(Drop)]
 pub struct RowBuilder {
@@ -40,7 +40,7 @@ impl RowBuilder {
         })
     }
 
-    /// A builder that gives the error of this name.
+    /// A builder that returns the error of this name.
     pub fn of_fault(alloc: Global, name: &str) -> Result<RowBuilder, RowError> {
         let fault = match name {
             "ConnectionRefused" => Fault::Refused,
@@ -65,7 +65,7 @@ impl RowBuilder {
         })
     }
 
-    /// Its error, where it gives one.
+    /// Its error, where it returns one.
     pub fn fault(&self) -> Option<FtpError> {
         Some(match self.fault? {
             Fault::Refused => FtpError::ConnectionError(ConnectionError::Io(

@@ -91,7 +91,7 @@ impl Dial {
         Ok(requests)
     }
 
-    /// What each address comes to.
+    /// What each address results in.
     pub fn outcomes(&self, alloc: Global) -> Result<Vec<RequestOutcome>, AllocError> {
         let refused = RequestOutcome::Refused(ConnectionError::Io(ErrorKind::ConnectionRefused));
         let mut outcomes = Vec::new(alloc);

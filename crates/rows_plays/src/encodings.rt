@@ -23,9 +23,9 @@ pub enum Named {
     CrFirst,
     /// `drops_crlf`: drops the last two bytes.
     DropsCrlf,
-    /// `empty`: gives no byte at all.
+    /// `empty`: returns no byte at all.
     Empty,
-    /// `refuses_a`: UTF-8 that refuses a text whose first letter is an A, as `ABOR` is.
+    /// `refuses_a`: UTF-8 that fails on a text whose first letter is an A, as `ABOR` is.
     RefusesA,
 }
 
@@ -84,7 +84,7 @@ fn begins_with_a(text: &[u8]) -> bool
     matches!(text, [b'A', ..])
 }
 
-/// Want of memory, as encodings have it.
+/// Out of memory, as encodings return it.
 fn refused(_cause: AllocError) -> EncodeError
     ensures { result ≡ EncodeError.OutOfMemory }
 {
@@ -98,7 +98,7 @@ fn letters_of(alloc: Global, text: &str) -> Result<Vec<char>, AllocError>
     text.chars().collect(alloc)
 }
 
-/// The bytes of characters, which are refused where one of them has no byte.
+/// The bytes of characters; an error where one of them has no byte.
 fn latin_1(alloc: Global, letters: &[char]) -> Result<Vec<u8>, EncodeError>
     ensures ok { IfOk result (λ bytes. latin_1_bytes letters.now ≡ Ok bytes.items) }
     ensures refused { IfErr result (IsRefusal (latin_1_bytes letters.now)) }

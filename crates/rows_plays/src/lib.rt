@@ -1,4 +1,4 @@
-//! Worked rows of the client, which the program `rows_clients` plays: how they are read, and what a session comes to on
+//! Worked rows of the client, which the program `rows_clients` plays: how they are read, and what a session makes of
 //! them.
 //!
 //! A row is a heading `== SET: TITLE`, what happens line by line, a line `--`, and the transcript that is due; an

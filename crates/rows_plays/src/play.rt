@@ -28,7 +28,7 @@ pub struct Play {
     pub runs: Vec<usize>,
     /// In pieces of how many bytes the server's come.
     pub piece: usize,
-    /// The encoding that the session is given.
+    /// The encoding of the session.
     pub encoding: Option<Named>,
     /// How the session comes to its connection, where the row says so.
     pub dial: Option<Box<Dial>>,

@@ -3,7 +3,7 @@
 use ftp_transport::{Asked, Request, RequestOutcome};
 use std::alloc::{AllocError, Global};
 
-/// A line for each request that is shown, where this is what they came to.
+/// A line for each request that is shown, where this is what they resulted in.
 pub fn lines_of(
     alloc: Global,
     requests: &[Request],

@@ -112,7 +112,7 @@ fn happen(
     Ok(answers.append(&mut more)?)
 }
 
-/// Where a session stands that gave these answers.
+/// Where a session stands that returned these answers.
 pub fn stands(
     alloc: Global,
     session: &NamedSession,

@@ -1,5 +1,5 @@
 //! How a row's session comes to its data connections: what it is set to, the ends of its control connection, and what
-//! its transport's requests come to.
+//! its transport's requests result in.
 
 use crate::builder::RowBuilder;
 use crate::memory::ended;
@@ -15,7 +15,7 @@ use std::io::ErrorKind;
 use std::mem;
 use std::net::{Ipv4Addr, SocketAddr, SocketAddrV4};
 
-/// What the next request comes to that takes one.
+/// What the next request results in that consumes one.
 #[derive(Drop)]
 enum Item {
     /// A connect is done, and these bytes come on the data connection.
@@ -42,7 +42,7 @@ pub struct Setup {
 }
 
 impl Setup {
-    /// A session as it begins, between ends without an address, over a transport that refuses.
+    /// A session as it begins, between ends without an address, over a transport without connections.
     pub fn new(alloc: Global) -> Setup {
         let unspecified = SocketAddr::V4(SocketAddrV4::new(Ipv4Addr::new(0, 0, 0, 0), 0));
         Setup {
@@ -158,7 +158,7 @@ impl Setup {
         Ok(())
     }
 
-    /// What these requests come to, one after another.
+    /// What these requests result in, one after another.
     pub fn outcomes(
         &self,
         alloc: Global,
@@ -176,7 +176,7 @@ impl Setup {
         Ok(outcomes)
     }
 
-    /// The error that the builder gives, where it gives one.
+    /// The error that the builder returns, where it returns one.
     pub fn fault_of_builder(&self) -> Option<FtpError> {
         match &self.builder {
             Some(builder) => builder.fault(),
@@ -184,7 +184,7 @@ impl Setup {
         }
     }
 
-    /// The bytes that come on the last data connection that these requests came to.
+    /// The bytes that come on the last data connection that these requests returned.
     pub fn data(&self, requests: &[Request]) -> &[u8] {
         let mut data: &[u8] = &[];
         let mut taken = 0usize;
@@ -217,7 +217,7 @@ fn conn_of(alloc: Global, bytes: &[u8]) -> Result<MemoryConn, AllocError> {
     ended(MemoryConn::new(alloc), bytes, usize::MAX)
 }
 
-/// What a request comes to where this is the next item, and whether it takes the item; listeners get this port.
+/// What a request results in where this is the next item, and whether it consumes the item; listeners get this port.
 fn outcome_of(port: u16, request: Request, next: Option<&Item>) -> (RequestOutcome, bool) {
     match (request, next) {
         (Request::Connect(..), Some(Item::Connects(_))) => (RequestOutcome::Done, true),

@@ -17,13 +17,13 @@ pub enum Kind {
     Within,
     /// `mode KIND`, `nat on`, `peers any`, `deadline SECONDS`, `local ADDRESS`, `peer ADDRESS`, `listens PORT`,
     /// `comes ADDRESS`, `comes ADDRESS BYTES`, `refuses KIND`: a setting of the session, an end of its connection, or
-    /// what a request of its transport comes to.
+    /// what a request of its transport results in.
     Set,
     /// `connects`, `connects BYTES`: the next data connection that is asked for connects, and these bytes come on it.
     Connects,
     /// `builds`, `builds BYTES`: the session has a builder of data connections, on which these bytes come.
     Builds,
-    /// `builds-not FAULT`: its builder gives this error.
+    /// `builds-not FAULT`: its builder returns this error.
     BuildsNot,
     /// `encoding NAME`: the encoding of the session's texts.
     Encoding,

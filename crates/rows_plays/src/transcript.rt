@@ -1,4 +1,4 @@
-//! Transcripts: what went out, what was answered and how much was taken, as text.
+//! Transcripts: what went out, what was returned and how much was consumed, as text.
 
 use rows_text::shown;
 use std::alloc::{AllocError, Global};
@@ -14,7 +14,7 @@ pub struct RowState {
     pub sent: Vec<u8>,
     /// The answers of the calls that are done.
     pub answers: Vec<String>,
-    /// How many of the server's bytes were taken.
+    /// How many of the server's bytes were consumed.
     pub taken: usize,
     /// Whether the session has failed.
     pub failed: bool,
@@ -22,7 +22,7 @@ pub struct RowState {
     pub welcome: Option<String>,
 }
 
-/// How far a row had come at a place: how many requests were made, bytes sent and answers given.
+/// How far a row had come at a place: how many requests were made, bytes sent and answers returned.
 #[derive(Clone, Copy)]
 pub struct Mark {
     asked: usize,

@@ -71,7 +71,7 @@ impl<T: Held> Transfers<T> {
         }
     }
 
-    /// The answer of a call that opens a transfer and gives its reply.
+    /// The answer of a call that opens a transfer and returns its reply.
     pub fn opened_with(&mut self, outcome: FtpResult<(Response, T::Stream)>) -> Answer {
         match outcome {
             Ok((reply, stream)) => {

@@ -1,7 +1,7 @@
 //! Plays stored scripts, which come by standard input, and prints a line for each that differs and one for all.
 //!
-//! A line `== NAME` begins a script, a line `=> STATUS` what is due of it: its transcript, or what is told on standard
-//! error. A script's last line has its LF, too.
+//! A line `== NAME` begins a script, a line `=> STATUS` what is due of it: its transcript, or what is printed on
+//! standard error. A script's last line has its LF, too.
 #![tactic(auto)]
 
 use anyhow::{Result, ensure};

@@ -17,7 +17,7 @@ fn main(rt: HostRuntime) -> ExitCode {
     }
 }
 
-/// The words that the program was called with, behind its own name.
+/// The words that the program was called with, after its own name.
 fn words<R: Env + AllocGlobal>(rt: &R) -> io::Result<Vec<String>> {
     let mut words = Vec::new(rt.alloc());
     for word in env::args(rt)?.skip(1) {

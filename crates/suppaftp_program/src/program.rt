@@ -13,7 +13,7 @@ use std::sync::Wait;
 /// How the program is called.
 pub const USAGE: &str = "usage: suppaftp play|demo";
 
-/// Runs the program with these words, and answers its status: 0, 1 where it failed, 2 where the words or the script
+/// Runs the program with these words, and returns its status: 0, 1 where it failed, 2 where the words or the script
 /// aren't understood.
 pub fn run<R>(rt: &R, words: &[String]) -> ExitCode
 where

@@ -1,4 +1,4 @@
-//! Clients that are told where to connect by a text.
+//! Clients that connect to an address that is a text.
 
 use crate::scene::number;
 use crate::server::serve;

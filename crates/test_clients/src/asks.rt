@@ -32,8 +32,8 @@ use std::test::Fail;
 use std::time::{Clock, Duration};
 
 /// A client's answers to these, with a bar after each: how many bytes, 0 where none are counted, or `E` and the number
-/// of an error. It connects to the first of these addresses that doesn't refuse, or to the second within a time; where
-/// it doesn't, the error is the answer.
+/// of an error. It connects to the first of these addresses that accepts, or to the second within a time; where it
+/// doesn't, the error is returned.
 pub fn visited<R>(rt: &R, addresses: &[SocketAddr; 2], asks: &str) -> Result<String, Fail>
 where
     R: Net<Listener = TcpListener, Stream = TcpStream> + Clock + Wait + AllocGlobal,
@@ -95,7 +95,7 @@ fn unit(answer: FtpResult<()>) -> Counted {
     }
 }
 
-/// Answers by a count; a text stands before it.
+/// Returns a count; a text is added before it.
 fn answer<R>(
     rt: &R,
     client: &FtpStream,
@@ -118,7 +118,7 @@ where
     }
 }
 
-/// Answers what gives no text.
+/// Returns the count of what adds no text.
 fn carried<R>(rt: &R, client: &FtpStream, letter: u8, number: usize) -> Counted
 where
     R: Net<Listener = TcpListener, Stream = TcpStream> + Clock + Wait + AllocGlobal,

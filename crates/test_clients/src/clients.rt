@@ -38,7 +38,7 @@ fn client_of(alloc: Global, input: &[u8]) -> FtpResult<Box<MemoryClient>> {
     boxed(alloc, ImplFtpStream::new(alloc, Box::into_inner(session))?)
 }
 
-/// What a client that is lent answers: 0, or the number of its error.
+/// What a client that is lent returns: 0, or the number of its error.
 fn lent<R: Wait + AllocGlobal>(rt: &R, client: &MemoryClient) -> u8 {
     number(client.noop(rt))
 }
@@ -76,7 +76,7 @@ enum Deed {
     Rename,
 }
 
-/// Does so twenty times; how often the answer is an error.
+/// Does so twenty times; how often the result is an error.
 fn faults<R: Wait + AllocGlobal>(rt: &R, client: &FtpStream, deed: Deed) -> usize {
     let mut faults = 0usize;
     for _ in 0..20 {
@@ -128,7 +128,7 @@ fn received(alloc: Global, pair: Box<Pair>, lines: &str) -> io::Result<(usize, u
     Ok((text.matches(lines).count(), text.len()))
 }
 
-/// What two threads come to that share a client, each with its deed: how often an answer is an error, how often these
+/// What two threads result in that share a client, each with its deed: how often a result is an error, how often these
 /// lines stand in what the server received, and how many bytes that is.
 fn shared<R>(
     rt: &R,
@@ -175,7 +175,7 @@ impl Encoding for ReadsLatin1 {
     }
 }
 
-/// A client that reads Latin-1 once it is told to.
+/// A client that reads Latin-1 once it is set to.
 type Client = ImplFtpStream<MemoryTransport, NoTlsConnector, ReadsLatin1>;
 
 /// Such a client, whose server greeted with a byte that is no UTF-8.

@@ -1,4 +1,4 @@
-//! Whether a client has failed, and what its calls come to then.
+//! Whether a client has failed, and what its calls result in then.
 
 use crate::scene::number;
 use crate::server::serve;

@@ -66,8 +66,8 @@ where
     }
 }
 
-/// The same with a server of this script, by a connection that the server opens or the client; and whether the client
-/// answers `NOOP` afterwards.
+/// The same with a server of this script, by a connection that the server opens or the client; and what `NOOP` results
+/// in afterwards.
 fn visited<R>(
     rt: &R,
     address: SocketAddr,

@@ -1,4 +1,4 @@
-//! What a blocking client and a server over loopback sockets say to each other, a row a situation.
+//! What a blocking client and a server over loopback sockets send to each other, a row a situation.
 //!
 //! A row has five lines: its title, the server's steps (`server`), what the client is asked (`asks`), and what is due:
 //! the client's answers, and what the server noted. The rows are one text, since a table in code is dear to prove.

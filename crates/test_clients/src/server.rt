@@ -9,7 +9,7 @@
 //! | `passive HOST` | it says by 227 that it listens for data connections at this host of 127.0.0.0 (RFC 959, section 4.2); it listens at the host 2 |
 //! | `extended` | it says so by 229 (RFC 2428, section 3) |
 //! | `accept` | it accepts a data connection |
-//! | `connect` | it connects to where PORT told, and notes `+`, or `-` where nobody listens there |
+//! | `connect` | it connects to the address of PORT, and notes `+`, or `-` where nobody listens there |
 //! | `data TEXT` | it sends this on the data connection |
 //! | `fill N`, `names N` | it sends on it 4 KiB of sevens, or a line `line`, so many times |
 //! | `text`, `measure` | it reads it to its end, and notes the text, or how many bytes came |
@@ -19,7 +19,7 @@ use std::io::{BufRead, BufReader, ErrorKind, Read, Write};
 use std::net::{Net, SocketAddr, TcpListener, TcpStream};
 use std::{io, mem};
 
-/// The server's end of a client's connections, where PORT told that the client listens, and what the server noted.
+/// The server's end of a client's connections, where the client listens by PORT, and what the server noted.
 #[derive(Drop)]
 struct Server {
     control: BufReader<TcpStream>,
@@ -111,7 +111,7 @@ fn note(server: &mut Server, text: &str) -> io::Result<()> {
     write!(server.noted, "{text}|").map_err(io::Error::from)
 }
 
-/// The port that a PORT command tells: its last two octets (RFC 959, section 5.3.2).
+/// The port in a PORT command: its last two octets (RFC 959, section 5.3.2).
 fn port_of(line: &str) -> u16 {
     let mut numbers = line.rsplit(',');
     let low = octet(numbers.next());
@@ -149,7 +149,7 @@ fn accept(server: &mut Server) -> io::Result<()> {
     Ok(())
 }
 
-/// Connects to where PORT told.
+/// Connects to the address of PORT.
 fn connect<R: Net<Stream = TcpStream>>(rt: &R, server: &mut Server) -> io::Result<()> {
     match TcpStream::connect(rt, server.client) {
         Ok(stream) => {

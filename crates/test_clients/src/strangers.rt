@@ -57,7 +57,7 @@ fn accepts(session: &Session<MemoryTransport>) -> usize {
         .count()
 }
 
-/// What a download answers, and how often a peer was waited for.
+/// What a download returns, and how often a peer was waited for.
 fn download(alloc: Global, strangers: usize) -> FtpResult<(u8, usize)> {
     let mut session = session_with(alloc, strangers)?;
     let answer = number(session.retr_as_stream(alloc, &(), "a"));

@@ -10,8 +10,8 @@ use std::test::Fail;
 /// More calls than a run makes.
 const MOST: u32 = 500;
 
-/// What a run comes to: the number of its error, whether the session has failed, whether a transfer is live and whether
-/// one was left; the number of the error of a `NOOP` after it, and whether that sent anything.
+/// What a run results in: the number of its error, whether the session has failed, whether a transfer is live and
+/// whether one was left; the number of the error of a `NOOP` after it, and whether that sent anything.
 type Came = (u8, bool, bool, bool, u8, bool);
 
 /// How many bytes were sent on the control connection.
@@ -44,8 +44,8 @@ fn came(alloc: Global, device: &Device, run: Run, nth: u32) -> FtpResult<Came> {
     Ok((answer, failed, live, left, next, sends))
 }
 
-/// Whether a run came to what is due where such a call failed. After a control connection that failed nothing else is said of
-/// transfers; after a request, nothing of the `NOOP`, whose reply is another's.
+/// Whether a run resulted in what is due where such a call failed. After a control connection that failed nothing else
+/// is due of transfers; after a request, nothing of the `NOOP`, whose reply is another's.
 fn is_due(place: Option<Place>, uploads: bool, came: Came) -> bool {
     let (answer, failed, live, left, next, sends) = came;
     let (transfer, after) = ((live, left), (next, sends));
@@ -85,7 +85,7 @@ fn note(met: Met, place: Place) -> Met {
     }
 }
 
-/// How many runs don't come to what is due, whether the last one met no failure, and which places the others met.
+/// How many runs don't result in what is due, whether the last one met no failure, and which places the others met.
 fn runs(alloc: Global, run: Run, write_at_most: usize) -> FtpResult<(u32, bool, Met)> {
     let mut differ = 0u32;
     let mut met = Met {

@@ -1,4 +1,4 @@
-//! A line of a listing that is cut, or that has another character in its midst, is read or refused.
+//! A line of a listing that is cut, or that has another character in its midst, is read or rejected.
 
 use ftp_list::{File, ListParser, ParseError, ParseResult};
 use jiff::Timestamp;
@@ -22,7 +22,7 @@ const LINES: [&str; 10] = [
 /// Characters of two, three and four bytes, and one without width.
 const OTHERS: [char; 4] = ['é', '日', '😀', '\u{200b}'];
 
-/// Whether a line is read, or refused by an error of its own.
+/// Whether a line is read, or rejected by an error of its own.
 fn is_settled(parsed: ParseResult<File>) -> bool {
     match &parsed {
         Ok(_) => true,

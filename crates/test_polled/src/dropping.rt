@@ -108,7 +108,7 @@ impl Tally {
         }
     }
 
-    /// A call was answered, which is for a file of this size.
+    /// A call has returned, which is for a file of this size.
     fn count(&self, answer: FtpResult<usize>, size: usize) {
         let right = matches!(&answer, Ok(told) if *told == size);
         drop(answer);

@@ -1,4 +1,4 @@
-//! Downloads to a writer, uploads, and who is told how far they have come.
+//! Downloads to a writer, uploads, and what they report their progress to.
 
 use crate::clients::write_passive;
 use crate::scene::{Scene, done, greeted, listening};
@@ -14,7 +14,7 @@ use std::test::Fail;
 use std::time::Clock;
 use std::{io, thread};
 
-/// What was told last.
+/// What was reported last.
 #[derive(Drop)]
 struct Told(u64);
 
@@ -41,7 +41,7 @@ where
     Ok(scene)
 }
 
-/// A download to a `Vec`: how many bytes it gives and tells, and the number of the refusal of the command after it.
+/// A download to a `Vec`: how many bytes it returns and reports, and the number of the error of the command after it.
 fn saved<R>(rt: &R, scene: &mut Scene, bytes: &mut Vec<u8>) -> Result<(u64, u64, u8), Fail>
 where
     R: Net + Wait + Clock + RandomSource + AllocGlobal,
@@ -122,7 +122,7 @@ fn taken<R: AllocGlobal>(rt: &R, listener: &TcpListener) -> io::Result<usize> {
     peer.read_to_end(&mut bytes)
 }
 
-/// An upload of a text by a reader of `std`, in the place of a file or at its end: how many bytes it gives and tells.
+/// An upload of a text by a `std` reader, in the place of a file or at its end: how many bytes it returns and reports.
 fn put<R>(rt: &R, scene: &mut Scene, appends: bool) -> Result<(u64, u64), Fail>
 where
     R: Net + Wait + Clock + RandomSource + AllocGlobal,
@@ -172,8 +172,8 @@ impl Read for Failing {
     }
 }
 
-/// An upload from a source that fails after 150,000 bytes: the number of its refusal, the most that the source was asked for at
-/// once, and what was told last.
+/// An upload from a source that fails after 150,000 bytes: the number of its error, the most that the source was asked
+/// for at once, and what was reported last.
 fn broken_off<R>(rt: &R, port: u16) -> Result<(u8, usize, u64), Fail>
 where
     R: Net<Listener = TcpListener, Stream = TcpStream> + Wait + Clock + RandomSource + AllocGlobal,
@@ -206,7 +206,7 @@ fn all_that_a_source_gave_goes_out_before_its_error(rt: HostRuntime) -> Result<(
     Ok(())
 }
 
-/// The number of the refusal of a download for which nobody listens at this address, and whether the address is told.
+/// The number of the error of a download for which nobody listens at this address, and whether the address is recorded.
 fn refused<R>(rt: &R, address: SocketAddr) -> Result<(u8, bool), Fail>
 where
     R: Net<Listener = TcpListener, Stream = TcpStream> + Wait + Clock + RandomSource + AllocGlobal,

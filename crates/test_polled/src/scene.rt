@@ -128,7 +128,7 @@ where
     }
 }
 
-/// Polls a state once, and tells whether it waits.
+/// Polls a state once, and returns whether it waits.
 pub fn waits<R, F, T>(rt: &R, runtime: &mut LocalRuntime, state: &mut F) -> bool
 where
     R: Wait + Clock + RandomSource + AllocGlobal,
@@ -142,7 +142,7 @@ where
     }
 }
 
-/// Sends these bytes on a socket, and tells whether they went out.
+/// Sends these bytes on a socket, and returns whether they went out.
 pub fn send(socket: &mut TcpStream, bytes: &[u8]) -> bool {
     socket.write_all(bytes).is_ok()
 }

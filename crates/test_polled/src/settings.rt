@@ -25,7 +25,7 @@ fn serve(alloc: Global, listener: &TcpListener, replies: &str) -> io::Result<Str
     io::read_to_string(alloc, server)
 }
 
-/// What NOOP results in of a client that connects to the first of these addresses that doesn't refuse.
+/// What NOOP results in of a client that connects to the first of these addresses that accepts.
 fn noop<R>(rt: &R, addresses: &[SocketAddr]) -> Result<u8, Fail>
 where
     R: Net<Listener = TcpListener, Stream = TcpStream> + Wait + Clock + RandomSource + AllocGlobal,
@@ -74,7 +74,7 @@ where
     Ok([refused, cut])
 }
 
-/// 1 where the client has failed, 0 where it hasn't, and 2 where it doesn't tell.
+/// 1 where the client has failed, 0 where it hasn't, and 2 where the call fails.
 fn has_failed<R>(rt: &R, runtime: &mut LocalRuntime, client: &Client) -> u8
 where
     R: Wait + Clock + RandomSource + AllocGlobal,

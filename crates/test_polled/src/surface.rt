@@ -1,4 +1,4 @@
-//! A client that is told where to connect by a text, what it was greeted with, and the lines of its transfer.
+//! A client that connects to an address that is a text, what it was greeted with, and the lines of its transfer.
 
 use crate::clients::write_passive;
 use crate::scene::{Client, Scene, done, greeted, listening, running, transport};

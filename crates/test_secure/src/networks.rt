@@ -105,7 +105,7 @@ where
     }
 }
 
-/// A transport of which each of two connects comes to a connection.
+/// A transport of which each of two connects returns a connection.
 fn with_two(alloc: Global) -> FtpResult<Box<Network>> {
     let mut below = MemoryTransport::new(alloc);
     below.supply(Supply::Connects(plain(alloc)?))?;
@@ -133,7 +133,7 @@ fn data_connections_are_secured_once_a_connector_is_kept(rt: HostRuntime) -> Res
     Ok(())
 }
 
-/// The number of the error of a data connection that a connector refuses, of which nothing is kept.
+/// The number of the error of a data connection on which a connector fails, of which nothing is kept.
 fn refused(alloc: Global) -> FtpResult<(u8, (usize, usize))> {
     let mut network = with_two(alloc)?;
     let seal = Seal::new(alloc, "clear")?;

@@ -89,8 +89,8 @@ impl TlsStream<MemoryConn> for Sealed {
     }
 }
 
-/// A connector on whose streams these bytes come in clear. It refuses a server without a dot in its name, and a stream to
-/// one that ends in a dot is stuck.
+/// A connector on whose streams these bytes come in clear. It fails for a server without a dot in its name, and a
+/// stream to one that ends in a dot is stuck.
 #[derive(Drop)]
 pub struct Seal {
     alloc: Global,
@@ -114,7 +114,7 @@ impl Seal {
         Ok(clear)
     }
 
-    /// What is read in clear from a server of this name; or the text of a refusal, empty where memory ran out.
+    /// What is read in clear from a server of this name; or the text of an error, empty where memory ran out.
     pub fn answer(&self, domain: &str) -> Result<MemoryConn, String>
         ensures { Seals self.now.bytes.items domain.now (secured_as (λ clear. clear) result) }
     {

@@ -44,7 +44,7 @@ impl AsyncTlsStream<MemoryConn> for Sealed {
 #[derive(Drop)]
 pub struct Sealing {
     alloc: Global,
-    // The connection that was handed in; none once the handshake has answered.
+    // The connection that was handed in; none once the handshake is done.
     conn: Option<MemoryConn>,
     clear: MemoryConn,
     refusal: Option<String>,

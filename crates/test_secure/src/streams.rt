@@ -50,7 +50,7 @@ pub fn read<C: Conn>(
     }
 }
 
-/// Whether one read of a connection gives these bytes, and a write of `sent` takes them all.
+/// Whether one read of a connection returns these bytes, and a write of `sent` consumes them all.
 fn carries(alloc: Global, stream: &mut Stream, bytes: &[u8]) -> Result<(bool, bool), AllocError> {
     let gives = match read(alloc, stream)? {
         Ok(came) => came.as_slice() == bytes,
@@ -87,7 +87,7 @@ fn a_secured_one_is_read_and_written_in_clear(rt: HostRuntime) -> Result<(), Fai
     Ok(())
 }
 
-/// What a connection that a connector took answers a read, a write and a close with.
+/// What a read, a write and a close of a connection that a connector took return.
 fn calls_of_one_gone() -> (
     Result<usize, ErrorKind>,
     Result<usize, ErrorKind>,
@@ -111,7 +111,7 @@ fn one_that_a_connector_took_is_not_connected(rt: HostRuntime) -> Result<(), Fai
     Ok(())
 }
 
-/// The number of the error that a call answered; 0 where there is none.
+/// The number of the error that a call returned; 0 where there is none.
 pub fn number<T: Drop>(answer: FtpResult<T>) -> u8 {
     match &answer {
         Ok(_) => 0,
@@ -156,7 +156,7 @@ fn the_connection_below_can_be_changed(rt: HostRuntime) -> Result<(), Fail> {
     Ok(())
 }
 
-/// The text with which a connector refused a server of this name, and the number of the error.
+/// The text of a connector's error for a server of this name, and the number of the error.
 fn refused(alloc: Global, domain: &str) -> FtpResult<(Option<Text>, u8)> {
     match stream_to(alloc, Some(domain)) {
         Ok(_) => Ok((None, 0)),

@@ -150,14 +150,14 @@ const SENT: &[u8] = b"220 r\r\n227 x (10,0,0,1,4,0).\r\n150 b\r\n226 d\r\n200 ok
 /// One that says that they weren't.
 const NOT_SENT: &[u8] = b"220 r\r\n227 x (10,0,0,1,4,0).\r\n150 b\r\n426 no\r\n200 ok\r\n";
 
-/// The numbers of the refusals of a listing and of the command after it.
+/// The numbers of the errors of a listing and of the command after it.
 fn listed(alloc: Global, input: &[u8]) -> FtpResult<(u8, u8)> {
     let mut session = session_on(alloc, input)?;
     let list = number(session.list(alloc, &(), None));
     Ok((list, number(session.noop(alloc))))
 }
 
-/// Whether the error of a download is the reset, and the number of the refusal of the command after it.
+/// Whether the error of a download is the reset, and the number of the error of the command after it.
 fn downloaded(alloc: Global, input: &[u8]) -> FtpResult<(bool, u8)> {
     let mut session = session_on(alloc, input)?;
     let reset = is_reset(session.retr_as_buffer(alloc, &(), "a"));
@@ -165,7 +165,7 @@ fn downloaded(alloc: Global, input: &[u8]) -> FtpResult<(bool, u8)> {
 }
 
 /// How many bytes of a download were written whose data are reset, whether its error is the reset, and whether the data
-/// connection at that address is told to have failed; and that of the download after it, for which there is no connection.
+/// connection at that address is recorded as failed; and that of the next download, which has no connection.
 fn written(alloc: Global, bytes: &mut Vec<u8>) -> FtpResult<(u8, bool, u8, bool)> {
     let both = b"220 r\r\n227 x (10,0,0,1,4,0).\r\n150 b\r\n426 n\r\n227 x (10,0,0,2,4,1).\r\n";
     let mut session = session_on(alloc, both)?;

@@ -14,7 +14,7 @@ use std::test::Fail;
 use std::thread;
 use std::thread::Threads;
 
-/// A situation, what the server sends, what is done, and what is due: the number of each refusal, 0 where there is
+/// A situation, what the server sends, what is done, and what is due: the number of each error, 0 where there is
 /// none, the counts of the transfers (opened, finished, aborted, drained and owed), and what was sent.
 ///
 /// Of a step the first letter counts: `open` opens a download, and holds it; `drop`, `thread`, `finish`, `abort` and
@@ -146,7 +146,7 @@ fn begun(alloc: Global, replies: &str) -> Result<Box<Scene>, Fail> {
     Ok(Box::new(alloc, scene)?)
 }
 
-/// Opens a download and holds it; the number of the refusal where there is none.
+/// Opens a download and holds it; the number of the error where there is none.
 fn open(alloc: Global, scene: &mut Scene) -> Result<u8, AllocError> {
     match opened(alloc, &mut scene.session) {
         Ok(transfer) => {
@@ -157,7 +157,7 @@ fn open(alloc: Global, scene: &mut Scene) -> Result<u8, AllocError> {
     }
 }
 
-/// Does a step that needs no transfer; the number of its refusal.
+/// Does a step that needs no transfer; the number of its error.
 fn made(alloc: Global, scene: &mut Scene, letter: u8) -> Result<u8, AllocError> {
     let session = &mut scene.session;
     match letter {
@@ -172,7 +172,7 @@ fn made(alloc: Global, scene: &mut Scene, letter: u8) -> Result<u8, AllocError> 
     }
 }
 
-/// What a polled read gives: the number of its refusal, or that it waits.
+/// What a polled read returns: the number of its error, or that it waits.
 fn polled(text: &mut String, answer: Poll<FtpResult<Response>>) -> Result<(), AllocError> {
     match answer {
         Poll::Ready(answer) => show(text, number(answer)),
@@ -185,7 +185,7 @@ fn show(text: &mut String, number: u8) -> Result<(), AllocError> {
     write!(text, "{number} ")
 }
 
-/// Does a step, and adds what it gives.
+/// Does a step, and adds what it results in.
 fn done<R>(rt: &R, scene: &mut Scene, letter: u8, text: &mut String) -> Result<(), Fail>
 where
     R: Threads + Wait + AllocGlobal,
@@ -213,7 +213,7 @@ where
     Ok(())
 }
 
-/// Ends a transfer so, and adds what that gives.
+/// Ends a transfer so, and adds what that results in.
 fn ended<R>(
     rt: &R,
     scene: &mut Scene,
@@ -248,7 +248,7 @@ where
     Ok(())
 }
 
-/// What this session answers that is to finish or abort a transfer.
+/// What this session returns that is to finish or abort a transfer.
 fn ended_by(alloc: Global, session: &mut MemorySession, transfer: Live, aborts: bool) -> u8 {
     let transfer = Box::into_inner(transfer);
     if aborts {
@@ -258,8 +258,8 @@ fn ended_by(alloc: Global, session: &mut MemorySession, transfer: Live, aborts: 
     }
 }
 
-/// Adds what another session, whose server sends this, answers to a command, to whom is then handed this transfer to
-/// finish or abort, and to one more; and how many bytes it sent.
+/// Adds what another session, whose server sends this, returns for a command, which is then handed this transfer to
+/// finish or abort, and for one more; and how many bytes it sent.
 fn elsewhere(
     alloc: Global,
     transfer: Live,
@@ -285,7 +285,7 @@ fn count(text: &mut String, counts: &Counts) -> Result<(), AllocError> {
     write!(text, "{opened} {finished} {aborted} {drained} {owed:?}")
 }
 
-/// Does the steps of a row, and adds what they give and the counts; whether these lines were sent.
+/// Does the steps of a row, and adds what they result in and the counts; whether these lines were sent.
 fn played<R>(rt: &R, row: &[&'static str; 5], text: &mut String) -> Result<bool, Fail>
 where
     R: Threads + Wait + AllocGlobal,

@@ -1,4 +1,4 @@
-//! Downloads to a writer, uploads, and who is told how far they have come.
+//! Downloads to a writer, uploads, and what they report their progress to.
 
 use crate::scene::{MemorySession, greeted, number};
 use ftp_base::types::FileType;
@@ -8,7 +8,7 @@ use std::io;
 use std::io::{ErrorKind, Read, Write};
 use std::test::Fail;
 
-/// The sum of what was told, and how often.
+/// The sum of what was reported, and how often.
 #[derive(Drop)]
 struct Told {
     sum: u64,
@@ -25,8 +25,8 @@ impl Progress for Told {
 /// A server that agrees to a data command, and to the next one.
 const AGREED: &str = "227 x (10,0,0,1,4,0).;150 b;226 d;200 o";
 
-/// A download to a `Vec`: how many bytes the call returns, what was written, what was told, and the number of the refusal of
-/// the command after it.
+/// A download to a `Vec`: how many bytes the call returns, what was written, what was reported, and the number of the
+/// error of the command after it.
 fn saved(alloc: Global, bytes: &mut Vec<u8>) -> Result<(u64, u64, u32, u8), Fail> {
     let mut session = greeted(alloc, AGREED)?;
     let mut told = Told { sum: 0, times: 0 };
@@ -63,8 +63,8 @@ impl Write for Narrow {
     }
 }
 
-/// The numbers of the refusals of a download to a writer that fails, and of the command after it; whether the caller's writer
-/// is told to have failed.
+/// The numbers of the errors of a download to a writer that fails, and of the command after it; whether the caller's
+/// writer is recorded to have failed.
 fn filled(alloc: Global, writer: &mut Narrow) -> Result<(u8, u8, bool), Fail> {
     let mut session = greeted(alloc, "227 x (10,0,0,1,4,0).;150 b;426 n;200 o")?;
     let full = number(session.write_to(alloc, &(), "f", writer, &mut NoProgress));
@@ -85,7 +85,7 @@ fn a_writer_that_fails_has_a_front_and_the_last_reply_is_read(rt: HostRuntime) -
     Ok(())
 }
 
-/// An upload of a text, by the first call or the second: how many bytes it returns and tells.
+/// An upload of a text, by the first call or the second: how many bytes it returns and reports.
 fn put(alloc: Global, appends: bool) -> Result<(u64, u64, u32), Fail> {
     let mut session: Box<MemorySession> = greeted(alloc, AGREED)?;
     let mut told = Told { sum: 0, times: 0 };
@@ -125,8 +125,8 @@ impl Read for Failing {
     }
 }
 
-/// An upload from a source that fails after 150,000 bytes: the number of its refusal, the most that the source was asked for at
-/// once, the sum of what was told and how often, and how many bytes went out.
+/// An upload from a source that fails after 150,000 bytes: the number of its error, the most that the source was asked
+/// for at once, the sum of what was reported and how often, and how many bytes went out.
 fn broken_off(alloc: Global) -> Result<(u8, usize, u64, u32, usize), Fail> {
     let mut session = greeted(alloc, "200 o;227 x (10,0,0,1,4,0).;150 b")?;
     session.transfer_type(alloc, FileType::Binary)?;

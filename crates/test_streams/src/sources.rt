@@ -10,7 +10,7 @@ use std::io;
 use std::io::{ErrorKind, Read};
 use std::test::Fail;
 
-/// A source that is interrupted so many times, then gives bytes, and then ends or fails.
+/// A source that is interrupted so many times, then delivers bytes, and then ends or fails.
 #[derive(Drop)]
 struct Stumbling {
     interruptions: u32,
@@ -32,7 +32,7 @@ impl Read for Stumbling {
     }
 }
 
-/// How many bytes an upload of this source answers, or 1000 and the number of its error.
+/// How many bytes an upload of this source returns, or 1000 and the number of its error.
 fn put(alloc: Global, session: &mut MemorySession, source: &mut Stumbling) -> u64 {
     match session.put_file(alloc, &(), "f", source) {
         Ok(count) => count,
@@ -40,8 +40,8 @@ fn put(alloc: Global, session: &mut MemorySession, source: &mut Stumbling) -> u6
     }
 }
 
-/// What an upload of this source answers that goes as an image, how many bytes arrive, and what the command after it
-/// answers.
+/// What an upload of this source returns that goes as an image, how many bytes arrive, and what the command after it
+/// returns.
 fn uploaded(alloc: Global, source: &mut Stumbling) -> Result<(u64, usize, u8), Fail> {
     let mut session = greeted(alloc, "200 t;227 x (10,0,0,1,4,0).;150 b;226 d;200 o")?;
     session.transfer_type(alloc, FileType::Image)?;
@@ -53,7 +53,7 @@ fn uploaded(alloc: Global, source: &mut Stumbling) -> Result<(u64, usize, u8), F
     Ok((answer, arrived, number(session.noop(alloc))))
 }
 
-/// The same of a source that is interrupted so often, and gives one byte.
+/// The same of a source that is interrupted so often, and delivers one byte.
 fn interrupted(alloc: Global, interruptions: u32) -> Result<(u64, usize, u8), Fail> {
     let mut source = Stumbling {
         interruptions,
@@ -82,7 +82,7 @@ fn what_a_source_gave_before_its_fault_is_uploaded(rt: HostRuntime) -> Result<()
     Ok(())
 }
 
-/// Reads two bytes, and gives them as a number; or gives an error.
+/// Reads two bytes, and returns them as a number; or returns an error.
 #[derive(Drop)]
 struct Pair {
     fails: bool,
@@ -99,8 +99,8 @@ impl DownloadReader<MemoryConn, u16> for Pair {
     }
 }
 
-/// What a download by a reader gives, or the number of its error, where the last reply is this; and what the command
-/// after it answers.
+/// What a download by a reader returns, or the number of its error, where the last reply is this; and what the command
+/// after it returns.
 fn pair_of(alloc: Global, replies: &str, fails: bool) -> Result<(u16, u8), Fail> {
     let mut session = greeted(alloc, replies)?;
     let pair = match session.retr(alloc, &(), "f", &mut Pair { fails }) {

@@ -1,4 +1,4 @@
-//! What other errors come to as one of the client's, by `?`.
+//! What other errors become as one of the client's, by `?`.
 
 use ftp_base::types::FtpError;
 use ftp_list::ParseError;

@@ -3,8 +3,8 @@
 use ftp_list::{File, ParseError, ParseResult, PosixPexQuery};
 use std::alloc::{AllocError, Global};
 
-/// What a parser answered, in one line: kind, name, target, size, time, owner, group, mode; or the
-/// refusal's number.
+/// What a parser returned, in one line: kind, name, target, size, time, owner, group, mode; or the
+/// error's number.
 pub fn described(alloc: Global, answer: &ParseResult<File>) -> Result<String, AllocError> {
     match answer {
         Ok(file) => described_file(alloc, file),

@@ -1,6 +1,7 @@
-//! Tests of the crates that can be used without a session: the base, with the lines of listings; the parsers of listings, over lines
-//! as servers send them; and transfers over memory. They show what a call gives with ample memory, which no contract can say, and
-//! each way in which small types are read. What is a matter of values is a row of `rows_base`.
+//! Tests of the crates that can be used without a session: the base, with the lines of listings; the parsers of
+//! listings, over lines as servers send them; and transfers over memory. They show what a call returns with ample
+//! memory, which no contract can say, and each way in which small types are read. What is a matter of values is a row
+//! of `rows_base`.
 #![tactic(auto)]
 
 #[cfg(test)]

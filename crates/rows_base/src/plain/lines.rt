@@ -7,7 +7,7 @@ ghost use Rattle.ftp_answers.specs.Listing.{is_not_empty, listing, pieces};
 use ftp_base::encoding::Encoding;
 use std::alloc::{AllocError, Global};
 
-/// The lines of a listing: all pieces first, and then what each comes to.
+/// The lines of a listing: all pieces first, and then what each results in.
 pub fn listing<E: Encoding>(
     alloc: Global,
     bytes: &[u8],
