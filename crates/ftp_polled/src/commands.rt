@@ -59,7 +59,7 @@ where
     ///
     /// # Errors
     /// Those of a command and its reply.
-    pub fn cdup<'r, R>(&self, rt: &'r R) -> Dialogue<'r, R, Tr, K, E, B, ()> {
+    pub fn cdup<'r, R: AllocGlobal>(&self, rt: &'r R) -> Dialogue<'r, R, Tr, K, E, B, ()> {
         self.dialogue(rt, Ok(Call::Cdup))
     }
 
@@ -67,7 +67,7 @@ where
     ///
     /// # Errors
     /// Those of a command and its reply.
-    pub fn noop<'r, R>(&self, rt: &'r R) -> Dialogue<'r, R, Tr, K, E, B, ()> {
+    pub fn noop<'r, R: AllocGlobal>(&self, rt: &'r R) -> Dialogue<'r, R, Tr, K, E, B, ()> {
         self.dialogue(rt, Ok(Call::Noop))
     }
 
@@ -78,7 +78,7 @@ where
     /// # Errors
     /// Those of a command and its reply: `UnexpectedResponse` with a 421 that is read, or with the eighth other reply; the
     /// session goes on. Beside a live transfer `DataConnectionAlreadyOpen`, and nothing is sent or read.
-    pub fn resync<'r, R>(&self, rt: &'r R) -> Dialogue<'r, R, Tr, K, E, B, ()> {
+    pub fn resync<'r, R: AllocGlobal>(&self, rt: &'r R) -> Dialogue<'r, R, Tr, K, E, B, ()> {
         self.dialogue(rt, Ok(Call::Resync))
     }
 
@@ -86,7 +86,11 @@ where
     ///
     /// # Errors
     /// Those of a command and its reply.
-    pub fn eprt<'r, R>(&self, rt: &'r R, address: SocketAddr) -> Dialogue<'r, R, Tr, K, E, B, ()> {
+    pub fn eprt<'r, R: AllocGlobal>(
+        &self,
+        rt: &'r R,
+        address: SocketAddr,
+    ) -> Dialogue<'r, R, Tr, K, E, B, ()> {
         self.dialogue(rt, Ok(Call::Eprt(address)))
     }
 
@@ -119,7 +123,7 @@ where
     ///
     /// # Errors
     /// Those of a command and its reply.
-    pub fn transfer_type<'r, R>(
+    pub fn transfer_type<'r, R: AllocGlobal>(
         &self,
         rt: &'r R,
         kind: FileType,
@@ -180,7 +184,7 @@ where
     ///
     /// # Errors
     /// Those of a command and its reply.
-    pub fn quit<'r, R>(&self, rt: &'r R) -> Dialogue<'r, R, Tr, K, E, B, ()> {
+    pub fn quit<'r, R: AllocGlobal>(&self, rt: &'r R) -> Dialogue<'r, R, Tr, K, E, B, ()> {
         self.dialogue(rt, Ok(Call::Quit))
     }
 
@@ -201,7 +205,7 @@ where
     ///
     /// # Errors
     /// Those of a read of one reply.
-    pub fn read_response<'r, R>(
+    pub fn read_response<'r, R: AllocGlobal>(
         &self,
         rt: &'r R,
         expected: Status,
@@ -225,7 +229,7 @@ where
     ///
     /// # Errors
     /// `SessionFailed`; or those of the last reply of a transfer that was left. The offset of before stays.
-    pub fn resume_transfer<'r, R>(
+    pub fn resume_transfer<'r, R: AllocGlobal>(
         &self,
         rt: &'r R,
         offset: u64,
@@ -237,7 +241,7 @@ where
     ///
     /// # Errors
     /// Those of a command and its reply; `UnexpectedResponse` where no path stands between quotes.
-    pub fn pwd<'r, R>(&self, rt: &'r R) -> Dialogue<'r, R, Tr, K, E, B, String> {
+    pub fn pwd<'r, R: AllocGlobal>(&self, rt: &'r R) -> Dialogue<'r, R, Tr, K, E, B, String> {
         self.dialogue(rt, Ok(Call::Pwd))
     }
 
@@ -282,7 +286,7 @@ where
     ///
     /// # Errors
     /// Those of a command and its reply; `BadResponse` where a line of the list is no feature.
-    pub fn feat<'r, R>(&self, rt: &'r R) -> Dialogue<'r, R, Tr, K, E, B, Features> {
+    pub fn feat<'r, R: AllocGlobal>(&self, rt: &'r R) -> Dialogue<'r, R, Tr, K, E, B, Features> {
         self.dialogue(rt, Ok(Call::Feat))
     }
 }

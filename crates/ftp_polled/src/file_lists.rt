@@ -93,7 +93,7 @@ where
 /// # Errors
 /// The answer's, but for `UnexpectedResponse`.
 fn turn_after(answer: Answer) -> FtpResult<Turn> {
-    match Features::of(answer) {
+    match Features::from_answer(answer) {
         Ok(features) => {
             if features
                 .iter()
