@@ -22,7 +22,7 @@ use std::random::RandomSource;
 use std::sync::Wait;
 
 /// A transfer of a session over memory.
-type Live = Transfer<MemoryConn>;
+pub type Live = Transfer<MemoryConn>;
 
 impl Held for Live {
     type Stream = Live;
@@ -195,7 +195,10 @@ fn done<T>(_blocking: (), outcome: FtpResult<T>) -> FtpResult<T> {
 }
 
 /// Makes a call by its method.
-fn make<R>(
+///
+/// # Errors
+/// `NotUnderstood`; `OutOfMemory` where an allocation fails that is none of the call's.
+pub fn make<R>(
     rt: &R,
     session: &mut NamedSession,
     transfers: &mut Transfers<Live>,
