@@ -2,6 +2,7 @@
 
 use crate::{client, definition, script, states};
 use ftp_runs::Event;
+use ftp_session::session::Call;
 use rows_plays::{Mark, Play, RowState};
 use rows_text::RowError;
 use std::alloc::{AllocError, Global};
@@ -17,6 +18,8 @@ pub enum Face {
     Script,
     /// A run of all calls.
     Run,
+    /// A run over connections that take one byte a write.
+    Bytewise,
     /// One call of the session after another.
     Methods,
     /// One call of the blocking client after another.
@@ -58,10 +61,11 @@ impl Agreement {
 
 impl Face {
     /// The faces of a row without events.
-    pub const OF_CALLS: [Face; 7] = [
+    pub const OF_CALLS: [Face; 8] = [
         Face::Definition,
         Face::Script,
         Face::Run,
+        Face::Bytewise,
         Face::Methods,
         Face::Client,
         Face::States,
@@ -69,8 +73,9 @@ impl Face {
     ];
 
     /// Those of them that are sessions.
-    pub const SESSIONS_OF_CALLS: [Face; 5] = [
+    pub const SESSIONS_OF_CALLS: [Face; 6] = [
         Face::Run,
+        Face::Bytewise,
         Face::Methods,
         Face::Client,
         Face::States,
@@ -89,6 +94,7 @@ impl Face {
             Face::Definition => "the definition of runs",
             Face::Script => "the definition of polled runs",
             Face::Run => "a run",
+            Face::Bytewise => "a run, a byte a write",
             Face::Methods => "one call after another",
             Face::Client => "the blocking client",
             Face::States => "the polled client",
@@ -97,12 +103,13 @@ impl Face {
     }
 
     /// Whether a row can be played on it: the blocking client is made once the greeting was read, and a run is made on a
-    /// connection.
+    /// connection; a write of the data connection that is one call says how many bytes it took.
     pub fn plays(self, play: &Play) -> bool {
         match self {
             Face::Definition | Face::Methods | Face::States => true,
             Face::Client => client::has_methods(&play.calls),
             Face::Run | Face::Polled | Face::Script => play.dial.is_none(),
+            Face::Bytewise => play.dial.is_none() && !play.calls.iter().any(writes_more),
         }
     }
 
@@ -185,6 +192,7 @@ impl Face {
             Face::Definition => definition::ran(alloc, calls, play),
             Face::Script => script::scripted(alloc, events, play),
             Face::Run => rows_plays::ran(alloc, calls, play),
+            Face::Bytewise => rows_plays::ran_bytewise(alloc, calls, play),
             Face::Methods => rows_plays::called(rt, calls, play),
             Face::Client => client::called(rt, calls, play),
             Face::States => states::called(rt, calls, play),
@@ -207,6 +215,14 @@ fn polls(alloc: Global, events: &[Event]) -> Result<Vec<usize>, AllocError> {
 /// The first of a list, at most so many.
 fn front<T>(all: &[T], count: usize) -> &[T] {
     all.get(..count).unwrap_or(all)
+}
+
+/// Whether a call is one write of more than a byte, of which a connection that takes one byte a write leaves some.
+fn writes_more(call: &Call) -> bool {
+    match call {
+        Call::Write(bytes) => bytes.as_slice().len() > 1,
+        _ => false,
+    }
 }
 
 /// Whether a line of a transcript is of what a transport was asked.

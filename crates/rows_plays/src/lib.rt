@@ -8,6 +8,7 @@
 mod alphabet;
 mod answers;
 mod builder;
+mod bytewise;
 mod calls;
 mod dial;
 mod encodings;
@@ -28,6 +29,7 @@ pub use answers::{
     bytes, count, features, lines, reply, size, text, text_of, texts_of, time, unit,
 };
 pub use builder::RowBuilder;
+pub use bytewise::ran_bytewise;
 pub use calls::call;
 pub use dial::Dial;
 pub use encodings::Named;

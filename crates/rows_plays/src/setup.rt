@@ -2,6 +2,7 @@
 //! its transport's requests result in.
 
 use crate::builder::RowBuilder;
+use crate::bytewise::{ByteBuilder, ByteSession};
 use crate::memory::ended;
 use crate::session::NamedSession;
 use crate::settings::setting;
@@ -134,6 +135,19 @@ impl Setup {
         session.set_lenient_replies(self.lenient);
         if let Some(builder) = &self.builder {
             session.set_passive_stream_builder(builder.again()?);
+        }
+        Ok(())
+    }
+
+    /// Sets a session so whose connections take one byte a write.
+    pub fn set_bytewise(&self, session: &mut ByteSession) -> Result<(), AllocError> {
+        session.set_mode(self.settings.mode);
+        session.set_passive_nat_workaround(self.settings.passive_nat_workaround);
+        session.set_active_peer_check(self.settings.active_peer_check.clone()?);
+        session.set_active_deadline(self.settings.active_deadline);
+        session.set_lenient_replies(self.lenient);
+        if let Some(builder) = &self.builder {
+            session.set_passive_stream_builder(ByteBuilder::new(builder.again()?));
         }
         Ok(())
     }

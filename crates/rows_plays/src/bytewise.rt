@@ -1,0 +1,213 @@
+//! A session over memory whose connections take one byte a write.
+
+ghost use Rattle.std.specs.Prelude.{[]};
+ghost use Rattle.ftp_transport.specs.Memory.{fresh_memory};
+
+use crate::answers::texts_of;
+use crate::builder::RowBuilder;
+use crate::encodings::Named;
+use crate::memory::{boxed, had};
+use crate::play::Play;
+use crate::requests::recorded;
+use crate::session::{conn_of, uploaded, welcome};
+use crate::transcript::RowState;
+use ftp_base::types::FtpResult;
+use ftp_runs::RunCalls;
+use ftp_session::session::{Call, NoTlsConnector, Session};
+use ftp_transport::{
+    Accepted, Conn, Connected, Listening, MemoryConn, MemoryListener, MemoryTransport, Network,
+    PassiveStreamBuilder, Tells, Transport,
+};
+use rows_text::RowError;
+use std::alloc::{AllocError, Global};
+use std::io::ErrorKind;
+use std::net::SocketAddr;
+use std::time::Duration;
+
+/// A connection over memory that takes one byte a write.
+#[derive(Drop)]
+pub struct ByteConn {
+    conn: MemoryConn,
+}
+
+impl Tells for ByteConn {
+    ghost tells = { ⊥ };
+
+    ghost told = { λ _. fresh_memory };
+
+    fn begin(&mut self) {
+        self.conn.begin();
+    }
+
+    ghost end_faults = { λ _. Unit {0} };
+
+    fn local_addr(&mut self) -> Result<SocketAddr, ErrorKind> {
+        self.conn.local_addr()
+    }
+
+    fn peer_addr(&mut self) -> Result<SocketAddr, ErrorKind> {
+        self.conn.peer_addr()
+    }
+
+    fn close(&mut self) -> Result<(), ErrorKind> {
+        self.conn.close()
+    }
+}
+
+impl Conn for ByteConn {
+    ghost blocking_read_faults = { λ _. Unit {0} };
+
+    ghost blocking_write_faults = { λ _ _. Unit {0} };
+
+    fn read(&mut self, buffer: &mut [u8]) -> Result<usize, ErrorKind> {
+        self.conn.read(buffer)
+    }
+
+    fn write(&mut self, bytes: &[u8]) -> Result<usize, ErrorKind> {
+        self.conn.write(&bytes[..1])
+    }
+}
+
+/// A transport over memory that hands out such connections.
+#[derive(Drop)]
+pub struct ByteTransport {
+    memory: MemoryTransport,
+}
+
+impl Network for ByteTransport {
+    type Conn = ByteConn;
+
+    type Listener = MemoryListener;
+
+    ghost asked = { λ _. [] };
+
+    ghost ready = { λ _. [] };
+
+    ghost refuses = { λ _ _. Unit {0} };
+
+    ghost accept_refuses = { λ _ _. Unit {0} };
+
+    ghost port = { λ _. 0 };
+
+    ghost binds = { λ _ _ _. Unit {0} };
+
+    ghost closed = { λ _. [] };
+
+    ghost has_room = { λ _. Unit {0} };
+
+    fn make_room(&mut self) -> Result<(), AllocError> {
+        self.memory.make_room()
+    }
+
+    fn note_build(&mut self, address: SocketAddr) -> Result<(), AllocError> {
+        self.memory.note_build(address)
+    }
+
+    fn closed(&mut self, conn: ByteConn) {
+        let ByteConn { conn } = conn;
+        self.memory.closed(conn);
+    }
+}
+
+/// The same connection, a byte a write, if there is one.
+fn bytewise(made: Connected<MemoryConn>) -> Connected<ByteConn> {
+    match made? {
+        Ok(conn) => Ok(Ok(ByteConn { conn })),
+        Err(fault) => Ok(Err(fault)),
+    }
+}
+
+impl<R> Transport<R> for ByteTransport {
+    fn connect(&mut self, rt: &R, address: SocketAddr) -> Connected<ByteConn> {
+        bytewise(self.memory.connect(rt, address))
+    }
+
+    fn connect_timeout(
+        &mut self,
+        rt: &R,
+        address: SocketAddr,
+        limit: Duration,
+    ) -> Connected<ByteConn> {
+        bytewise(self.memory.connect_timeout(rt, address, limit))
+    }
+
+    fn listen(&mut self, rt: &R, address: SocketAddr) -> Listening<MemoryListener> {
+        self.memory.listen(rt, address)
+    }
+
+    fn accept(
+        &mut self,
+        rt: &R,
+        listener: &mut MemoryListener,
+        deadline: Duration,
+    ) -> Accepted<ByteConn> {
+        match self.memory.accept(rt, listener, deadline)? {
+            Ok((conn, from)) => Ok(Ok((ByteConn { conn }, from))),
+            Err(fault) => Ok(Err(fault)),
+        }
+    }
+}
+
+/// A row's builder of such connections.
+#[derive(Drop)]
+pub struct ByteBuilder {
+    builder: RowBuilder,
+}
+
+impl ByteBuilder {
+    /// A builder that makes what this one does.
+    pub fn new(builder: RowBuilder) -> ByteBuilder {
+        ByteBuilder { builder }
+    }
+}
+
+impl PassiveStreamBuilder<ByteConn> for ByteBuilder {
+    ghost answers = { λ _ _ _. Unit {0} };
+
+    fn build(&self, address: SocketAddr) -> FtpResult<ByteConn> {
+        let conn = self.builder.build(address)?;
+        Ok(ByteConn { conn })
+    }
+}
+
+/// A session over such connections.
+pub type ByteSession = Session<ByteTransport, NoTlsConnector, Named, ByteBuilder>;
+
+/// A session with the row's settings and encoding, of which nothing was read.
+fn unread(alloc: Global, play: &Play) -> Result<Box<ByteSession>, RowError> {
+    let conn = conn_of(alloc, play)?;
+    let memory = match play.setup.transport(alloc) {
+        Ok(memory) => memory,
+        Err(_) => {
+            drop(conn);
+            return Err(RowError::OutOfMemory);
+        }
+    };
+    let session = Session::new(alloc, ByteTransport { memory }, ByteConn { conn });
+    let mut session = boxed(alloc, had(session)?)?;
+    play.setup.set_bytewise(&mut session)?;
+    if let Some(encoding) = play.encoding {
+        had(session.set_encoding(alloc, encoding))?;
+    }
+    Ok(session)
+}
+
+/// Where a run of these calls ends whose connections take one byte a write.
+///
+/// # Errors
+/// `OutOfMemory`.
+pub fn ran_bytewise(alloc: Global, calls: &[Call], play: &Play) -> Result<RowState, RowError> {
+    let mut session = unread(alloc, play)?;
+    let answers = had(session.run(alloc, &(), calls))?;
+    let conn = &session.get_ref().conn;
+    let memory = &session.transport().memory;
+    Ok(RowState {
+        asked: recorded(alloc, memory.asked())?,
+        uploaded: uploaded(alloc, memory.uploaded())?,
+        sent: Vec::from_slice(alloc, conn.sent())?,
+        answers: texts_of(alloc, &answers)?,
+        taken: conn.received().saturating_sub(session.untaken()),
+        failed: session.failed(),
+        welcome: welcome(alloc, session.state())?,
+    })
+}
