@@ -1,8 +1,10 @@
 //! The control connection of a client, lent out while its lock is held.
 
+ghost use Rattle.ftp_dialogue.specs.Sound.{SoundCounts};
+
 use super::ImplFtpStream;
 use ftp_base::encoding::{Encoding, Utf8Encoding};
-use ftp_session::session::{Failure, NoStreamBuilder, NoTlsConnector, Session};
+use ftp_session::session::{Counts, Failure, NoStreamBuilder, NoTlsConnector, Session};
 use ftp_transport::Network;
 use std::sync::{MutexGuard, Wait};
 
@@ -33,6 +35,14 @@ impl<Tr: Network, K: Drop, E: Encoding, B: Drop> ControlSocket<'_, Tr, K, E, B> 
     /// The control connection, as [`Session::get_ref`] lends it.
     pub fn socket(&self) -> &Tr::Conn {
         self.session.get_ref()
+    }
+
+    /// How many transfers were opened, and how they came to their end (RFC 959, section 3.2). Whenever the lock is held
+    /// so, by any thread, each that was opened was finished, aborted or drained, or is the one that is owed.
+    pub fn counts(&self) -> &Counts
+        ensures sound { SoundCounts result.now }
+    {
+        self.session.counts()
     }
 
     /// How many received bytes no reply has consumed: those of a reply under way, and those that were read ahead.

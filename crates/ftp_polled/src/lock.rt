@@ -1,10 +1,12 @@
 //! The lock of a client, lent to a caller.
 
+ghost use Rattle.ftp_dialogue.specs.Sound.{SoundCounts};
+
 use crate::client::ImplAsyncFtpStream;
 use crate::hold::Hold;
 use ftp_base::encoding::{Encoding, Utf8Encoding};
 use ftp_base::types::{ConnectionError, FtpError, FtpResult};
-use ftp_session::session::{Failure, NoStreamBuilder, NoTlsConnector, Session};
+use ftp_session::session::{Counts, Failure, NoStreamBuilder, NoTlsConnector, Session};
 use ftp_transport::{TaskConn, TaskTransport};
 use futures::Future;
 use futures::task::{Context, Poll};
@@ -48,6 +50,14 @@ where
     /// The transport.
     pub fn transport(&self) -> &Tr {
         self.session.transport()
+    }
+
+    /// How many transfers were opened, and how they came to their end (RFC 959, section 3.2). Whenever the lock is held
+    /// so, by any task, each that was opened was finished, aborted or drained, or is the one that is owed.
+    pub fn counts(&self) -> &Counts
+        ensures sound { SoundCounts result.now }
+    {
+        self.session.counts()
     }
 
     /// How many received bytes no reply has consumed: those of a reply under way, and those that were read ahead.
