@@ -13,7 +13,6 @@ use std::io::Write;
 use std::net::{Net, TcpListener, TcpStream};
 use std::sync::Wait;
 use std::test::Fail;
-use std::thread::Threads;
 use std::{io, thread};
 
 /// A client over memory.
@@ -67,31 +66,18 @@ fn a_client_is_returned_kept_lent_and_sent_to_a_thread(rt: HostRuntime) -> Resul
     Ok(())
 }
 
-/// What a thread does twenty times.
-#[derive(Clone, Copy)]
-enum Deed {
-    /// It sends NOOP.
-    Noop,
-    /// It renames a file.
-    Rename,
-}
-
-/// Does so twenty times; how often the result is an error.
-fn faults<R: Wait + AllocGlobal>(rt: &R, client: &FtpStream, deed: Deed) -> usize {
+/// Sends NOOP twenty times; how often the result is an error.
+fn faults<R: Wait + AllocGlobal>(rt: &R, client: &FtpStream) -> usize {
     let mut faults = 0usize;
     for _ in 0..20 {
-        let answer = match deed {
-            Deed::Noop => client.noop(rt),
-            Deed::Rename => client.rename(rt, "a", "b"),
-        };
-        if number(answer) != 0 {
+        if number(client.noop(rt)) != 0 {
             faults = faults.saturating_add(1);
         }
     }
     faults
 }
 
-/// A client and its server's end, which has answered forty rounds in advance.
+/// A client and its server's end, which has answered forty commands in advance.
 #[derive(Drop)]
 struct Pair {
     client: FtpStream,
@@ -99,61 +85,42 @@ struct Pair {
 }
 
 /// Such a pair.
-fn connected<R>(rt: &R, round: &[u8]) -> Result<Box<Pair>, Fail>
+fn connected<R>(rt: &R) -> Result<Box<Pair>, Fail>
 where
     R: Net<Listener = TcpListener, Stream = TcpStream> + AllocGlobal,
 {
     let listener = TcpListener::bind(rt, "127.0.0.1:0")?;
     let near = TcpStream::connect(rt, listener.local_addr()?)?;
-    let server = answered(&listener, round)?;
+    let server = answered(&listener)?;
     let client = FtpStream::connect_with_stream(rt, near)?;
     Ok(boxed(rt.alloc(), Pair { client, server })?)
 }
 
-/// The next peer, which was greeted and answered forty rounds in advance.
-fn answered(listener: &TcpListener, round: &[u8]) -> io::Result<TcpStream> {
+/// The next peer, which was greeted and answered forty times in advance.
+fn answered(listener: &TcpListener) -> io::Result<TcpStream> {
     let (mut server, _peer) = listener.accept()?;
     server.write_all(b"220 ready\r\n")?;
     for _ in 0..40 {
-        server.write_all(round)?;
+        server.write_all(b"200 ok\r\n")?;
     }
     Ok(server)
 }
 
-/// How often these lines stand in what a server received whose client is gone, and how many bytes that is.
-fn received(alloc: Global, pair: Box<Pair>, lines: &str) -> io::Result<(usize, usize)> {
+/// How often NOOP stands in what a server received whose client is gone, and how many bytes that is.
+fn received(alloc: Global, pair: Box<Pair>) -> io::Result<(usize, usize)> {
     let Pair { client, server } = Box::into_inner(pair);
     drop(client);
     let text = io::read_to_string(alloc, server)?;
-    Ok((text.matches(lines).count(), text.len()))
-}
-
-/// What two threads result in that share a client, each with its deed: how often a result is an error, how often these
-/// lines stand in what the server received, and how many bytes that is.
-fn shared<R>(
-    rt: &R,
-    round: &[u8],
-    deed: Deed,
-    lines: &str,
-) -> Result<((usize, usize), (usize, usize)), Fail>
-where
-    R: Net<Listener = TcpListener, Stream = TcpStream> + Wait + Threads + Sync + AllocGlobal,
-{
-    let pair = connected(rt, round)?;
-    let client = &pair.client;
-    let faults = thread::join(rt, || faults(rt, client, deed), || faults(rt, client, deed));
-    Ok((faults, received(rt.alloc(), pair, lines)?))
+    Ok((text.matches("NOOP\r\n").count(), text.len()))
 }
 
 #[test]
-fn lines_of_two_threads_are_not_torn_and_those_of_a_rename_stay_together(
-    rt: HostRuntime,
-) -> Result<(), Fail> {
-    let noops = shared(&rt, b"200 ok\r\n", Deed::Noop, "NOOP\r\n")?;
-    let lines = "RNFR a\r\nRNTO b\r\n";
-    let renames = shared(&rt, b"350 to?\r\n250 ok\r\n", Deed::Rename, lines)?;
-    assert_eq!(rt; noops, ((0, 0), (40, 240)));
-    assert_eq!(rt; renames, ((0, 0), (40, 640)));
+fn lines_of_two_threads_are_not_torn(rt: HostRuntime) -> Result<(), Fail> {
+    let pair = connected(&rt)?;
+    let client = &pair.client;
+    let faults = thread::join(&rt, || faults(&rt, client), || faults(&rt, client));
+    let noops = received(rt.alloc(), pair)?;
+    assert_eq!(rt; (faults, noops), ((0, 0), (40, 240)));
     Ok(())
 }
 
