@@ -21,7 +21,7 @@ use std::sync::Wait;
 use std::time::{Clock, Duration};
 
 /// How long the client waits for the server, in seconds.
-const LIMIT: u64 = 2;
+const LIMIT: u64 = 10;
 
 /// How many calls a session has at most.
 const LONGEST: u64 = 24;
