@@ -19,7 +19,7 @@ use std::str;
 pub struct Due {
     here: Box<PlayState>,
     script: Script,
-    // How many of the lines that were said the server has answered.
+    // How many of the lines that were sent the server has answered.
     answered: u64,
 }
 
@@ -71,7 +71,7 @@ impl Due {
             }
             Played::Pending(Wait::Bytes(_), here) => {
                 let here = boxed(alloc, here)?;
-                self.hear(alloc, here)
+                self.receive(alloc, here)
             }
             Played::Pending(Wait::Outcome, here) => {
                 let data = self.data(alloc, &here)?;
@@ -87,13 +87,13 @@ impl Due {
         }
     }
 
-    /// A call has its answer: what is sent for the lines that it said and didn't read comes later.
+    /// A call has its answer: what is sent for its lines and wasn't read comes later.
     fn go_on(&mut self, alloc: Global, here: Box<PlayState>) -> Result<(), RowError> {
         self.here = here;
         self.here.outcomes = Items::from_vec(Vec::new(alloc));
         for _ in 0..u64::MAX {
-            let said = self.here.said.clone()?;
-            if self.here.failed || !self.next_reply(alloc, &said)? {
+            let lines = self.here.said.clone()?;
+            if self.here.failed || !self.next_reply(alloc, &lines)? {
                 break;
             }
         }
@@ -101,7 +101,7 @@ impl Due {
     }
 
     /// A call waits for a reply: the next that the server sends comes, or none does.
-    fn hear(&mut self, alloc: Global, here: Box<PlayState>) -> Result<Step, RowError> {
+    fn receive(&mut self, alloc: Global, here: Box<PlayState>) -> Result<Step, RowError> {
         if self.next_reply(alloc, &here.said)? {
             return Ok(Step::Again);
         }
@@ -115,9 +115,9 @@ impl Due {
         Ok(Step::Answered(Answer::Fault(FtpError::ConnectionError(ConnectionError::Io(kind)))))
     }
 
-    /// Adds what the server sends for the next line that was said, if there is one.
-    fn next_reply(&mut self, alloc: Global, said: &Bytes) -> Result<bool, AllocError> {
-        let Some(line) = line_of(said, self.answered) else {
+    /// Adds what the server sends for the next line that was sent, if there is one.
+    fn next_reply(&mut self, alloc: Global, lines: &Bytes) -> Result<bool, AllocError> {
+        let Some(line) = line_of(lines, self.answered) else {
             return Ok(false);
         };
         let sent = self.script.sent(alloc, self.answered, line)?;
@@ -131,15 +131,15 @@ impl Due {
     }
 
     /// How the last of the server's replies ended.
-    fn ending(&self, alloc: Global, said: &Bytes) -> Result<Ending, AllocError> {
+    fn ending(&self, alloc: Global, lines: &Bytes) -> Result<Ending, AllocError> {
         let last = self.answered.saturating_sub(1);
-        match line_of(said, last) {
+        match line_of(lines, last) {
             Some(line) => Ok(self.script.sent(alloc, last, line)?.ending),
             None => Ok(Ending::Whole),
         }
     }
 
-    /// The data that the server sends for the last line that was said.
+    /// The data that the server sends for the last line that was sent.
     fn data(&self, alloc: Global, here: &PlayState) -> Result<Vec<u8>, AllocError> {
         let lines = here.said.as_slice().iter().filter(|byte| **byte == b'\n');
         let last = (lines.count() as u64).saturating_sub(1);
@@ -151,9 +151,9 @@ impl Due {
 }
 
 /// The line of this number, without its end.
-fn line_of(said: &Bytes, number: u64) -> Option<&str> {
+fn line_of(lines: &Bytes, number: u64) -> Option<&str> {
     let number = usize::try_from(number).ok()?;
-    let lines = said.as_slice().split_inclusive(|byte| *byte == b'\n');
+    let lines = lines.as_slice().split_inclusive(|byte| *byte == b'\n');
     let line = str::from_utf8(lines.skip(number).next()?).ok()?;
     line.strip_suffix("\r\n")
 }

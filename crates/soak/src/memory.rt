@@ -8,6 +8,6 @@ const STATM: &str = "/proc/self/statm";
 
 /// How many pages are resident, of the program and of what it shares.
 pub fn resident_pages<R: Files + AllocGlobal>(rt: &R) -> Option<u64> {
-    let told = fs::read_to_string(rt, STATM).ok()?;
-    told.as_str().split(' ').nth(1)?.parse().ok()
+    let text = fs::read_to_string(rt, STATM).ok()?;
+    text.as_str().split(' ').nth(1)?.parse().ok()
 }
