@@ -27,11 +27,11 @@ use Rattle.ftp_calls.specs.declared.call.Call.TheVariants.{Drain, Greet, Noop}
 use Rattle.ftp_dialogue.specs.declared.model.PlayState.{PlayState}
 use Rattle.ftp_runs.specs.declared.model.Ran.{Ran}
 use Rattle.ftp_runs.specs.declared.model.Ran.TheVariants.{Finished, Waiting}
-use Rattle.ftp_dialogue.specs.Link.{Builds, Link}
+use Rattle.ftp_dialogue.specs.Link.{Builds, Link, plain}
 use Rattle.ftp_dialogue.specs.Coding.{Coding}
 use Rattle.ftp_dialogue.specs.Sound.{no_transfers}
 use Rattle.ftp_dialogue.specs.State.{SessionValue, Begins}
-use Rattle.ftp_dialogue.specs.Dialogue.{Tree, Say, Hear, Look, Ask, Build, Move, Leaf, dialogue}
+use Rattle.ftp_dialogue.specs.Dialogue.{Tree, Say, Hear, Look, Ask, Build, Secure, Move, Leaf, dialogue}
 use Rattle.ftp_dialogue.specs.Play.{play}
 use Rattle.ftp_runs.specs.Run.{run, OneView}
 use Rattle.ftp_dialogue.specs.Promises.{answer_at, begun_by, due_of, play_state, Aborts, Completes, IsPlayed, Fails, LacksMemory, MayFailAt}
@@ -50,7 +50,7 @@ as_it_is decode = record { decode = decode; encode = λ text. Ok text }
 
 -- a blocking connection over memory
 abbrev pub over_memory : Builds → Link
-over_memory builds = record { tells = Unit {0}; reads = λ kind. ⊥; writes = λ told kind. (kind ≡ kinds.OutOfMemory) ⊎ ((kind ≡ kinds.WouldBlock) × IsFull told); ends = λ kind. ⊥; asks_wait = ⊥; builds = builds }
+over_memory builds = record { tells = Unit {0}; reads = λ kind. ⊥; writes = λ told kind. (kind ≡ kinds.OutOfMemory) ⊎ ((kind ≡ kinds.WouldBlock) × IsFull told); ends = λ kind. ⊥; asks_wait = ⊥; beside = plain builds }
 
 abbrev answers_of : Ran → List Answer
 answers_of (Finished answers s) = answers
@@ -142,6 +142,7 @@ module _ (builds : Builds) (decode : List ℕ → List ℕ) (old new : SessionVa
       failed_at kind (Look end next) is may = absurd may
       failed_at kind (Ask request next) is may = absurd may
       failed_at kind (Build address next) is may = absurd may
+      failed_at kind (Secure next) is may = absurd may
       failed_at kind (Move movement next) is may = absurd may
       failed_at kind (Leaf answer state) is may = absurd may
 

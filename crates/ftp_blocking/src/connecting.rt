@@ -21,7 +21,7 @@ impl<K: Drop, E: Encoding, B: Drop> ImplFtpStream<TcpTransport, K, E, B> {
     {
         let alloc = rt.alloc();
         let session = Session::connect(alloc, rt, TcpTransport::new(), addresses)?;
-        ImplFtpStream::new(alloc, session)
+        Self::new(alloc, session)
     }
 
     /// The same of an address as text, as `192.0.2.7:21`, `[2001:db8::7]:21` or `ftp.example.org:21`: a host and a port,
@@ -34,7 +34,7 @@ impl<K: Drop, E: Encoding, B: Drop> ImplFtpStream<TcpTransport, K, E, B> {
         R: Net<Listener = TcpListener, Stream = TcpStream> + Clock + AllocGlobal,
     {
         let addresses: Vec<SocketAddr> = address.to_socket_addrs(rt)?.collect(rt.alloc())?;
-        ImplFtpStream::connect(rt, &addresses)
+        Self::connect(rt, &addresses)
     }
 
     /// The same, where replies are read leniently from the greeting on: for servers that end a reply of several lines
@@ -48,7 +48,7 @@ impl<K: Drop, E: Encoding, B: Drop> ImplFtpStream<TcpTransport, K, E, B> {
     {
         let alloc = rt.alloc();
         let session = Session::connect_lenient(alloc, rt, TcpTransport::new(), addresses)?;
-        ImplFtpStream::new(alloc, session)
+        Self::new(alloc, session)
     }
 
     /// The same over the caller's transport, as one with time limits (`TcpTransport::with_limits`), which makes the data
@@ -66,7 +66,7 @@ impl<K: Drop, E: Encoding, B: Drop> ImplFtpStream<TcpTransport, K, E, B> {
     {
         let alloc = rt.alloc();
         let session = Session::connect(alloc, rt, transport, addresses)?;
-        ImplFtpStream::new(alloc, session)
+        Self::new(alloc, session)
     }
 
     /// A client none of whose waits for the server is longer than this: to connect to one of these addresses, to read or to
@@ -81,7 +81,7 @@ impl<K: Drop, E: Encoding, B: Drop> ImplFtpStream<TcpTransport, K, E, B> {
     {
         let limit = Some(limit);
         let transport = TcpTransport::with_limits(limit, limit, limit);
-        ImplFtpStream::connect_over(rt, transport, addresses)
+        Self::connect_over(rt, transport, addresses)
     }
 
     /// A client on this address, connected to within this time, once the server's greeting (220) was read. There is no
@@ -96,7 +96,7 @@ impl<K: Drop, E: Encoding, B: Drop> ImplFtpStream<TcpTransport, K, E, B> {
     {
         let alloc = rt.alloc();
         let session = Session::connect_timeout(alloc, rt, TcpTransport::new(), address, limit)?;
-        ImplFtpStream::new(alloc, session)
+        Self::new(alloc, session)
     }
 
     /// A client over a socket that is connected, once the server's greeting (220) was read (RFC 959, section 5.4).
@@ -110,7 +110,7 @@ impl<K: Drop, E: Encoding, B: Drop> ImplFtpStream<TcpTransport, K, E, B> {
             TcpTransport::new(),
             TcpConn::new(stream),
         )?;
-        ImplFtpStream::new(alloc, session)
+        Self::new(alloc, session)
     }
 
     /// The same, where replies are read leniently from the greeting on, as by `connect_lenient`.
@@ -124,6 +124,6 @@ impl<K: Drop, E: Encoding, B: Drop> ImplFtpStream<TcpTransport, K, E, B> {
         let alloc = rt.alloc();
         let conn = TcpConn::new(stream);
         let session = Session::connect_with_stream_lenient(alloc, TcpTransport::new(), conn)?;
-        ImplFtpStream::new(alloc, session)
+        Self::new(alloc, session)
     }
 }

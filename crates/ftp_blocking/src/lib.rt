@@ -19,6 +19,7 @@ mod holding;
 mod lines;
 mod questions;
 mod reading;
+mod securing;
 mod settings;
 mod transfer_stream;
 mod transfers;

@@ -46,7 +46,7 @@ use Rattle.ftp_dialogue.proofs.Sorts.{unheld_call, finishing_moves, finishing_no
 use Rattle.ftp_calls.proofs.Openings.{read_opens_none}
 use Rattle.ftp_dialogue.proofs.Moving.{lacks_memory_first, leaf_ends, stays_put}
 use Rattle.ftp_dialogue.proofs.NegotiationLemmas.{moved_still, still_touched}
-use Rattle.ftp_dialogue.specs.Link.{Builds}
+use Rattle.ftp_dialogue.specs.Link.{Beside}
 
 -- Refusals
 
@@ -328,6 +328,7 @@ carried_through tells moves outcome view old net' is some fits tie apart =
 pub read_apart_answer : (most : ℕ) (outcome : NetOutcome) → answers (movement.Read most) outcome ≡ true → IsApart (moved_answer outcome)
 read_apart_answer most (came.Answered outcome) is = tt
 read_apart_answer most (came.Built fault) is = tt
+read_apart_answer most (came.Secured fault) is = tt
 read_apart_answer most (came.Read bytes) is = tt
 read_apart_answer most (came.Wrote count) is = tt
 read_apart_answer most came.Closed is = tt
@@ -337,6 +338,7 @@ read_apart_answer most came.NoMemory is = inl refl
 pub write_apart_answer : (bytes : List ℕ) (outcome : NetOutcome) → answers (movement.Write bytes) outcome ≡ true → IsApart (moved_answer outcome)
 write_apart_answer bytes (came.Answered outcome) is = tt
 write_apart_answer bytes (came.Built fault) is = tt
+write_apart_answer bytes (came.Secured fault) is = tt
 write_apart_answer bytes (came.Read other) is = tt
 write_apart_answer bytes (came.Wrote count) is = tt
 write_apart_answer bytes came.Closed is = tt
@@ -455,7 +457,7 @@ lacks_alike f None = refl
 lacks_alike f (Some conn) = refl
 
 -- nothing but what stands beside the control connection has changed, and the state
-pub beside_goes : (link : Link) (answered : List NetEvent) (v w : SessionValue) → w.channel ≡ v.channel → (link.tells → NetEvents link.builds answered v.net w.net) → Goes link [] answered v w
+pub beside_goes : (link : Link) (answered : List NetEvent) (v w : SessionValue) → w.channel ≡ v.channel → (link.tells → NetEvents link.beside answered v.net w.net) → Goes link [] answered v w
 beside_goes link answered v w same net_events =
     let P : Channel → Type 0 = λ c. Goes link [] answered v (record { channel = c; state = w.state; net = w.net }) in
     subst P (sym same) (record {
@@ -471,10 +473,10 @@ beside_goes link answered v w same net_events =
     })
 
 -- a call that was refused is refused by the definition, too
-pub record RefusedSo (builds : Builds) (tells : Type 0) (coding : Coding) (call : Call) (v w : SessionValue) (answer : Answer) : Type 0 where
+pub record RefusedSo (beside : Beside) (tells : Type 0) (coding : Coding) (call : Call) (v w : SessionValue) (answer : Answer) : Type 0 where
   pub answered : List NetEvent
   pub none : outcomes_of answered ≡ []
-  pub net_events : tells → NetEvents builds answered v.net w.net
+  pub net_events : tells → NetEvents beside answered v.net w.net
   pub channel : w.channel ≡ v.channel
   pub refusal_is : IsRefusal answer
   pub goes_on : w.channel.failed ≡ false → (w ≡ v) × (of_transfer call ≡ true)
@@ -494,7 +496,7 @@ lacking_transfer call v is = go (of_transfer call) refl is
     go true held made = held
     go false held made = absurd (unlike (is_local call) v.channel.failed made)
 
-module _ (builds : Builds) (tells : Type 0) (coding : Coding) (call : Call) (v w : SessionValue) (answer : Answer) where
+module _ (beside : Beside) (tells : Type 0) (coding : Coding) (call : Call) (v w : SessionValue) (answer : Answer) where
   -- the definition refuses it
   refused_by : (r : Refusal) → refusal_of call v ≡ r → (room : Room) (more : List ℕ) (ended : Bool) (outcomes : List NetOutcome) → play_call room coding call (play_state v more ended outcomes) ≡ play_unless r room coding call (play_state v more ended outcomes)
   refused_by r is room more ended outcomes =
@@ -513,7 +515,7 @@ module _ (builds : Builds) (tells : Type 0) (coding : Coding) (call : Call) (v w
       go true made = let clash : Lacking ≡ Failing = made in cc
       go false made = last (is_local call) v.channel.failed made
 
-  lacking_so : refusal_of call v ≡ Lacking → (answer ≡ NoTransfer) × (w ≡ v) → RefusedSo builds tells coding call v w answer
+  lacking_so : refusal_of call v ≡ Lacking → (answer ≡ NoTransfer) × (w ≡ v) → RefusedSo beside tells coding call v w answer
   lacking_so r (is, same) =
       let S : Answer → Type 0 = IsSuccess in
       record {
@@ -531,7 +533,7 @@ module _ (builds : Builds) (tells : Type 0) (coding : Coding) (call : Call) (v w
             ∙ ap (λ x. Done answer (play_state x more ended outcomes)) (sym same);
       }
 
-  failing_so : (ends : Bool) → refusal_of call v ≡ Failing → finishes call ≡ ends → answer ≡ Fault SessionFailed → LeavesIf ends tells v w → RefusedSo builds tells coding call v w answer
+  failing_so : (ends : Bool) → refusal_of call v ≡ Failing → finishes call ≡ ends → answer ≡ Fault SessionFailed → LeavesIf ends tells v w → RefusedSo beside tells coding call v w answer
   failing_so true r ends is leaves =
       let S : Answer → Type 0 = IsSuccess in
       let F : Answer → Type 0 = IsFault in
@@ -574,10 +576,10 @@ module _ (builds : Builds) (tells : Type 0) (coding : Coding) (call : Call) (v w
             ∙ ap (λ x. Done answer (play_state x more ended outcomes)) (sym same);
       }
 
-  pub refused_so : IsRefused tells call v w answer → RefusedSo builds tells coding call v w answer
+  pub refused_so : IsRefused tells call v w answer → RefusedSo beside tells coding call v w answer
   refused_so refused = go (refusal_of call v) refl refused
     where
-      go : (r : Refusal) → refusal_of call v ≡ r → Refuses r tells call v w answer → RefusedSo builds tells coding call v w answer
+      go : (r : Refusal) → refusal_of call v ≡ r → Refuses r tells call v w answer → RefusedSo beside tells coding call v w answer
       go Taken r refused = absurd refused
       go Lacking r refused = lacking_so r refused
       go Failing r refused = failing_so (finishes call) r refl refused.0 refused.1

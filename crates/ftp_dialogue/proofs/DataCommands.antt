@@ -44,10 +44,10 @@ use Rattle.ftp_transport.specs.declared.request.RequestOutcome.TheVariants.{Done
 use Rattle.ftp_transport.specs.declared.room.Room.{Room}
 use Rattle.ftp_dialogue.proofs.Sorts.{finishing_opens, opens_drains_none, opens_no_local, unheld_call}
 use Rattle.ftp_dialogue.specs.Coding.{Coding}
-use Rattle.ftp_dialogue.specs.NetEvents.{answers, constructed, constructing, during_request, after_request, moved, settled}
-use Rattle.ftp_dialogue.specs.Dialogue.{Here, There, Tree, Say, Hear, Look, Ask, Build, Move, Leaf, accepting, admitting, opening_data, at_port, awaiting, closed_as, concluded, connecting_to, connecting_to_peer, dialogue, doing, entered, expected_of, fetch_concluded, fetch_closing_data, fetched, from_turn, gathering, last_turn, later, lets_in, most_bytes, most_reads, negotiating, negotiating_unless, on_address, on_built, on_connection, on_data, on_sent, opened_answer, opened_from, opening, performing, restart_turn, saying, sending, sending_all, size_to_send, strangers, to_address, to_port, told_of_close, too_long, unfetched, wire_data, with_left, with_transfer, closing_data, wants_memory, with_abandoned, with_fetched}
+use Rattle.ftp_dialogue.specs.NetEvents.{answers, constructed, constructing, during_request, after_request, moved, secured, securing as securing_now, settled}
+use Rattle.ftp_dialogue.specs.Dialogue.{Here, There, Tree, Say, Hear, Look, Ask, Build, Secure, Move, Leaf, accepting, admitting, opening_data, at_port, awaiting, closed_as, concluded, connecting_to, connecting_to_peer, dialogue, doing, entered, expected_of, fetch_concluded, fetch_closing_data, fetched, from_turn, gathering, last_turn, later, lets_in, most_bytes, most_reads, negotiating, negotiating_unless, on_address, on_built, on_connection, on_data, on_sent, opened_answer, opened_from, opening, performing, restart_turn, saying, securing, sending, sending_all, size_to_send, strangers, to_address, to_port, told_of_close, too_long, unfetched, wire_data, with_left, with_transfer, closing_data, wants_memory, with_abandoned, with_fetched}
 use Rattle.ftp_dialogue.specs.Laws.{AsksPeerAlone, LeadsTo, UsesPeerHost, offset_after, reached}
-use Rattle.ftp_dialogue.specs.Play.{Lacking, asked_then, built_then, finally, fits, heard_then, lacks, leaving, moved_then, play, play_call, play_unless, refusal, refused_if_failed, taken}
+use Rattle.ftp_dialogue.specs.Play.{Lacking, asked_then, built_then, finally, fits, heard_then, lacks, leaving, moved_then, secured_then, play, play_call, play_unless, refusal, refused_if_failed, taken}
 use Rattle.ftp_dialogue.specs.Sound.{cannot_beside, cannot_open}
 use Rattle.ftp_dialogue.specs.declared.model.NetRecord.{NetRecord}
 use Rattle.ftp_dialogue.specs.declared.model.NetOutcome.{NetOutcome}
@@ -72,6 +72,7 @@ Keeps peer Sort (Look Here next) = (address : SocketAddr) → Keeps peer Sort (n
 Keeps peer Sort (Look There next) = Keeps peer Sort (next peer)
 Keeps peer Sort (Ask request next) = Sort request × ((outcome : RequestOutcome) → Keeps peer Sort (next outcome))
 Keeps peer Sort (Build address next) = Sort (BuildAt address) × ((fault : Option FtpError) → Keeps peer Sort (next fault))
+Keeps peer Sort (Secure next) = (fault : Option FtpError) → Keeps peer Sort (next fault)
 Keeps peer Sort (Move moves next) = (outcome : NetOutcome) → Keeps peer Sort (next outcome)
 Keeps peer Sort (Leaf answer state) = NoOffset state
 
@@ -123,10 +124,18 @@ module _ (peer : SocketAddr) (Sort : Request → Type 0) (state : State) (admits
         let others : Tree = accepting opened host left state in
         (admits.accepts state.settings.active_deadline, address_keeps (λ from. admitting (lets_in state host from) opened others) (λ from. admitting_keeps (lets_in state host from) opened others first (accepting_keeps host left)))
 
-    opening_keeps : (m : Mode) → Keeps peer Sort (opening m opened state)
-    opening_keeps mode.Active = accepting_keeps peer strangers
-    opening_keeps mode.Passive = first
-    opening_keeps mode.ExtendedPassive = first
+  -- a data connection, under TLS in a secure session
+  securing_keeps : (opened : Tree) → Keeps peer Sort opened → Keeps peer Sort (securing opened state)
+  securing_keeps opened keeps = go state.settings.secure
+    where
+      go : (b : Bool) → Keeps peer Sort (cond b (Secure (on_built state opened)) opened)
+      go true = built_keeps opened keeps
+      go false = keeps
+
+  opening_keeps : (opened : Tree) → Keeps peer Sort opened → (m : Mode) → Keeps peer Sort (opening m opened state)
+  opening_keeps opened keeps mode.Active = accepting_keeps (securing opened state) (securing_keeps opened keeps) peer strangers
+  opening_keeps opened keeps mode.Passive = securing_keeps opened keeps
+  opening_keeps opened keeps mode.ExtendedPassive = securing_keeps opened keeps
 
   -- a whole data connection is read
   closing_data_keeps : (form : Fetch) (answer : Answer) → Keeps peer Sort (fetch_closing_data form answer state)
@@ -150,6 +159,7 @@ module _ (peer : SocketAddr) (Sort : Request → Type 0) (state : State) (admits
   data_keeps coding form all on keeps came.NoMemory = closing_data_keeps form (Fault OutOfMemory)
   data_keeps coding form all on keeps (came.Answered outcome) = closing_data_keeps form (too_long form)
   data_keeps coding form all on keeps (came.Built fault) = closing_data_keeps form (too_long form)
+  data_keeps coding form all on keeps (came.Secured fault) = closing_data_keeps form (too_long form)
   data_keeps coding form all on keeps (came.Wrote count) = closing_data_keeps form (too_long form)
   data_keeps coding form all on keeps came.Closed = closing_data_keeps form (too_long form)
 
@@ -166,6 +176,7 @@ module _ (peer : SocketAddr) (Sort : Request → Type 0) (state : State) (admits
     sent_keeps came.NoMemory = none
     sent_keeps (came.Answered outcome) = none
     sent_keeps (came.Built fault) = none
+    sent_keeps (came.Secured fault) = none
     sent_keeps (came.Read bytes) = none
     sent_keeps came.Closed = none
 
@@ -327,6 +338,7 @@ module _ (Sort : Request → Type 0) where
         | [] ↦ waits
         | came.Answered outcome ∷ outcomes ↦ (let after : PlayState = record s { net_record = after_request request outcome s.net_record; outcomes = outcomes } in asks s.net_record.asked request (play room (next outcome) after) keeps.0 (play_reaches room (next outcome) after none (keeps.1 outcome)))
         | came.Built fault ∷ outcomes ↦ waits
+        | came.Secured fault ∷ outcomes ↦ waits
         | came.Read bytes ∷ outcomes ↦ waits
         | came.Wrote count ∷ outcomes ↦ waits
         | came.Closed ∷ outcomes ↦ waits
@@ -340,7 +352,23 @@ module _ (Sort : Request → Type 0) where
       elim s.outcomes as (λ o. Reaches Sort s.net_record.asked (built_then o address s k)) [
         | [] ↦ waits
         | came.Answered outcome ∷ outcomes ↦ waits
+        | came.Secured fault ∷ outcomes ↦ waits
         | came.Built fault ∷ outcomes ↦ (let after : PlayState = record s { net_record = constructed address fault s.net_record; outcomes = outcomes } in asks s.net_record.asked (BuildAt address) (play room (next fault) after) keeps.0 (play_reaches room (next fault) after none (keeps.1 fault)))
+        | came.Read bytes ∷ outcomes ↦ waits
+        | came.Wrote count ∷ outcomes ↦ waits
+        | came.Closed ∷ outcomes ↦ waits
+        | came.Failed kind ∷ outcomes ↦ waits
+        | came.NoMemory ∷ outcomes ↦ waits
+      ]
+  play_reaches room (Secure next) s none keeps =
+      let k : Option FtpError → PlayState → Played = λ fault t. play room (next fault) t in
+      let later : Played = Pending wait.Outcome (record s { net_record = securing_now s.net_record }) in
+      let waits : Reaches Sort s.net_record.asked later = stays s.net_record.asked later none refl in
+      elim s.outcomes as (λ o. Reaches Sort s.net_record.asked (secured_then o s k)) [
+        | [] ↦ waits
+        | came.Answered outcome ∷ outcomes ↦ waits
+        | came.Built fault ∷ outcomes ↦ waits
+        | came.Secured fault ∷ outcomes ↦ (let after : PlayState = record s { net_record = secured fault s.net_record; outcomes = outcomes } in play_reaches room (next fault) after none (keeps fault))
         | came.Read bytes ∷ outcomes ↦ waits
         | came.Wrote count ∷ outcomes ↦ waits
         | came.Closed ∷ outcomes ↦ waits

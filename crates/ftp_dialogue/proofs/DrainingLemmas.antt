@@ -203,7 +203,7 @@ goes_from link came answered call old new goes = record { over = goes.over; rece
 -- what is made of a call is its dialogue
 pub made_plays : (link : Link) (coding : Coding) (call : Call) (old new : SessionValue) (answer : Answer) → Made link coding call old new answer → PlaysAlone link coding call old new answer
 made_plays link coding call old new answer (inl refused) =
-    let so = refused_so link.builds link.tells coding call old new answer refused in
+    let so = refused_so link.beside link.tells coding call old new answer refused in
     record {
       wired = λ success. absurd (so.unsuccessful success);
       made = inl refused;

@@ -31,7 +31,7 @@ use Rattle.ftp_dialogue.specs.NetEvents.{Net}
 use Rattle.ftp_dialogue.specs.State.{SessionValue}
 use Rattle.ftp_calls.specs.declared.call.Call.{Call}
 use Rattle.ftp_calls.specs.Exchanges.{finishes, negotiates}
-use Rattle.ftp_dialogue.specs.Dialogue.{Expected, Tree, Say, Hear, Look, Ask, Build, Move, Leaf, entered, opened_from, with_left}
+use Rattle.ftp_dialogue.specs.Dialogue.{Expected, Tree, Say, Hear, Look, Ask, Build, Secure, Move, Leaf, entered, opened_from, with_left}
 use Rattle.ftp_dialogue.specs.Play.{play, heard_then}
 use Rattle.ftp_dialogue.specs.Lenient.{SaysNothingYet}
 use Rattle.ftp_dialogue.specs.Resuming.{Resumes, modes_of}
@@ -78,6 +78,7 @@ nothing_resumes rule (Hear codes next) = (refl, none_said rule codes.form [] (no
 nothing_resumes rule (Look end next) = λ address. nothing_resumes rule (next address)
 nothing_resumes rule (Ask request next) = λ answer. nothing_resumes rule (next answer)
 nothing_resumes rule (Build address next) = λ fault. nothing_resumes rule (next fault)
+nothing_resumes rule (Secure next) = λ fault. nothing_resumes rule (next fault)
 nothing_resumes rule (Move movement next) = λ came. nothing_resumes rule (next came)
 nothing_resumes rule (Leaf answer state) = tt
 

@@ -24,7 +24,7 @@ use Rattle.ftp_dialogue.specs.declared.stage.Step.TheVariants.{Next, Pending, Do
 use Rattle.ftp_dialogue.specs.declared.model.PlayState.{PlayState}
 use Rattle.ftp_dialogue.specs.declared.model.Played.TheVariants as played
 use Rattle.ftp_dialogue.specs.State.{SessionValue, LetsGo}
-use Rattle.ftp_dialogue.specs.Dialogue.{Tree, Say, Hear, Look, Ask, Build, Move, Leaf}
+use Rattle.ftp_dialogue.specs.Dialogue.{Tree, Say, Hear, Look, Ask, Build, Secure, Move, Leaf}
 use Rattle.ftp_dialogue.specs.Play.{ended, finally, play, fits, said_then}
 use Rattle.ftp_dialogue.specs.Resuming.{Resumes, Silent, modes_of}
 use Rattle.ftp_dialogue.specs.Promises.{IsFault, IsOf, However, SaidOrTaken, play_state, Rests, Goes, Leads, Fails, Touched, Untouched, LacksMemory, Aborts, KeepsNoReply, failed_from, lacking_at, state_at}
@@ -107,6 +107,7 @@ line_in (Hear codes next) = []
 line_in (Look end next) = []
 line_in (Ask request next) = []
 line_in (Build address next) = []
+line_in (Secure next) = []
 line_in (Move movement next) = []
 line_in (Leaf answer state) = []
 
@@ -370,7 +371,7 @@ joined_goes link one two asked more a b c first second = record {
   said = λ h. omega (arith, first.said h, second.said h);
   untaken = omega (arith, first.untaken, second.untaken, length-append one two);
   at_hand = λ h is. second.at_hand h (first.at_hand h is);
-  net_events = λ h. net_events-append link.builds asked more a.net b.net c.net (first.net_events h) (second.net_events h);
+  net_events = λ h. net_events-append link.beside asked more a.net b.net c.net (first.net_events h) (second.net_events h);
 }
 
 -- what came first, and what comes after it
@@ -588,7 +589,7 @@ letting_goes link v w is =
       said = λ h. omega arith;
       untaken = omega arith;
       at_hand = λ h is. is;
-      net_events = λ h. letting_net_events link.tells v w link.builds h is;
+      net_events = λ h. letting_net_events link.tells v w link.beside h is;
     })
 
 pub goes_letting : (link : Link) (came : List ℕ) (answered : List NetEvent) (old last new : SessionValue) → Goes link came answered old last → LetsGo link.tells last new → Goes link came (answered ++ drops last.state.counts.owed) old new

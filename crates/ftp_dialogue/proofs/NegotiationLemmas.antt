@@ -41,23 +41,23 @@ use Rattle.ftp_base.specs.declared.types.mode.Mode.TheVariants as mode
 use Rattle.ftp_calls.specs.declared.exchange.Turn.TheVariants.{First, Second, Passive, ExtendedPassive, Active, Restart, Closed, Aborted}
 use Rattle.ftp_dialogue.specs.Sound.{cannot_open}
 use Rattle.ftp_dialogue.specs.declared.stage.OpeningData.TheVariants.{Negotiating, Asking}
-use Rattle.ftp_dialogue.specs.declared.stage.Asking.TheVariants.{Accepting, Connection}
+use Rattle.ftp_dialogue.specs.declared.stage.Asking.TheVariants.{Accepting, Connection, Securing}
 use Rattle.ftp_dialogue.specs.declared.state.State.{State}
 use Rattle.ftp_calls.specs.declared.exchange.Turn.{Turn}
 use Rattle.ftp_transport.specs.declared.request.Request.TheVariants.{Accept, Connect}
 use Rattle.ftp_transport.specs.declared.request.RequestOutcome.TheVariants.{Done as Made, Address, Refused}
-use Rattle.ftp_dialogue.specs.Dialogue.{End, Here, There, Tree, Say, Look, Ask, Build, Move, Leaf, accepting, admitting, opening_data, connecting_to, doing, from_turn, last_turn, later, lets_in, most_reads, negotiating, negotiating_unless, on_address, on_built, on_connection, restart_turn, strangers, with_transfer}
+use Rattle.ftp_dialogue.specs.Dialogue.{End, Here, There, Tree, Say, Look, Ask, Build, Secure, Move, Leaf, accepting, admitting, opening_data, connecting_to, doing, from_turn, last_turn, later, lets_in, most_reads, negotiating, negotiating_unless, on_address, on_built, on_connection, restart_turn, securing, strangers, with_transfer}
 use Rattle.ftp_dialogue.specs.Link.{Link}
 use Rattle.ftp_calls.specs.declared.exchange.Movement.{Movement}
-use Rattle.ftp_dialogue.specs.NetEvents.{NetEvent, NetEvents, ConstructedIs, Constructed, Dropped, Moved, MovementIs, Net, RequestIs, Requested, answers, constructed, net_record_of, after_request, moved}
+use Rattle.ftp_dialogue.specs.NetEvents.{NetEvent, NetEvents, ConstructedIs, Constructed, Dropped, Handshook, HandshookIs, Moved, MovementIs, Net, RequestIs, Requested, answers, constructed, net_record_of, after_request, moved, secured}
 use Rattle.ftp_dialogue.specs.declared.model.Played.{Played}
 use Rattle.ftp_dialogue.specs.declared.model.Traffic.{Traffic}
-use Rattle.ftp_dialogue.proofs.NetEvents.{net_record_constructed, net_record_after_request, net_record_moved}
-use Rattle.ftp_dialogue.specs.Play.{asked_then, play, address_at}
+use Rattle.ftp_dialogue.proofs.NetEvents.{net_record_constructed, net_record_after_request, net_record_handshook, net_record_moved}
+use Rattle.ftp_dialogue.specs.Play.{asked_then, secured_then, play, address_at}
 use Rattle.ftp_dialogue.proofs.Places.{here}
 use Rattle.ftp_dialogue.specs.Promises.{play_state, Goes, Aborts, Untouched, failed_from, state_at}
 use Rattle.ftp_dialogue.specs.State.{SessionValue}
-use Rattle.ftp_dialogue.specs.Steps.Moving.{AsksFirst, LetsIn, dropped, Accepts, Concludes, ConnectsTo, Ends, LooksUp, Meets, MeetsIf, Moves, NothingTouched, Speaks, Still, TurnsAway, Walks}
+use Rattle.ftp_dialogue.specs.Steps.Moving.{AsksFirst, LetsIn, LetsInIf, Stands, StandsUnless, dropped, Accepts, Concludes, ConnectsTo, Ends, LooksUp, Meets, MeetsIf, Moves, NothingTouched, Speaks, Still, TurnsAway, Walks}
 use Rattle.ftp_dialogue.specs.Steps.Stages.{GoesOnTo, MayPerform, OpeningOf, many, opened_by, StageOf, StepAnswers, TurnOf, is_later, begun_at, first_by, has_asked, nodes_from, nodes_left, nodes_of, remaining, way_of}
 use Rattle.ftp_dialogue.proofs.Moving.{advances_on, leads_on, moves_on, leaf_ends, lacks_memory_at, nothing_leads, nothing_shrinks, stays_put}
 
@@ -68,6 +68,10 @@ play-Ask room request next outcome outcomes s = refl
 pub play-Build : (room : Room) (address : SocketAddr) (next : Option FtpError → Tree) (fault : Option FtpError) (outcomes : List NetOutcome) (s : PlayState) → play room (Build address next) (record s { outcomes = Built fault ∷ outcomes }) ≡ play room (next fault) (record s { net_record = constructed address fault s.net_record; outcomes = outcomes })
 unfolding play
 play-Build room address next fault outcomes s = refl
+
+pub play-Secure : (room : Room) (next : Option FtpError → Tree) (fault : Option FtpError) (outcomes : List NetOutcome) (s : PlayState) → play room (Secure next) (record s { outcomes = came.Secured fault ∷ outcomes }) ≡ play room (next fault) (record s { net_record = secured fault s.net_record; outcomes = outcomes })
+unfolding play
+play-Secure room next fault outcomes s = refl
 
 pub play-Move : (room : Room) (moves : Movement) (next : NetOutcome → Tree) (outcome : NetOutcome) (outcomes : List NetOutcome) (s : PlayState) → answers moves outcome ≡ true → play room (Move moves next) (record s { outcomes = outcome ∷ outcomes }) ≡ play room (next outcome) (record s { net_record = moved moves outcome s.net_record; outcomes = outcomes })
 unfolding play
@@ -89,13 +93,30 @@ still_on link tree tree' last a b c first second = record {
   };
 }
 
+-- while a handshake is made the connector has the data connection, whichever it is
+play-Secures : (room : Room) (next : Option FtpError → Tree) (conn : Option Traffic) (s : PlayState) → play room (Secure next) s ≡ play room (Secure next) (record s { net_record = record s.net_record { data_conn = conn } })
+unfolding play
+play-Secures room next conn s =
+    let k : Option FtpError → PlayState → Played = λ fault t. play room (next fault) t in
+    elim s.outcomes as (λ o. secured_then o s k ≡ secured_then o (record s { net_record = record s.net_record { data_conn = conn } }) k) [
+      | [] ↦ refl
+      | Answered outcome ∷ outcomes ↦ refl
+      | Built fault ∷ outcomes ↦ refl
+      | came.Secured fault ∷ outcomes ↦ refl
+      | came.Read bytes ∷ outcomes ↦ refl
+      | came.Wrote count ∷ outcomes ↦ refl
+      | came.Closed ∷ outcomes ↦ refl
+      | came.Failed kind ∷ outcomes ↦ refl
+      | came.NoMemory ∷ outcomes ↦ refl
+    ]
+
 -- What stands beside the control connection has changed
 
 module _ (link : Link) (old : SessionValue) (net' : Net) where
   abbrev after : SessionValue
   after = record old { net = net' }
 
-  beside_goes : (answered : List NetEvent) → (link.tells → NetEvents link.builds answered old.net net') → Goes link [] answered old after
+  beside_goes : (answered : List NetEvent) → (link.tells → NetEvents link.beside answered old.net net') → Goes link [] answered old after
   beside_goes answered net_events = record {
     over = record { nothing = λ e. refl; over = λ e. e };
     received = λ h. sym (append-nil old.channel.told.received);
@@ -141,7 +162,7 @@ module _ (link : Link) (old : SessionValue) (net' : Net) where
   }
 
   -- the builder was asked
-  pub built_still : (address : SocketAddr) (fault : Option FtpError) → (link.tells → ConstructedIs link.builds address fault old.net net') → (next : Option FtpError → Tree) → Still link (Build address next) (next fault) old after
+  pub built_still : (address : SocketAddr) (fault : Option FtpError) → (link.tells → ConstructedIs link.beside address fault old.net net') → (next : Option FtpError → Tree) → Still link (Build address next) (next fault) old after
   built_still address fault tie next = record {
     advances = record {
       moves = record {
@@ -153,7 +174,7 @@ module _ (link : Link) (old : SessionValue) (net' : Net) where
           plays = λ h resumes room more ended outcomes fit on.
               let s : PlayState = play_state old more ended outcomes in
               play-Build room address next fault outcomes s
-              ∙ ap (λ d. play room (next fault) (record s { net_record = d })) (sym (net_record_constructed link.builds address fault old.net net' (tie h)));
+              ∙ ap (λ d. play room (next fault) (record s { net_record = d })) (sym (net_record_constructed link.beside address fault old.net net' (tie h)));
         };
         state = refl;
         resumes = λ r. r fault;
@@ -161,6 +182,64 @@ module _ (link : Link) (old : SessionValue) (net' : Net) where
         calm = λ calm. inr (refl, refl, refl, tt, refl);
         shrinks = nothing_shrinks (length old.channel.ahead);
         says = λ line next' is. let clash : Build address next ≡ Say (Ok line) next' = is in cc;
+        apart = λ apart. absurd apart;
+      };
+      failed = refl;
+    };
+    none = refl;
+    untouched = nothing_said;
+  }
+
+  -- the data connection was put under TLS, or couldn't be
+  pub handshook_still : (fault : Option FtpError) → (link.tells → HandshookIs link.beside fault old.net net') → (next : Option FtpError → Tree) → Still link (Secure next) (next fault) old after
+  handshook_still fault tie next = record {
+    advances = record {
+      moves = record {
+        leads = record {
+          within = inr (fault, here (next fault));
+          came = [];
+          answered = Handshook fault ∷ [];
+          goes = beside_goes (Handshook fault ∷ []) (λ h. (net', tie h, refl));
+          plays = λ h resumes room more ended outcomes fit on.
+              let s : PlayState = play_state old more ended outcomes in
+              play-Secure room next fault outcomes s
+              ∙ ap (λ d. play room (next fault) (record s { net_record = d })) (sym (net_record_handshook link.beside fault old.net net' (tie h)));
+        };
+        state = refl;
+        resumes = λ r. r fault;
+        keeps = λ from to silent. inr (refl, refl, refl, (fault, silent), refl);
+        calm = λ calm. inr (refl, refl, refl, tt, refl);
+        shrinks = nothing_shrinks (length old.channel.ahead);
+        says = λ line next' is. let clash : Secure next ≡ Say (Ok line) next' = is in cc;
+        apart = λ apart. absurd apart;
+      };
+      failed = refl;
+    };
+    none = refl;
+    untouched = nothing_said;
+  }
+
+  -- the connector has the data connection, or it was let go
+  pub handed_still : (link.tells → net' ≡ record old.net { data_conn = None }) → (next : Option FtpError → Tree) → Still link (Secure next) (Secure next) old after
+  handed_still tie next = record {
+    advances = record {
+      moves = record {
+        leads = record {
+          within = inl refl;
+          came = [];
+          answered = Dropped ∷ [];
+          goes = beside_goes (Dropped ∷ []) (λ h. (net', tie h, refl));
+          plays = λ h resumes room more ended outcomes fit on.
+              let s : PlayState = play_state old more ended outcomes in
+              play-Secures room next None s
+              ∙ ap (λ d. play room (Secure next) (record s { net_record = d })) (ap net_record_of (sym (tie h)));
+        };
+        state = refl;
+        resumes = λ r. r;
+        keeps = λ from to silent. inr (refl, refl, refl, silent, refl);
+        calm = λ calm. inr (refl, refl, refl, tt, refl);
+        shrinks = nothing_shrinks (length old.channel.ahead);
+        says = λ line next' is. let clash : Secure next ≡ Say (Ok line) next' = is in cc;
         apart = λ apart. absurd apart;
       };
       failed = refl;
@@ -235,10 +314,20 @@ asked_through link request outcome view old net' is tie next =
     let P : SessionValue → Type 0 = λ v. Still link (Ask request next) (next outcome) v (record view { net = net' }) in
     subst P is (asked_still link view net' request outcome tie next)
 
-pub built_through : (link : Link) (address : SocketAddr) (fault : Option FtpError) (view old : SessionValue) (net' : Net) → view ≡ old → (link.tells → ConstructedIs link.builds address fault view.net net') → (next : Option FtpError → Tree) → Still link (Build address next) (next fault) old (record view { net = net' })
+pub built_through : (link : Link) (address : SocketAddr) (fault : Option FtpError) (view old : SessionValue) (net' : Net) → view ≡ old → (link.tells → ConstructedIs link.beside address fault view.net net') → (next : Option FtpError → Tree) → Still link (Build address next) (next fault) old (record view { net = net' })
 built_through link address fault view old net' is tie next =
     let P : SessionValue → Type 0 = λ v. Still link (Build address next) (next fault) v (record view { net = net' }) in
     subst P is (built_still link view net' address fault tie next)
+
+pub handshook_through : (link : Link) (fault : Option FtpError) (view old : SessionValue) (net' : Net) → view ≡ old → (link.tells → HandshookIs link.beside fault view.net net') → (next : Option FtpError → Tree) → Still link (Secure next) (next fault) old (record view { net = net' })
+handshook_through link fault view old net' is tie next =
+    let P : SessionValue → Type 0 = λ v. Still link (Secure next) (next fault) v (record view { net = net' }) in
+    subst P is (handshook_still link view net' fault tie next)
+
+pub handed_through : (link : Link) (view old : SessionValue) (net' : Net) → view ≡ old → (link.tells → net' ≡ record view.net { data_conn = None }) → (next : Option FtpError → Tree) → Still link (Secure next) (Secure next) old (record view { net = net' })
+handed_through link view old net' is tie next =
+    let P : SessionValue → Type 0 = λ v. Still link (Secure next) (Secure next) v (record view { net = net' }) in
+    subst P is (handed_still link view net' tie next)
 
 pub moved_through : (link : Link) (moves : Movement) (outcome : NetOutcome) (view old : SessionValue) (net' : Net) → view ≡ old → (link.tells → MovementIs moves outcome view.net net') → (next : NetOutcome → Tree) → Still link (Move moves next) (next outcome) old (record view { net = net' })
 moved_through link moves outcome view old net' is tie next =
@@ -266,6 +355,7 @@ play-Accept room deadline next conn s =
       | Answered (Address from) ∷ outcomes ↦ refl
       | Answered (Refused fault) ∷ outcomes ↦ refl
       | Built fault ∷ outcomes ↦ refl
+      | came.Secured fault ∷ outcomes ↦ refl
       | came.Read bytes ∷ outcomes ↦ refl
       | came.Wrote count ∷ outcomes ↦ refl
       | came.Closed ∷ outcomes ↦ refl
@@ -669,9 +759,66 @@ unfolding accepting
 accepting_is opened peer zero state = refl
 accepting_is opened peer (suc left) state = refl
 
+-- The data connection stands
+
+module _ (link : Link) (coding : Coding) (call : Call) (way : Way) (opens : negotiates call ≡ true) (at_last : most_reads + 11 < nodes_of way) (asked : has_asked way ≡ true) (quiet : (state : State) → Speaks (way_of coding call state way) → ⊥) where
+  -- nothing was said since, and this is left of the dialogue: a transfer is live, or a whole file or listing goes over the
+  -- connection
+  pub stands_walks : (how : Opening) (stage' : Stage) (old mid new : SessionValue) (result : Step) → OpeningOf call how → Still link (way_of coding call old.state way) (opened_by coding how old.state) old mid → Stands how stage' mid new result → Walks link coding call (OpeningData way) stage' old new result
+  stands_walks (GivesAnswer answer) stage' old mid new result may still (done, same) =
+      let tree : Tree = way_of coding call old.state way in
+      let moves = still.advances.moves in
+      let P : Step → Type 0 = λ r. Walks link coding call (OpeningData way) stage' old new r in
+      let V : SessionValue → Type 0 = λ v. Ends link tree answer old v in
+      let T : Tree → Type 0 = λ t. Moves link tree t old mid in
+      let L : State → Tree = λ s. Leaf answer (with_transfer s) in
+      let ends : Ends link tree answer old new = subst V (sym same) (leaf_ends link tree answer old mid (record mid { state = with_transfer mid.state }) (subst T (ap L (sym moves.state)) moves) (λ f. inl (sym still.advances.failed ∙ f)) refl refl) in
+      subst P (sym done) (walks_end link coding call way opens stage' answer old new (inl ends) may)
+  stands_walks (PerformsAll task) stage' old mid new result may still (on, at, same) =
+      let P : Step → Type 0 = λ r. Walks link coding call (OpeningData way) stage' old new r in
+      let Q : Stage → Type 0 = λ s. Walks link coding call (OpeningData way) s old new Next in
+      let V : SessionValue → Type 0 = λ v. Walks link coding call (OpeningData way) (Transferring (Starting task)) old v Next in
+      subst P (sym on) (subst Q (sym at) (subst V (sym same) (walks_on link coding call way opens (Transferring (Starting task)) old mid still (sym asked) (λ s. absurd (quiet old.state s)) at_last may)))
+
+-- TLS
+
+module _ (link : Link) (coding : Coding) (call : Call) (turn : Turn) (how : Opening) (old mid : SessionValue) (opens : negotiates call ≡ true) (may : OpeningOf call how) where
+  abbrev handshake : Way
+  handshake = Asking turn (Securing how)
+
+  -- the data connection is under TLS
+  pub secured_walks : (stage' : Stage) (new : SessionValue) (result : Step) → ((next : Option FtpError → Tree) → Still link (Secure next) (next None) old mid) → Stands how stage' mid new result → Walks link coding call (OpeningData handshake) stage' old new result
+  secured_walks stage' new result still stands =
+      stands_walks link coding call handshake opens (omega arith) refl (λ state s. absurd s) how stage' old mid new result may (still (on_built old.state (opened_by coding how old.state))) stands
+
+  -- it couldn't be put under it
+  pub unsecured_walks : (fault : FtpError) (stage' : Stage) → ((next : Option FtpError → Tree) → Still link (Secure next) (next (Some fault)) old mid) → Walks link coding call (OpeningData handshake) stage' old mid (Done (Fault fault))
+  unsecured_walks fault stage' still =
+      let next = on_built old.state (opened_by coding how old.state) in
+      walks_end link coding call handshake opens stage' (Fault fault) old mid (inl (still_ends link (Secure next) fault old mid (still next))) (First, inr tt, tt)
+
+  -- either way
+  pub shaken_walks : (fault : Option FtpError) (stage' : Stage) (new : SessionValue) (result : Step) → ((next : Option FtpError → Tree) → Still link (Secure next) (next fault) old mid) → StandsUnless fault how stage' mid new result → Walks link coding call (OpeningData handshake) stage' old new result
+  shaken_walks None stage' new result still stands = secured_walks stage' new result still stands
+  shaken_walks (Some fault) stage' new result still (is, same) = rw (is, same) (unsecured_walks fault stage' still)
+
+  -- it waits
+  pub secure_waits : ((next : Option FtpError → Tree) → Still link (Secure next) (Secure next) old mid) → link.asks_wait → Walks link coding call (OpeningData handshake) (OpeningData handshake) old mid Pending
+  secure_waits still waits =
+      let here = still (on_built old.state (opened_by coding how old.state)) in
+      record {
+        steps = (here.advances, inr (inr (record { asks = tt; may = waits })));
+        quiet = tt;
+        begun = (λ has. inl has, λ none. (none, still_touched link _ _ old mid here));
+        answers = tt;
+        fewer = λ is. let clash : Pending ≡ Next = is in cc;
+        stage_of = (opens, may);
+        waits = λ is. waits;
+      }
+
 module _ (link : Link) (coding : Coding) (how : Opening) (peer from : SocketAddr) (left : ℕ) (old mid : SessionValue) where
   abbrev opened : Tree
-  opened = opened_by coding how old.state
+  opened = securing (opened_by coding how old.state) old.state
 
   abbrev waiting : Tree
   waiting = accepting opened peer left old.state
@@ -686,22 +833,32 @@ module _ (link : Link) (coding : Coding) (how : Opening) (peer from : SocketAddr
       let Q : Bool → Type 0 = λ b. Still link waiting (admitting b opened (others_of opened peer left old.state)) old mid in
       subst Q is (subst P (sym (accepting_is opened peer left old.state)) still)
 
-  -- it is let in, and a transfer is live
-  pub lets_in_ends : (answer : Answer) (new : SessionValue) → how ≡ GivesAnswer answer → lets_in old.state peer from ≡ true → Knocks → new ≡ record mid { state = with_transfer mid.state } → Ends link waiting answer old new
-  lets_in_ends answer new gives is still same =
-      let here = knocked true is still in
-      let moves = here.advances.moves in
-      let P : SessionValue → Type 0 = λ v. Ends link waiting answer old v in
-      let T : Tree → Type 0 = λ t. Moves link waiting t old mid in
-      let L : State → Tree = λ s. Leaf answer (with_transfer s) in
-      subst P (sym same) (leaf_ends link waiting answer old mid (record mid { state = with_transfer mid.state }) (subst T (ap (λ o. opened_by coding o old.state) gives ∙ ap L (sym moves.state)) moves) (λ f. inl (sym here.advances.failed ∙ f)) refl refl)
-
-  -- it is let in, and a whole file or listing goes over its connection
-  pub lets_in_performs : (call : Call) (turn : Turn) (task : Task) → how ≡ PerformsAll task → negotiates call ≡ true → MayPerform call task → lets_in old.state peer from ≡ true → Knocks → Walks link coding call (OpeningData (Asking turn (Accepting peer left how))) (Transferring (Starting task)) old mid Next
-  lets_in_performs call turn task performs opens may is still =
-      let T : Opening → Type 0 = λ o. Still link waiting (opened_by coding o old.state) old mid in
+  knocking_quiet : (state : State) → Speaks (accepting (securing (opened_by coding how state) state) peer left state) → ⊥
+  knocking_quiet state s =
       let S : Tree → Type 0 = Speaks in
-      walks_on link coding call (Asking turn (Accepting peer left how)) opens (Transferring (Starting task)) old mid (subst T performs (knocked true is still)) refl (λ s. absurd (subst S (accepting_is opened peer left old.state) s)) (omega arith) may
+      absurd (subst S (accepting_is (securing (opened_by coding how state) state) peer left state) s)
+
+  -- it is let in: its connection is put under TLS, or stands as it is
+  pub lets_in_walks : (call : Call) (turn : Turn) (stage' : Stage) (new : SessionValue) (result : Step) → negotiates call ≡ true → OpeningOf call how → lets_in old.state peer from ≡ true → Knocks → LetsIn turn how stage' mid new result → Walks link coding call (OpeningData (Asking turn (Accepting peer left how))) stage' old new result
+  lets_in_walks call turn stage' new result opens may is still lets = go old.state.settings.secure refl (let B : Bool → Type 0 = λ b. LetsInIf b turn how stage' mid new result in subst B (ap (λ s. s.settings.secure) here.advances.moves.state) lets)
+    where
+      way : Way
+      way = Asking turn (Accepting peer left how)
+
+      here : Still link waiting opened old mid
+      here = knocked true is still
+
+      as_is : (b : Bool) → old.state.settings.secure ≡ b → Still link waiting (cond b (Secure (on_built old.state (opened_by coding how old.state))) (opened_by coding how old.state)) old mid
+      as_is b same = (let T : Bool → Type 0 = λ x. Still link waiting (cond x (Secure (on_built old.state (opened_by coding how old.state))) (opened_by coding how old.state)) old mid in subst T same here)
+
+      go : (b : Bool) → old.state.settings.secure ≡ b → LetsInIf b turn how stage' mid new result → Walks link coding call (OpeningData way) stage' old new result
+      go true same (on, at, stays) =
+          let P : Step → Type 0 = λ r. Walks link coding call (OpeningData way) stage' old new r in
+          let Q : Stage → Type 0 = λ s. Walks link coding call (OpeningData way) s old new Next in
+          let V : SessionValue → Type 0 = λ v. Walks link coding call (OpeningData way) (OpeningData (Asking turn (Securing how))) old v Next in
+          subst P (sym on) (subst Q (sym at) (subst V (sym stays) (walks_on link coding call way opens (OpeningData (Asking turn (Securing how))) old mid (as_is true same) refl (λ s. absurd (knocking_quiet old.state s)) (omega arith) (opens, may))))
+      go false same stands =
+          stands_walks link coding call way opens (omega arith) refl (λ state s. knocking_quiet state s) how stage' old mid new result may (as_is false same) stands
 
   -- it is turned away
   pub turns_away : (call : Call) (turn : Turn) (stage' : Stage) (new : SessionValue) (result : Step) → negotiates call ≡ true → OpeningOf call how → lets_in old.state peer from ≡ false → Knocks → TurnsAway turn peer left how stage' mid new result → Walks link coding call (OpeningData (Asking turn (Accepting peer left how))) stage' old new result
@@ -738,33 +895,21 @@ module _ (link : Link) (coding : Coding) (how : Opening) (peer from : SocketAddr
 -- what a request for a peer resulted in
 pub meets_walks : (link : Link) (coding : Coding) (call : Call) (turn : Turn) (peer : SocketAddr) (left : ℕ) (how : Opening) (outcome : RequestOutcome) (stage' : Stage) (old mid new : SessionValue) (result : Step) → negotiates call ≡ true → OpeningOf call how → ((next : RequestOutcome → Tree) → Still link (Ask (Accept old.state.settings.active_deadline) next) (next outcome) old mid) → Meets outcome turn peer left how stage' mid new result → Walks link coding call (OpeningData (Asking turn (Accepting peer left how))) stage' old new result
 meets_walks link coding call turn peer left how (Address from) stage' old mid new result opens may still meets =
-    let here = still (knocks (opened_by coding how old.state) peer left old.state) in
+    let here = still (knocks (securing (opened_by coding how old.state) old.state) peer left old.state) in
     let way : Way = Asking turn (Accepting peer left how) in
     let state : lets_in mid.state peer from ≡ lets_in old.state peer from = ap (λ s. lets_in s peer from) here.advances.moves.state in
     go (lets_in old.state peer from) refl (let M : Bool → Type 0 = λ b. MeetsIf b turn peer left how stage' mid new result in subst M state meets)
   where
     go : (b : Bool) → lets_in old.state peer from ≡ b → MeetsIf b turn peer left how stage' mid new result → Walks link coding call (OpeningData (Asking turn (Accepting peer left how))) stage' old new result
-    go true is lets = entered how refl lets
-      where
-        entered : (o : Opening) → how ≡ o → LetsIn o stage' mid new result → Walks link coding call (OpeningData (Asking turn (Accepting peer left how))) stage' old new result
-        entered (GivesAnswer answer) gives (done, same) =
-            let P : Step → Type 0 = λ r. Walks link coding call (OpeningData (Asking turn (Accepting peer left how))) stage' old new r in
-            let O : Opening → Type 0 = λ x. OpeningOf call x in
-            subst P (sym done) (walks_end link coding call (Asking turn (Accepting peer left how)) opens stage' answer old new (inl (lets_in_ends link coding how peer from left old mid answer new gives is (still (knocks (opened_by coding how old.state) peer left old.state)) same)) (subst O gives may))
-        entered (PerformsAll task) performs (on, at, same) =
-            let P : Step → Type 0 = λ r. Walks link coding call (OpeningData (Asking turn (Accepting peer left how))) stage' old new r in
-            let Q : Stage → Type 0 = λ s. Walks link coding call (OpeningData (Asking turn (Accepting peer left how))) s old new Next in
-            let V : SessionValue → Type 0 = λ v. Walks link coding call (OpeningData (Asking turn (Accepting peer left how))) (Transferring (Starting task)) old v Next in
-            let O : Opening → Type 0 = λ x. OpeningOf call x in
-            subst P (sym on) (subst Q (sym at) (subst V (sym same) (lets_in_performs link coding how peer from left old mid call turn task performs opens (subst O performs may) is (still (knocks (opened_by coding how old.state) peer left old.state)))))
-    go false is away = turns_away link coding how peer from left old mid call turn stage' new result opens may is (still (knocks (opened_by coding how old.state) peer left old.state)) away
+    go true is lets = lets_in_walks link coding how peer from left old mid call turn stage' new result opens may is (still (knocks (securing (opened_by coding how old.state) old.state) peer left old.state)) lets
+    go false is away = turns_away link coding how peer from left old mid call turn stage' new result opens may is (still (knocks (securing (opened_by coding how old.state) old.state) peer left old.state)) away
 meets_walks link coding call turn peer left how (Refused fault) stage' old mid new result opens may still (same, is) =
     let way : Way = Asking turn (Accepting peer left how) in
     let V : SessionValue → Type 0 = λ v. Walks link coding call (OpeningData way) stage' old v result in
     let P : Step → Type 0 = λ r. Walks link coding call (OpeningData way) stage' old mid r in
-    subst V (sym same) (subst P (sym is) (walks_end link coding call way opens stage' (Fault (ConnectionError fault)) old mid (inl (none_comes link coding how peer peer left old mid (ConnectionError fault) (still (knocks (opened_by coding how old.state) peer left old.state)))) (First, inr tt, tt)))
+    subst V (sym same) (subst P (sym is) (walks_end link coding call way opens stage' (Fault (ConnectionError fault)) old mid (inl (none_comes link coding how peer peer left old mid (ConnectionError fault) (still (knocks (securing (opened_by coding how old.state) old.state) peer left old.state)))) (First, inr tt, tt)))
 meets_walks link coding call turn peer left how Made stage' old mid new result opens may still (same, is) =
     let way : Way = Asking turn (Accepting peer left how) in
     let V : SessionValue → Type 0 = λ v. Walks link coding call (OpeningData way) stage' old v result in
     let P : Step → Type 0 = λ r. Walks link coding call (OpeningData way) stage' old mid r in
-    subst V (sym same) (subst P (sym is) (walks_end link coding call way opens stage' (Fault (ConnectionError NoAddress)) old mid (inl (none_comes link coding how peer peer left old mid (ConnectionError NoAddress) (still (knocks (opened_by coding how old.state) peer left old.state)))) (First, inr tt, tt)))
+    subst V (sym same) (subst P (sym is) (walks_end link coding call way opens stage' (Fault (ConnectionError NoAddress)) old mid (inl (none_comes link coding how peer peer left old mid (ConnectionError NoAddress) (still (knocks (securing (opened_by coding how old.state) old.state) peer left old.state)))) (First, inr tt, tt)))

@@ -15,9 +15,9 @@ use Rattle.ftp_base.specs.declared.types.fault.FtpError.{FtpError}
 use Rattle.ftp_calls.specs.declared.exchange.Movement.{Movement}
 use Rattle.ftp_calls.specs.declared.exchange.Movement.TheVariants as movement
 use Rattle.ftp_dialogue.specs.declared.model.NetOutcome.{NetOutcome}
-use Rattle.ftp_dialogue.specs.declared.model.NetOutcome.TheVariants.{Answered, Built, Read, Wrote, Closed, Failed, NoMemory}
-use Rattle.ftp_dialogue.specs.NetEvents.{Net, NetEvent, Requested, Constructed, Moved, Parted, Dropped, BuiltIs, ClosesBy, ClosesFrom, CloseIs, ConstructedIs, DataIs, DataTells, NetEvents, MovementIs, ReadIs, RequestIs, WriteIs, constructed, data_after, data_built, net_record_of, after_request, moved, outcomes_of, parted, read_more, traffic_of, written_more, settled}
-use Rattle.ftp_dialogue.specs.Link.{Builds}
+use Rattle.ftp_dialogue.specs.declared.model.NetOutcome.TheVariants.{Answered, Built, Secured, Read, Wrote, Closed, Failed, NoMemory}
+use Rattle.ftp_dialogue.specs.NetEvents.{Net, NetEvent, Requested, Constructed, Handshook, HandshookIs, Moved, Parted, Dropped, BuiltIs, ClosesBy, ClosesFrom, CloseIs, ConstructedIs, DataIs, DataTells, NetEvents, MovementIs, ReadIs, RequestIs, WriteIs, constructed, data_after, data_built, net_record_of, after_request, moved, outcomes_of, parted, read_more, secured, traffic_of, written_more, settled}
+use Rattle.ftp_dialogue.specs.Link.{Beside}
 use Rattle.ftp_dialogue.specs.declared.model.NetRecord.{NetRecord}
 use Rattle.ftp_dialogue.specs.declared.model.Traffic.{Traffic}
 use Rattle.ftp_dialogue.specs.declared.state.Owed.{Owed}
@@ -28,14 +28,15 @@ pub outcomes-append : (a b : List NetEvent) → outcomes_of (a ++ b) ≡ outcome
 outcomes-append [] b = refl
 outcomes-append (Requested request outcome ∷ a) b = ap (λ l. Answered outcome ∷ l) (outcomes-append a b)
 outcomes-append (Constructed address fault ∷ a) b = ap (λ l. Built fault ∷ l) (outcomes-append a b)
+outcomes-append (Handshook fault ∷ a) b = ap (λ l. Secured fault ∷ l) (outcomes-append a b)
 outcomes-append (Moved movement outcome ∷ a) b = ap (λ l. outcome ∷ l) (outcomes-append a b)
 outcomes-append (Parted ∷ a) b = outcomes-append a b
 outcomes-append (Dropped ∷ a) b = outcomes-append a b
 
 -- one after another
-pub net_events-append : (builds : Builds) (a b : List NetEvent) (n m k : Net) → NetEvents builds a n m → NetEvents builds b m k → NetEvents builds (a ++ b) n k
-net_events-append builds [] b n m k same second = (let P : Net → Type 0 = λ x. NetEvents builds b x k in subst P same second)
-net_events-append builds (net_event ∷ a) b n m k first second = (first.0, first.1, net_events-append builds a b first.0 m k first.2 second)
+pub net_events-append : (beside : Beside) (a b : List NetEvent) (n m k : Net) → NetEvents beside a n m → NetEvents beside b m k → NetEvents beside (a ++ b) n k
+net_events-append beside [] b n m k same second = (let P : Net → Type 0 = λ x. NetEvents beside b x k in subst P same second)
+net_events-append beside (net_event ∷ a) b n m k first second = (first.0, first.1, net_events-append beside a b first.0 m k first.2 second)
 
 -- the data connection after a request is what the definition says
 data_after_request : (request : Request) (outcome : RequestOutcome) (n m : Net) → DataIs request outcome n m → option_map traffic_of m.data_conn ≡ data_after request outcome (option_map traffic_of n.data_conn)
@@ -57,17 +58,22 @@ net_record_after_request request outcome n m is =
     ap A asked ∙ ap C is.closed ∙ ap D (data_after_request request outcome n m is.data_is)
 
 -- the data connection after the builder was asked is what the definition says
-data_constructed : (builds : Builds) (address : SocketAddr) (fault : Option FtpError) (n m : Net) → BuiltIs builds address fault n m → option_map traffic_of m.data_conn ≡ data_built fault (option_map traffic_of n.data_conn)
-data_constructed builds address None n m is = ap (option_map traffic_of) is.2
-data_constructed builds address (Some fault) n m is = ap (option_map traffic_of) is.1
+data_constructed : (beside : Beside) (address : SocketAddr) (fault : Option FtpError) (n m : Net) → BuiltIs beside address fault n m → option_map traffic_of m.data_conn ≡ data_built fault (option_map traffic_of n.data_conn)
+data_constructed beside address None n m is = ap (option_map traffic_of) is.2
+data_constructed beside address (Some fault) n m is = ap (option_map traffic_of) is.1
 
-pub net_record_constructed : (builds : Builds) (address : SocketAddr) (fault : Option FtpError) (n m : Net) → ConstructedIs builds address fault n m → net_record_of m ≡ constructed address fault (net_record_of n)
-net_record_constructed builds address fault n m is =
+pub net_record_constructed : (beside : Beside) (address : SocketAddr) (fault : Option FtpError) (n m : Net) → ConstructedIs beside address fault n m → net_record_of m ≡ constructed address fault (net_record_of n)
+net_record_constructed beside address fault n m is =
     let asked : requests_of m.asked ≡ requests_of n.asked ++ Build address ∷ [] = ap requests_of is.asked ∙ requests-append n.asked ((record { request = Build address; outcome = Done }) ∷ []) in
     let A : List Request → NetRecord = λ a. record { asked = a; closed = map traffic_of m.closed; data_conn = option_map traffic_of m.data_conn } in
     let C : List Told → NetRecord = λ c. record { asked = requests_of n.asked ++ Build address ∷ []; closed = map traffic_of c; data_conn = option_map traffic_of m.data_conn } in
     let D : Option Traffic → NetRecord = λ d. record { asked = requests_of n.asked ++ Build address ∷ []; closed = map traffic_of n.closed; data_conn = d } in
-    ap A asked ∙ ap C is.closed ∙ ap D (data_constructed builds address fault n m is.built)
+    ap A asked ∙ ap C is.closed ∙ ap D (data_constructed beside address fault n m is.built)
+
+-- what a handshake leaves is what the definition says
+pub net_record_handshook : (beside : Beside) (fault : Option FtpError) (n m : Net) → HandshookIs beside fault n m → net_record_of m ≡ secured fault (net_record_of n)
+net_record_handshook beside None n m is = ap net_record_of is.2
+net_record_handshook beside (Some fault) n m is = ap net_record_of is.1
 
 -- What is done on the data connection
 
@@ -84,6 +90,7 @@ read_traffic most NoMemory t u (inl same) = ap traffic_of same
 read_traffic most NoMemory t u (inr ended) = ap traffic_of ended
 read_traffic most (Answered outcome) t u is = absurd is
 read_traffic most (Built fault) t u is = absurd is
+read_traffic most (Secured fault) t u is = absurd is
 read_traffic most (Wrote count) t u is = absurd is
 read_traffic most Closed t u is = absurd is
 
@@ -92,6 +99,7 @@ written_traffic bytes (Wrote count) t u is = ap traffic_of is.2
 written_traffic bytes (Failed kind) t u is = ap traffic_of is.same
 written_traffic bytes (Answered outcome) t u is = absurd is
 written_traffic bytes (Built fault) t u is = absurd is
+written_traffic bytes (Secured fault) t u is = absurd is
 written_traffic bytes (Read other) t u is = absurd is
 written_traffic bytes Closed t u is = absurd is
 written_traffic bytes NoMemory t u is = absurd is
@@ -101,6 +109,7 @@ closed_traffic Closed t u is = ap traffic_of is
 closed_traffic (Failed kind) t u is = ap traffic_of is.same
 closed_traffic (Answered outcome) t u is = absurd is
 closed_traffic (Built fault) t u is = absurd is
+closed_traffic (Secured fault) t u is = absurd is
 closed_traffic (Read bytes) t u is = absurd is
 closed_traffic (Wrote count) t u is = absurd is
 closed_traffic NoMemory t u is = absurd is
@@ -158,10 +167,10 @@ module _ (tells : Type 0) (v w : SessionValue) where
       go (Live number) same = net_of v.net same
       go (Left number) parts = parts.0
 
-  pub letting_net_events : (builds : Builds) → tells → LetsGo tells v w → NetEvents builds (drops v.state.counts.owed) v.net w.net
-  letting_net_events builds h is = go v.state.counts.owed is
+  pub letting_net_events : (beside : Beside) → tells → LetsGo tells v w → NetEvents beside (drops v.state.counts.owed) v.net w.net
+  letting_net_events beside h is = go v.state.counts.owed is
     where
-      go : (owed : Owed) → LetsGoBeside owed tells v w → NetEvents builds (drops owed) v.net w.net
+      go : (owed : Owed) → LetsGoBeside owed tells v w → NetEvents beside (drops owed) v.net w.net
       go Nothing same = (w.net, ap (λ x. x.net) same, refl)
       go (Live number) same = ap (λ x. x.net) same
       go (Left number) parts = (w.net, parts.1 h, refl)

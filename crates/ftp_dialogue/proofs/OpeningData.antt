@@ -14,7 +14,7 @@ use Rattle.ftp_calls.specs.declared.exchange.Turn.TheVariants.{First, Second, Pa
 use Rattle.ftp_calls.specs.Exchanges.{Kind, ending_of, given_by, is_draining, is_negotiating, is_opening, is_own, kind_of, kind_of_task, negotiates, opens, own_row, row_of}
 use Rattle.ftp_calls.specs.Kinds.{Gives}
 use Rattle.ftp_dialogue.specs.declared.stage.Asking.{Asking}
-use Rattle.ftp_dialogue.specs.declared.stage.Asking.TheVariants.{PeerPort, Connection, Peer, Accepting}
+use Rattle.ftp_dialogue.specs.declared.stage.Asking.TheVariants.{PeerPort, Connection, Peer, Accepting, Securing}
 use Rattle.ftp_dialogue.specs.declared.stage.Opened.TheVariants.{Gives as GivesAnswer, Performs as PerformsAll}
 use Rattle.ftp_dialogue.specs.Dialogue.{most_reads, strangers}
 use Rattle.ftp_dialogue.specs.Promises.{IsFault}
@@ -111,6 +111,8 @@ asking_answers call turn ending (Connection address) of row leads answers = tt
 asking_answers call turn ending (Peer (GivesAnswer answer)) of row leads answers = (turn, inl of, row_answers (row_of call turn) ending answer row answers)
 asking_answers call turn ending (Peer (PerformsAll task)) of row leads answers = may_perform call turn ending task of row leads answers
 asking_answers call turn ending (Accepting peer left opened) of row leads answers = absurd answers
+asking_answers call turn ending (Securing (GivesAnswer answer)) of row leads answers = (turn, inl of, row_answers (row_of call turn) ending answer row answers)
+asking_answers call turn ending (Securing (PerformsAll task)) of row leads answers = may_perform call turn ending task of row leads answers
 
 many_nodes : (turn : Turn) → most_reads + strangers + 19 < nodes_from turn
 many_nodes First = omega arith
@@ -130,6 +132,7 @@ asking_fewer turn kind (PeerPort port) answers = omega (arith, many_nodes turn)
 asking_fewer turn kind (Connection address) answers = omega (arith, many_nodes turn)
 asking_fewer turn kind (Peer opened) answers = omega (arith, many_nodes turn)
 asking_fewer turn kind (Accepting peer left opened) answers = absurd answers
+asking_fewer turn kind (Securing opened) answers = omega (arith, many_nodes turn)
 
 -- a call that opens no data connection has no exchange that leads to one
 pub first_plain : (call : Call) → negotiates call ≡ false → row_agrees (ending_of (row_of call First)) ≡ false

@@ -1,6 +1,6 @@
 -- Places of a tree: the tree itself is one, and a place of a place is a place.
 use Rattle.std.proofs.Common.{◌≡◌, ◌⊎◌, [], Ok, Err, inl, inr, refl, subst}
-use Rattle.ftp_dialogue.specs.Dialogue.{Tree, Say, Hear, Look, Ask, Build, Move, Leaf}
+use Rattle.ftp_dialogue.specs.Dialogue.{Tree, Say, Hear, Look, Ask, Build, Secure, Move, Leaf}
 use Rattle.ftp_dialogue.specs.Within.{Within}
 
 -- the tree itself
@@ -11,6 +11,7 @@ here (Hear codes next) = inl refl
 here (Look end next) = inl refl
 here (Ask request next) = inl refl
 here (Build address next) = inl refl
+here (Secure next) = inl refl
 here (Move movement next) = inl refl
 here (Leaf answer state) = refl
 
@@ -39,6 +40,8 @@ within_on place mid (Ask request next) first (inl is) = at_once place mid (Ask r
 within_on place mid (Ask request next) first (inr (answer, second)) = inr (answer, within_on place mid (next answer) first second)
 within_on place mid (Build address next) first (inl is) = at_once place mid (Build address next) is first
 within_on place mid (Build address next) first (inr (fault, second)) = inr (fault, within_on place mid (next fault) first second)
+within_on place mid (Secure next) first (inl is) = at_once place mid (Secure next) is first
+within_on place mid (Secure next) first (inr (fault, second)) = inr (fault, within_on place mid (next fault) first second)
 within_on place mid (Move movement next) first (inl is) = at_once place mid (Move movement next) is first
 within_on place mid (Move movement next) first (inr (came, second)) = inr (came, within_on place mid (next came) first second)
 within_on place mid (Leaf answer state) first is = at_once place mid (Leaf answer state) is first

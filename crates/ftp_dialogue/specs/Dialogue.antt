@@ -95,14 +95,16 @@ pub data End : Type 0 where
 
 -- what is left of a call: a command's line, or its refusal, is said; a reply of one of these statuses is heard, or
 -- an error in its place; the address of an end of the control connection is looked up; the transport is asked for
--- something; the caller's builder is asked for a connection to an address, and makes one or gives an error; something
--- is done on the data connection; or the call ends with this answer, in this state
+-- something; the caller's builder is asked for a connection to an address, and makes one or gives an error; the
+-- connector is asked to put the data connection under TLS, and does or gives an error; something is done on the data
+-- connection; or the call ends with this answer, in this state
 pub data Tree : Type 0 where
   Say : Result (List ℕ) ConnectionError → Tree → Tree
   Hear : Expected → (Result Response FtpError → Tree) → Tree
   Look : End → (SocketAddr → Tree) → Tree
   Ask : Request → (RequestOutcome → Tree) → Tree
   Build : SocketAddr → (Option FtpError → Tree) → Tree
+  Secure : (Option FtpError → Tree) → Tree
   Move : Movement → (NetOutcome → Tree) → Tree
   Leaf : Answer → State → Tree
 
@@ -150,7 +152,7 @@ on_connection state next Made = next
 on_connection state next (Address address) = next
 on_connection state next (Refused fault) = Leaf (Fault (Connection fault)) state
 
--- a connection that the builder makes; its error is the answer as it is
+-- a connection that the builder or the connector makes; its error is the answer as it is
 abbrev pub on_built : State → Tree → Option FtpError → Tree
 on_built state next None = next
 on_built state next (Some fault) = Leaf (Fault fault) state
@@ -204,11 +206,15 @@ accepting opened peer (suc left) state =
 abbrev pub strangers : ℕ
 strangers = 1000
 
+-- in a secure session the data connection is put under TLS before it carries anything: RFC 4217, section 9
+abbrev pub securing : Tree → State → Tree
+securing opened state = if state.settings.secure then Secure (on_built state opened) else opened
+
 -- the command was accepted: the data connection stands, or the server opens it now
 abbrev pub opening : Mode → Tree → State → Tree
-opening mode.Active opened state = Look There (λ peer. accepting opened peer strangers state)
-opening mode.Passive opened state = opened
-opening mode.ExtendedPassive opened state = opened
+opening mode.Active opened state = Look There (λ peer. accepting (securing opened state) peer strangers state)
+opening mode.Passive opened state = securing opened state
+opening mode.ExtendedPassive opened state = securing opened state
 
 abbrev pub opened_answer : Bool → Response → Answer
 opened_answer gives_reply reply = if gives_reply then OpenedWith reply else Opened
@@ -219,6 +225,7 @@ opened_answer gives_reply reply = if gives_reply then OpenedWith reply else Open
 abbrev pub moved_answer : NetOutcome → Answer
 moved_answer (came.Answered outcome) = Unit
 moved_answer (came.Built fault) = Unit
+moved_answer (came.Secured fault) = Unit
 moved_answer (came.Read bytes) = answer.Bytes bytes
 moved_answer (came.Wrote count) = answer.Count count
 moved_answer came.Closed = Unit

@@ -13,24 +13,25 @@ use Rattle.ftp_dialogue.specs.declared.stage.OpeningData.{OpeningData}
 use Rattle.ftp_dialogue.specs.declared.stage.OpeningData.TheVariants.{Negotiating, Locating, Binding, Asking}
 use Rattle.ftp_dialogue.specs.declared.stage.Resyncing.{Resyncing as Resync}
 use Rattle.ftp_dialogue.specs.declared.stage.Resyncing.TheVariants as resync
-use Rattle.ftp_dialogue.specs.declared.stage.Asking.TheVariants.{PeerPort, Connection, Peer, Accepting}
+use Rattle.ftp_dialogue.specs.declared.stage.Asking.TheVariants.{PeerPort, Connection, Peer, Accepting, Securing}
 use Rattle.ftp_dialogue.specs.declared.stage.Stage.{Stage}
 use Rattle.ftp_dialogue.specs.declared.stage.Stage.TheVariants.{At, Saying, Hearing, Arming, Resyncing, Closing, Aborting, Transferring}
 use Rattle.ftp_dialogue.specs.declared.stage.Stage.TheVariants as stages
 use Rattle.ftp_dialogue.specs.declared.state.State.{State}
 
--- a data command was accepted, and its peer is waited for
+-- a data command was accepted, and its peer is waited for, or TLS
 abbrev pub awaits_peer : OpeningData → Bool
 awaits_peer (Asking turn (Peer opened)) = true
 awaits_peer (Asking turn (Accepting address left opened)) = true
+awaits_peer (Asking turn (Securing opened)) = true
 awaits_peer (Asking turn (PeerPort port)) = false
 awaits_peer (Asking turn (Connection address)) = false
 awaits_peer (Negotiating offset) = false
 awaits_peer (Locating offset) = false
 awaits_peer (Binding address offset) = false
 
--- a data command was accepted, so that the server owes the last reply of its transfer, which isn't counted yet: its peer is
--- waited for, or a whole file or listing is under way
+-- a data command was accepted, so that the server owes the last reply of its transfer, which isn't counted yet: its peer
+-- or TLS is waited for, or a whole file or listing is under way
 abbrev pub owes_last_reply : Stage → Bool
 owes_last_reply (Transferring fetching) = true
 owes_last_reply (stages.OpeningData opening_data) = awaits_peer opening_data

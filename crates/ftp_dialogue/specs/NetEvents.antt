@@ -15,10 +15,10 @@ use Rattle.ftp_transport.specs.declared.request.RequestOutcome.TheVariants.{Done
 use Rattle.ftp_transport.specs.declared.supply.Supply.{Supply}
 use Rattle.ftp_transport.specs.declared.supply.Supply.TheVariants.{Connects, Peer}
 use Rattle.ftp_dialogue.specs.declared.model.NetOutcome.{NetOutcome}
-use Rattle.ftp_dialogue.specs.declared.model.NetOutcome.TheVariants.{Answered, Built, Read, Wrote, Closed, Failed, NoMemory}
+use Rattle.ftp_dialogue.specs.declared.model.NetOutcome.TheVariants.{Answered, Built, Secured, Read, Wrote, Closed, Failed, NoMemory}
 use Rattle.ftp_dialogue.specs.declared.model.NetRecord.{NetRecord}
 use Rattle.ftp_dialogue.specs.declared.model.Traffic.{Traffic}
-use Rattle.ftp_dialogue.specs.Link.{Builds}
+use Rattle.ftp_dialogue.specs.Link.{Beside}
 use Rattle.ftp_dialogue.specs.declared.state.Owed.{Owed}
 use Rattle.ftp_dialogue.specs.declared.state.Owed.TheVariants.{Nothing, Live, Left}
 
@@ -86,6 +86,20 @@ constructed address fault d = record { asked = d.asked ++ Build address ∷ []; 
 abbrev pub constructing : SocketAddr → NetRecord → NetRecord
 constructing address d = record d { asked = d.asked ++ Build address ∷ [] }
 
+-- TLS
+
+-- the data connection after a handshake: one under TLS, of which nothing was read or written yet; or there is none
+abbrev pub data_secured : Option FtpError → Option Traffic
+data_secured None = Some no_traffic
+data_secured (Some fault) = None
+
+abbrev pub secured : Option FtpError → NetRecord → NetRecord
+secured fault d = record d { data_conn = data_secured fault }
+
+-- while it is made the connector has the connection
+abbrev pub securing : NetRecord → NetRecord
+securing d = record d { data_conn = None }
+
 -- What is done on the data connection
 
 -- the outcome is one of such a movement
@@ -129,11 +143,13 @@ settled (Left number) d = parted d
 
 -- What happened, and what it left
 
--- a request was answered; the builder was asked, and made a connection or gave an error; something was done on the data
--- connection; it was closed and handed back, whatever the close resulted in; or it was let go
+-- a request was answered; the builder was asked, and made a connection or gave an error; the data connection was put under
+-- TLS, or couldn't be; something was done on it; it was closed and handed back, whatever the close resulted in; or it was let
+-- go
 pub data NetEvent : Type 0 where
   Requested : Request → RequestOutcome → NetEvent
   Constructed : SocketAddr → Option FtpError → NetEvent
+  Handshook : Option FtpError → NetEvent
   Moved : Movement → NetOutcome → NetEvent
   Parted : NetEvent
   Dropped : NetEvent
@@ -142,6 +158,7 @@ abbrev pub outcomes_of : List NetEvent → List NetOutcome
 outcomes_of [] = []
 outcomes_of (Requested request outcome ∷ more) = Answered outcome ∷ outcomes_of more
 outcomes_of (Constructed address fault ∷ more) = Built fault ∷ outcomes_of more
+outcomes_of (Handshook fault ∷ more) = Secured fault ∷ outcomes_of more
 outcomes_of (Moved movement outcome ∷ more) = outcome ∷ outcomes_of more
 outcomes_of (Parted ∷ more) = outcomes_of more
 outcomes_of (Dropped ∷ more) = outcomes_of more
@@ -167,16 +184,22 @@ pub record RequestIs (request : Request) (outcome : RequestOutcome) (n m : Net) 
   pub closed : m.closed ≡ n.closed
 
 -- the data connection is the one that the builder made, and nothing of it was read or written yet; or it gave an error
-abbrev pub BuiltIs : Builds → SocketAddr → Option FtpError → Net → Net → Type 0
-BuiltIs builds address None n m = (told : Told) × builds address (Ok told) × (m.data_conn ≡ Some (begun told))
-BuiltIs builds address (Some fault) n m = builds address (Err fault) × (m.data_conn ≡ n.data_conn)
+abbrev pub BuiltIs : Beside → SocketAddr → Option FtpError → Net → Net → Type 0
+BuiltIs beside address None n m = (told : Told) × beside.builds address (Ok told) × (m.data_conn ≡ Some (begun told))
+BuiltIs beside address (Some fault) n m = beside.builds address (Err fault) × (m.data_conn ≡ n.data_conn)
 
 -- what the builder was asked is on record, and the transport's own items stay
-pub record ConstructedIs (builds : Builds) (address : SocketAddr) (fault : Option FtpError) (n m : Net) : Type 0 where
+pub record ConstructedIs (beside : Beside) (address : SocketAddr) (fault : Option FtpError) (n m : Net) : Type 0 where
   pub asked : m.asked ≡ recorded (Build address) Done n.asked
-  pub built : BuiltIs builds address fault n m
+  pub built : BuiltIs beside address fault n m
   pub ready : m.ready ≡ n.ready
   pub closed : m.closed ≡ n.closed
+
+-- the data connection is one that the connector made, of which nothing was read or written yet; or it gave an error, and
+-- there is none; nothing else has changed
+abbrev pub HandshookIs : Beside → Option FtpError → Net → Net → Type 0
+HandshookIs beside None n m = (told : Told) × beside.secures (Ok told) × (m ≡ record n { data_conn = Some (begun told) })
+HandshookIs beside (Some fault) n m = beside.secures (Err fault) × (m ≡ record n { data_conn = None })
 
 -- a read gave at most so many bytes, or met the end where it gave none; or it failed, which was counted; or there was no
 -- memory for it, or at the end for what had come
@@ -221,14 +244,15 @@ MovementIs movement outcome n m = (answers movement outcome ≡ true) × MovedIs
 abbrev pub PartedIs : Net → Net → Type 0
 PartedIs n m = (outcome : NetOutcome) × ClosesBy outcome n m
 
-abbrev pub NetEventIs : Builds → NetEvent → Net → Net → Type 0
-NetEventIs builds (Requested request outcome) n m = RequestIs request outcome n m
-NetEventIs builds (Constructed address fault) n m = ConstructedIs builds address fault n m
-NetEventIs builds (Moved movement outcome) n m = MovementIs movement outcome n m
-NetEventIs builds Parted n m = PartedIs n m
-NetEventIs builds Dropped n m = m ≡ record n { data_conn = None }
+abbrev pub NetEventIs : Beside → NetEvent → Net → Net → Type 0
+NetEventIs beside (Requested request outcome) n m = RequestIs request outcome n m
+NetEventIs beside (Constructed address fault) n m = ConstructedIs beside address fault n m
+NetEventIs beside (Handshook fault) n m = HandshookIs beside fault n m
+NetEventIs beside (Moved movement outcome) n m = MovementIs movement outcome n m
+NetEventIs beside Parted n m = PartedIs n m
+NetEventIs beside Dropped n m = m ≡ record n { data_conn = None }
 
 -- one after another
-abbrev pub NetEvents : Builds → List NetEvent → Net → Net → Type 0
-NetEvents builds [] n m = m ≡ n
-NetEvents builds (net_event ∷ net_events) n m = (k : Net) × NetEventIs builds net_event n k × NetEvents builds net_events k m
+abbrev pub NetEvents : Beside → List NetEvent → Net → Net → Type 0
+NetEvents beside [] n m = m ≡ n
+NetEvents beside (net_event ∷ net_events) n m = (k : Net) × NetEventIs beside net_event n k × NetEvents beside net_events k m

@@ -22,7 +22,7 @@ use Rattle.ftp_calls.specs.declared.exchange.Movement.{Movement}
 use Rattle.ftp_calls.specs.Exchanges.{drains, drains_first, finishes, is_local, negotiates, of_transfer}
 use Rattle.ftp_dialogue.specs.declared.state.Owed.{Owed}
 use Rattle.ftp_dialogue.specs.Sound.{none_left}
-use Rattle.ftp_dialogue.specs.declared.model.NetOutcome.TheVariants.{Answered, Built}
+use Rattle.ftp_dialogue.specs.declared.model.NetOutcome.TheVariants.{Answered, Built, Secured}
 use Rattle.ftp_calls.specs.declared.call.Call.{Call}
 use Rattle.ftp_calls.specs.declared.call.Call.TheVariants.{Drain}
 use Rattle.ftp_dialogue.specs.declared.model.PlayState.{PlayState}
@@ -30,8 +30,8 @@ use Rattle.ftp_dialogue.specs.declared.model.Wait.TheVariants.{Room, Bytes, Outc
 use Rattle.ftp_dialogue.specs.declared.model.Played.{Played}
 use Rattle.ftp_dialogue.specs.declared.model.Played.TheVariants.{Done, Pending}
 use Rattle.ftp_dialogue.specs.Coding.{Coding}
-use Rattle.ftp_dialogue.specs.NetEvents.{answers, constructed, constructing, during_request, after_request, moved, parted, settled}
-use Rattle.ftp_dialogue.specs.Dialogue.{Tree, Expected, End, Here, There, Say, Hear, Look, Ask, Build, Move, Leaf, dialogue, entered, with_left}
+use Rattle.ftp_dialogue.specs.NetEvents.{answers, constructed, constructing, during_request, after_request, moved, parted, secured, securing, settled}
+use Rattle.ftp_dialogue.specs.Dialogue.{Tree, Expected, End, Here, There, Say, Hear, Look, Ask, Build, Secure, Move, Leaf, dialogue, entered, with_left}
 
 -- so much is within the room
 abbrev pub fits : Rooms → List ℕ → Bool
@@ -73,6 +73,12 @@ built_then (Built fault ∷ outcomes) address s next =
     next fault (record s { net_record = constructed address fault s.net_record; outcomes = outcomes })
 built_then outcomes address s next = Pending Asking (record s { net_record = constructing address s.net_record })
 
+-- the next outcome that is known is the connector's answer
+abbrev pub secured_then : List NetOutcome → PlayState → (Option FtpError → PlayState → Played) → Played
+secured_then (Secured fault ∷ outcomes) s next =
+    next fault (record s { net_record = secured fault s.net_record; outcomes = outcomes })
+secured_then outcomes s next = Pending Asking (record s { net_record = securing s.net_record })
+
 -- the next outcome that is known is that of what is done on the data connection
 abbrev pub moved_then : List NetOutcome → Movement → PlayState → (NetOutcome → PlayState → Played) → Played
 moved_then [] movement s next = Pending Asking s
@@ -94,6 +100,7 @@ play room (Hear codes next) s =
 play room (Look end next) s = play room (next (address_at end s)) s
 play room (Ask request next) s = asked_then s.outcomes request s (λ answer t. play room (next answer) t)
 play room (Build address next) s = built_then s.outcomes address s (λ fault t. play room (next fault) t)
+play room (Secure next) s = secured_then s.outcomes s (λ fault t. play room (next fault) t)
 play room (Move movement next) s = moved_then s.outcomes movement s (λ came t. play room (next came) t)
 play room (Leaf answer state) s = Done answer (record s { state = state })
 

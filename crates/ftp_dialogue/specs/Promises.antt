@@ -41,7 +41,7 @@ use Rattle.ftp_dialogue.specs.Coding.{Coding}
 use Rattle.ftp_dialogue.specs.NetEvents.{NetEvent, NetEvents, PartedIs, net_record_of, outcomes_of}
 use Rattle.ftp_dialogue.specs.declared.state.State.{State}
 use Rattle.ftp_calls.specs.Exchanges.{row_of, drains, finishes, is_local, negotiates}
-use Rattle.ftp_dialogue.specs.Dialogue.{Expected, expected_of, Tree, Say, Hear, Look, Ask, Build, Move, Leaf, dialogue, entered, with_left}
+use Rattle.ftp_dialogue.specs.Dialogue.{Expected, expected_of, Tree, Say, Hear, Look, Ask, Build, Secure, Move, Leaf, dialogue, entered, with_left}
 use Rattle.ftp_dialogue.specs.Play.{Refusal, Taken, Lacking, Failing, is_due, is_unit, lacks, play, refusal}
 use Rattle.ftp_dialogue.specs.Resuming.{Resumes, modes_of}
 use Rattle.ftp_dialogue.specs.Within.{Within}
@@ -194,7 +194,7 @@ pub record Goes (link : Link) (came : List ℕ) (answered : List NetEvent) (old 
   pub said : link.tells → length (said old.channel) ≤ length (said new.channel)
   pub untaken : length (untaken new.channel) ≤ length (untaken old.channel) + length came
   pub at_hand : link.tells → IsGiven old.channel.told → IsGiven new.channel.told
-  pub net_events : link.tells → NetEvents link.builds answered old.net new.net
+  pub net_events : link.tells → NetEvents link.beside answered old.net new.net
 
 -- one tree is left of another, and is a place of it
 pub record Leads (link : Link) (tree tree' : Tree) (old new : SessionValue) : Type 0 where
@@ -229,6 +229,7 @@ MayFailAt link (Hear codes next) told kind = link.reads kind
 MayFailAt link (Look end next) told kind = link.ends kind
 MayFailAt link (Ask request next) told kind = ⊥
 MayFailAt link (Build address next) told kind = ⊥
+MayFailAt link (Secure next) told kind = ⊥
 MayFailAt link (Move movement next) told kind = ⊥
 MayFailAt link (Leaf answer state) told kind = ⊥
 
@@ -239,6 +240,7 @@ fails_at (Hear codes next) = true
 fails_at (Look end next) = false
 fails_at (Ask request next) = true
 fails_at (Build address next) = true
+fails_at (Secure next) = true
 fails_at (Move movement next) = true
 fails_at (Leaf answer state) = true
 

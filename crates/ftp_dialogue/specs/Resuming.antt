@@ -10,7 +10,7 @@ use Rattle.ftp_dialogue.specs.declared.model.NetOutcome.{NetOutcome}
 use Rattle.ftp_dialogue.specs.declared.state.State.{State}
 use Rattle.ftp_dialogue.specs.Lenient.{SaysNothingYet}
 use Rattle.ftp_dialogue.specs.State.{SessionValue}
-use Rattle.ftp_dialogue.specs.Dialogue.{Tree, Say, Hear, Look, Ask, Build, Move, Leaf}
+use Rattle.ftp_dialogue.specs.Dialogue.{Tree, Say, Hear, Look, Ask, Build, Secure, Move, Leaf}
 
 -- the rule of the reply under way, and the setting, by which the replies are read that begin
 pub record Modes : Type 0 where
@@ -32,6 +32,7 @@ Silent from to (Hear codes next) = ⊥
 Silent from to (Look end next) = (address : SocketAddr) × Silent from to (next address)
 Silent from to (Ask request next) = (answer : RequestOutcome) × Silent from to (next answer)
 Silent from to (Build address next) = (fault : Option FtpError) × Silent from to (next fault)
+Silent from to (Secure next) = (fault : Option FtpError) × Silent from to (next fault)
 Silent from to (Move movement next) = (came : NetOutcome) × Silent from to (next came)
 Silent from to (Leaf answer state) = to ≡ state
 
@@ -43,5 +44,6 @@ Resumes modes kept (Hear codes next) = (modes.under ≡ modes.setting) × SaysNo
 Resumes modes kept (Look end next) = (address : SocketAddr) → Resumes modes kept (next address)
 Resumes modes kept (Ask request next) = (answer : RequestOutcome) → Resumes modes kept (next answer)
 Resumes modes kept (Build address next) = (fault : Option FtpError) → Resumes modes kept (next fault)
+Resumes modes kept (Secure next) = (fault : Option FtpError) → Resumes modes kept (next fault)
 Resumes modes kept (Move movement next) = (came : NetOutcome) → Resumes modes kept (next came)
 Resumes modes kept (Leaf answer state) = Unit {0}

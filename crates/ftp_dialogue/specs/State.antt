@@ -45,6 +45,19 @@ pub record Begins (tells : Type 0) (rule : ReplyRule) (before : Told) (beside : 
   pub first : IsFirst new.state
   pub net : new.net ≡ beside
 
+-- the state after a change of TLS: no offset is left, and no reply is due to a command
+abbrev pub anew : State → State
+anew state = record state { settings = record state.settings { restart_offset = 0 }; unanswered = 0; aborting = false }
+
+-- the control channel begins anew on a connection that told this: nothing that was received before is part of a reply after
+-- it: RFC 2228, section 3
+pub record BeginsAnew (tells : Type 0) (before : Told) (old new : SessionValue) : Type 0 where
+  pub idle : IsIdle new.channel
+  pub told : tells → new.channel.told ≡ begun before
+  pub rule : new.channel.rule ≡ old.channel.rule
+  pub state : new.state ≡ anew old.state
+  pub net : new.net ≡ old.net
+
 -- the text of a greeting is read again in another encoding
 abbrev pub welcomed_again : (List ℕ → List ℕ) → Option Welcome → Option Welcome
 welcomed_again decode None = None

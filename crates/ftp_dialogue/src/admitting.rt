@@ -1,13 +1,14 @@
 //! Active mode: the peers that connect are let in or turned away (RFC 959, section 5.2).
 //!
 //! A peer is compared with that of the control connection before it opens a transfer. A stranger is dropped, and another
-//! may come.
+//! may come. In a secure session the data connection is put under TLS then, in the passive modes as well (RFC 4217,
+//! section 9).
 
 ghost use Rattle.std.specs.Prelude.{◌≡◌, true, false};
 ghost use Rattle.ftp_calls.specs.Exchanges.{negotiates};
 ghost use Rattle.ftp_dialogue.specs.Coding.{Coding};
 ghost use Rattle.ftp_dialogue.specs.Link.{asking, polling};
-ghost use Rattle.ftp_dialogue.specs.Steps.Moving.{LetsIn, Meets, TurnsAway, Walks};
+ghost use Rattle.ftp_dialogue.specs.Steps.Moving.{LetsIn, Meets, Stands, StandsUnless, TurnsAway, Walks};
 ghost use Rattle.ftp_dialogue.specs.Steps.Stages.{OpeningOf};
 
 use super::asks::Asks;
@@ -117,7 +118,7 @@ impl<Tr: Network> Machine<Tr> {
                     .active_peer_check
                     .allows(from.ip(), peer.ip())
                 {
-                    self.admit(opened, stage)
+                    self.admit(turn, opened, stage)
                 } else {
                     self.turn_away(turn, peer, left, opened, stage)
                 }
@@ -133,10 +134,58 @@ impl<Tr: Network> Machine<Tr> {
         }
     }
 
-    /// A peer was let in: a transfer is live, or all that comes is read.
-    fn admit(&mut self, opened: Opened, stage: &mut Stage) -> Step
+    /// The data connection is put under TLS: a transfer is live then, or all that comes is read.
+    pub(super) fn secure<W, A: Asks<Tr, W>>(
+        &mut self,
+        asker: &A,
+        _call: &Call,
+        turn: Turn,
+        opened: Opened,
+        stage: &mut Stage,
+        w: &mut W,
+    ) -> Step
+    where
+        Tr::Conn: PollConn<W>,
+        requires going { self.old.channel.failed ≡ false }
+        requires opens { negotiates _call.now ≡ true }
+        requires may { A.may_ask }
+        requires opened { OpeningOf _call.now opened }
         ensures end { self.new.channel.ended ≡ self.old.channel.ended }
-        ensures admits { LetsIn opened stage.new self.old self.new result }
+        ensures walks { (coding : Coding) →
+            Walks (asking (A.builds asker.now) A.may_wait (polling Tr.Conn.PollConn)) coding _call.now
+            (Stage.OpeningData (OpeningData.Asking turn (Asking.Securing opened))) stage.new self.old self.new result }
+    {
+        match self.ask_to_secure(asker, w) {
+            Poll::Ready(Ok(fault)) => self.stand_unless(fault, opened, stage),
+            Poll::Ready(Err(AllocError)) => {
+                drop(opened);
+                self.lack_memory()
+            }
+            Poll::Pending => {
+                let asking = Asking::Securing(opened);
+                go_to(stage, Stage::OpeningData(OpeningData::Asking(turn, asking)));
+                Step::Pending
+            }
+        }
+    }
+
+    /// A peer was let in: in a secure session its connection is put under TLS.
+    fn admit(&mut self, turn: Turn, opened: Opened, stage: &mut Stage) -> Step
+        ensures end { self.new.channel.ended ≡ self.old.channel.ended }
+        ensures admits { LetsIn turn opened stage.new self.old self.new result }
+    {
+        if !self.state.settings.secure {
+            return self.stand(opened, stage);
+        }
+        let asking = Asking::Securing(opened);
+        go_to(stage, Stage::OpeningData(OpeningData::Asking(turn, asking)));
+        Step::Next
+    }
+
+    /// The data connection stands: a transfer is live, or all that comes is read.
+    fn stand(&mut self, opened: Opened, stage: &mut Stage) -> Step
+        ensures end { self.new.channel.ended ≡ self.old.channel.ended }
+        ensures stands { Stands opened stage.new self.old self.new result }
     {
         match opened {
             Opened::Gives(answer) => {
@@ -146,6 +195,20 @@ impl<Tr: Network> Machine<Tr> {
             Opened::Performs(task) => {
                 go_to(stage, Stage::Transferring(Transferring::Starting(task)));
                 Step::Next
+            }
+        }
+    }
+
+    /// The handshake is over: a transfer is live, or all that comes is read; where it failed, the call ends with why.
+    fn stand_unless(&mut self, fault: Option<FtpError>, opened: Opened, stage: &mut Stage) -> Step
+        ensures end { self.new.channel.ended ≡ self.old.channel.ended }
+        ensures stands { StandsUnless fault opened stage.new self.old self.new result }
+    {
+        match fault {
+            None => self.stand(opened, stage),
+            Some(fault) => {
+                drop(opened);
+                Step::Done(Answer::Fault(fault))
             }
         }
     }

@@ -9,12 +9,13 @@ ghost use Rattle.ftp_base.specs.declared.types.fault.FtpError.{FtpError as Fault
 ghost use Rattle.ftp_transport.specs.Told.{ReadTells, ReadsAtMost, Told, WriteTells, WritesSome};
 ghost use Rattle.ftp_dialogue.specs.Link.{built_by};
 ghost use Rattle.futures.specs.declared.task.Poll.TheVariants as poll;
-ghost use Rattle.ftp_transport.specs.Asking.{Asks as Records, Supplies, built_as, comes_as, connects_as, done, done_at};
+ghost use Rattle.ftp_transport.specs.Asking.{Asks as Records, Secures, Supplies, built_as, comes_as, connects_as, done, done_at};
 ghost use Rattle.ftp_transport.specs.declared.request.Request.TheVariants.{Accept, Connect, Listen};
 
 use ftp_base::types::{ConnectionError, FtpError, FtpResult};
 use ftp_transport::{
-    Accepted, Conn, Connected, Listening, Network, PassiveStreamBuilder, PollConn, PollTransport,
+    Accepted, Conn, Connected, Handshaken, Listening, Network, PassiveStreamBuilder, PollConn,
+    PollTransport,
 };
 use futures::task::Poll;
 use std::alloc::AllocError;
@@ -79,6 +80,21 @@ pub trait Asks<Tr: Network, W> {
             (Tr.asked transport.old) (Tr.asked transport.new) }
         ensures supplies { may_ask → Tr.Conn.tells → Supplies (comes_as Tr.Conn.told)
             Tr.accept_refuses result (Tr.ready transport.old) (Tr.ready transport.new) }
+        ensures closed { Tr.closed transport.new ≡ Tr.closed transport.old }
+        ensures room { Tr.has_room transport.old → Tr.has_room transport.new };
+
+    /// Asks for a data connection to be put under TLS; where none is handed over, for the handshake that waited.
+    fn secure(
+        &self,
+        transport: &mut Tr,
+        w: &mut W,
+        conn: Option<Tr::Conn>,
+    ) -> Poll<Handshaken<Tr::Conn>>
+        ensures waits { may_ask → result ≡ poll.Pending → may_wait }
+        ensures secures { may_ask → Tr.Conn.tells →
+            Secures Tr.Conn.told Tr.Conn.secures result }
+        ensures asked { may_ask → Tr.asked transport.new ≡ Tr.asked transport.old }
+        ensures ready { may_ask → Tr.ready transport.new ≡ Tr.ready transport.old }
         ensures closed { Tr.closed transport.new ≡ Tr.closed transport.old }
         ensures room { Tr.has_room transport.old → Tr.has_room transport.new };
 
@@ -152,6 +168,25 @@ where
         deadline: Duration,
     ) -> Poll<Accepted<Tr::Conn>> {
         transport.poll_accept(self.0, w, listener, deadline)
+    }
+
+    fn secure(
+        &self,
+        transport: &mut Tr,
+        w: &mut W,
+        conn: Option<Tr::Conn>,
+    ) -> Poll<Handshaken<Tr::Conn>>
+        ensures waits { result ≡ poll.Pending → Tr.PollTransport.may_wait }
+        ensures secures { Tr.Conn.tells → Secures Tr.Conn.told Tr.Conn.secures result }
+        ensures asked { Tr.asked transport.new ≡ Tr.asked transport.old }
+        ensures ready { Tr.ready transport.new ≡ Tr.ready transport.old }
+        ensures closed { Tr.closed transport.new ≡ Tr.closed transport.old }
+        ensures room { Tr.has_room transport.old → Tr.has_room transport.new }
+    {
+        match conn {
+            Some(conn) => transport.poll_secure(self.0, w, conn),
+            None => transport.poll_secured(self.0, w),
+        }
     }
 
     fn read(
@@ -229,6 +264,26 @@ where
         transport.poll_accept(self.0, w, listener, deadline)
     }
 
+    fn secure(
+        &self,
+        transport: &mut Tr,
+        w: &mut W,
+        conn: Option<Tr::Conn>,
+    ) -> Poll<Handshaken<Tr::Conn>>
+        ensures waits { result ≡ poll.Pending →
+            Tr.PollTransport.may_wait ⊎ Tr.Conn.PollConn.may_wait }
+        ensures secures { Tr.Conn.tells → Secures Tr.Conn.told Tr.Conn.secures result }
+        ensures asked { Tr.asked transport.new ≡ Tr.asked transport.old }
+        ensures ready { Tr.ready transport.new ≡ Tr.ready transport.old }
+        ensures closed { Tr.closed transport.new ≡ Tr.closed transport.old }
+        ensures room { Tr.has_room transport.old → Tr.has_room transport.new }
+    {
+        match conn {
+            Some(conn) => transport.poll_secure(self.0, w, conn),
+            None => transport.poll_secured(self.0, w),
+        }
+    }
+
     fn read(
         &self,
         conn: &mut Tr::Conn,
@@ -288,6 +343,17 @@ impl<Tr: Network, W> Asks<Tr, W> for Nothing {
         _listener: &mut Tr::Listener,
         _deadline: Duration,
     ) -> Poll<Accepted<Tr::Conn>> {
+        Poll::Ready(Err(AllocError))
+    }
+
+    fn secure(
+        &self,
+        _transport: &mut Tr,
+        _w: &mut W,
+        _conn: Option<Tr::Conn>,
+    ) -> Poll<Handshaken<Tr::Conn>>
+        ensures same { _transport.new ≡ _transport.old }
+    {
         Poll::Ready(Err(AllocError))
     }
 

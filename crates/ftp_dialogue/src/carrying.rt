@@ -247,6 +247,7 @@ fn moved_answer(outcome: NetOutcome) -> Answer
     match outcome {
         NetOutcome::Answered(_outcome) => Answer::Unit,
         NetOutcome::Built(_fault) => Answer::Unit,
+        NetOutcome::Secured(_fault) => Answer::Unit,
         NetOutcome::Read(bytes) => Answer::Bytes(bytes),
         NetOutcome::Wrote(count) => Answer::Count(count as u64),
         NetOutcome::Closed => Answer::Unit,

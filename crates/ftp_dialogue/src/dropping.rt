@@ -108,15 +108,18 @@ fn awaits_abort(stage: &Stage) -> bool
     }
 }
 
-/// Whether a data command was accepted whose transfer isn't counted yet: its peer is waited for, or a whole file or listing
-/// is under way.
+/// Whether a data command was accepted whose transfer isn't counted yet: its peer is waited for, or TLS, or a whole file
+/// or listing is under way.
 fn owes_last_reply(stage: &Stage) -> bool
     ensures { result ≡ owes_last_reply stage.now }
 {
     match stage {
         Stage::Transferring(_) => true,
         Stage::OpeningData(OpeningData::Asking(_, asking)) => {
-            matches!(asking, Asking::Peer(_) | Asking::Accepting(..))
+            matches!(
+                asking,
+                Asking::Peer(_) | Asking::Accepting(..) | Asking::Securing(_)
+            )
         }
         _ => false,
     }

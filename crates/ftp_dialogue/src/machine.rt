@@ -53,7 +53,7 @@ impl<Tr: Network> Machine<Tr> {
     ghost use Rattle.ftp_control.specs.Channel.{IsSound};
     ghost use Rattle.ftp_dialogue.specs.NetEvents.{first_net};
     ghost use Rattle.ftp_dialogue.specs.Sound.{Sound, holds};
-    ghost use Rattle.ftp_dialogue.specs.State.{Begins, LetsGo};
+    ghost use Rattle.ftp_dialogue.specs.State.{Begins, BeginsAnew, LetsGo};
 
     /// A machine on a connection, which reads replies by this rule. Nothing is read and nothing is sent.
     ///
@@ -80,6 +80,20 @@ impl<Tr: Network> Machine<Tr> {
             data_conn: None,
             failures: Failures::none(),
         })
+    }
+
+    /// The control channel begins anew on another connection, under TLS or no longer, and the one of before is returned
+    /// (RFC 2228, section 3; RFC 4217, section 5). Nothing received before is part of a reply after it; no offset is left.
+    /// Settings and counts stay.
+    pub fn begin_anew(&mut self, conn: Tr::Conn) -> Tr::Conn
+        ensures before { Tr.Conn.told result ≡ self.old.channel.told }
+        ensures anew { BeginsAnew Tr.Conn.tells (Tr.Conn.told conn) self.old self.new }
+        ensures sound { IsSound Tr.Conn.tells self.new.channel }
+    {
+        self.state.settings.restart_offset = 0;
+        self.state.unanswered = 0;
+        self.state.aborting = false;
+        self.channel.replace(conn)
     }
 
     /// A call is done: its listener is closed, and a data connection that carries no transfer. That of a transfer that

@@ -31,13 +31,15 @@ pub struct NetRecord {
     pub data_conn: Option<Traffic>,
 }
 
-/// What a request of the transport or the builder, or a step on the data connection, resulted in.
+/// What a request of the transport, the builder or the connector, or a step on the data connection, resulted in.
 #[derive(Clone, Drop)]
 pub enum NetOutcome {
     /// A request of the transport resulted in this.
     Answered(RequestOutcome),
     /// The caller's builder made a connection; or returned this error.
     Built(Option<FtpError>),
+    /// The connector put the data connection under TLS; or returned this error.
+    Secured(Option<FtpError>),
     /// A read returned these bytes; none at the end.
     Read(Bytes),
     /// A write took so many bytes.

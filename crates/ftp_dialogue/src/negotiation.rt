@@ -62,6 +62,9 @@ impl<Tr: Network> Machine<Tr> {
             OpeningData::Asking(turn, Asking::Accepting(peer, left, opened)) => {
                 self.let_in(asker, call, turn, peer, left, opened, stage, w)
             }
+            OpeningData::Asking(turn, Asking::Securing(opened)) => {
+                self.secure(asker, call, turn, opened, stage, w)
+            }
         }
     }
 

@@ -390,7 +390,7 @@ pub(super) fn wants_memory(fault: &FtpError) -> bool
     matches!(fault, FtpError::OutOfMemory)
 }
 
-/// The command was accepted: the data connection stands, or the server opens it now.
+/// The command was accepted: the data connection stands, but for TLS, or the server opens it now.
 fn opens(gives_reply: bool, reply: Response, state: &mut State) -> Accepted
     ensures accepts { (coding : Coding) →
         Accepts coding (Ending.Opens gives_reply) reply state.old state.new result }
@@ -400,6 +400,9 @@ fn opens(gives_reply: bool, reply: Response, state: &mut State) -> Accepted
     match state.settings.mode {
         Mode::Active => Accepted::Asks(Asking::Peer(Opened::Gives(answer))),
         Mode::Passive | Mode::ExtendedPassive => {
+            if state.settings.secure {
+                return Accepted::Asks(Asking::Securing(Opened::Gives(answer)));
+            }
             state.counts.open();
             Accepted::Done(answer)
         }
@@ -414,7 +417,12 @@ fn performs(task: Task, state: &State) -> Accepted
 {
     match state.settings.mode {
         Mode::Active => Accepted::Asks(Asking::Peer(Opened::Performs(task))),
-        Mode::Passive | Mode::ExtendedPassive => Accepted::Performs(task),
+        Mode::Passive | Mode::ExtendedPassive => {
+            if state.settings.secure {
+                return Accepted::Asks(Asking::Securing(Opened::Performs(task)));
+            }
+            Accepted::Performs(task)
+        }
     }
 }
 

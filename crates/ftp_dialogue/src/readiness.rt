@@ -13,7 +13,7 @@ where
     Tr::Conn: TaskConn,
 {
     /// Registers the task for what the last poll waits for: on the control connection, on the data connection, for a
-    /// connect or for a peer. Nothing of the dialogues changes.
+    /// connect, for a TLS handshake or for a peer. Nothing of the dialogues changes.
     pub fn poll_ready(&mut self, cx: &mut Context<'_>) -> Waiting
         ensures same { self.new ≡ self.old }
         ensures registered { result ≡ waits.Registered → IsArmed cx.new }
@@ -22,8 +22,9 @@ where
         let control = self.channel.poll_ready(cx);
         let data = ready_data(&mut self.data_conn, cx);
         let connect = self.transport.poll_connect_ready(cx);
+        let handshake = self.transport.poll_secure_ready(cx);
         let peer = ready_peer::<Tr>(&mut self.listener, cx);
-        control.or(data).or(connect).or(peer)
+        control.or(data).or(connect).or(handshake).or(peer)
     }
 
     /// Gives up what the transport has begun for a request that isn't made again.

@@ -1,11 +1,11 @@
-//! What is asked for a data connection: of the transport, or of the caller's builder.
+//! What is asked for a data connection: of the transport, of the caller's builder, or of a secure session's connector.
 //!
 //! Each function is one question. What comes of it is kept in the machine, and is on the transport's record.
 
 ghost use Rattle.std.specs.Prelude.{◌≡◌, None};
 ghost use Rattle.ftp_transport.specs.declared.request.Request.TheVariants.{Accept, Connect, Listen};
 ghost use Rattle.ftp_dialogue.specs.Link.{asking, polling};
-ghost use Rattle.ftp_dialogue.specs.Steps.Moving.{AsksFor, BuildsFor};
+ghost use Rattle.ftp_dialogue.specs.Steps.Moving.{AsksFor, BuildsFor, SecuresFor};
 
 use super::asks::Asks;
 use super::failures::Failure;
@@ -144,6 +144,39 @@ impl<Tr: Network> Machine<Tr> {
                 self.data_conn = None;
                 self.failures.note_data(true);
                 Poll::Ready(Ok(RequestOutcome::Refused(fault)))
+            }
+            Poll::Ready(Err(full)) => Poll::Ready(Err(full)),
+            Poll::Pending => Poll::Pending,
+        }
+    }
+
+    /// Asks for the data connection to be put under TLS, and keeps what comes of it. While that waits the transport has
+    /// the connection.
+    pub(super) fn ask_to_secure<W, A: Asks<Tr, W>>(
+        &mut self,
+        asker: &A,
+        w: &mut W,
+    ) -> Poll<Result<Option<FtpError>, AllocError>>
+    where
+        Tr::Conn: PollConn<W>,
+        requires may { A.may_ask }
+        ensures end { self.new.channel.ended ≡ self.old.channel.ended }
+        ensures secures { SecuresFor (asking (A.builds asker.now) A.may_wait (polling Tr.Conn.PollConn)) self.old self.new result }
+    {
+        if self.transport.make_room().is_err() {
+            return Poll::Ready(Err(AllocError));
+        }
+        let conn = self.data_conn.take();
+        self.data_conn = None;
+        match asker.secure(&mut self.transport, w, conn) {
+            Poll::Ready(Ok(Ok(mut conn))) => {
+                conn.begin();
+                self.data_conn = Some(conn);
+                Poll::Ready(Ok(None))
+            }
+            Poll::Ready(Ok(Err(fault))) => {
+                self.failures.note_data(true);
+                Poll::Ready(Ok(Some(fault)))
             }
             Poll::Ready(Err(full)) => Poll::Ready(Err(full)),
             Poll::Pending => Poll::Pending,

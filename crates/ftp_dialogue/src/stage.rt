@@ -116,6 +116,8 @@ pub enum Asking {
     Peer(Opened),
     /// A connection of this peer, or of another that is let in; so many others may come before.
     Accepting(SocketAddr, u64, Opened),
+    /// The data connection under TLS; what follows then.
+    Securing(Opened),
 }
 
 /// The reply that is awaited.

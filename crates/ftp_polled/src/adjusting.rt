@@ -35,7 +35,7 @@ where
     Tr::Conn: TaskConn,
 {
     rt: &'r R,
-    hold: Hold<Session<Tr, K, E, B>>,
+    hold: Hold<Box<Session<Tr, K, E, B>>>,
     adjustment: Option<Adjustment<E, B>>,
 }
 
@@ -62,7 +62,7 @@ where
 /// Changes a setting under the lock.
 fn change<Tr: TaskTransport, K: Drop, E: Encoding, B: Drop>(
     alloc: Global,
-    hold: &mut Hold<Session<Tr, K, E, B>>,
+    hold: &mut Hold<Box<Session<Tr, K, E, B>>>,
     adjustment: Option<Adjustment<E, B>>,
 ) -> FtpResult<()>
 where

@@ -29,7 +29,7 @@ where
     Tr::Conn: TaskConn,
 {
     rt: &'r R,
-    hold: Hold<Session<Tr, K, E, B>>,
+    hold: Hold<Box<Session<Tr, K, E, B>>>,
     // In memory of its own, so that a future that moves moves little. None where there was no memory for it.
     call: Option<Box<PolledCall>>,
 }

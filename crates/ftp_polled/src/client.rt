@@ -8,8 +8,8 @@ use std::alloc::{AllocError, Global};
 use std::sync::Arc;
 use tokio::sync::Mutex;
 
-/// A session that is shared by the states of a client.
-pub(crate) type Shared<Tr, K, E, B> = Arc<Mutex<Session<Tr, K, E, B>>, Global>;
+/// A session that is shared by the futures of a client.
+pub(crate) type Shared<Tr, K, E, B> = Arc<Mutex<Box<Session<Tr, K, E, B>>>, Global>;
 
 /// A polled FTP client: a session under a lock, whose calls are futures.
 ///
@@ -38,11 +38,12 @@ impl<Tr: Network, K: Drop, E: Encoding, B: Drop> ImplAsyncFtpStream<Tr, K, E, B>
     }
 }
 
-/// Puts a session under a lock.
+/// Puts a session under a lock, in memory of its own, so that a hold of the lock that moves moves little.
 fn share<Tr: Network, K: Drop, E: Encoding, B: Drop>(
     alloc: Global,
     session: Session<Tr, K, E, B>,
 ) -> Result<Shared<Tr, K, E, B>, AllocError> {
+    let session = Box::new(alloc, session)?;
     match Arc::new(alloc, Mutex::new(alloc, session)?) {
         Ok(shared) => Ok(shared),
         Err(_) => Err(AllocError),

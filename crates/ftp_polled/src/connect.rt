@@ -8,7 +8,8 @@ use crate::from_answer::FromAnswer;
 use crate::waiting::wait;
 use ftp_base::encoding::Encoding;
 use ftp_base::types::{ConnectionError, FtpError, FtpResult};
-use ftp_session::session::{Call, PolledCall, PollsCalls, Session};
+use ftp_secure::SecureNetwork;
+use ftp_session::session::{Call, PolledCall, PollsCalls, Session, secure_data};
 use ftp_transport::{
     PassiveStreamBuilder, PollConn, PollTransport, TaskConn, TaskTransport, Tried,
     poll_connect_in_turn,
@@ -37,6 +38,10 @@ where
     tried: Tried,
     // Whether replies are read leniently.
     lenient: bool,
+    // Whether the connection is put under TLS before the greeting, by the connector that the transport keeps.
+    secures: bool,
+    // Whether that has begun, and waits.
+    shakes: bool,
     session: Option<Session<Tr, K, E, B>>,
     // Why there is no session, until it is returned.
     fault: Option<FtpError>,
@@ -70,6 +75,8 @@ where
             limit,
             tried: Tried { count: 0, fault },
             lenient,
+            secures: false,
+            shakes: false,
             session: None,
             fault: None,
             greeting: PolledCall::alone(Call::Greet),
@@ -92,6 +99,8 @@ where
                 fault: ConnectionError::NoAddress,
             },
             lenient: false,
+            secures: false,
+            shakes: false,
             session,
             fault,
             greeting: PolledCall::alone(Call::Greet),
@@ -110,6 +119,9 @@ where
         ensures registered { OnPending result (IsArmed cx.new) }
         ensures kept { Keeps cx.old cx.new }
     {
+        if self.shakes {
+            return self.poll_under(None, cx);
+        }
         let (Some(transport), Some(addresses)) = (&mut self.transport, &self.addresses) else {
             return Poll::Ready(Err(FtpError::OutOfMemory));
         };
@@ -124,8 +136,38 @@ where
             self.limit,
             &mut self.tried,
         ) {
+            Poll::Ready(Ok(Ok(conn))) if self.secures => self.poll_under(Some(conn), cx),
             Poll::Ready(made) => Poll::Ready(self.begin(made)),
             Poll::Pending => transport.poll_connect_ready(cx).wait(cx),
+        }
+    }
+
+    /// Continues to put the connection under TLS, which begins where one is handed over.
+    fn poll_under(&mut self, conn: Option<Tr::Conn>, cx: &mut Context<'_>) -> Poll<FtpResult<()>>
+        ensures registered { OnPending result (IsArmed cx.new) }
+        ensures kept { Keeps cx.old cx.new }
+    {
+        let Some(transport) = &mut self.transport else {
+            return Poll::Ready(Err(FtpError::ConnectionError(ConnectionError::AlreadyCompleted)));
+        };
+        let polled = match conn {
+            Some(conn) => transport.poll_secure(self.rt, &mut (), conn),
+            None => transport.poll_secured(self.rt, &mut ()),
+        };
+        match polled {
+            Poll::Ready(Ok(Ok(conn))) => Poll::Ready(self.begin(Ok(Ok(conn)))),
+            Poll::Ready(Ok(Err(fault))) => {
+                drop(self.transport.take());
+                Poll::Ready(Err(fault))
+            }
+            Poll::Ready(Err(AllocError)) => {
+                drop(self.transport.take());
+                Poll::Ready(Err(FtpError::OutOfMemory))
+            }
+            Poll::Pending => {
+                self.shakes = true;
+                transport.poll_secure_ready(cx).wait(cx)
+            }
         }
     }
 
@@ -141,7 +183,10 @@ where
         let Some(transport) = self.transport.take() else {
             return Err(FtpError::ConnectionError(ConnectionError::AlreadyCompleted));
         };
-        let session = session_on(self.rt.alloc(), transport, conn, self.lenient)?;
+        let mut session = session_on(self.rt.alloc(), transport, conn, self.lenient)?;
+        if self.secures {
+            secure_data(&mut session);
+        }
         drop(mem::replace(&mut self.session, Some(session)));
         Ok(())
     }
@@ -343,5 +388,39 @@ where
         conn: Tr::Conn,
     ) -> Connect<'r, R, Tr, K, E, B> {
         Connect::over(rt, session_on(rt.alloc(), transport, conn, true))
+    }
+}
+
+impl<Tr: TaskTransport + SecureNetwork<K>, K: Drop, E: Encoding, B: Drop> ImplAsyncFtpStream<
+    Tr,
+    K,
+    E,
+    B,
+>
+where
+    Tr::Conn: TaskConn,
+{
+    /// Connects to the first of these addresses that connects, puts the connection under TLS, to a server of this name, and
+    /// reads the server's greeting (220) on it. Data connections are put under TLS from then on; neither `PBSZ` nor `PROT`
+    /// is sent.
+    ///
+    /// # Errors
+    /// Those of `connect`; `SecureError` with the connector's text.
+    pub fn connect_secure_implicit<'r, R: AllocGlobal>(
+        rt: &'r R,
+        mut transport: Tr,
+        addresses: &[SocketAddr],
+        connector: K,
+        domain: &str,
+    ) -> Connect<'r, R, Tr, K, E, B> {
+        let Ok(name) = String::from_str(rt.alloc(), domain) else {
+            drop(transport);
+            drop(connector);
+            return Connect::over(rt, Err(FtpError::OutOfMemory));
+        };
+        transport.keep(connector, name);
+        let mut connect = ImplAsyncFtpStream::connect(rt, transport, addresses);
+        connect.secures = true;
+        connect
     }
 }

@@ -21,7 +21,7 @@ where
     Tr::Conn: TaskConn,
 {
     rt: &'r R,
-    hold: Hold<Session<Tr, K, E, B>>,
+    hold: Hold<Box<Session<Tr, K, E, B>>>,
     // The transfer, until the session takes it back under the lock.
     transfer: Option<Transfer<Tr::Conn>>,
     call: PolledCall,
@@ -36,7 +36,7 @@ where
     /// The end of this transfer of the session that is held so. Nothing is done before it is polled.
     pub(crate) fn new(
         rt: &'r R,
-        hold: Hold<Session<Tr, K, E, B>>,
+        hold: Hold<Box<Session<Tr, K, E, B>>>,
         transfer: Transfer<Tr::Conn>,
         aborts: bool,
     ) -> Ending<'r, R, Tr, K, E, B> {
@@ -53,7 +53,7 @@ where
     /// The end of the transfer of a whole file.
     pub(crate) fn of_file(
         rt: &'r R,
-        hold: Hold<Session<Tr, K, E, B>>,
+        hold: Hold<Box<Session<Tr, K, E, B>>>,
         transfer: Transfer<Tr::Conn>,
     ) -> Ending<'r, R, Tr, K, E, B> {
         let mut ending = Ending::new(rt, hold, transfer, false);

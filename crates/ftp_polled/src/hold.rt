@@ -111,7 +111,7 @@ impl<S: Drop> Hold<S> {
     }
 }
 
-impl<Tr: TaskTransport, K: Drop, E: Encoding, B: Drop> Hold<Session<Tr, K, E, B>>
+impl<Tr: TaskTransport, K: Drop, E: Encoding, B: Drop> Hold<Box<Session<Tr, K, E, B>>>
 where
     Tr::Conn: TaskConn,
 {

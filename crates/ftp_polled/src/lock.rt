@@ -25,7 +25,7 @@ pub struct ControlSocket<
 where
     Tr::Conn: TaskConn,
 {
-    session: OwnedMutexGuard<Session<Tr, K, E, B>>,
+    session: OwnedMutexGuard<Box<Session<Tr, K, E, B>>>,
 }
 
 impl<Tr: TaskTransport, K: Drop, E: Encoding, B: Drop> Drop for ControlSocket<Tr, K, E, B>
@@ -90,7 +90,7 @@ pub struct Lock<Tr: TaskTransport, K: Drop, E: Encoding, B: Drop>
 where
     Tr::Conn: TaskConn,
 {
-    hold: Hold<Session<Tr, K, E, B>>,
+    hold: Hold<Box<Session<Tr, K, E, B>>>,
 }
 
 impl<Tr: TaskTransport, K: Drop, E: Encoding, B: Drop> Future for Lock<Tr, K, E, B>
@@ -110,7 +110,7 @@ where
 
 /// The control connection under this hold.
 fn lend<Tr: TaskTransport, K: Drop, E: Encoding, B: Drop>(
-    hold: Hold<Session<Tr, K, E, B>>,
+    hold: Hold<Box<Session<Tr, K, E, B>>>,
 ) -> FtpResult<ControlSocket<Tr, K, E, B>>
 where
     Tr::Conn: TaskConn,

@@ -28,7 +28,7 @@ where
     Tr::Conn: TaskConn,
 {
     rt: &'r R,
-    hold: Hold<Session<Tr, K, E, B>>,
+    hold: Hold<Box<Session<Tr, K, E, B>>>,
     // None where there was no memory for the call's texts.
     call: Option<PolledCall>,
     // The mark of the transfer, made at the first poll.
@@ -65,7 +65,7 @@ where
     }
 
     /// The lock, which is held, for the end of the transfer.
-    pub(crate) fn take_hold(&mut self) -> Hold<Session<Tr, K, E, B>> {
+    pub(crate) fn take_hold(&mut self) -> Hold<Box<Session<Tr, K, E, B>>> {
         self.hold.take()
     }
 

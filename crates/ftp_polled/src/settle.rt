@@ -25,7 +25,7 @@ where
     Tr::Conn: TaskConn,
 {
     rt: &'r R,
-    hold: Hold<Session<Tr, K, E, B>>,
+    hold: Hold<Box<Session<Tr, K, E, B>>>,
     left: &'l mut Left,
     // The read of the reply, once the receipt was looked at and it is owed.
     call: Option<PolledCall>,

@@ -25,7 +25,7 @@ use Rattle.ftp_runs.specs.Script.{unread, is_over, front, seen_in}
 use Rattle.ftp_runs.specs.Scripted.{SaysFrontOf}
 use Rattle.ftp_dialogue.specs.Steps.Moving.{Keeps, Shrinks}
 use Rattle.ftp_dialogue.proofs.Hearing.{nothing_says}
-use Rattle.ftp_dialogue.specs.Link.{Builds, over_memory}
+use Rattle.ftp_dialogue.specs.Link.{Builds, over_memory, plain}
 
 -- Bytes
 pub unread_is : (t : Told) (given : IsGiven t) → unread t ≡ given.ahead
@@ -125,7 +125,7 @@ full_room (UpTo most) sent unsent line fit full some =
 
 -- what a poll leaves of a connection
 pub record Carried (builds : Builds) (v w : SessionValue) (came : List ℕ) (asked : List NetEvent) : Type 0 where
-  pub net_events : NetEvents builds asked v.net w.net
+  pub net_events : NetEvents (plain builds) asked v.net w.net
   pub received : w.channel.told.received ≡ v.channel.told.received ++ came
   pub failures : w.channel.told.failures ≡ v.channel.told.failures
   pub split : unread v.channel.told ≡ came ++ unread w.channel.told

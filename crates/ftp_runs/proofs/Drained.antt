@@ -25,7 +25,7 @@ use Rattle.ftp_calls.specs.Exchanges.{drains_first}
 use Rattle.ftp_dialogue.specs.Coding.{Coding}
 use Rattle.ftp_dialogue.specs.NetEvents.{NetEvent, NetEvents, outcomes_of}
 use Rattle.ftp_dialogue.specs.Dialogue.{answer_to_fault, entered, expecting, later, Expected, Tree, Hear, Leaf, concluded, dialogue, wants_memory, with_drained}
-use Rattle.ftp_dialogue.specs.Link.{Builds, over_memory}
+use Rattle.ftp_dialogue.specs.Link.{Builds, over_memory, plain}
 use Rattle.ftp_dialogue.specs.Play.{Taken, finally, heard_then, is_due, is_unit, play, taken}
 use Rattle.ftp_dialogue.specs.Promises.{FailsWith, HasFault, IsFault, begun_by, due_of, refusal_of, play_state}
 use Rattle.ftp_dialogue.specs.Resuming.{Resumes, Silent, modes_of}
@@ -274,7 +274,7 @@ NextFollows builds coding outcomes left old s w call stage' polled' answers Pend
 
 abbrev pub NextHappens : Builds → Coding → Call → Stage → Stage → Bool → SessionValue → SessionValue → Poll Answer → Type 0
 NextHappens builds coding call stage stage' polled' v w result =
-    (answered : List NetEvent) × NetEvents builds answered v.net w.net × ((outcomes left : List NetOutcome) (old : SessionValue) (s : Script) (answers : List Answer) → Follows builds coding outcomes (outcomes_of answered ++ left) old s v (Some call) stage answers → MayPollNext coding (start_of old outcomes) s.call s → NextFollows builds coding outcomes left old s w call stage' polled' answers result)
+    (answered : List NetEvent) × NetEvents (plain builds) answered v.net w.net × ((outcomes left : List NetOutcome) (old : SessionValue) (s : Script) (answers : List Answer) → Follows builds coding outcomes (outcomes_of answered ++ left) old s v (Some call) stage answers → MayPollNext coding (start_of old outcomes) s.call s → NextFollows builds coding outcomes left old s w call stage' polled' answers result)
 
 module _ (builds : Builds) (coding : Coding) (call : Call) where
   -- a call that waits was polled
@@ -371,7 +371,7 @@ module _ (builds : Builds) (coding : Coding) (call : Call) where
         let ends = drain_ends in
         let happens = poll_happens builds coding call stage stage' middle w result here in (
           ends.answered ++ happens.0,
-          net_events-append builds ends.answered happens.0 v.net middle.net w.net (ends.goes.net_events tt) happens.1,
+          net_events-append (plain builds) ends.answered happens.0 v.net middle.net w.net (ends.goes.net_events tt) happens.1,
           λ outcomes left old s answers f may.
               let rest : List NetOutcome = outcomes_of happens.0 ++ left in
               let F : List NetOutcome → Type 0 = λ o. Follows builds coding outcomes o old s v (Some call) stage answers in

@@ -88,7 +88,7 @@ use Rattle.ftp_dialogue.proofs.DrainingLemmas.{undue_on}
 use Rattle.ftp_runs.proofs.ClosingData.{HasParted, began, end_waits, leaves_on, same_unsent}
 use Rattle.ftp_runs.proofs.Replay.{replay-nil, replay-shown, shown_on}
 use Rattle.ftp_runs.proofs.Running.{before_all-snoc, before_all-Finished, before_all-Waiting}
-use Rattle.ftp_dialogue.specs.Link.{Builds, over_memory}
+use Rattle.ftp_dialogue.specs.Link.{Builds, over_memory, plain}
 use Rattle.ftp_runs.proofs.Carried.{front_fits, outcomes_on, over_at_end, seen_kept, waits_kept, rule_kept, full_room, Carried, carried, carried_none, line_front, all_said}
 use Rattle.ftp_base.specs.declared.command.Command.TheVariants.{Abor}
 
@@ -130,7 +130,7 @@ module _ (builds : Builds) (coding : Coding) (outcomes : List NetOutcome) where
         (first ∙ ap (λ p. before_all answers (and_then (finally p) next)) (plays room more ended outcomes' fit on))
 
   -- the call is refused
-  stands_refused : (old v w : SessionValue) (items : List Item) (came : List ℕ) (answered : List NetEvent) (answers : List Answer) (call : Call) (answer : Answer) → (so : RefusedSo builds (Unit {0}) coding call v w answer) → Stands coding old items came answered v answers → Stands coding old (items ++ Shown call ∷ []) (came ++ []) (answered ++ so.answered) w (answers ++ answer ∷ [])
+  stands_refused : (old v w : SessionValue) (items : List Item) (came : List ℕ) (answered : List NetEvent) (answers : List Answer) (call : Call) (answer : Answer) → (so : RefusedSo (plain builds) (Unit {0}) coding call v w answer) → Stands coding old items came answered v answers → Stands coding old (items ++ Shown call ∷ []) (came ++ []) (answered ++ so.answered) w (answers ++ answer ∷ [])
   stands_refused old v w items came answered answers call answer so stands = λ later room more ended outcomes' fit on.
       let goes = beside_goes (over_memory builds) so.answered v w so.channel so.net_events in
       let R : List NetOutcome → Ran = λ o. replay room coding (items ++ Shown call ∷ later) (play_state old (came ++ more) ended o) in
@@ -268,8 +268,8 @@ module _ (builds : Builds) (coding : Coding) (outcomes : List NetOutcome) where
     all_received : w.channel.told.received ≡ old.channel.told.received ++ (f.came ++ came)
     all_received = c.received ∙ ap (λ x. x ++ came) f.received ∙ append_assoc old.channel.told.received f.came came
 
-    all_net_events : NetEvents builds (f.answered ++ asked) old.net w.net
-    all_net_events = net_events-append builds f.answered asked old.net v.net w.net f.net_events c.net_events
+    all_net_events : NetEvents (plain builds) (f.answered ++ asked) old.net w.net
+    all_net_events = net_events-append (plain builds) f.answered asked old.net v.net w.net f.net_events c.net_events
 
     all_outcomes : outcomes ≡ outcomes_of (f.answered ++ asked) ++ left
     all_outcomes = f.outcomes_are ∙ sym (outcomes_on f.answered asked left)
@@ -706,7 +706,7 @@ module _ (builds : Builds) (coding : Coding) (outcomes : List NetOutcome) where
         ends.shrinks ends.keeps
 
   -- the call is refused
-  refused_poll : (left : List NetOutcome) (old : SessionValue) (s : Script) (v w : SessionValue) (call : Call) (stage stage' : Stage) (answers : List Answer) (answer : Answer) → (so : RefusedSo builds (Unit {0}) coding call v w answer) → (f : Follows builds coding outcomes (outcomes_of so.answered ++ left) old s v (Some call) stage answers) → Carried builds v w [] so.answered → Stands coding old s.items f.came f.answered v s.answers → Follows builds coding outcomes left old (poll_script coding (start_of old outcomes) (Some call) s) w None stage' (answers ++ answer ∷ [])
+  refused_poll : (left : List NetOutcome) (old : SessionValue) (s : Script) (v w : SessionValue) (call : Call) (stage stage' : Stage) (answers : List Answer) (answer : Answer) → (so : RefusedSo (plain builds) (Unit {0}) coding call v w answer) → (f : Follows builds coding outcomes (outcomes_of so.answered ++ left) old s v (Some call) stage answers) → Carried builds v w [] so.answered → Stands coding old s.items f.came f.answered v s.answers → Follows builds coding outcomes left old (poll_script coding (start_of old outcomes) (Some call) s) w None stage' (answers ++ answer ∷ [])
   refused_poll left old s v w call stage stage' answers answer so f c stands =
       finish left so.answered old s v w call stage answers f [] c (Unit {0}) stage' answer
       (stands_refused old v w s.items f.came f.answered s.answers call answer so stands)
@@ -854,7 +854,7 @@ module _ (builds : Builds) (coding : Coding) (outcomes : List NetOutcome) where
   carry came answered v w call stage stage' result sound here goes = carried builds v w (entered_state call stage v.state) came answered goes sound here.end here.given here.sound
 
   -- a poll of a call that is refused
-  pub poll_refused : (left : List NetOutcome) (old : SessionValue) (s : Script) (v w : SessionValue) (call : Call) (stage stage' : Stage) (answers : List Answer) (answer : Answer) → (so : RefusedSo builds (Unit {0}) coding call v w answer) → Follows builds coding outcomes (outcomes_of so.answered ++ left) old s v (Some call) stage answers → MayPoll coding (start_of old outcomes) (Some call) s → (MayPollAt stage call v → ⊥) → PollsHere builds coding call stage stage' v w (Ready answer) → PollFollows builds coding outcomes left old s v w call stage stage' answers (Ready answer)
+  pub poll_refused : (left : List NetOutcome) (old : SessionValue) (s : Script) (v w : SessionValue) (call : Call) (stage stage' : Stage) (answers : List Answer) (answer : Answer) → (so : RefusedSo (plain builds) (Unit {0}) coding call v w answer) → Follows builds coding outcomes (outcomes_of so.answered ++ left) old s v (Some call) stage answers → MayPoll coding (start_of old outcomes) (Some call) s → (MayPollAt stage call v → ⊥) → PollsHere builds coding call stage stage' v w (Ready answer) → PollFollows builds coding outcomes left old s v w call stage stage' answers (Ready answer)
   poll_refused left old s v w call stage stage' answers answer so f may none here =
       let goes = beside_goes (over_memory builds) so.answered v w so.channel so.net_events in
       let c = carried builds v w v.state [] so.answered goes f.sound here.end here.given here.sound in
@@ -940,12 +940,12 @@ module _ (builds : Builds) (coding : Coding) (outcomes : List NetOutcome) where
 -- what a poll makes of a script, with what happened beside the control connection
 abbrev pub PollHappens : Builds → Coding → Call → Stage → Stage → SessionValue → SessionValue → Poll Answer → Type 0
 PollHappens builds coding call stage stage' v w result =
-    (answered : List NetEvent) × NetEvents builds answered v.net w.net × ((outcomes left : List NetOutcome) (old : SessionValue) (s : Script) (answers : List Answer) → Follows builds coding outcomes (outcomes_of answered ++ left) old s v (Some call) stage answers → MayPoll coding (start_of old outcomes) (Some call) s → due_of call v ≡ false → PollFollows builds coding outcomes left old s v w call stage stage' answers result)
+    (answered : List NetEvent) × NetEvents (plain builds) answered v.net w.net × ((outcomes left : List NetOutcome) (old : SessionValue) (s : Script) (answers : List Answer) → Follows builds coding outcomes (outcomes_of answered ++ left) old s v (Some call) stage answers → MayPoll coding (start_of old outcomes) (Some call) s → due_of call v ≡ false → PollFollows builds coding outcomes left old s v w call stage stage' answers result)
 
 -- what an aborted call left beside the control connection
-aborted_net_events : (builds : Builds) (begun : Bool) (tree : Tree) (answer : Answer) (v w : SessionValue) (aborts : Aborts (over_memory builds) begun tree answer v w) → NetEvents builds aborts.leads.answered v.net w.net
+aborted_net_events : (builds : Builds) (begun : Bool) (tree : Tree) (answer : Answer) (v w : SessionValue) (aborts : Aborts (over_memory builds) begun tree answer v w) → NetEvents (plain builds) aborts.leads.answered v.net w.net
 aborted_net_events builds begun tree answer v w aborts =
-    let P : Net → Type 0 = λ n. NetEvents builds aborts.leads.answered v.net n in
+    let P : Net → Type 0 = λ n. NetEvents (plain builds) aborts.leads.answered v.net n in
     subst P (sym (go aborts.cause)) (aborts.leads.goes.net_events tt)
   where
     lost : ((w ≡ aborts.at) × (begun ≡ false) × Untouched (over_memory builds) aborts.leads.came v aborts.at) ⊎ ((w ≡ failed_from (lacking_at aborts.place aborts.at)) × ((begun ≡ true) ⊎ Touched (over_memory builds) tree v aborts.at)) → w.net ≡ aborts.at.net
@@ -975,7 +975,7 @@ poll_happens builds coding call stage stage' v w result here =
         (done.answered, done.goes.net_events tt, λ outcomes left old s answers f may undue. inl (poll_ready builds coding outcomes left old s v w call stage stage' answers answer going done f may here))
     go (Ready answer) here going (last, inr aborts, lets_go) =
         let P : Answer → Type 0 = λ a. Aborts (over_memory builds) (begun_at stage) tree a (entered_at call stage v) last in
-        let net_events = net_events-append builds aborts.leads.answered (drops last.state.counts.owed) v.net last.net w.net (aborted_net_events builds (begun_at stage) tree answer (entered_at call stage v) last aborts) (letting_net_events (Unit {0}) last w builds tt lets_go) in (
+        let net_events = net_events-append (plain builds) aborts.leads.answered (drops last.state.counts.owed) v.net last.net w.net (aborted_net_events builds (begun_at stage) tree answer (entered_at call stage v) last aborts) (letting_net_events (Unit {0}) last w (plain builds) tt lets_go) in (
           aborts.leads.answered ++ drops last.state.counts.owed,
           net_events,
           λ outcomes left old s answers f may undue. inr (record { fault = aborts.fault; is = ap Some aborts.is; going = going; last = last; aborts = subst P aborts.is aborts; lets_go = lets_go; given = here.given; sound = here.sound }),
@@ -995,7 +995,7 @@ poll_happens builds coding call stage stage' v w result here =
     refused : is_first stage ≡ true → (refusal_of call v ≡ Taken → ⊥) → PollHappens builds coding call stage stage' v w result
     refused first none =
         let made = here.refused first none in
-        let so = refused_so builds (Unit {0}) coding call v w made.0 made.2 in
+        let so = refused_so (plain builds) (Unit {0}) coding call v w made.0 made.2 in
         let P : Poll Answer → Type 0 = λ r. PollHappens builds coding call stage stage' v w r in
         let H : Poll Answer → Type 0 = λ r. PollsHere builds coding call stage stage' v w r in
         let there : PollsHere builds coding call stage stage' v w (Ready made.0) = subst H made.1 here in

@@ -12,7 +12,7 @@ use Rattle.ftp_dialogue.specs.Coding.{Coding}
 use Rattle.ftp_dialogue.specs.NetEvents.{NetEvent, NetEvents, net_record_of, outcomes_of, parted, settled, traffic_of}
 use Rattle.ftp_dialogue.specs.declared.model.NetRecord.{NetRecord}
 use Rattle.ftp_dialogue.specs.Dialogue.{dialogue, entered}
-use Rattle.ftp_dialogue.specs.Link.{Builds, over_memory}
+use Rattle.ftp_dialogue.specs.Link.{Builds, over_memory, plain}
 use Rattle.ftp_dialogue.specs.Play.{Taken, Lacking, refused_if_failed, is_due}
 use Rattle.ftp_dialogue.specs.Promises.{FailsWith, begun_by, refusal_of}
 use Rattle.ftp_dialogue.specs.Resuming.{Resumes, modes_of}
@@ -145,7 +145,7 @@ module _ (builds : Builds) (coding : Coding) where
   -- what is made of it, whatever is under way, as long as that wasn't polled
   abbrev pub LeftHappens : SessionValue → SessionValue → Type 0
   LeftHappens v w =
-      (answered : List NetEvent) × NetEvents builds answered v.net w.net × ((outcomes left : List NetOutcome) (old : SessionValue) (s : Script) (call : Option Call) (stage : Stage) (answers : List Answer) → Follows builds coding outcomes (outcomes_of answered ++ left) old s v call stage answers → s.polled ≡ false → Follows builds coding outcomes left old (leave_held coding (start_of old outcomes) s) w call stage answers)
+      (answered : List NetEvent) × NetEvents (plain builds) answered v.net w.net × ((outcomes left : List NetOutcome) (old : SessionValue) (s : Script) (call : Option Call) (stage : Stage) (answers : List Answer) → Follows builds coding outcomes (outcomes_of answered ++ left) old s v call stage answers → s.polled ≡ false → Follows builds coding outcomes left old (leave_held coding (start_of old outcomes) s) w call stage answers)
 
   -- none is held
   unheld_happens : (v w : SessionValue) → holds (is_none v.net.data_conn) v.state.counts.owed ≡ false → w ≡ v → LeftHappens v w
@@ -211,7 +211,7 @@ module _ (builds : Builds) (coding : Coding) where
   -- a call is over, and a transfer is left that was to be left then
   abbrev pub OverHappens : Bool → SessionValue → SessionValue → Type 0
   OverHappens leaving v w =
-      (answered : List NetEvent) × NetEvents builds answered v.net w.net × ((outcomes left : List NetOutcome) (old : SessionValue) (s : Script) (stage : Stage) (answers : List Answer) → Follows builds coding outcomes (outcomes_of answered ++ left) old s v None stage answers → s.leaving ≡ leaving → Follows builds coding outcomes left old (over coding (start_of old outcomes) s) w None stage answers)
+      (answered : List NetEvent) × NetEvents (plain builds) answered v.net w.net × ((outcomes left : List NetOutcome) (old : SessionValue) (s : Script) (stage : Stage) (answers : List Answer) → Follows builds coding outcomes (outcomes_of answered ++ left) old s v None stage answers → s.leaving ≡ leaving → Follows builds coding outcomes left old (over coding (start_of old outcomes) s) w None stage answers)
 
   pub over_happens : (leaving : Bool) (v w : SessionValue) → HasLeftIf leaving v w → OverHappens leaving v w
   over_happens true v w has =
@@ -243,7 +243,7 @@ module _ (builds : Builds) (coding : Coding) where
   pub ready_happens : (call : Call) (stage stage' : Stage) (polled' : Bool) (course : Course) (v gone w : SessionValue) (answer : Answer) → NextHappens builds coding call stage stage' polled' v gone (Ready answer) → HasLeftIf course.leaving gone w → Happens builds coding v w (Some call) None stage stage' course at_rest event.Poll (Some answer)
   ready_happens call stage stage' polled' course v gone w answer happens has = (
     happens.0 ++ left.0,
-    net_events-append builds happens.0 left.0 v.net gone.net w.net happens.1 left.1,
+    net_events-append (plain builds) happens.0 left.0 v.net gone.net w.net happens.1 left.1,
     λ outcomes rest old s answers f may.
         let F : List NetOutcome → Type 0 = λ o. Follows builds coding outcomes o old s v (Some call) stage answers in
         go outcomes rest old s answers f.1 f.0.call_is (happens.2 outcomes (outcomes_of left.0 ++ rest) old s answers (subst F (outcomes_on happens.0 left.0 rest) f.0) may),
@@ -334,8 +334,8 @@ module _ (builds : Builds) (coding : Coding) where
 
   dropped_grows : (aborted : Bool) (stage : Stage) (v w : SessionValue) → DropsEnd true aborted stage v w → Grows builds v w
   dropped_grows true stage v w drops =
-      let N : SessionValue → Type 0 = λ x. NetEvents builds (drops_of v.state.counts.owed) v.net x.net in
-      (drops_of v.state.counts.owed, subst N (sym drops.counts) (letting_net_events (Unit {0}) v drops.closed builds tt drops.lets_go))
+      let N : SessionValue → Type 0 = λ x. NetEvents (plain builds) (drops_of v.state.counts.owed) v.net x.net in
+      (drops_of v.state.counts.owed, subst N (sym drops.counts) (letting_net_events (Unit {0}) v drops.closed (plain builds) tt drops.lets_go))
   dropped_grows false stage v w same = ([], ap (λ x. x.net) same)
 
   -- one that brings a transfer to its end

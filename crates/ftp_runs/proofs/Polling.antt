@@ -11,7 +11,7 @@ use Rattle.ftp_calls.specs.Exchanges.{is_local, row_of}
 use Rattle.ftp_calls.specs.declared.exchange.Turn.TheVariants.{First}
 use Rattle.ftp_dialogue.specs.declared.stage.Stage.{Stage}
 use Rattle.ftp_dialogue.specs.Coding.{Coding}
-use Rattle.ftp_dialogue.specs.Link.{over_memory}
+use Rattle.ftp_dialogue.specs.Link.{over_memory, plain}
 use Rattle.ftp_dialogue.specs.Promises.{HasFault, IsFault}
 use Rattle.ftp_dialogue.specs.State.{SessionValue}
 use Rattle.ftp_runs.specs.Following.{PollsHere}
@@ -41,7 +41,7 @@ module _ (builds : Builds) (coding : Coding) (call : Call) (stage stage' : Stage
   -- a call that is refused
   refused_here : (answer : Answer) → (first : Bool) → is_first stage ≡ first → RefusesFrom first (Unit {0}) call v w answer → IsGiven w.channel.told → IsSound (Unit {0}) w.channel → PollsHere builds coding call stage stage' v w (Ready answer)
   refused_here answer true first refused given sound =
-      let so = refused_so builds (Unit {0}) coding call v w answer refused in
+      let so = refused_so (plain builds) (Unit {0}) coding call v w answer refused in
       record {
         refused = λ is none. (answer, refl, refused);
         lost = λ on failed. (let clash : true ≡ false = sym first ∙ on in cc);

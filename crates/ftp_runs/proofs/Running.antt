@@ -278,7 +278,7 @@ module _ (link : Link) (coding : Coding) (calls later : List Call) (call : Call)
   -- it is refused
   refuses_next : IsRefused link.tells call mid new answer → Reached link coding calls later old new (answers ++ answer ∷ [])
   refuses_next refused =
-      let so = refused_so link.builds link.tells coding call mid new answer refused in
+      let so = refused_so link.beside link.tells coding call mid new answer refused in
       let goes = beside_goes link so.answered mid new so.channel so.net_events in
       record {
         ran = record {
@@ -437,7 +437,7 @@ aborted_more link coding calls to_make call old mid new answers answer broke pla
       where
         by : IsRefused link.tells call mid new answer ⊎ IsPlayed link coding call mid new answer ⊎ IsWithheld mid new answer → (new.channel ≡ broke.after.channel) × AllRefused (broke.made ++ call ∷ []) (broke.later ++ answer ∷ [])
         by (inl refused) =
-            let so = refused_so link.builds link.tells coding call mid new answer refused in
+            let so = refused_so link.beside link.tells coding call mid new answer refused in
             (so.channel ∙ so_far.0, all_snoc broke.made broke.later call answer so_far.1 (λ abroad. so.refusal_is))
         by (inr (inl played)) = apart (is_local call) refl
           where

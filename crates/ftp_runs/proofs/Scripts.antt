@@ -21,7 +21,7 @@ use Rattle.ftp_runs.specs.Script.{script, start_of, script_of, after_event, drop
 use Rattle.ftp_dialogue.specs.NetEvents.{NetEvent, NetEvents, outcomes_of}
 use Rattle.ftp_dialogue.proofs.NetEvents.{net_events-append}
 use Rattle.ftp_dialogue.specs.declared.model.NetOutcome.{NetOutcome}
-use Rattle.ftp_dialogue.specs.Link.{Builds, over_memory}
+use Rattle.ftp_dialogue.specs.Link.{Builds, over_memory, plain}
 use Rattle.ftp_dialogue.specs.Promises.{Aborts, FailsWith}
 use Rattle.ftp_runs.specs.Scripted.{AreRefused}
 use Rattle.ftp_runs.specs.Scripted.{EndsAt, HoldsAt, ScriptHolds, ScriptAborts, ScriptsHold, IsScripted, StopsAtFeed, leaves_dropped}
@@ -47,7 +47,7 @@ module _ (builds : Builds) (coding : Coding) where
   abbrev pub Happened : ℕ → SessionValue → List Event → SessionValue → Option Call → Stage → Course → List Answer → Type 0
   Happened zero old done v call stage course answers = Unit {0}
   Happened (suc depth) old done v call stage course answers =
-      (answered : List NetEvent) × NetEvents builds answered old.net v.net × ((form : ReplyForm) (left : List NetOutcome) → outcome old.channel.rule form old.channel.kept false ≡ Waits → Lawful coding (start_of old (outcomes_of answered ++ left)) (script_of old form) done → Attended builds coding (outcomes_of answered ++ left) left old (script coding (start_of old (outcomes_of answered ++ left)) (script_of old form) done) v call stage course answers ⊎ ScriptAborts builds (λ after later rest. Happened depth after later v call stage course rest) coding (outcomes_of answered ++ left) old form done v answers)
+      (answered : List NetEvent) × NetEvents (plain builds) answered old.net v.net × ((form : ReplyForm) (left : List NetOutcome) → outcome old.channel.rule form old.channel.kept false ≡ Waits → Lawful coding (start_of old (outcomes_of answered ++ left)) (script_of old form) done → Attended builds coding (outcomes_of answered ++ left) left old (script coding (start_of old (outcomes_of answered ++ left)) (script_of old form) done) v call stage course answers ⊎ ScriptAborts builds (λ after later rest. Happened depth after later v call stage course rest) coding (outcomes_of answered ++ left) old form done v answers)
 
   -- nothing has happened
   pub starts_script : (depth : ℕ) (old : SessionValue) (call : Option Call) (stage : Stage) (course : Course) → call ≡ None → course ≡ at_rest → IsGiven old.channel.told → IsSound (Unit {0}) old.channel → Happened depth old [] old call stage course []
@@ -161,7 +161,7 @@ module _ (builds : Builds) (coding : Coding) where
     one_more zero old done answers so_far = tt
     one_more (suc depth) old done answers so_far = (
       so_far.0 ++ happens.0,
-      net_events-append builds so_far.0 happens.0 old.net v.net w.net so_far.1 happens.1,
+      net_events-append (plain builds) so_far.0 happens.0 old.net v.net w.net so_far.1 happens.1,
       λ form left waits lawful.
           let all : outcomes_of (so_far.0 ++ happens.0) ++ left ≡ outcomes_of so_far.0 ++ (outcomes_of happens.0 ++ left) = outcomes_on so_far.0 happens.0 left in
           let L : List NetOutcome → Type 0 = λ o. Lawful coding (start_of old o) (script_of old form) (done ++ event ∷ []) in
@@ -228,7 +228,7 @@ module _ (builds : Builds) (coding : Coding) where
     happened_scripted zero old done answers so_far = tt
     happened_scripted (suc depth) old done answers so_far = (
       so_far.0 ++ end.drops.0,
-      net_events-append builds so_far.0 end.drops.0 old.net v.net new.net so_far.1 end.drops.1,
+      net_events-append (plain builds) so_far.0 end.drops.0 old.net v.net new.net so_far.1 end.drops.1,
       λ form left waits lawful.
           let all : outcomes_of (so_far.0 ++ end.drops.0) ++ left ≡ outcomes_of so_far.0 ++ (outcomes_of end.drops.0 ++ left) = outcomes_on so_far.0 end.drops.0 left in
           let L : List NetOutcome → Type 0 = λ o. Lawful coding (start_of old o) (script_of old form) done in
@@ -268,7 +268,7 @@ module _ (builds : Builds) (coding : Coding) where
     pub has_grown : (old : SessionValue) (done : List Event) (answers : List Answer) → ((depth : ℕ) → Happened depth old done v call stage course answers) → Grows builds old new
     has_grown old done answers so_far =
         let all = so_far (suc zero) in
-        (all.0 ++ end.drops.0, net_events-append builds all.0 end.drops.0 old.net v.net new.net all.1 end.drops.1)
+        (all.0 ++ end.drops.0, net_events-append (plain builds) all.0 end.drops.0 old.net v.net new.net all.1 end.drops.1)
 
     -- no event is left
     pub all_events : (old : SessionValue) (events : List Event) (i : ℕ) (answers : List Answer) → length events ≤ i → ((depth : ℕ) → Happened depth old (take i events) v call stage course answers) → IsScripted builds coding old events new answers

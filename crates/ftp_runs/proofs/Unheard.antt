@@ -56,11 +56,11 @@ use Rattle.ftp_dialogue.specs.Dialogue.{expecting}
 use Rattle.ftp_base.specs.declared.status.Status.TheVariants.{CommandOk}
 use Rattle.ftp_dialogue.proofs.ResyncLemmas.{others, seeking_is}
 use Rattle.ftp_dialogue.specs.declared.stage.Resyncing.TheVariants.{Wording, Sending, Seeking}
-use Rattle.ftp_dialogue.specs.Dialogue.{Expected, expected_of, Tree, Say, Hear, Look, Ask, Build, Move, Leaf, saying, after_fault_of, awaiting, armed, doing, exchanging, concluded, later, set_to, answer_to_fault, dialogue}
+use Rattle.ftp_dialogue.specs.Dialogue.{Expected, expected_of, Tree, Say, Hear, Look, Ask, Build, Secure, Move, Leaf, saying, after_fault_of, awaiting, armed, doing, exchanging, concluded, later, set_to, answer_to_fault, dialogue}
 use Rattle.ftp_dialogue.specs.declared.model.NetOutcome.{NetOutcome}
 use Rattle.ftp_dialogue.specs.declared.model.NetOutcome.TheVariants as came
-use Rattle.ftp_dialogue.specs.NetEvents.{answers as answers_to, constructed, after_request, moved}
-use Rattle.ftp_dialogue.specs.Play.{play, address_at, fits, heard_then, taken, asked_then, built_then, moved_then, needs_data}
+use Rattle.ftp_dialogue.specs.NetEvents.{answers as answers_to, constructed, after_request, moved, secured}
+use Rattle.ftp_dialogue.specs.Play.{play, address_at, fits, heard_then, taken, asked_then, built_then, moved_then, needs_data, secured_then}
 use Rattle.ftp_runs.specs.Script.{heard_in, heard_at}
 use Rattle.ftp_dialogue.proofs.CarryingLemmas.{needs_none, plain_dialogue}
 use Rattle.ftp_dialogue.proofs.Sorts.{fetch_opens, finishing_moves, turn_abroad, aborts_finish}
@@ -181,6 +181,7 @@ play_shrinks room (Ask request next) s how t is =
       | [] ↦ λ e. omega (arith, ap length (ap bytes_in e))
       | came.Answered outcome ∷ outcomes ↦ λ e. play_shrinks room (next outcome) (record s { net_record = after_request request outcome s.net_record; outcomes = outcomes }) how t e
       | came.Built fault ∷ outcomes ↦ λ e. omega (arith, ap length (ap bytes_in e))
+      | came.Secured fault ∷ outcomes ↦ λ e. omega (arith, ap length (ap bytes_in e))
       | came.Read bytes ∷ outcomes ↦ λ e. omega (arith, ap length (ap bytes_in e))
       | came.Wrote count ∷ outcomes ↦ λ e. omega (arith, ap length (ap bytes_in e))
       | came.Closed ∷ outcomes ↦ λ e. omega (arith, ap length (ap bytes_in e))
@@ -192,7 +193,21 @@ play_shrinks room (Build address next) s how t is =
     elim s.outcomes as (λ o. built_then o address s k ≡ Pending how t → length t.bytes ≤ length s.bytes) [
       | [] ↦ λ e. omega (arith, ap length (ap bytes_in e))
       | came.Answered outcome ∷ outcomes ↦ λ e. omega (arith, ap length (ap bytes_in e))
+      | came.Secured fault ∷ outcomes ↦ λ e. omega (arith, ap length (ap bytes_in e))
       | came.Built fault ∷ outcomes ↦ λ e. play_shrinks room (next fault) (record s { net_record = constructed address fault s.net_record; outcomes = outcomes }) how t e
+      | came.Read bytes ∷ outcomes ↦ λ e. omega (arith, ap length (ap bytes_in e))
+      | came.Wrote count ∷ outcomes ↦ λ e. omega (arith, ap length (ap bytes_in e))
+      | came.Closed ∷ outcomes ↦ λ e. omega (arith, ap length (ap bytes_in e))
+      | came.Failed kind ∷ outcomes ↦ λ e. omega (arith, ap length (ap bytes_in e))
+      | came.NoMemory ∷ outcomes ↦ λ e. omega (arith, ap length (ap bytes_in e))
+    ] is
+play_shrinks room (Secure next) s how t is =
+    let k : Option FtpError → PlayState → Played = λ fault u. play room (next fault) u in
+    elim s.outcomes as (λ o. secured_then o s k ≡ Pending how t → length t.bytes ≤ length s.bytes) [
+      | [] ↦ λ e. omega (arith, ap length (ap bytes_in e))
+      | came.Answered outcome ∷ outcomes ↦ λ e. omega (arith, ap length (ap bytes_in e))
+      | came.Built fault ∷ outcomes ↦ λ e. omega (arith, ap length (ap bytes_in e))
+      | came.Secured fault ∷ outcomes ↦ λ e. play_shrinks room (next fault) (record s { net_record = secured fault s.net_record; outcomes = outcomes }) how t e
       | came.Read bytes ∷ outcomes ↦ λ e. omega (arith, ap length (ap bytes_in e))
       | came.Wrote count ∷ outcomes ↦ λ e. omega (arith, ap length (ap bytes_in e))
       | came.Closed ∷ outcomes ↦ λ e. omega (arith, ap length (ap bytes_in e))

@@ -39,7 +39,7 @@ use Rattle.ftp_runs.specs.declared.model.Item.{Item}
 use Rattle.ftp_runs.specs.declared.model.Item.TheVariants.{Hidden}
 use Rattle.ftp_runs.specs.declared.model.Script.{Script}
 use Rattle.ftp_runs.specs.Script.{unread, is_over, start_of, after_event, IsLawful, MayCancel}
-use Rattle.ftp_dialogue.specs.Link.{Builds, over_memory}
+use Rattle.ftp_dialogue.specs.Link.{Builds, over_memory, plain}
 
 -- since the calls before it were done, no less of a call is said and taken than was; where it has begun, more is
 pub record Since (coding : Coding) (old : SessionValue) (items : List Item) (answers : List Answer) (came : List ℕ) (answered : List NetEvent) (v : SessionValue) (begun : Bool) : Type 0 where
@@ -100,7 +100,7 @@ Place coding old s came answered v (Some call) stage = Started coding old s came
 pub record Follows (builds : Builds) (coding : Coding) (outcomes left : List NetOutcome) (old : SessionValue) (s : Script) (v : SessionValue) (call : Option Call) (stage : Stage) (answers : List Answer) : Type 0 where
   pub came : List ℕ
   pub answered : List NetEvent
-  pub net_events : NetEvents builds answered old.net v.net
+  pub net_events : NetEvents (plain builds) answered old.net v.net
   pub outcomes_are : outcomes ≡ outcomes_of answered ++ left
   pub net_record : s.net_record ≡ net_record_of v.net
   pub place : Place coding old s came answered v call stage
@@ -217,7 +217,7 @@ pub record IsFeed (event : Event) : Type 0 where
 
 -- what happened beside the control connection
 abbrev pub Grows : Builds → SessionValue → SessionValue → Type 0
-Grows builds v w = (answered : List NetEvent) × NetEvents builds answered v.net w.net
+Grows builds v w = (answered : List NetEvent) × NetEvents (plain builds) answered v.net w.net
 
 -- no call is under way, and no transfer is to be left
 abbrev pub at_rest : Course
@@ -231,7 +231,7 @@ Attended builds coding outcomes left old s v call stage course answers =
 -- an event of a script: the session follows it, or the call under way is aborted
 abbrev pub Happens : Builds → Coding → SessionValue → SessionValue → Option Call → Option Call → Stage → Stage → Course → Course → Event → Option Answer → Type 0
 Happens builds coding v w call call' stage stage' course course' event result =
-    (answered : List NetEvent) × NetEvents builds answered v.net w.net × ((outcomes left : List NetOutcome) (old : SessionValue) (s : Script) (answers : List Answer) → Attended builds coding outcomes (outcomes_of answered ++ left) old s v call stage course answers → IsLawful coding (start_of old outcomes) s event → Attended builds coding outcomes left old (after_event coding (start_of old outcomes) s event) w call' stage' course' (answers ++ given_answer result) ⊎ (AbortsPart builds coding outcomes old s answers w result × (call' ≡ None) × (course' ≡ at_rest) × (event ≡ Polling)))
+    (answered : List NetEvent) × NetEvents (plain builds) answered v.net w.net × ((outcomes left : List NetOutcome) (old : SessionValue) (s : Script) (answers : List Answer) → Attended builds coding outcomes (outcomes_of answered ++ left) old s v call stage course answers → IsLawful coding (start_of old outcomes) s event → Attended builds coding outcomes left old (after_event coding (start_of old outcomes) s event) w call' stage' course' (answers ++ given_answer result) ⊎ (AbortsPart builds coding outcomes old s answers w result × (call' ≡ None) × (course' ≡ at_rest) × (event ≡ Polling)))
 
 -- the transfer that is held, if any, was left, as by a call of its own
 pub record HasLeft (v w : SessionValue) : Type 0 where

@@ -34,7 +34,7 @@ use Rattle.ftp_dialogue.specs.Play.{Taken}
 use Rattle.ftp_dialogue.specs.Promises.{play_state, begun_by, refusal_of, Aborts, IsApart, IsRefusal}
 use Rattle.ftp_runs.specs.Runs.{before_all}
 use Rattle.ftp_runs.specs.Script.{script, script_of, start_of, unread, is_over, draining, drained_to, dropped, polled_as, run_with, succeeded, Lawful, MayCancel}
-use Rattle.ftp_dialogue.specs.Link.{Builds, over_memory}
+use Rattle.ftp_dialogue.specs.Link.{Builds, over_memory, plain}
 
 -- what was sent and what is unsent, joined, begin what was said; where they aren't all of it, the tail of an earlier
 -- line is still unsent
@@ -61,7 +61,7 @@ pub record StandsAt (s : Script) (new : SessionValue) (answers : List Answer) : 
 -- what happened beside the control connection since, with these outcomes first of all
 pub record Answered (builds : Builds) (outcomes left : List NetOutcome) (old new : SessionValue) : Type 0 where
   pub answered : List NetEvent
-  pub net_events : NetEvents builds answered old.net new.net
+  pub net_events : NetEvents (plain builds) answered old.net new.net
   pub outcomes_are : outcomes ≡ outcomes_of answered ++ left
 
 -- the events make their script, where these are the outcomes of the transport's requests; what was received and what is
@@ -161,7 +161,7 @@ pub record LeftOf (builds : Builds) (coding : Coding) (old : SessionValue) (s : 
   pub came : List ℕ
   pub bytes : s.bytes ≡ untaken old.channel ++ came ++ unread v.channel.told
   pub answered : List NetEvent
-  pub net_events : NetEvents builds answered old.net v.net
+  pub net_events : NetEvents (plain builds) answered old.net v.net
   pub reaches : Reaches coding old s.items came answered (entering s.polled call v) s.answers call tree
   pub since : CallHasBegun coding old s came answered v begun
 
@@ -220,7 +220,7 @@ pub record ScriptAborts (builds : Builds) (Later : SessionValue → List Event �
 abbrev pub ScriptsHold : Builds → ℕ → Coding → SessionValue → List Event → SessionValue → List Answer → Type 0
 ScriptsHold builds zero coding old events new answers = Unit {0}
 ScriptsHold builds (suc depth) coding old events new answers =
-    (answered : List NetEvent) × NetEvents builds answered old.net new.net × ((form : ReplyForm) (left : List NetOutcome) → outcome old.channel.rule form old.channel.kept false ≡ Waits → Lawful coding (start_of old (outcomes_of answered ++ left)) (script_of old form) events → ScriptHolds builds coding (outcomes_of answered ++ left) old form events new answers ⊎ ScriptAborts builds (λ after later others. ScriptsHold builds depth coding after later new others) coding (outcomes_of answered ++ left) old form events new answers)
+    (answered : List NetEvent) × NetEvents (plain builds) answered old.net new.net × ((form : ReplyForm) (left : List NetOutcome) → outcome old.channel.rule form old.channel.kept false ≡ Waits → Lawful coding (start_of old (outcomes_of answered ++ left)) (script_of old form) events → ScriptHolds builds coding (outcomes_of answered ++ left) old form events new answers ⊎ ScriptAborts builds (λ after later others. ScriptsHold builds depth coding after later new others) coding (outcomes_of answered ++ left) old form events new answers)
 
 -- that is said of however many
 abbrev pub IsScripted : Builds → Coding → SessionValue → List Event → SessionValue → List Answer → Type 0

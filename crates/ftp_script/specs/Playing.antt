@@ -16,7 +16,7 @@ use Rattle.ftp_calls.specs.declared.call.Call.{Call}
 use Rattle.ftp_calls.specs.declared.call.Call.TheVariants.{Greet}
 use Rattle.ftp_dialogue.specs.NetEvents.{first_net}
 use Rattle.ftp_dialogue.specs.Coding.{Coding}
-use Rattle.ftp_dialogue.specs.Link.{Link}
+use Rattle.ftp_dialogue.specs.Link.{Link, plain}
 use Rattle.ftp_runs.specs.Runs.{Runs}
 use Rattle.ftp_dialogue.specs.State.{SessionValue, Begins}
 use Rattle.ftp_dialogue.specs.Dialogue.{rule_by}
@@ -28,7 +28,7 @@ use Rattle.ftp_script.specs.Shown.{call_text, end_text}
 -- a connection over memory: its record is true, no read fails and no question for an address, a write fails only where
 -- memory or room runs out, no request waits, and there is no builder
 abbrev pub memory : Link
-memory = record { tells = Unit {0}; reads = λ kind. ⊥; writes = λ told kind. (kind ≡ kinds.OutOfMemory) ⊎ ((kind ≡ kinds.WouldBlock) × IsFull told); ends = λ kind. ⊥; asks_wait = ⊥; builds = λ address built. built ≡ Err (ConnectionError NoAddress) }
+memory = record { tells = Unit {0}; reads = λ kind. ⊥; writes = λ told kind. (kind ≡ kinds.OutOfMemory) ⊎ ((kind ≡ kinds.WouldBlock) × IsFull told); ends = λ kind. ⊥; asks_wait = ⊥; beside = plain (λ address built. built ≡ Err (ConnectionError NoAddress)) }
 
 -- texts are UTF-8
 abbrev pub utf8 : Coding

@@ -3,5 +3,4 @@ pub mod Continues
 pub mod Gone
 pub mod Kept
 pub mod Securing
-pub mod Steps
 pub mod Streams

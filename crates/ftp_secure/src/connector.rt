@@ -13,6 +13,9 @@ pub trait Secures<C: Tells>: Drop {
     /// Connections under TLS.
     type Stream: TlsStream<C>;
 
+    /// A connection that is being put under TLS, where that may have to wait; `()` of a connector that blocks alone.
+    type Connecting: Drop;
+
     /// What it may return for a server of this name and a connection of this record: a stream of this record, in clear,
     /// or the text of an error.
     ghost answers: { Self → List ℕ → Told → Result Told (List ℕ) → Type 0 };

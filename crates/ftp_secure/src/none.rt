@@ -4,6 +4,10 @@
 #[derive(Drop)]
 pub enum NoTlsStream {}
 
-/// No connector. There is no value of it.
+/// No connection under TLS of a polled client. There is no value of it.
+#[derive(Drop)]
+pub enum AsyncNoTlsStream {}
+
+/// No connector: a client without TLS. There is no value of it.
 #[derive(Drop)]
 pub enum NoTlsConnector {}

@@ -1,10 +1,10 @@
 //! Putting connections under TLS by calls that return only when they are done.
 
-ghost use Rattle.std.specs.Prelude.{◌≡◌, IfOk};
+ghost use Rattle.std.specs.Prelude.{IfOk};
 ghost use Rattle.ftp_transport.specs.Asking.{built_as};
 ghost use Rattle.ftp_secure.specs.Connectors.{IsUnused};
 ghost use Rattle.ftp_secure.specs.Continues.{Continues};
-ghost use Rattle.ftp_secure.specs.Securing.{SecuresAsKept, SecuresBy};
+ghost use Rattle.ftp_secure.specs.Securing.{SecuresBy};
 
 use crate::connector::TlsConnector;
 use crate::data_stream::DataStream;
@@ -25,18 +25,8 @@ pub trait SecureTransport<K: Drop>: SecureNetwork<K> {
             (built_as Self.Conn.told result) }
         ensures below { Self.Conn.tells → IfOk result
             (λ made. Continues (Self.told_below conn) (Self.told_below made)) }
-        ensures unused { Self.Conn.tells → IfOk result (λ made. IsUnused (Self.Conn.told made)) };
-
-    /// Puts a connection under TLS by the connector that was kept; where none was it stays as it is.
-    ///
-    /// # Errors
-    /// As [`SecureTransport::put_under`].
-    fn secure(&self, conn: Self::Conn) -> FtpResult<Self::Conn>
-        ensures none { Self.kept self.now ≡ None → result ≡ Ok conn }
-        ensures secures { SecuresAsKept Self.answers (Self.kept self.now) (Self.gives conn)
-            (Self.Conn.told conn) (built_as Self.Conn.told result) }
-        ensures below { Self.Conn.tells → IfOk result
-            (λ made. Continues (Self.told_below conn) (Self.told_below made)) };
+        ensures unused { Self.Conn.tells → IfOk result (λ made. IsUnused (Self.Conn.told made)) }
+        ensures made { Self.Conn.tells → Self.Conn.secures (built_as Self.Conn.told result) };
 }
 
 impl<Tr: Network, K: TlsConnector<Tr::Conn>> SecureTransport<K> for Secured<Tr, K> {
@@ -51,18 +41,6 @@ impl<Tr: Network, K: TlsConnector<Tr::Conn>> SecureTransport<K> for Secured<Tr, 
                 Err(text) => Err(FtpError::SecureError(Text::from_string(text))),
             },
             Err(fault) => Err(fault),
-        }
-    }
-
-    fn secure(
-        &self,
-        conn: DataStream<Tr::Conn, K::Stream>,
-    ) -> FtpResult<DataStream<Tr::Conn, K::Stream>> {
-        match &self.connector {
-            Some((connector, domain)) => {
-                <Secured<Tr, K> as SecureTransport<K>>::put_under(connector, domain.as_str(), conn)
-            }
-            None => Ok(conn),
         }
     }
 }

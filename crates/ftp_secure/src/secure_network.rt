@@ -45,7 +45,8 @@ pub trait SecureNetwork<K: Drop>: Network {
         ensures gives { gives conn (built_as Self.Conn.told result) }
         ensures below { Self.Conn.tells → IfOk result
             (λ made. Continues (told_below conn) (told_below made)) }
-        ensures plain { IfOk result (λ made. Self.Conn.told made ≡ told_below made) };
+        ensures plain { IfOk result (λ made. Self.Conn.told made ≡ told_below made) }
+        ensures made { Self.Conn.tells → Self.Conn.secures (built_as Self.Conn.told result) };
 
     /// From now on connections are put under TLS by this connector, to a server of this name.
     fn keep(&mut self, connector: K, domain: String)

@@ -1,12 +1,14 @@
 //! A transport whose connections may be under TLS.
 //!
 //! Requests go to the transport below, and its connections come back as they are: they are put under TLS when the session
-//! asks for it. Data connections that are over are handed to the transport below, which takes plain ones; from the first
-//! under TLS on they are kept beside it, so that their records stay in order. A stream that needs no record
-//! (`TlsStream::is_recorded`), as one over a socket, is dropped.
+//! asks for it, by the connector that it had kept. A handshake that waits is kept beside it. Data connections that are over
+//! are handed to the transport below, which takes plain ones; from the first under TLS on they are kept beside it, so that
+//! their records stay in order. A stream that needs no record (`TlsStream::is_recorded`), as one over a socket, is dropped.
 
 ghost use Rattle.std.specs.Prelude.{◌≡◌, ◌<◌, [], length, vec_capacity};
 ghost use Rattle.ftp_secure.specs.Kept.{over_in_clear};
+ghost use Rattle.ftp_secure.specs.Securing.{SecuresAsKept};
+ghost use Rattle.ftp_secure.specs.Streams.{GivesBack, told_in_clear};
 
 use crate::connector::Secures;
 use crate::data_stream::DataStream;
@@ -21,6 +23,8 @@ pub struct Secured<Tr: Network, K: Secures<Tr::Conn>> {
     pub(crate) below: Tr,
     // What puts connections under TLS, and the server's name.
     pub(crate) connector: Option<(K, String)>,
+    // The data connection that is being put under TLS.
+    pub(crate) connecting: Option<K::Connecting>,
     // The data connections that are over, from the first that the transport below couldn't take.
     over: Vec<DataStream<Tr::Conn, K::Stream>>,
 }
@@ -35,6 +39,7 @@ impl<Tr: Network, K: Secures<Tr::Conn>> Secured<Tr, K> {
         Secured {
             below,
             connector: None,
+            connecting: None,
             over: Vec::new(alloc),
         }
     }
@@ -73,6 +78,9 @@ impl<Tr: Network, K: Secures<Tr::Conn>> Network for Secured<Tr, K> {
 
     ghost closed = { λ t.
         over_in_clear Tr.Conn.told K.Stream.told (Tr.closed t.below) t.over.items };
+
+    ghost handshake = { λ t conn outcome. SecuresAsKept K.answers t.connector
+        (GivesBack Tr.Conn.told K.Stream.gives conn) (told_in_clear Tr.Conn.told K.Stream.told conn) outcome };
 
     ghost has_room = { λ t. Tr.has_room t.below × (length t.over.items < vec_capacity t.over) };
 

@@ -1,13 +1,14 @@
 //! A transport whose connections may be under TLS, as one whose calls block.
 
-use crate::connector::Secures;
+use crate::connector::TlsConnector;
 use crate::data_stream::DataStream;
+use crate::secure_calls::SecureTransport;
 use crate::secured::Secured;
-use ftp_transport::{Accepted, Connected, Listening, Transport};
+use ftp_transport::{Accepted, Connected, Handshaken, Listening, Transport};
 use std::net::SocketAddr;
 use std::time::Duration;
 
-impl<R, Tr: Transport<R>, K: Secures<Tr::Conn>> Transport<R> for Secured<Tr, K> {
+impl<R, Tr: Transport<R>, K: TlsConnector<Tr::Conn>> Transport<R> for Secured<Tr, K> {
     fn connect(
         &mut self,
         rt: &R,
@@ -47,6 +48,20 @@ impl<R, Tr: Transport<R>, K: Secures<Tr::Conn>> Transport<R> for Secured<Tr, K> 
             Ok(Ok((conn, peer))) => Ok(Ok((DataStream::Tcp(conn), peer))),
             Ok(Err(fault)) => Ok(Err(fault)),
             Err(full) => Err(full),
+        }
+    }
+
+    fn secure(
+        &mut self,
+        _rt: &R,
+        conn: DataStream<Tr::Conn, K::Stream>,
+    ) -> Handshaken<DataStream<Tr::Conn, K::Stream>> {
+        match &self.connector {
+            Some((connector, domain)) => {
+                let domain = domain.as_str();
+                Ok(<Secured<Tr, K> as SecureTransport<K>>::put_under(connector, domain, conn))
+            }
+            None => Ok(Ok(conn)),
         }
     }
 }

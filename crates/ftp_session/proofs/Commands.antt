@@ -29,7 +29,7 @@ use Rattle.ftp_dialogue.specs.declared.model.PlayState.{PlayState}
 use Rattle.ftp_dialogue.specs.declared.state.State.{State}
 use Rattle.ftp_dialogue.specs.Coding.{Coding}
 use Rattle.ftp_dialogue.specs.NetEvents.{outcomes_of}
-use Rattle.ftp_dialogue.specs.Dialogue.{Expected, Tree, Say, Hear, Look, Ask, Build, Move, Leaf, concluded, dialogue, expecting, later}
+use Rattle.ftp_dialogue.specs.Dialogue.{Expected, Tree, Say, Hear, Look, Ask, Build, Secure, Move, Leaf, concluded, dialogue, expecting, later}
 use Rattle.ftp_dialogue.specs.Link.{Link, unasked}
 use Rattle.ftp_dialogue.specs.Play.{Refusal, Taken, Lacking, Failing, heard_then, is_unit, play, refused_if_failed, taken}
 use Rattle.ftp_dialogue.specs.Promises.{Aborts, Completes, DrainsIf, IsPlayed, IsRefused, IsSilent, IsSuccess, IsWithheld, LeavesIf, MakesAfter, Plays, PlaysAlone, Refuses, Wired, begun_by, due_of, lacks_of, refusal_of, play_state}
@@ -132,6 +132,7 @@ on_wire (Hear expected next) answer s t stops success is = heard_on_wire expecte
 on_wire (Look end next) answer s t stops success is = tt
 on_wire (Ask request next) answer s t stops success is = tt
 on_wire (Build address next) answer s t stops success is = tt
+on_wire (Secure next) answer s t stops success is = tt
 on_wire (Move movement next) answer s t stops success is = tt
 on_wire (Leaf answer' state) answer s t stops success is = ends_silent answer' answer state s t is
 

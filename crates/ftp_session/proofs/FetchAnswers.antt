@@ -66,6 +66,7 @@ module _ (form : Fetch) (state : State) where
   data_tells coding all on tells came.NoMemory = closing_data_tells (Fault OutOfMemory) tt
   data_tells coding all on tells (came.Answered outcome) = closing_data_tells (too_long form) (too_long_tells form)
   data_tells coding all on tells (came.Built fault) = closing_data_tells (too_long form) (too_long_tells form)
+  data_tells coding all on tells (came.Secured fault) = closing_data_tells (too_long form) (too_long_tells form)
   data_tells coding all on tells (came.Wrote count) = closing_data_tells (too_long form) (too_long_tells form)
   data_tells coding all on tells came.Closed = closing_data_tells (too_long form) (too_long_tells form)
 

@@ -24,7 +24,7 @@ use Rattle.ftp_transport.specs.declared.request.RequestOutcome.{RequestOutcome}
 use Rattle.ftp_transport.specs.declared.request.RequestOutcome.TheVariants.{Done as Made, Address, Refused}
 use Rattle.ftp_transport.specs.declared.request.Request.TheVariants.{Connect}
 use Rattle.ftp_dialogue.specs.Coding.{Coding}
-use Rattle.ftp_dialogue.specs.Dialogue.{Tree, Say, Hear, Look, Ask, Build, Move, Leaf, accepting, admitting, opening_data, at_port, concluded, connecting_to, connecting_to_peer, dialogue, doing, drain_answer, from_turn, last_turn, later, lets_in, negotiating, negotiating_unless, on_address, on_built, on_connection, opened_from, opening, closing_data, restart_turn, strangers, to_address, to_port, with_left}
+use Rattle.ftp_dialogue.specs.Dialogue.{Tree, Say, Hear, Look, Ask, Build, Secure, Move, Leaf, accepting, admitting, opening_data, at_port, concluded, connecting_to, connecting_to_peer, dialogue, doing, drain_answer, from_turn, last_turn, later, lets_in, negotiating, negotiating_unless, on_address, on_built, on_connection, opened_from, opening, closing_data, restart_turn, securing, strangers, to_address, to_port, with_left}
 use Rattle.ftp_dialogue.specs.CatchingUp.{InStepIf, MakesThen, PlaysInStep, is_behind, is_plain_read}
 use Rattle.ftp_dialogue.specs.Link.{Link, unasked}
 use Rattle.ftp_dialogue.proofs.Sorts.{opens_drains_none}
@@ -46,6 +46,7 @@ Tells Good (Hear expected next) = (heard : Result Response FtpError) → Tells G
 Tells Good (Look end next) = (address : SocketAddr) → Tells Good (next address)
 Tells Good (Ask request next) = (outcome : RequestOutcome) → Tells Good (next outcome)
 Tells Good (Build address next) = (fault : Option FtpError) → Tells Good (next fault)
+Tells Good (Secure next) = (fault : Option FtpError) → Tells Good (next fault)
 Tells Good (Move moves next) = (outcome : NetOutcome) → Tells Good (next outcome)
 Tells Good (Leaf answer state) = Good answer
 
@@ -63,6 +64,8 @@ place_tells Good place (Ask request next) (inl is) tells = let P : Tree → Type
 place_tells Good place (Ask request next) (inr (outcome, within)) tells = place_tells Good place (next outcome) within (tells outcome)
 place_tells Good place (Build address next) (inl is) tells = let P : Tree → Type 0 = Tells Good in subst P (sym is) tells
 place_tells Good place (Build address next) (inr (fault, within)) tells = place_tells Good place (next fault) within (tells fault)
+place_tells Good place (Secure next) (inl is) tells = let P : Tree → Type 0 = Tells Good in subst P (sym is) tells
+place_tells Good place (Secure next) (inr (fault, within)) tells = place_tells Good place (next fault) within (tells fault)
 place_tells Good place (Move moves next) (inl is) tells = let P : Tree → Type 0 = Tells Good in subst P (sym is) tells
 place_tells Good place (Move moves next) (inr (outcome, within)) tells = place_tells Good place (next outcome) within (tells outcome)
 place_tells Good place (Leaf answer state) is tells = let P : Tree → Type 0 = Tells Good in subst P (sym is) tells
@@ -120,10 +123,17 @@ module _ (Good : Answer → Type 0) (fails : (fault : FtpError) → Good (Fault 
         let others : Tree = accepting opened host left state in
         address_tells (λ from. admitting (lets_in state host from) opened others) (λ from. admitting_tells (lets_in state host from) opened others first (accepting_tells opened first host left))
 
+    securing_tells : (opened : Tree) → Tells Good opened → Tells Good (securing opened state)
+    securing_tells opened first = go state.settings.secure
+      where
+        go : (b : Bool) → Tells Good (cond b (Secure (on_built state opened)) opened)
+        go true = built_tells opened first
+        go false = first
+
     pub opening_tells : (m : Mode) (opened : Tree) → Tells Good opened → Tells Good (opening m opened state)
-    opening_tells mode.Active opened first = λ host. accepting_tells opened first host strangers
-    opening_tells mode.Passive opened first = first
-    opening_tells mode.ExtendedPassive opened first = first
+    opening_tells mode.Active opened first = λ host. accepting_tells (securing opened state) (securing_tells opened first) host strangers
+    opening_tells mode.Passive opened first = securing_tells opened first
+    opening_tells mode.ExtendedPassive opened first = securing_tells opened first
 
     module _ (coding : Coding) (call : Call) (last_tells : Tells Good (last_turn coding call state)) (offset : ℕ) where
       continued_tells : (after : State → Tree) → Tells Good (after state) → (heard : Result Response FtpError) → Tells Good (concluded coding Continues state after heard)

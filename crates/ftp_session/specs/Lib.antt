@@ -5,6 +5,8 @@ pub mod Copying
 pub mod Fetched
 pub mod Files
 pub mod Handed
+pub mod Implicit
 pub mod Polled
 pub mod Saving
+pub mod Securing
 pub mod Trees

@@ -8,6 +8,7 @@
 ghost use Rattle.std.specs.Prelude.{◌≡◌, [], ℕ, IfOk, IfSome, None, Ok, Some, false, is_none, true};
 ghost use Rattle.futures.specs.Poll.{IfReady, OnPending};
 ghost use Rattle.futures.specs.Task.{Covers, Keeps};
+ghost use Rattle.ftp_transport.specs.Memory.{fresh_memory};
 ghost use Rattle.ftp_transport.specs.declared.waiting.Waiting.TheVariants as waits;
 ghost use Rattle.ftp_tokio.specs.Attempts.{AttemptNeeds, CameTo, IsDone, IsUnderWay};
 ghost use Rattle.ftp_tokio.specs.Needs.{AcceptNeeds};
@@ -18,7 +19,7 @@ use crate::limits::{Limits, passed};
 use crate::{TokioConn, TokioListener};
 use ftp_base::types::ConnectionError;
 use ftp_transport::{
-    Accepted, Connected, Listening, Network, PollTransport, TaskTransport, Waiting,
+    Accepted, Connected, Handshaken, Listening, Network, PollTransport, TaskTransport, Waiting,
 };
 use futures::task::{Context, Poll};
 use std::alloc::AllocError;
@@ -176,6 +177,8 @@ impl Network for TokioTransport {
 
     ghost closed = { λ _. [] };
 
+    ghost handshake = { λ _ _ outcome. outcome ≡ Ok fresh_memory };
+
     ghost has_room = { λ _. Unit {0} };
 
     fn make_room(&mut self) -> Result<(), AllocError> {
@@ -250,6 +253,19 @@ impl<R: Net + Clock> PollTransport<R, ()> for TokioTransport {
             Poll::Pending => Poll::Pending,
         }
     }
+
+    fn poll_secure(
+        &mut self,
+        _rt: &R,
+        _w: &mut (),
+        conn: TokioConn,
+    ) -> Poll<Handshaken<TokioConn>> {
+        Poll::Ready(Ok(Ok(conn)))
+    }
+
+    fn poll_secured(&mut self, _rt: &R, _w: &mut ()) -> Poll<Handshaken<TokioConn>> {
+        Poll::Ready(Err(AllocError))
+    }
 }
 
 impl TaskTransport for TokioTransport {
@@ -271,6 +287,10 @@ impl TaskTransport for TokioTransport {
             Some(attempt) => attempt.poll_ready(cx),
             None => Waiting::Nothing,
         }
+    }
+
+    fn poll_secure_ready(&mut self, _cx: &mut Context<'_>) -> Waiting {
+        Waiting::Nothing
     }
 
     fn poll_accept_ready(listener: &mut TokioListener, cx: &mut Context<'_>) -> Waiting

@@ -66,6 +66,12 @@ abbrev pub built_as : {C : Type 0} → (C → Told) → Result C FtpError → Re
 built_as told (Ok conn) = Ok (told conn)
 built_as told (Err fault) = Err fault
 
+-- what a handshake resulted in: a connection of this record, or its error; or it wasn't made, or waits
+abbrev pub Secures : {C : Type 0} → (C → Told) → (Result Told FtpError → Type 0) → Poll (Result (Result C FtpError) AllocError) → Type 0
+Secures told may (Ready (Ok made)) = may (built_as told made)
+Secures told may (Ready (Err full)) = Unit {0}
+Secures told may Pending = Unit {0}
+
 -- what was handed in is what comes: what was made is the next item
 abbrev pub Supplies : {T : Type 0} → (T → Supply) → (List Supply → ConnectionError → Type 0) → Poll (Result (Result T ConnectionError) AllocError) → List Supply → List Supply → Type 0
 Supplies item refuses (Ready (Ok (Ok made))) before after = before ≡ item made ∷ after

@@ -4,9 +4,10 @@
 //! and with which error the connection failed, and what is at hand. A theorem about a client holds for each connection
 //! whose record is true (`tells`).
 
-ghost use Rattle.std.specs.Prelude.{◌≡◌, ◌<◌, IfErr, Ok, length, true};
+ghost use Rattle.std.specs.Prelude.{◌≡◌, ◌<◌, IfErr, Ok, Result, length, true};
 ghost use Rattle.std.specs.declared.io.ErrorKind.{ErrorKind as Kind};
 ghost use Rattle.futures.specs.declared.task.Poll.TheVariants as poll;
+ghost use Rattle.ftp_base.specs.declared.types.fault.FtpError.{FtpError as Failure};
 ghost use Rattle.ftp_transport.specs.Memory.{IsGiven};
 ghost use Rattle.ftp_transport.specs.Told.{Told, AddressTells, CloseTells, ReadTells, WriteTells, ReadsAtMost, WritesSome, as_poll, begun};
 
@@ -29,6 +30,10 @@ pub trait Tells {
 
     /// Which errors the three calls below may return.
     ghost end_faults: { Kind → Type 0 };
+
+    /// What putting a connection of this type under TLS may result in: one of this record, or an error. Of a type that
+    /// is never under it, anything.
+    ghost secures: { Result Told Failure → Type 0 } = { λ _. Unit {0} };
 
     /// The address of this end.
     ///

@@ -28,7 +28,7 @@ pub use connecting::{Tried, poll_connect_in_turn};
 pub use connection::{Conn, NeverWaits, PollConn, Tells};
 pub use memory::MemoryConn;
 pub use memory_transport::{MemoryListener, MemoryTransport};
-pub use network::{Accepted, Connected, Listening, Network, PollTransport, Transport};
+pub use network::{Accepted, Connected, Handshaken, Listening, Network, PollTransport, Transport};
 pub use request::{Asked, Request, RequestOutcome};
 pub use room::Room;
 pub use socket::{TcpConn, TcpTransport};

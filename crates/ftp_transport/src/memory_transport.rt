@@ -3,14 +3,14 @@
 //! A test, or a program that replays a dialogue, supplies connections, peers and errors, and looks at what was asked
 //! and at the data connections that are over.
 
-ghost use Rattle.std.specs.Prelude.{◌≡◌, ◌<◌, OnErr, OnOk, [], ◌∷◌, ◌++◌, length};
+ghost use Rattle.std.specs.Prelude.{◌≡◌, ◌<◌, OnErr, OnOk, [], ◌∷◌, ◌++◌, length, Ok};
 ghost use Rattle.futures.specs.declared.task.Poll.TheVariants as poll;
 ghost use Rattle.ftp_transport.specs.Asking.{Asks, Supplies, comes_as, connects_as, done};
 ghost use Rattle.ftp_transport.specs.Memory.{accepts_over_memory, binds_over_memory, nothing_asked, over_memory};
 
 use super::{
-    Accepted, Asked, Connected, Listening, MemoryConn, Network, Request, RequestOutcome, Supply,
-    Transport,
+    Accepted, Asked, Connected, Handshaken, Listening, MemoryConn, Network, Request,
+    RequestOutcome, Supply, Transport,
 };
 use ftp_base::types::ConnectionError;
 use std::alloc::{AllocError, Global};
@@ -169,6 +169,8 @@ impl Network for MemoryTransport {
 
     ghost closed = { λ t. t.closed };
 
+    ghost handshake = { λ _ conn outcome. outcome ≡ Ok conn };
+
     ghost has_room = { λ t. length t.closed < t.room };
 
     fn make_room(&mut self) -> Result<(), AllocError> {
@@ -227,5 +229,9 @@ impl<R> Transport<R> for MemoryTransport {
         let request = Request::Accept(deadline);
         self.asked.push(Asked { request, outcome }).unwrap();
         Ok(made)
+    }
+
+    fn secure(&mut self, _rt: &R, conn: MemoryConn) -> Handshaken<MemoryConn> {
+        Ok(Ok(conn))
     }
 }

@@ -11,7 +11,8 @@ ghost use Rattle.std.specs.Prelude.{◌≡◌, ◌∷◌, ◌++◌, [], ℕ, Lis
 ghost use Rattle.std.specs.declared.net.socket_addr.SocketAddr.{SocketAddr as Address};
 ghost use Rattle.futures.specs.declared.task.Poll.TheVariants as poll;
 ghost use Rattle.ftp_base.specs.declared.types.fault.ConnectionError.{ConnectionError as Fault};
-ghost use Rattle.ftp_transport.specs.Asking.{Asks, Binds, Supplies, comes_as, connects_as, done, done_at, recorded};
+ghost use Rattle.ftp_base.specs.declared.types.fault.FtpError.{FtpError as Failure};
+ghost use Rattle.ftp_transport.specs.Asking.{Asks, Binds, Secures, Supplies, comes_as, connects_as, done, done_at, recorded};
 ghost use Rattle.ftp_transport.specs.Told.{Told};
 ghost use Rattle.ftp_transport.specs.declared.request.Asked.{Asked};
 ghost use Rattle.ftp_transport.specs.declared.request.Request.TheVariants.{Accept, Build, Connect, Listen};
@@ -20,7 +21,7 @@ ghost use Rattle.ftp_transport.specs.declared.supply.Supply.{Supply};
 ghost use Rattle.std.specs.Prelude.{None, Some};
 
 use super::{NeverWaits, Tells};
-use ftp_base::types::ConnectionError;
+use ftp_base::types::{ConnectionError, FtpResult};
 use futures::task::Poll;
 use std::alloc::AllocError;
 use std::net::SocketAddr;
@@ -57,6 +58,10 @@ pub trait Network: Drop {
 
     /// Whether there is room for the record of one more.
     ghost has_room: { Self → Type 0 };
+
+    /// What putting this connection under TLS may result in: one of this record, or an error. Of a transport without TLS
+    /// the connection as it is.
+    ghost handshake: { Self → Self.Conn → Result Told Failure → Type 0 };
 
     /// Makes room for the record of one more data connection.
     ///
@@ -103,6 +108,10 @@ pub type Listening<L> = Result<Result<(L, SocketAddr), ConnectionError>, AllocEr
 /// What a request for a peer's connection results in: the connection and the peer's address, or why there is none.
 /// Where an allocation fails nothing was asked.
 pub type Accepted<C> = Result<Result<(C, SocketAddr), ConnectionError>, AllocError>;
+
+/// What a TLS handshake results in: the connection under TLS, or why there is none. Where an allocation fails, or
+/// there was no connection, none was begun.
+pub type Handshaken<C> = Result<FtpResult<C>, AllocError>;
 
 /// A transport whose calls return only when they are done, over a runtime `R`.
 pub trait Transport<R>: Network {
@@ -161,6 +170,21 @@ pub trait Transport<R>: Network {
             (Self.asked self.old) (Self.asked self.new) }
         ensures supplies { Self.Conn.tells → Supplies (comes_as Self.Conn.told) Self.accept_refuses
             (poll.Ready result) (Self.ready self.old) (Self.ready self.new) }
+        ensures closed { Self.closed self.new ≡ Self.closed self.old }
+        ensures room { Self.has_room self.old → Self.has_room self.new }
+        ensures port { Self.port self.new ≡ Self.port self.old };
+
+    /// Puts a data connection under TLS, on the transport of a secure session (RFC 4217, section 9). Any other returns
+    /// it as it is.
+    ///
+    /// # Errors
+    /// Why it can't be put under TLS. It is dropped.
+    fn secure(&mut self, rt: &R, conn: Self::Conn) -> Handshaken<Self::Conn>
+        ensures secures { Self.Conn.tells →
+            Secures Self.Conn.told Self.Conn.secures (poll.Ready result) }
+        ensures handshake { Secures Self.Conn.told (Self.handshake self.old conn) (poll.Ready result) }
+        ensures asked { Self.asked self.new ≡ Self.asked self.old }
+        ensures ready { Self.ready self.new ≡ Self.ready self.old }
         ensures closed { Self.closed self.new ≡ Self.closed self.old }
         ensures room { Self.has_room self.old → Self.has_room self.new }
         ensures port { Self.port self.new ≡ Self.port self.old };
@@ -228,6 +252,34 @@ pub trait PollTransport<R, W>: Network {
         ensures closed { Self.closed self.new ≡ Self.closed self.old }
         ensures room { Self.has_room self.old → Self.has_room self.new }
         ensures port { Self.port self.new ≡ Self.port self.old };
+
+    /// Puts a data connection under TLS, on the transport of a secure session (RFC 4217, section 9). Any other returns
+    /// it as it is. The transport keeps a connection whose handshake waits.
+    ///
+    /// # Errors
+    /// Why it can't be put under TLS. It is dropped.
+    fn poll_secure(&mut self, rt: &R, w: &mut W, conn: Self::Conn) -> Poll<Handshaken<Self::Conn>>
+        ensures waits { result ≡ poll.Pending → may_wait }
+        ensures secures { Self.Conn.tells → Secures Self.Conn.told Self.Conn.secures result }
+        ensures handshake { Secures Self.Conn.told (Self.handshake self.old conn) result }
+        ensures asked { Self.asked self.new ≡ Self.asked self.old }
+        ensures ready { Self.ready self.new ≡ Self.ready self.old }
+        ensures closed { Self.closed self.new ≡ Self.closed self.old }
+        ensures room { Self.has_room self.old → Self.has_room self.new }
+        ensures port { Self.port self.new ≡ Self.port self.old };
+
+    /// Resumes the handshake that waited.
+    ///
+    /// # Errors
+    /// Those of `poll_secure`.
+    fn poll_secured(&mut self, rt: &R, w: &mut W) -> Poll<Handshaken<Self::Conn>>
+        ensures waits { result ≡ poll.Pending → may_wait }
+        ensures secures { Self.Conn.tells → Secures Self.Conn.told Self.Conn.secures result }
+        ensures asked { Self.asked self.new ≡ Self.asked self.old }
+        ensures ready { Self.ready self.new ≡ Self.ready self.old }
+        ensures closed { Self.closed self.new ≡ Self.closed self.old }
+        ensures room { Self.has_room self.old → Self.has_room self.new }
+        ensures port { Self.port self.new ≡ Self.port self.old };
 }
 
 impl<R, T: Transport<R>> PollTransport<R, NeverWaits> for T {
@@ -263,5 +315,18 @@ impl<R, T: Transport<R>> PollTransport<R, NeverWaits> for T {
         deadline: Duration,
     ) -> Poll<Accepted<T::Conn>> {
         Poll::Ready(self.accept(rt, listener, deadline))
+    }
+
+    fn poll_secure(
+        &mut self,
+        rt: &R,
+        _w: &mut NeverWaits,
+        conn: T::Conn,
+    ) -> Poll<Handshaken<T::Conn>> {
+        Poll::Ready(self.secure(rt, conn))
+    }
+
+    fn poll_secured(&mut self, _rt: &R, _w: &mut NeverWaits) -> Poll<Handshaken<T::Conn>> {
+        Poll::Ready(Err(AllocError))
     }
 }

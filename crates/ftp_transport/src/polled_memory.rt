@@ -3,10 +3,11 @@
 //! What a request results in was handed in before, so a poll is the call that blocks, and never waits.
 
 use super::{
-    Accepted, Connected, Listening, MemoryConn, MemoryListener, MemoryTransport, PollTransport,
-    Transport,
+    Accepted, Connected, Handshaken, Listening, MemoryConn, MemoryListener, MemoryTransport,
+    PollTransport, Transport,
 };
 use futures::task::Poll;
+use std::alloc::AllocError;
 use std::net::SocketAddr;
 use std::time::Duration;
 
@@ -43,5 +44,18 @@ impl<R> PollTransport<R, ()> for MemoryTransport {
         deadline: Duration,
     ) -> Poll<Accepted<MemoryConn>> {
         Poll::Ready(self.accept(rt, listener, deadline))
+    }
+
+    fn poll_secure(
+        &mut self,
+        _rt: &R,
+        _w: &mut (),
+        conn: MemoryConn,
+    ) -> Poll<Handshaken<MemoryConn>> {
+        Poll::Ready(Ok(Ok(conn)))
+    }
+
+    fn poll_secured(&mut self, _rt: &R, _w: &mut ()) -> Poll<Handshaken<MemoryConn>> {
+        Poll::Ready(Err(AllocError))
     }
 }

@@ -4,10 +4,12 @@
 //! of it. That a call interrupted by a signal is tried again, at most 64 times in a row, is tested, and so is that a time
 //! limit ends a wait.
 
-ghost use Rattle.std.specs.Prelude.{[]};
+ghost use Rattle.std.specs.Prelude.{[], ◌≡◌, Ok};
 ghost use Rattle.ftp_transport.specs.Memory.{fresh_memory};
 
-use super::{Accepted, Conn, Connected, Listening, Network, TcpConnListener, Tells, Transport};
+use super::{
+    Accepted, Conn, Connected, Handshaken, Listening, Network, TcpConnListener, Tells, Transport,
+};
 use crate::socket_limits::SocketLimits;
 use ftp_base::retry::{read_retrying, write_retrying};
 use ftp_base::types::ConnectionError;
@@ -148,6 +150,8 @@ impl Network for TcpTransport {
 
     ghost closed = { λ _. [] };
 
+    ghost handshake = { λ _ _ outcome. outcome ≡ Ok fresh_memory };
+
     ghost has_room = { λ _. Unit {0} };
 
     fn make_room(&mut self) -> Result<(), AllocError> {
@@ -204,6 +208,10 @@ where
             },
             Err(fault) => Ok(Err(fault)),
         }
+    }
+
+    fn secure(&mut self, _rt: &R, conn: TcpConn) -> Handshaken<TcpConn> {
+        Ok(Ok(conn))
     }
 }
 

@@ -47,6 +47,16 @@ pub trait TaskTransport: Network {
         ensures registered { result ≡ waits.Registered → IsArmed cx.new }
         ensures kept { Keeps cx.old cx.new };
 
+    /// Registers the task for the TLS handshake that waits, where one does.
+    fn poll_secure_ready(&mut self, cx: &mut Context<'_>) -> Waiting
+        ensures asked { Self.asked self.new ≡ Self.asked self.old }
+        ensures ready { Self.ready self.new ≡ Self.ready self.old }
+        ensures closed { Self.closed self.new ≡ Self.closed self.old }
+        ensures port { Self.port self.new ≡ Self.port self.old }
+        ensures room { Self.has_room self.old → Self.has_room self.new }
+        ensures registered { result ≡ waits.Registered → IsArmed cx.new }
+        ensures kept { Keeps cx.old cx.new };
+
     /// Registers the task for the peer that this listener waits for, where it does, and for its deadline. Where nothing can
     /// tell that the deadline has passed the task is polled again at once.
     fn poll_accept_ready(listener: &mut Self::Listener, cx: &mut Context<'_>) -> Waiting

@@ -21,6 +21,10 @@ impl TaskTransport for MemoryTransport {
         Waiting::Nothing
     }
 
+    fn poll_secure_ready(&mut self, _cx: &mut Context<'_>) -> Waiting {
+        Waiting::Nothing
+    }
+
     fn poll_accept_ready(_listener: &mut MemoryListener, _cx: &mut Context<'_>) -> Waiting {
         Waiting::Nothing
     }

@@ -1,12 +1,12 @@
 //! Connections over memory that wait before each byte, and a transport that hands them out.
 
-ghost use Rattle.std.specs.Prelude.{[]};
+ghost use Rattle.std.specs.Prelude.{[], ◌≡◌, Ok};
 ghost use Rattle.ftp_transport.specs.Memory.{fresh_memory};
 
 use ftp_base::types::ConnectionError;
 use ftp_transport::{
-    Accepted, Connected, Listening, MemoryConn, Network, PollConn, PollTransport, TaskConn,
-    TaskTransport, Tells, Waiting,
+    Accepted, Connected, Handshaken, Listening, MemoryConn, Network, PollConn, PollTransport,
+    TaskConn, TaskTransport, Tells, Waiting,
 };
 use futures::task::{Context, Poll};
 use std::alloc::{AllocError, Global};
@@ -166,6 +166,8 @@ impl Network for SlowTransport {
 
     ghost closed = { λ _. [] };
 
+    ghost handshake = { λ _ _ outcome. outcome ≡ Ok fresh_memory };
+
     ghost has_room = { λ _. Unit {0} };
 
     fn make_room(&mut self) -> Result<(), AllocError> {
@@ -228,6 +230,14 @@ impl<R> PollTransport<R, ()> for SlowTransport {
             None => Poll::Ready(Ok(Err(ConnectionError::TimedOut))),
         }
     }
+
+    fn poll_secure(&mut self, _rt: &R, _w: &mut (), conn: SlowConn) -> Poll<Handshaken<SlowConn>> {
+        Poll::Ready(Ok(Ok(conn)))
+    }
+
+    fn poll_secured(&mut self, _rt: &R, _w: &mut ()) -> Poll<Handshaken<SlowConn>> {
+        Poll::Ready(Err(AllocError))
+    }
 }
 
 impl TaskTransport for SlowTransport {
@@ -236,6 +246,10 @@ impl TaskTransport for SlowTransport {
     }
 
     fn poll_connect_ready(&mut self, _cx: &mut Context<'_>) -> Waiting {
+        Waiting::Nothing
+    }
+
+    fn poll_secure_ready(&mut self, _cx: &mut Context<'_>) -> Waiting {
         Waiting::Nothing
     }
 

@@ -1,6 +1,6 @@
 //! A session over memory whose connections take one byte a write.
 
-ghost use Rattle.std.specs.Prelude.{[]};
+ghost use Rattle.std.specs.Prelude.{[], ◌≡◌, Ok};
 ghost use Rattle.ftp_transport.specs.Memory.{fresh_memory};
 
 use crate::answers::texts_of;
@@ -15,8 +15,8 @@ use ftp_base::types::FtpResult;
 use ftp_runs::RunCalls;
 use ftp_session::session::{Call, NoTlsConnector, Session};
 use ftp_transport::{
-    Accepted, Conn, Connected, Listening, MemoryConn, MemoryListener, MemoryTransport, Network,
-    PassiveStreamBuilder, Tells, Transport,
+    Accepted, Conn, Connected, Handshaken, Listening, MemoryConn, MemoryListener, MemoryTransport,
+    Network, PassiveStreamBuilder, Tells, Transport,
 };
 use rows_text::RowError;
 use std::alloc::{AllocError, Global};
@@ -93,6 +93,8 @@ impl Network for ByteTransport {
 
     ghost closed = { λ _. [] };
 
+    ghost handshake = { λ _ _ outcome. outcome ≡ Ok fresh_memory };
+
     ghost has_room = { λ _. Unit {0} };
 
     fn make_room(&mut self) -> Result<(), AllocError> {
@@ -143,6 +145,13 @@ impl<R> Transport<R> for ByteTransport {
     ) -> Accepted<ByteConn> {
         match self.memory.accept(rt, listener, deadline)? {
             Ok((conn, from)) => Ok(Ok((ByteConn { conn }, from))),
+            Err(fault) => Ok(Err(fault)),
+        }
+    }
+
+    fn secure(&mut self, rt: &R, conn: ByteConn) -> Handshaken<ByteConn> {
+        match self.memory.secure(rt, conn.conn)? {
+            Ok(conn) => Ok(Ok(ByteConn { conn })),
             Err(fault) => Ok(Err(fault)),
         }
     }

@@ -18,7 +18,7 @@ use Rattle.ftp_calls.specs.declared.call.Call.{Call}
 use Rattle.ftp_calls.specs.declared.exchange.Turn.TheVariants.{Restart}
 use Rattle.ftp_calls.specs.Exchanges.{restarts, row_of}
 use Rattle.ftp_dialogue.specs.Coding.{Coding}
-use Rattle.ftp_dialogue.specs.Dialogue.{Tree, Ask, Build, on_built, on_connection, connecting_to, connecting_to_peer, doing, last_turn, restart_turn, to_address}
+use Rattle.ftp_dialogue.specs.Dialogue.{Tree, Ask, Build, Secure, on_built, on_connection, connecting_to, connecting_to_peer, doing, last_turn, restart_turn, securing, to_address}
 use Rattle.ftp_dialogue.specs.Play.{play}
 use Rattle.session_plain.specs.declared.asking.Came.TheVariants.{Known, Unknown}
 use Rattle.session_plain.specs.declared.exchange.Progress.{Progress}
@@ -66,6 +66,10 @@ built_here state address next = ap (λ b. if b then Build address (on_built stat
 
 pub dialled_here : (state : State) (address : SocketAddr) (next : Tree) → state.settings.stream_builder ≡ false → connecting_to address state next ≡ Ask (Connect address None) (on_connection state next)
 dialled_here state address next = ap (λ b. if b then Build address (on_built state next) else Ask (Connect address None) (on_connection state next))
+
+-- in a secure session the connector is asked
+pub secured_here : (state : State) (opened : Tree) → state.settings.secure ≡ true → securing opened state ≡ Secure (on_built state opened)
+secured_here state opened = ap (λ b. if b then Secure (on_built state opened) else opened)
 
 -- an offset is told
 pub tells_offset : (coding : Coding) (call : Call) (offset : ℕ) (state : State) → (restarts call && nat_lt 0 offset) ≡ true → restart_turn coding call offset state ≡ doing coding (row_of call (Restart offset)) state (last_turn coding call)

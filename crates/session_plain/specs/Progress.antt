@@ -9,19 +9,21 @@ use Rattle.ftp_dialogue.specs.declared.model.Played.{Played}
 use Rattle.ftp_dialogue.specs.Coding.{Coding}
 use Rattle.ftp_dialogue.specs.Dialogue.{Expected, Tree, closes, giving_up, on_data, on_sent}
 use Rattle.ftp_dialogue.specs.NetEvents.{answers}
-use Rattle.ftp_dialogue.specs.Play.{play, asked_then, built_then, heard_then, moved_then}
+use Rattle.ftp_dialogue.specs.Play.{play, asked_then, built_then, heard_then, moved_then, secured_then}
 use Rattle.ftp_calls.specs.declared.call.Answer.{Answer}
 use Rattle.ftp_calls.specs.declared.call.Answer.TheVariants.{Unit, Fault}
 use Rattle.ftp_calls.specs.declared.exchange.Fetch.{Fetch}
 use Rattle.ftp_calls.specs.declared.exchange.Movement.{Movement}
 use Rattle.ftp_dialogue.specs.declared.model.NetOutcome.{NetOutcome}
-use Rattle.ftp_dialogue.specs.declared.model.NetOutcome.TheVariants.{Answered, Built}
+use Rattle.ftp_dialogue.specs.declared.model.NetOutcome.TheVariants.{Answered, Built, Secured}
 use Rattle.std.specs.declared.net.socket_addr.SocketAddr.{SocketAddr}
 use Rattle.ftp_base.specs.declared.types.fault.FtpError.{FtpError}
 use Rattle.ftp_base.specs.declared.types.fault.FtpError.TheVariants.{ConnectionError, UnexpectedResponse}
 use Rattle.ftp_base.specs.declared.types.fault.ConnectionError.TheVariants.{Io}
 use Rattle.session_plain.specs.declared.building.Answered.{Answered as FromBuilder}
 use Rattle.session_plain.specs.declared.building.Answered.TheVariants as built
+use Rattle.session_plain.specs.declared.securing.Shaken.{Shaken as FromConnector}
+use Rattle.session_plain.specs.declared.securing.Shaken.TheVariants as handshake
 use Rattle.session_plain.specs.declared.carrying.Carried.{Carried}
 use Rattle.session_plain.specs.declared.carrying.Carried.TheVariants as carried
 use Rattle.ftp_transport.specs.declared.request.Request.{Request}
@@ -58,6 +60,18 @@ BuildsAt address s (built.Unknown here) =
     (next : Option FtpError → PlayState → Played) → built_then s.outcomes address s next ≡ Pending Asking here
 BuildsAt address s (built.Known fault here) =
     (here.state ≡ s.state) × ((next : Option FtpError → PlayState → Played) → built_then s.outcomes address s next ≡ next fault here)
+
+-- the connector is asked: its answer isn't known, or it is the next outcome
+abbrev pub SecuresAt : PlayState → FromConnector → Type 0
+SecuresAt s (handshake.Unknown here) =
+    (next : Option FtpError → PlayState → Played) → secured_then s.outcomes s next ≡ Pending Asking here
+SecuresAt s (handshake.Known fault here) =
+    (here.state ≡ s.state) × ((next : Option FtpError → PlayState → Played) → secured_then s.outcomes s next ≡ next fault here)
+
+-- the next outcome, if it is a connector's answer
+abbrev pub next_secured : List NetOutcome → Option (Option FtpError)
+next_secured (Secured fault ∷ outcomes) = Some fault
+next_secured outcomes = None
 
 -- the next outcome, if it is a builder's answer
 abbrev pub next_built : List NetOutcome → Option (Option FtpError)

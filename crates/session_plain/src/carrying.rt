@@ -97,7 +97,10 @@ fn moved_answer(outcome: NetOutcome) -> Answer
     ensures { result ≡ moved_answer outcome }
 {
     match outcome {
-        NetOutcome::Answered(_) | NetOutcome::Built(_) | NetOutcome::Closed => Answer::Unit,
+        NetOutcome::Answered(_)
+        | NetOutcome::Built(_)
+        | NetOutcome::Secured(_)
+        | NetOutcome::Closed => Answer::Unit,
         NetOutcome::Read(bytes) => Answer::Bytes(bytes),
         NetOutcome::Wrote(count) => Answer::Count(count as u64),
         NetOutcome::Failed(kind) => {

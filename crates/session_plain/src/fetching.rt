@@ -241,6 +241,7 @@ fn follow<E: Encoding>(
         NetOutcome::NoMemory => Ok(Follows::Over(Answer::Fault(FtpError::OutOfMemory))),
         NetOutcome::Answered(_) => Ok(Follows::Over(too_long(form))),
         NetOutcome::Built(_) => Ok(Follows::Over(too_long(form))),
+        NetOutcome::Secured(_) => Ok(Follows::Over(too_long(form))),
         NetOutcome::Wrote(_) => Ok(Follows::Over(too_long(form))),
         NetOutcome::Closed => Ok(Follows::Over(too_long(form))),
     }

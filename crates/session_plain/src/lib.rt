@@ -21,6 +21,7 @@ mod outcomes;
 mod play;
 mod resyncing;
 mod runs;
+mod securing;
 mod settings;
 mod storing;
 mod turns;

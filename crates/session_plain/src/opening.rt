@@ -3,13 +3,14 @@
 
 ghost use Rattle.std.specs.Prelude.{◌≡◌, IfOk};
 ghost use Rattle.ftp_transport.specs.declared.room.Room.{Room as Rooms};
-ghost use Rattle.ftp_dialogue.specs.Dialogue.{Leaf, Tree, accepting, lets_in, opened_answer, opening, with_transfer};
+ghost use Rattle.ftp_dialogue.specs.Dialogue.{Leaf, Tree, accepting, lets_in, opened_answer, opening, securing, strangers, with_transfer};
 ghost use Rattle.ftp_dialogue.specs.Play.{play};
 ghost use Rattle.ftp_dialogue.specs.declared.state.State.{State as States};
 ghost use Rattle.session_plain.specs.Progress.{ComesTo};
 
 use crate::asking::{Came, asked};
 use crate::exchange::{Progress, done};
+use crate::securing::secured;
 use ftp_base::types::{ConnectionError, FtpError, Mode, Response};
 use ftp_session::model::{PlayState, Played, Wait};
 use ftp_session::session::Answer;
@@ -63,11 +64,24 @@ pub(crate) fn opened(alloc: Global, play_state: PlayState) -> Result<Progress, A
         (next play_state.state) play_state.state) play_state) progress) }
 {
     match play_state.state.settings.mode {
-        Mode::Passive | Mode::ExtendedPassive => Ok(Progress::Continues(play_state)),
+        Mode::Passive => secured(alloc, play_state),
+        Mode::ExtendedPassive => secured(alloc, play_state),
         Mode::Active => {
             let peer = play_state.peer;
-            accepting(alloc, peer, STRANGERS, play_state)
+            admitted(alloc, peer, play_state)
         }
+    }
+}
+
+/// A peer is let in, and in a secure session its connection is put under TLS.
+fn admitted(alloc: Global, peer: SocketAddr, play_state: PlayState) -> Result<Progress, AllocError>
+    ensures { IfOk result (λ progress. (room : Rooms) (next : States → Tree) → ComesTo room next
+        (play room (accepting (securing (next play_state.state) play_state.state) peer strangers
+        play_state.state) play_state) progress) }
+{
+    match accepting(alloc, peer, STRANGERS, play_state)? {
+        Progress::Stops(played) => Ok(Progress::Stops(played)),
+        Progress::Continues(here) => secured(alloc, here),
     }
 }
 

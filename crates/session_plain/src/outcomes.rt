@@ -2,7 +2,7 @@
 
 ghost use Rattle.std.specs.Prelude.{◌≡◌, ◌<◌, ◌∷◌, IfOk, length};
 ghost use Rattle.ftp_dialogue.specs.NetEvents.{answers};
-ghost use Rattle.session_plain.specs.Progress.{is_next, next_answer, next_built};
+ghost use Rattle.session_plain.specs.Progress.{is_next, next_answer, next_built, next_secured};
 
 use ftp_base::types::{FtpError, Items};
 use ftp_calls::exchange::Movement;
@@ -32,6 +32,19 @@ pub(crate) fn next_built(outcomes: &[NetOutcome]) -> Result<Option<Option<FtpErr
     };
     match first {
         NetOutcome::Built(fault) => Ok(Some(fault.clone()?)),
+        _ => Ok(None),
+    }
+}
+
+/// The next outcome, if it is a connector's result.
+pub(crate) fn next_secured(outcomes: &[NetOutcome]) -> Result<Option<Option<FtpError>>, AllocError>
+    ensures { IfOk result (λ next. next ≡ next_secured outcomes.now) }
+{
+    let Some((first, _others)) = outcomes.split_first() else {
+        return Ok(None);
+    };
+    match first {
+        NetOutcome::Secured(fault) => Ok(Some(fault.clone()?)),
         _ => Ok(None),
     }
 }

@@ -101,6 +101,7 @@ fn follow_write(alloc: Global, rest: &[u8], outcome: NetOutcome) -> Result<Sent,
         NetOutcome::NoMemory => Ok(Sent::Failed(ErrorKind::WriteZero)),
         NetOutcome::Answered(_) => Ok(Sent::Failed(ErrorKind::WriteZero)),
         NetOutcome::Built(_) => Ok(Sent::Failed(ErrorKind::WriteZero)),
+        NetOutcome::Secured(_) => Ok(Sent::Failed(ErrorKind::WriteZero)),
         NetOutcome::Read(_) => Ok(Sent::Failed(ErrorKind::WriteZero)),
         NetOutcome::Closed => Ok(Sent::Failed(ErrorKind::WriteZero)),
     }

@@ -10,6 +10,7 @@ mod host;
 pub mod polled_ftp;
 pub mod session;
 pub mod sync_ftp;
+pub mod transport;
 
 pub use ftp_answers as answers;
 pub use ftp_base::encoding::{Encoding, Utf8Encoding};
@@ -24,9 +25,9 @@ pub use ftp_control::control;
 pub use ftp_list as list;
 /// What kind of entry a file of a listing is, which `list` calls a `FileType`; the other `FileType` is that of `TYPE`.
 pub use ftp_list::{File, FileType as EntryKind, ListParser, Listing};
+pub use ftp_secure::{DataStream, Secured, TlsConnector, TlsStream};
 pub use ftp_session::session::{DownloadReader, Failure, NoProgress, Progress};
 pub use ftp_transfer::mark;
-pub use ftp_transport as transport;
 pub use ftp_transport::{PassiveStreamBuilder, TcpTransport};
 pub use host::Host;
 pub use polled_ftp::{AsyncFtpStream, AsyncFtpTransferStream, ImplAsyncFtpStream};

@@ -4,11 +4,12 @@
 //! before that is polled. A future that waits may be dropped.
 
 pub use ftp_polled::{
-    Abort, Adjust, AllowStdIo, AsyncNoTlsStream, AsyncTlsConnector, AsyncTlsStream, Connect,
-    ControlSocket, Dialogue, Failed, Finish, FromAnswer, ImplAsyncFtpStream, LastFailure, Lines,
-    ListEntries, ListFiles, Lock, OpenTransfer, OpenWithReply, ReadReply, RetrReader, Retrieve,
-    Settle, Sink, StreamLines, TransferStream, Upload, Welcome, WriteTo,
+    Abort, Adjust, AllowStdIo, Connect, ControlSocket, Dialogue, Failed, Finish, FromAnswer,
+    ImplAsyncFtpStream, LastFailure, Lines, ListEntries, ListFiles, Lock, OpenTransfer,
+    OpenWithReply, ReadReply, RetrReader, Retrieve, Secure, Settle, Sink, StreamLines,
+    TransferStream, Upload, Welcome, WriteTo,
 };
+pub use ftp_secure::{AsyncNoTlsStream, AsyncTlsConnector, AsyncTlsStream};
 pub use ftp_tokio::{TokioConn, TokioListener, TokioTransport};
 pub use ftp_transport::PassiveStreamBuilder;
 

@@ -5,7 +5,7 @@ ghost use Rattle.std.specs.Prelude.{[]};
 use crate::conn::FailingConn;
 use crate::device::{Device, KIND, Place};
 use ftp_base::types::ConnectionError;
-use ftp_transport::{Accepted, Connected, Listening, MemoryConn, Network, Transport};
+use ftp_transport::{Accepted, Connected, Handshaken, Listening, MemoryConn, Network, Transport};
 use std::alloc::AllocError;
 use std::net::SocketAddr;
 use std::time::Duration;
@@ -50,6 +50,8 @@ impl<'d> Network for FailingTransport<'d> {
     ghost binds = { λ _ _ _. Unit {0} };
 
     ghost closed = { λ _. [] };
+
+    ghost handshake = { λ _ _ _. Unit {0} };
 
     ghost has_room = { λ _. Unit {0} };
 
@@ -103,5 +105,9 @@ impl<'d, R> Transport<R> for FailingTransport<'d> {
             Ok(conn) => Ok(Ok((conn, self.peer))),
             Err(fault) => Ok(Err(fault)),
         }
+    }
+
+    fn secure(&mut self, _rt: &R, conn: FailingConn<'d>) -> Handshaken<FailingConn<'d>> {
+        Ok(Ok(conn))
     }
 }

@@ -1,11 +1,11 @@
 //! A connection that is put under TLS by polls.
 
-use crate::sealed::Seal;
 use crate::streams::{Network, number, plain};
 use ftp_base::types::{FtpError, FtpResult};
-use ftp_secure::{DataStream, PollSecureTransport, SecureNetwork, SecureStep, Secured};
-use ftp_transport::{MemoryTransport, PollConn};
+use ftp_secure::{DataStream, SecureNetwork, Secured};
+use ftp_transport::{MemoryTransport, PollConn, PollTransport};
 use futures::task::Poll;
+use rows_tls::Seal;
 use std::alloc::Global;
 use std::test::Fail;
 
@@ -20,15 +20,12 @@ fn keeping(alloc: Global, domain: Option<&str>) -> FtpResult<Box<Network>> {
 }
 
 /// Polls until the connection is there, at most four times: how often it waited, and the connection.
-fn polled<K: Drop, T: PollSecureTransport<K, ()>>(
-    network: &T,
-    conn: T::Conn,
-) -> FtpResult<(u8, T::Conn)> {
-    let mut securing = network.begin_secure(conn)?;
+fn polled<T: PollTransport<(), ()>>(network: &mut T, conn: T::Conn) -> FtpResult<(u8, T::Conn)> {
+    let mut made = network.poll_secure(&(), &mut (), conn);
     for waits in 0..4u8 {
-        match network.poll_secure(&mut (), securing) {
-            SecureStep::Done(made) => return Ok((waits, made?)),
-            SecureStep::Waits(next) => securing = next,
+        match made {
+            Poll::Ready(made) => return Ok((waits, made??)),
+            Poll::Pending => made = network.poll_secured(&(), &mut ()),
         }
     }
     Err(FtpError::BadResponse)
@@ -36,8 +33,8 @@ fn polled<K: Drop, T: PollSecureTransport<K, ()>>(
 
 /// How often a connection to a server of this name waits until it is under TLS, and how many bytes a poll reads of it then.
 fn secured(alloc: Global, domain: Option<&str>) -> FtpResult<(u8, usize)> {
-    let network = keeping(alloc, domain)?;
-    let (waits, mut stream) = polled::<Seal, Network>(&network, DataStream::Tcp(plain(alloc)?))?;
+    let mut network = keeping(alloc, domain)?;
+    let (waits, mut stream) = polled(&mut *network, DataStream::Tcp(plain(alloc)?))?;
     match stream.poll_read(&mut (), &mut [0; 8]) {
         Ok(Poll::Ready(count)) => Ok((waits, count)),
         _ => Ok((waits, 0)),

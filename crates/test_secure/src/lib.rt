@@ -1,13 +1,13 @@
-//! Tests of connections under TLS, and of transports that make them, over memory.
+//! Tests of connections under TLS, of transports that make them, and of sessions on them, over memory.
 #![tactic(auto)]
 
+#[cfg(test)]
+mod again;
 #[cfg(test)]
 mod handshakes;
 #[cfg(test)]
 mod networks;
 #[cfg(test)]
-mod sealed;
-#[cfg(test)]
-mod sealed_poll;
+mod sessions;
 #[cfg(test)]
 mod streams;

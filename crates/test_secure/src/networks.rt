@@ -1,12 +1,12 @@
 //! A transport over memory whose connections may be under TLS.
 
-use crate::sealed::Seal;
 use crate::streams::{Network, number, plain, read};
 use ftp_base::types::{ConnectionError, FtpResult};
-use ftp_secure::{SecureNetwork, SecureTransport, Secured};
+use ftp_secure::{SecureNetwork, Secured};
 use ftp_transport::{
     Asked, Conn, MemoryTransport, Network as Requests, Request, RequestOutcome, Supply, Transport,
 };
+use rows_tls::Seal;
 use std::alloc::{AllocError, Global};
 use std::io::ErrorKind;
 use std::net::{Ipv4Addr, SocketAddr, SocketAddrV4};
@@ -87,16 +87,13 @@ fn requests_go_to_the_transport_below(rt: HostRuntime) -> Result<(), Fail> {
 
 /// Connects, puts the connection under TLS where a connector was kept, and reads once: how many bytes came. Then the
 /// connection is over.
-fn download<T: Transport<()> + SecureTransport<Seal>>(
-    alloc: Global,
-    network: &mut T,
-) -> FtpResult<usize>
+fn download<T: Transport<()>>(alloc: Global, network: &mut T) -> FtpResult<usize>
 where
     T::Conn: Conn,
 {
     network.make_room()?;
     let conn = network.connect(&(), at(21))??;
-    let mut conn = network.secure(conn)?;
+    let mut conn = network.secure(&(), conn)??;
     let came = read(alloc, &mut conn)?;
     network.closed(conn);
     match &came {

@@ -1,18 +1,24 @@
 //! A connection as it is, under TLS, and taken by a connector.
 
-use crate::sealed::{Seal, Sealed};
 use ftp_base::types::{FtpError, FtpResult, Text};
 use ftp_secure::{DataStream, SecureNetwork, SecureTransport, Secured, TlsStream};
 use ftp_transport::{Conn, MemoryConn, MemoryTransport, Tells};
+use rows_tls::{Seal, Sealed};
 use std::alloc::{AllocError, Global};
 use std::io::ErrorKind;
+use std::net::{Ipv4Addr, SocketAddr, SocketAddrV4};
 use std::test::Fail;
 
 /// A connection that may be under the TLS of the tests.
-pub type Stream = DataStream<MemoryConn, Sealed>;
+pub type Stream = DataStream<MemoryConn, Sealed<MemoryConn>>;
 
 /// The transport of the tests.
 pub type Network = Secured<MemoryTransport, Seal>;
+
+/// The address of the tests' server.
+pub fn server() -> SocketAddr {
+    SocketAddr::V4(SocketAddrV4::new(Ipv4Addr::new(192, 0, 2, 7), 990))
+}
 
 /// A connection over memory on which `plain` comes.
 pub fn plain(alloc: Global) -> Result<MemoryConn, AllocError> {

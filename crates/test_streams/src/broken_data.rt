@@ -6,7 +6,9 @@ ghost use Rattle.ftp_transport.specs.Memory.{fresh_memory};
 use crate::scene::{conn_with, number};
 use ftp_base::types::{ConnectionError, FtpError, FtpResult};
 use ftp_session::session::{Failure, NoProgress, Session};
-use ftp_transport::{Accepted, Conn, Connected, Listening, MemoryConn, Network, Tells, Transport};
+use ftp_transport::{
+    Accepted, Conn, Connected, Handshaken, Listening, MemoryConn, Network, Tells, Transport,
+};
 use std::alloc::{AllocError, Global};
 use std::io::ErrorKind;
 use std::net::SocketAddr;
@@ -84,6 +86,8 @@ impl Network for One {
 
     ghost closed = { λ _. [] };
 
+    ghost handshake = { λ _ _ _. Unit {0} };
+
     ghost has_room = { λ _. Unit {0} };
 
     fn make_room(&mut self) -> Result<(), AllocError> {
@@ -120,6 +124,10 @@ impl<R> Transport<R> for One {
 
     fn accept(&mut self, _rt: &R, _listener: &mut (), _deadline: Duration) -> Accepted<Breaking> {
         Ok(Err(ConnectionError::TimedOut))
+    }
+
+    fn secure(&mut self, _rt: &R, conn: Breaking) -> Handshaken<Breaking> {
+        Ok(Ok(conn))
     }
 }
 

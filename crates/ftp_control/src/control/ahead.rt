@@ -52,6 +52,13 @@ impl ReadAhead {
         })
     }
 
+    /// None is left: those that weren't looked at are dropped.
+    pub(crate) fn clear(&mut self)
+        ensures { self.new ≡ [] }
+    {
+        self.start = self.end;
+    }
+
     /// The bytes.
     pub(crate) fn bytes(&self) -> &[u8]
         ensures value { result.now ≡ self.now }

@@ -27,6 +27,7 @@ use futures::task::Poll;
 use std::alloc::{AllocError, Global};
 use std::io::ErrorKind;
 use std::marker::Model;
+use std::mem;
 
 /// A control connection: it delivers replies whole and in order, and sends nothing but whole command lines.
 ///
@@ -133,6 +134,28 @@ impl<C: Tells + Drop> ControlChannel<C> {
             failed: false,
             rule,
         })
+    }
+
+    /// Begins anew on another connection, and returns the one of before (RFC 2228, section 3): what is kept, ahead or
+    /// unsent is dropped, so that no byte of before is part of a reply. The rule of replies stays.
+    pub fn replace(&mut self, conn: C) -> C
+        ensures before { C.told result ≡ self.old.told }
+        ensures begins { C.tells → self.new.told ≡ begun (C.told conn) }
+        ensures rule { self.new.rule ≡ self.old.rule }
+        ensures idle { IsIdle self.new }
+        ensures sound { IsSound C.tells self.new }
+    {
+        let before = mem::replace(&mut self.conn, conn);
+        self.conn.begin();
+        self.ahead.clear();
+        self.reply.bytes.clear();
+        self.reply.line_start = 0;
+        self.reply.phase = Phase::InReply;
+        self.outbox.line.clear();
+        self.outbox.sent = 0;
+        self.ended = false;
+        self.failed = false;
+        before
     }
 
     /// Whether the channel has failed, by a read, a write or the server. A failed channel sends and reads nothing.

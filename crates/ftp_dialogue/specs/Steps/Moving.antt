@@ -1,6 +1,6 @@
 -- What a step of a dialogue does: whatever the server still sends, and whatever room there is, the tree before it and
 -- the tree after it result in the same. Beside what is promised it keeps how much is kept of a reply under way.
-use Rattle.std.specs.Prelude.{◌++◌, ◌==◌, ◌≡◌, ◌<◌, ◌≤◌, ◌+◌, ◌⊎◌, nat_le, ◌∷◌, ℕ, zero, suc, Bool, true, false, ◌&&◌, if◌then◌else◌, Option, None, List, [], drop, length, Result, Ok, Err}
+use Rattle.std.specs.Prelude.{◌++◌, ◌==◌, ◌≡◌, ◌<◌, ◌≤◌, ◌+◌, ◌⊎◌, nat_le, ◌∷◌, ℕ, zero, suc, Bool, true, false, ◌&&◌, if◌then◌else◌, Option, Some, None, List, [], drop, length, Result, Ok, Err}
 use Rattle.futures.specs.declared.task.Poll.{Poll}
 use Rattle.futures.specs.declared.task.Poll.TheVariants as poll
 use Rattle.ftp_base.specs.declared.types.reply.Response.{Response}
@@ -37,7 +37,7 @@ use Rattle.ftp_dialogue.specs.declared.model.NetOutcome.TheVariants as came
 use Rattle.ftp_dialogue.specs.declared.nodes.Accepted.{Accepted}
 use Rattle.ftp_dialogue.specs.declared.nodes.Accepted.TheVariants as accepts
 use Rattle.ftp_dialogue.specs.declared.stage.Asking.{Asking}
-use Rattle.ftp_dialogue.specs.declared.stage.Asking.TheVariants.{PeerPort, Connection, Peer, Accepting}
+use Rattle.ftp_dialogue.specs.declared.stage.Asking.TheVariants.{PeerPort, Connection, Peer, Accepting, Securing}
 use Rattle.ftp_dialogue.specs.declared.stage.Awaits.{Awaits}
 use Rattle.ftp_dialogue.specs.declared.stage.Stage.{Stage}
 use Rattle.ftp_dialogue.specs.declared.stage.Stage.TheVariants.{OpeningData, Transferring}
@@ -55,7 +55,7 @@ use Rattle.ftp_calls.specs.declared.exchange.Row.{Row}
 use Rattle.ftp_calls.specs.declared.exchange.Row.TheVariants.{Exchanges, Arms}
 use Rattle.ftp_calls.specs.declared.exchange.Row.TheVariants as row
 use Rattle.ftp_calls.specs.Exchanges.{is_draining, is_local, is_read, row_of, Kind, Nothing, kind_of, kind_of_task}
-use Rattle.ftp_dialogue.specs.Dialogue.{Expected, End, Tree, Say, Hear, Look, Ask, Build, Move, Leaf, accepted, chunk, fetched, first_fault, later, lets_in, most_bytes, moved_answer, performing, too_long, unfetched, wants_memory, with_abandoned, with_fetched, set_to, answer_to_fault, after_fault_of, with_aborted, with_left, with_transfer, dialogue}
+use Rattle.ftp_dialogue.specs.Dialogue.{Expected, End, Tree, Say, Hear, Look, Ask, Build, Secure, Move, Leaf, accepted, chunk, fetched, first_fault, later, lets_in, most_bytes, moved_answer, performing, too_long, unfetched, wants_memory, with_abandoned, with_fetched, set_to, answer_to_fault, after_fault_of, with_aborted, with_left, with_transfer, dialogue}
 use Rattle.ftp_dialogue.specs.Resuming.{Modes, Resumes, Silent, modes_of}
 use Rattle.ftp_dialogue.specs.Promises.{DrainsIf, due_of, AbortsRead, IsFault, Leads, Completes, Aborts, However, SaidOrTaken, Untouched, Rests, IsRefused, begun_by, failed_from, refusal_of, IsApart}
 use Rattle.ftp_dialogue.specs.Steps.Stages.{AnswersKind, Begun, GoesOnTo, NotBegun, StageAfter, StepAnswers, asking_of, nodes_left, remaining, begun_at, is_later, is_out}
@@ -76,6 +76,7 @@ Calm (Hear codes next) = ⊥
 Calm (Look end next) = Unit {0}
 Calm (Ask request next) = Unit {0}
 Calm (Build address next) = Unit {0}
+Calm (Secure next) = Unit {0}
 Calm (Move movement next) = Unit {0}
 Calm (Leaf answer state) = Unit {0}
 
@@ -87,6 +88,7 @@ Apart (Hear codes next) = (heard : Result Response FtpError) → Apart (next hea
 Apart (Look end next) = (address : SocketAddr) → Apart (next address)
 Apart (Ask request next) = ⊥
 Apart (Build address next) = ⊥
+Apart (Secure next) = ⊥
 Apart (Move movement next) = ⊥
 Apart (Leaf answer state) = Unit {0}
 
@@ -98,6 +100,7 @@ Speaks (Hear codes next) = ⊥
 Speaks (Look end next) = ⊥
 Speaks (Ask request next) = ⊥
 Speaks (Build address next) = ⊥
+Speaks (Secure next) = ⊥
 Speaks (Move movement next) = ⊥
 Speaks (Leaf answer state) = ⊥
 
@@ -167,6 +170,7 @@ AsksFirst (Hear codes next) = ⊥
 AsksFirst (Look end next) = ⊥
 AsksFirst (Ask request next) = Unit {0}
 AsksFirst (Build address next) = ⊥
+AsksFirst (Secure next) = Unit {0}
 AsksFirst (Move movement next) = Unit {0}
 AsksFirst (Leaf answer state) = ⊥
 
@@ -307,6 +311,12 @@ abbrev pub BuildsFor : Link → SocketAddr → SessionValue → SessionValue →
 BuildsFor link address old new (Ok fault) = (next : Option FtpError → Tree) → Still link (Build address next) (next fault) old new
 BuildsFor link address old new (Err full) = (tree : Tree) → Still link tree tree old new
 
+-- the connector was asked to put the data connection under TLS, which it has from then on; or will be again, or can't be
+abbrev pub SecuresFor : Link → SessionValue → SessionValue → Poll (Result (Option FtpError) AllocError) → Type 0
+SecuresFor link old new (poll.Ready (Ok fault)) = (next : Option FtpError → Tree) → Still link (Secure next) (next fault) old new
+SecuresFor link old new (poll.Ready (Err full)) = (next : Option FtpError → Tree) → Still link (Secure next) (Secure next) old new
+SecuresFor link old new poll.Pending = ((next : Option FtpError → Tree) → Still link (Secure next) (Secure next) old new) × link.asks_wait
+
 -- a dialogue begins: a line that is said first is said, whatever is kept of a reply
 abbrev pub BeginsHere : Link → Tree → SessionValue → SessionValue → Type 0
 BeginsHere link tree old new = link.tells → Speaks tree ⊎ Resumes (modes_of old) old.channel.kept tree → SaidOrTaken old new
@@ -374,6 +384,7 @@ AskingAnswers kind (PeerPort port) = Unit {0}
 AskingAnswers kind (Connection address) = Unit {0}
 AskingAnswers kind (Peer opened) = OpeningAnswers kind opened
 AskingAnswers kind (Accepting peer left opened) = ⊥
+AskingAnswers kind (Securing opened) = OpeningAnswers kind opened
 
 -- an answer is made of the reply's text, or the session keeps that, which takes memory
 abbrev pub takes_memory : Ending → Bool
@@ -437,14 +448,27 @@ ConnectsTo call turn outcomes.Done stage result = GoesOnTo call turn stage resul
 ConnectsTo call turn (outcomes.Address address) stage result = GoesOnTo call turn stage result
 ConnectsTo call turn (outcomes.Refused fault) stage result = result ≡ Done (Fault (ConnectionError fault))
 
--- a peer was let in: a transfer is live, and that is the answer; or a whole file or listing goes over the connection
-abbrev pub LetsIn : Opening → Stage → SessionValue → SessionValue → Step → Type 0
-LetsIn (GivesAnswer answer) stage old new result = (result ≡ Done answer) × (new ≡ record old { state = with_transfer old.state })
-LetsIn (PerformsAll task) stage old new result = (result ≡ Next) × (stage ≡ Transferring (fetch.Starting task)) × (new ≡ old)
+-- the data connection stands: a transfer is live, and that is the answer; or a whole file or listing goes over it
+abbrev pub Stands : Opening → Stage → SessionValue → SessionValue → Step → Type 0
+Stands (GivesAnswer answer) stage old new result = (result ≡ Done answer) × (new ≡ record old { state = with_transfer old.state })
+Stands (PerformsAll task) stage old new result = (result ≡ Next) × (stage ≡ Transferring (fetch.Starting task)) × (new ≡ old)
+
+-- a handshake is over: the data connection stands, or the call ends with why it failed
+abbrev pub StandsUnless : Option FtpError → Opening → Stage → SessionValue → SessionValue → Step → Type 0
+StandsUnless None opened stage old new result = Stands opened stage old new result
+StandsUnless (Some fault) opened stage old new result = (result ≡ Done (Fault fault)) × (new ≡ old)
+
+-- a peer was let in: in a secure session its connection is put under TLS
+abbrev pub LetsInIf : Bool → Turn → Opening → Stage → SessionValue → SessionValue → Step → Type 0
+LetsInIf true turn opened stage old new result = (result ≡ Next) × (stage ≡ OpeningData (Asks turn (Securing opened))) × (new ≡ old)
+LetsInIf false turn opened stage old new result = Stands opened stage old new result
+
+abbrev pub LetsIn : Turn → Opening → Stage → SessionValue → SessionValue → Step → Type 0
+LetsIn turn opened stage old new result = LetsInIf old.state.settings.secure turn opened stage old new result
 
 -- a peer came: one that is let in opens the transfer, another is dropped; or none came
 abbrev pub MeetsIf : Bool → Turn → SocketAddr → ℕ → Opening → Stage → SessionValue → SessionValue → Step → Type 0
-MeetsIf true turn peer left opened stage old new result = LetsIn opened stage old new result
+MeetsIf true turn peer left opened stage old new result = LetsIn turn opened stage old new result
 MeetsIf false turn peer left opened stage old new result = TurnsAway turn peer left opened stage old new result
 
 abbrev pub Meets : RequestOutcome → Turn → SocketAddr → ℕ → Opening → Stage → SessionValue → SessionValue → Step → Type 0

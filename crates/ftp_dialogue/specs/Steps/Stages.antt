@@ -38,7 +38,7 @@ use Rattle.ftp_dialogue.specs.declared.stage.Aborting.TheVariants.{Wording, Send
 use Rattle.ftp_dialogue.specs.declared.stage.Resyncing.{Resyncing as Resync}
 use Rattle.ftp_dialogue.specs.declared.stage.Resyncing.TheVariants as resync
 use Rattle.ftp_dialogue.specs.declared.stage.Asking.{Asking as Asked}
-use Rattle.ftp_dialogue.specs.declared.stage.Asking.TheVariants.{PeerPort, Connection, Peer, Accepting}
+use Rattle.ftp_dialogue.specs.declared.stage.Asking.TheVariants.{PeerPort, Connection, Peer, Accepting, Securing}
 use Rattle.ftp_dialogue.specs.declared.stage.Step.{Step}
 use Rattle.ftp_dialogue.specs.declared.stage.Step.TheVariants as step
 use Rattle.ftp_dialogue.specs.Coding.{Coding}
@@ -46,7 +46,7 @@ use Rattle.ftp_dialogue.specs.Promises.{IsFault}
 use Rattle.ftp_calls.specs.declared.exchange.Row.{Row}
 use Rattle.ftp_calls.specs.declared.exchange.Row.TheVariants.{Exchanges, Arms, Resyncs}
 use Rattle.ftp_calls.specs.Exchanges.{row_of, aborting_row, aborts, finishes, is_local, is_read, negotiates, next_turn, Movements, Listings, Kind, kind_of_fetch, kind_of_task, Nothing, Replies, Texts, Times, Sizes, Lists, Connections, ending_of, given_by, says_of}
-use Rattle.ftp_dialogue.specs.Dialogue.{expected_of, Tree, Say, Look, There, Leaf, armed, awaiting, aborting, breaking_off, closes, closing, later, from_turn, negotiating, listening, listening_at, connecting_to, connecting_to_peer, accepting, fetch_ending, fetch_closing_data, gathering, most_reads, performing, resyncing, seeking, most_passed_over, sending, strangers, with_transfer}
+use Rattle.ftp_dialogue.specs.Dialogue.{expected_of, Tree, Say, Look, Secure, There, Leaf, armed, awaiting, aborting, breaking_off, closes, closing, later, from_turn, negotiating, listening, listening_at, connecting_to, connecting_to_peer, accepting, fetch_ending, fetch_closing_data, gathering, most_reads, on_built, performing, resyncing, securing, seeking, most_passed_over, sending, strangers, with_transfer}
 
 -- an exchange was made before
 abbrev pub is_later : Turn → Bool
@@ -68,8 +68,9 @@ opened_by coding (Performs task) state = performing coding task state
 abbrev pub asking_of : Coding → Asked → State → Tree → Tree
 asking_of coding (PeerPort port) state next = connecting_to_peer port state next
 asking_of coding (Connection address) state next = connecting_to address state next
-asking_of coding (Peer opened) state next = Look There (λ peer. accepting (opened_by coding opened state) peer strangers state)
-asking_of coding (Accepting peer left opened) state next = accepting (opened_by coding opened state) peer left state
+asking_of coding (Peer opened) state next = Look There (λ peer. accepting (securing (opened_by coding opened state) state) peer strangers state)
+asking_of coding (Accepting peer left opened) state next = accepting (securing (opened_by coding opened state) state) peer left state
+asking_of coding (Securing opened) state next = Secure (on_built state (opened_by coding opened state))
 
 -- a reply is awaited
 abbrev pub awaited : Coding → Call → State → Awaits → Tree
@@ -180,6 +181,7 @@ nodes_asked (PeerPort port) turn = nodes_from turn - 3
 nodes_asked (Connection address) turn = nodes_from turn - 4
 nodes_asked (Peer opened) turn = nodes_from turn - 3
 nodes_asked (Accepting peer left opened) turn = most_reads + left + 15
+nodes_asked (Securing opened) turn = most_reads + 13
 
 abbrev pub nodes_of : Way → ℕ
 nodes_of (Negotiating offset) = many + 70
@@ -295,6 +297,7 @@ AskingOf call (PeerPort port) = Unit {0}
 AskingOf call (Connection address) = Unit {0}
 AskingOf call (Peer opened) = OpeningOf call opened
 AskingOf call (Accepting peer left opened) = OpeningOf call opened
+AskingOf call (Securing opened) = OpeningOf call opened
 
 -- and while a whole file or listing goes over it
 abbrev pub FetchOf : Call → Fetched → Type 0

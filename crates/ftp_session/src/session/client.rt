@@ -14,21 +14,24 @@ ghost use Rattle.ftp_dialogue.specs.Sound.{SoundCounts};
 ghost use Rattle.ftp_dialogue.specs.State.{greeted_again, Begins};
 
 use super::chosen::Chosen;
-use super::parameters::{NoStreamBuilder, NoTlsConnector};
+use super::parameters::NoStreamBuilder;
 use super::{Call, Counts, Failure, State};
 use ftp_base::encoding::{Encoding, Utf8Encoding};
 use ftp_base::types::{FtpError, FtpResult};
 use ftp_control::control::ReplyRule;
 use ftp_dialogue::machine::Machine;
+use ftp_secure::NoTlsConnector;
 use ftp_transfer::mark::SessionEnd;
 use ftp_transport::{Conn, Network};
 use std::alloc::Global;
+use std::marker::PhantomData;
 
 /// A session over the connections of a transport.
 ///
 /// Its parameters are the transport, the connector of TLS, the encoding of texts on the control connection and the
 /// builder of passive data connections. Without the last three, as in `Session<TcpTransport>`, it has no TLS, reads
-/// and writes UTF-8, and lets the transport make its data connections.
+/// and writes UTF-8, and lets the transport make its data connections. A session that can be put under TLS is one over a
+/// transport of `ftp_secure`, as `Session<Secured<TcpTransport, K>, K>`.
 #[derive(Drop)]
 pub struct Session<
     Tr: Network,
@@ -38,7 +41,8 @@ pub struct Session<
 > {
     pub(super) machine: Machine<Tr>,
     pub(super) encoding: Chosen<E>,
-    connector: Option<K>,
+    // The connector is the transport's (`SecureNetwork`).
+    connector: PhantomData<K>,
     pub(super) builder: Option<B>,
     /// This end of the mark of the transfer that was handed out last.
     pub(super) mark: Option<SessionEnd>,
@@ -85,7 +89,7 @@ impl<Tr: Network, K: Drop, E: Encoding, B: Drop> Session<Tr, K, E, B> {
         Ok(Session {
             machine,
             encoding: Chosen(None),
-            connector: None,
+            connector: PhantomData,
             builder: None,
             mark: None,
             former: None,

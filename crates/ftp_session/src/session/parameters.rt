@@ -11,10 +11,6 @@ use ftp_base::types::{ConnectionError, FtpError, FtpResult};
 use ftp_transport::{PassiveStreamBuilder, Tells};
 use std::net::SocketAddr;
 
-/// No TLS connector: a session without TLS. There is no value of it.
-#[derive(Drop)]
-pub enum NoTlsConnector {}
-
 /// No builder of passive data connections: the transport makes them. A session that is given it as a builder has none
 /// of its data connections made.
 #[derive(Drop)]

@@ -2,7 +2,7 @@ use Rattle.std.proofs.Common.{inl}
 use Rattle.ftp_dialogue.specs.Dialogue.{Leaf}
 use Rattle.ftp_calls.specs.declared.call.Answer.TheVariants.{Unit}
 use Rattle.ftp_dialogue.specs.Coding.{coding_of}
-use Rattle.ftp_dialogue.specs.Link.{building}
+use Rattle.ftp_dialogue.specs.Link.{built_beside}
 use Rattle.ftp_dialogue.specs.Dialogue.{concluded, later}
 use Rattle.ftp_dialogue.proofs.Faults.{fault_answers}
 use Rattle.ftp_dialogue.proofs.Moving.{rests_untouched}
@@ -43,11 +43,11 @@ returns-in-Ready-Ok-clause-begun g c =
     let coding = coding_of g.E.Encoding.decoded g.E.Encoding.encoded c.args.encoding.now in
     let heard = rw (c.in-Ready-Ok.is, c.in-Ready-Ok.field-0-is) at c.hear_codes.ensures.hears in
     let accepts = heard (concluded coding c.args.awaits.ending c.args.self.now.state (later coding c.args.call.now c.args.awaits.turn)) in
-    accepted_begins (building (g.A.Asks.builds c.args.asker.now) g.Tr.Conn.Tells.tells g.Tr.Conn.PollConn.read_faults g.Tr.Conn.PollConn.write_faults g.Tr.Conn.Tells.end_faults g.A.Asks.may_wait) coding c.args.call.now c.args.awaits _ _ c.args.self.now c.hear_codes.new.self _ _ accepts.1 c.accept_reply.ensures.goes_on (c.accept_reply.ensures.concludes)
+    accepted_begins (built_beside (g.A.Asks.builds c.args.asker.now) g.Tr.Conn.Tells.secures g.Tr.Conn.Tells.tells g.Tr.Conn.PollConn.read_faults g.Tr.Conn.PollConn.write_faults g.Tr.Conn.Tells.end_faults g.A.Asks.may_wait) coding c.args.call.now c.args.awaits _ _ c.args.self.now c.hear_codes.new.self _ _ accepts.1 c.accept_reply.ensures.goes_on (c.accept_reply.ensures.concludes)
 
 pub returns-in-Pending-clause-begun : goal.returns-in-Pending-clause-begun
 returns-in-Pending-clause-begun g c =
     let coding = coding_of g.E.Encoding.decoded g.E.Encoding.encoded c.args.encoding.now in
     let heard = rw c.in-Pending.is at c.hear_codes.ensures.hears in
     let rests = (heard (concluded coding c.args.awaits.ending c.args.self.now.state (λ s. Leaf Unit s))).2 in
-    rw c.go_to.ensures (λ has. inl has, λ none. (none, rests_untouched (building (g.A.Asks.builds c.args.asker.now) g.Tr.Conn.Tells.tells g.Tr.Conn.PollConn.read_faults g.Tr.Conn.PollConn.write_faults g.Tr.Conn.Tells.end_faults g.A.Asks.may_wait) c.args.self.now c.hear_codes.new.self rests))
+    rw c.go_to.ensures (λ has. inl has, λ none. (none, rests_untouched (built_beside (g.A.Asks.builds c.args.asker.now) g.Tr.Conn.Tells.secures g.Tr.Conn.Tells.tells g.Tr.Conn.PollConn.read_faults g.Tr.Conn.PollConn.write_faults g.Tr.Conn.Tells.end_faults g.A.Asks.may_wait) c.args.self.now c.hear_codes.new.self rests))

@@ -1,6 +1,6 @@
 use Rattle.std.proofs.Common.{inr}
 use Rattle.ftp_calls.specs.declared.exchange.Turn.TheVariants.{First}
-use Rattle.ftp_dialogue.specs.Dialogue.{accepting}
+use Rattle.ftp_dialogue.specs.Dialogue.{accepting, securing}
 use Rattle.ftp_dialogue.specs.Steps.Stages.{opened_by}
 use Rattle.ftp_dialogue.specs.declared.stage.OpeningData.TheVariants.{Asking}
 use Rattle.ftp_dialogue.specs.declared.stage.Asking.TheVariants.{Accepting}
@@ -15,7 +15,7 @@ returns-in-Ready-Ok-clause-walks g c = λ coding.
 pub returns-in-Ready-Err-clause-walks : goal.returns-in-Ready-Err-clause-walks
 returns-in-Ready-Err-clause-walks g c = λ coding.
     let still = rw (c.in-Ready-Err.is, c.in-Ready-Err.field-0-is) at c.ask_to_accept.ensures.asks in
-    rw (c.lack_memory.ensures.done, c.lack_memory.ensures.failed) (walks_end _ coding _ (Asking c.args.turn (Accepting c.args.peer c.args.left c.args.opened)) c.requires.opens _ _ _ _ (inr (still_fails _ _ _ _ (accepting_unheard _ c.args.peer c.args.left c.args.self.now.state _) c.requires.going (still (accepting (opened_by coding c.args.opened c.args.self.now.state) c.args.peer c.args.left c.args.self.now.state)))) (First, inr tt, tt))
+    rw (c.lack_memory.ensures.done, c.lack_memory.ensures.failed) (walks_end _ coding _ (Asking c.args.turn (Accepting c.args.peer c.args.left c.args.opened)) c.requires.opens _ _ _ _ (inr (still_fails _ _ _ _ (accepting_unheard _ c.args.peer c.args.left c.args.self.now.state _) c.requires.going (still (accepting (securing (opened_by coding c.args.opened c.args.self.now.state) c.args.self.now.state) c.args.peer c.args.left c.args.self.now.state)))) (First, inr tt, tt))
 
 pub returns-in-Pending-clause-walks : goal.returns-in-Pending-clause-walks
 returns-in-Pending-clause-walks g c = λ coding.

@@ -12,7 +12,7 @@ use Rattle.ftp_dialogue.proofs.machine.Machine.poll_drain.Goals as goal
 
 pub returns-in-Ready-clause-drains : goal.returns-in-Ready-clause-drains
 returns-in-Ready-clause-drains g c =
-    let over : Link = link g.Tr.Conn.Tells.tells g.Tr.Conn.PollConn.read_faults g.Tr.Conn.PollConn.write_faults g.Tr.Conn.Tells.end_faults in
+    let over : Link = link g.Tr.Conn.Tells.secures g.Tr.Conn.Tells.tells g.Tr.Conn.PollConn.read_faults g.Tr.Conn.PollConn.write_faults g.Tr.Conn.Tells.end_faults in
     let coding = coding_of g.E.Encoding.decoded g.E.Encoding.encoded c.args.encoding.now in
     let polls = rw c.in-Ready.is at c.poll_call.ensures.polls in
     let taken = due_taken (ReadResponseIn []) c.args.self.now c.requires.due in
@@ -23,5 +23,5 @@ returns-in-Pending-clause-waits g c = λ waits. no_other (c.poll_call.ensures.wa
 
 pub returns-in-Pending-clause-drains : goal.returns-in-Pending-clause-drains
 returns-in-Pending-clause-drains g c =
-    let over : Link = link g.Tr.Conn.Tells.tells g.Tr.Conn.PollConn.read_faults g.Tr.Conn.PollConn.write_faults g.Tr.Conn.Tells.end_faults in
+    let over : Link = link g.Tr.Conn.Tells.secures g.Tr.Conn.Tells.tells g.Tr.Conn.PollConn.read_faults g.Tr.Conn.PollConn.write_faults g.Tr.Conn.Tells.end_faults in
     rests_entered over Drain (At First) c.args.self.now c.enter-stage.new.self c.poll_call.new.self refl c.enter-stage.ensures.state (c.poll_call.ensures.rests c.in-Pending.is refl)

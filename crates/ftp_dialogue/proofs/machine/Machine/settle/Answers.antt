@@ -19,6 +19,6 @@ drained-requires g c = c.call_alone.ensures.answers (drain_held c.args.self.now 
 
 pub returns : goal.returns
 returns g c =
-    let over : Link = link g.Tr.Conn.Tells.tells g.Tr.Conn.Conn.blocking_read_faults g.Tr.Conn.Conn.blocking_write_faults g.Tr.Conn.Tells.end_faults in
+    let over : Link = link g.Tr.Conn.Tells.secures g.Tr.Conn.Tells.tells g.Tr.Conn.Conn.blocking_read_faults g.Tr.Conn.Conn.blocking_write_faults g.Tr.Conn.Tells.end_faults in
     let coding = coding_of g.E.Encoding.decoded g.E.Encoding.encoded c.args.encoding.now in
     record { made = rw c.drained.ensures (in_step _ _ _ _ Drain c.args.self.now c.args.self.now _ _ (sym c.if-is_behind.ensures) (record { makes = makes_undue (Made over coding) Drain c.args.self.now _ _ (not_first Drain c.args.self.now.channel.failed c.args.self.now.state.counts.owed refl) c.call_alone.ensures.made })) }

@@ -1,5 +1,5 @@
 use Rattle.ftp_dialogue.specs.Coding.{coding_of}
-use Rattle.ftp_dialogue.specs.Link.{building}
+use Rattle.ftp_dialogue.specs.Link.{built_beside}
 use Rattle.ftp_dialogue.specs.Dialogue.{from_turn}
 use Rattle.ftp_dialogue.specs.Steps.Stages.{remaining}
 use Rattle.ftp_dialogue.specs.declared.stage.Stage.TheVariants.{Saying}
@@ -24,7 +24,7 @@ returns-in-At-clause-quiet g c =
 pub returns-in-At-clause-begun : goal.returns-in-At-clause-begun
 returns-in-At-clause-begun g c =
     let is = c.in-At.ensures.value in
-    rw (← is) (exchange_tracks (building (g.A.Asks.builds c.args.asker.now) g.Tr.Conn.Tells.tells g.Tr.Conn.PollConn.read_faults g.Tr.Conn.PollConn.write_faults g.Tr.Conn.Tells.end_faults g.A.Asks.may_wait) (coding_of g.E.Encoding.decoded g.E.Encoding.encoded c.args.encoding.now) c.args.call.now c.in-At.turn _ (from_turn (coding_of g.E.Encoding.decoded g.E.Encoding.encoded c.args.encoding.now) c.args.call.now c.in-At.turn c.args.self.now.state) _ _ _ c.begin_exchange.ensures.begins)
+    rw (← is) (exchange_tracks (built_beside (g.A.Asks.builds c.args.asker.now) g.Tr.Conn.Tells.secures g.Tr.Conn.Tells.tells g.Tr.Conn.PollConn.read_faults g.Tr.Conn.PollConn.write_faults g.Tr.Conn.Tells.end_faults g.A.Asks.may_wait) (coding_of g.E.Encoding.decoded g.E.Encoding.encoded c.args.encoding.now) c.args.call.now c.in-At.turn _ (from_turn (coding_of g.E.Encoding.decoded g.E.Encoding.encoded c.args.encoding.now) c.args.call.now c.in-At.turn c.args.self.now.state) _ _ _ c.begin_exchange.ensures.begins)
 
 pub returns-in-Saying-clause-answers : goal.returns-in-Saying-clause-answers
 returns-in-Saying-clause-answers g c = c.say_line.ensures.answers c.args.call.now

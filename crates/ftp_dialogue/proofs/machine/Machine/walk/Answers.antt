@@ -20,3 +20,6 @@ returns-in-Asking-default-Peer-clause-walks g c = λ coding. rw (c.in-Asking-def
 
 pub returns-in-Asking-default-Accepting-clause-walks : goal.returns-in-Asking-default-Accepting-clause-walks
 returns-in-Asking-default-Accepting-clause-walks g c = λ coding. rw (c.in-Asking-default-Accepting.is, c.in-Asking-default-Accepting.field-1-is) (c.let_in.ensures.walks coding)
+
+pub returns-in-Asking-default-Securing-clause-walks : goal.returns-in-Asking-default-Securing-clause-walks
+returns-in-Asking-default-Securing-clause-walks g c = λ coding. rw (c.in-Asking-default-Securing.is, c.in-Asking-default-Securing.field-1-is) (c.secure.ensures.walks coding)
