@@ -12,4 +12,5 @@ mod ending;
 mod machine;
 mod polls;
 mod resyncing;
+mod securing;
 mod transfers;
