@@ -4,7 +4,7 @@ use ftp_base::types::{FtpError, FtpResult};
 use ftp_blocking::{ImplFtpStream, TransferStream};
 use ftp_session::session::{Answer, Call, NoTlsConnector, Setting};
 use ftp_transfer::mark::Left;
-use ftp_transport::{MemoryConn, MemoryTransport};
+use ftp_transport::MemoryTransport;
 use rows_plays::{
     Held, Named, NamedSession, Opening, Play, RowBuilder, RowState, Transfers, boxed, bytes,
     features, greeted, had, lines, made_by_method, optional, recorded, reply, size, text, texts_of,
@@ -36,8 +36,8 @@ impl Held for Live {
         Live { stream }
     }
 
-    fn conn(&self) -> &MemoryConn {
-        self.stream.get_ref()
+    fn sent(&self) -> &[u8] {
+        self.stream.get_ref().sent()
     }
 
     fn take_in<R>(&mut self, _rt: &R, buffer: &mut [u8]) -> io::Result<usize>

@@ -5,7 +5,7 @@ use ftp_base::types::{FtpError, FtpResult};
 use ftp_polled::{ImplAsyncFtpStream, TransferStream};
 use ftp_session::session::{Answer, Call, NoTlsConnector, Setting};
 use ftp_transfer::mark::Left;
-use ftp_transport::{MemoryConn, MemoryTransport};
+use ftp_transport::MemoryTransport;
 use futures::Future;
 use futures::executor::block_on;
 use futures::task::{Context, Poll};
@@ -91,8 +91,8 @@ impl Held for Live {
         Live { stream }
     }
 
-    fn conn(&self) -> &MemoryConn {
-        self.stream.get_ref()
+    fn sent(&self) -> &[u8] {
+        self.stream.get_ref().sent()
     }
 
     fn take_in<R>(&mut self, rt: &R, buffer: &mut [u8]) -> io::Result<usize>

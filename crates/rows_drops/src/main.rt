@@ -10,7 +10,6 @@ mod begin;
 mod counter;
 mod gains;
 mod play;
-mod row;
 mod scene;
 mod script;
 mod slow;

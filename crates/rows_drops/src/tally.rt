@@ -1,9 +1,9 @@
 //! The rows of a set that were played, and the plays that differed.
 
 use crate::play::{Played, play};
-use crate::row::Row;
 use crate::script::Script;
 use anyhow::Result;
+use rows_text::Row;
 use std::io;
 use std::random::RandomSource;
 use std::sync::Wait;

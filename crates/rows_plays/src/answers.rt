@@ -9,7 +9,7 @@ use std::alloc::{AllocError, Global};
 
 /// An answer: `ok`, `ok` and what it holds, `opened`, `opened with` and the reply, `bytes` and those that were read,
 /// `lines` and those of a listing, `count` and how many were written, `NoTransfer`, or the number of the error, with
-/// the kind of a connection's error or the code of an unexpected reply.
+/// the kind of a connection's error, the code of an unexpected reply or the text of a connector.
 pub fn text_of(alloc: Global, answer: &Answer) -> Result<String, AllocError> {
     match answer {
         Answer::Unit => String::from_str(alloc, "ok"),
@@ -94,6 +94,10 @@ fn fault_text(alloc: Global, fault: &FtpError) -> Result<String, AllocError> {
         }
         FtpError::ConnectionError(ConnectionError::Io(kind)) => {
             format!(in alloc; "E{number} {kind:?}")
+        }
+        FtpError::SecureError(text) => {
+            let text = shown(alloc, text.as_str().as_bytes())?;
+            format!(in alloc; "E{number} {text}")
         }
         _ => format!(in alloc; "E{number}"),
     }

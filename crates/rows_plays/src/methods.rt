@@ -31,8 +31,8 @@ impl Held for Live {
         stream
     }
 
-    fn conn(&self) -> &MemoryConn {
-        self.get_ref()
+    fn sent(&self) -> &[u8] {
+        self.get_ref().sent()
     }
 
     fn take_in<R>(&mut self, _rt: &R, buffer: &mut [u8]) -> io::Result<usize>

@@ -20,8 +20,8 @@ pub trait Held: Drop {
     /// The transfer that was opened.
     fn of(stream: Self::Stream) -> Self;
 
-    /// Its data connection.
-    fn conn(&self) -> &MemoryConn;
+    /// What was written to its data connection.
+    fn sent(&self) -> &[u8];
 
     /// Reads from it, in one read.
     fn take_in<R>(&mut self, rt: &R, buffer: &mut [u8]) -> io::Result<usize>
@@ -53,6 +53,11 @@ impl<T: Held> Transfers<T> {
             receipt: None,
             uploaded: Vec::new(alloc),
         }
+    }
+
+    /// The live transfer.
+    pub fn live(&self) -> Option<&T> {
+        self.live.as_ref()
     }
 
     /// Takes what was written to the data connections that are over.
@@ -151,7 +156,7 @@ impl<T: Held> Transfers<T> {
     /// `OutOfMemory`.
     pub fn take(&mut self, alloc: Global) -> Result<Option<T>, AllocError> {
         if let Some(transfer) = &self.live {
-            let sent = Vec::from_slice(alloc, transfer.conn().sent())?;
+            let sent = Vec::from_slice(alloc, transfer.sent())?;
             self.uploaded.push(sent)?;
         }
         Ok(self.live.take())

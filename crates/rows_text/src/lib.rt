@@ -2,7 +2,9 @@
 #![tactic(auto)]
 
 mod escape;
+mod row;
 mod words;
 
 pub use escape::{RowError, bytes_of, shown, text_of};
+pub use row::Row;
 pub use words::{file_type, format_control, pair, text, value};

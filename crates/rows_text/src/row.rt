@@ -1,6 +1,7 @@
 //! A row as it is written.
 
-use rows_text::{RowError, pair};
+use crate::escape::RowError;
+use crate::words::pair;
 
 /// A row: a heading `== SET: TITLE`, what happens line by line, a line `--`, and the transcript that is due.
 #[derive(Clone, Copy)]
