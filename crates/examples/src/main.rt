@@ -1,4 +1,4 @@
-//! Five first programs, each a module: `fetch`, `put`, `list`, `mirror` and `polled`.
+//! Six first programs, each a module: `fetch`, `put`, `list`, `mirror`, `polled` and `secure`.
 //!
 //! `examples NAME ADDRESS` runs one of them with the server at that address, as `192.0.2.7:21`; `examples all` runs each with
 //! a server of its own. `examples entry LINE` reads a line of a listing.
@@ -10,6 +10,7 @@ mod listing;
 mod mirror;
 mod polled;
 mod put;
+mod secure;
 mod serving;
 
 use std::alloc::AllocError;
@@ -23,7 +24,7 @@ use std::{env, io, thread};
 use suppaftp::{FtpError, FtpResult, Host};
 
 /// How many clients the programs are.
-const CLIENTS: usize = 7;
+const CLIENTS: usize = 8;
 
 /// A thread that serves a client.
 type Serving = JoinHandle<io::Result<()>>;
@@ -33,7 +34,7 @@ fn main(rt: HostRuntime) -> ExitCode {
         Ok(true) => ExitCode::SUCCESS,
         Ok(false) => {
             let _ = eprintln!(rt;
-                "usage: examples fetch|put|list|mirror|polled ADDRESS, examples entry LINE, or examples all"
+                "usage: examples fetch|put|list|mirror|polled|secure ADDRESS, examples entry LINE, or examples all"
             );
             ExitCode::from(2)
         }
@@ -72,6 +73,7 @@ where
         "list" => list::run(rt, address)?,
         "mirror" => mirror::run(rt, address)?,
         "polled" => polled::run(rt, address)?,
+        "secure" => secure::run(rt, address, "two.txt")?,
         "entry" => listing::print_entry(rt, address)?,
         _ => return Ok(false),
     }
@@ -89,7 +91,7 @@ where
     for _ in 0..CLIENTS {
         servers.push(started(rt, listener.try_clone()?)?)?;
     }
-    for name in ["fetch", "put", "list", "mirror", "polled"] {
+    for name in ["fetch", "put", "list", "mirror", "polled", "secure"] {
         run(rt, name, address.as_str())?;
     }
     for server in servers {

@@ -53,7 +53,8 @@ fn answer(alloc: Global, server: &mut Server, verb: &str, argument: &str) -> io:
         "USER" => say(server, "331 a password, please"),
         "PASS" => say(server, "230 logged in"),
         "CWD" => say(server, "250 there"),
-        "TYPE" => say(server, "200 ok"),
+        "TYPE" | "PBSZ" | "PROT" => say(server, "200 ok"),
+        "AUTH" => say(server, "234 go"),
         "FEAT" => say(server, "211-features\r\n MLST type*;size*;\r\n211 end"),
         "PASV" => tell_port(server),
         "REST" => {
