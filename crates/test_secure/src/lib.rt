@@ -4,6 +4,8 @@
 #[cfg(test)]
 mod again;
 #[cfg(test)]
+mod data_calls;
+#[cfg(test)]
 mod handshakes;
 #[cfg(test)]
 mod networks;
