@@ -4,10 +4,12 @@ use crate::streams::{Network, number};
 use ftp_base::status::Status;
 use ftp_base::types::FtpResult;
 use ftp_secure::{DataStream, Secured};
-use ftp_session::session::{NoProgress, Session};
+use ftp_session::session::{DownloadReader, NoProgress, Session};
+use ftp_transfer::Transfer;
 use ftp_transport::{MemoryConn, MemoryTransport, Supply};
-use rows_tls::Seal;
+use rows_tls::{Seal, Sealed};
 use std::alloc::Global;
+use std::io::Read;
 use std::test::Fail;
 
 /// The replies to `PBSZ`, `PROT` and three data commands.
@@ -28,6 +30,30 @@ fn session(alloc: Global, data: [&str; 3]) -> FtpResult<Box<Session<Network, Sea
     let mut session = Box::new(alloc, session)?;
     session.into_secure(alloc, Box::into_inner(seal), "ftp.example")?;
     Ok(session)
+}
+
+/// Reads once, and returns how many bytes came.
+#[derive(Drop)]
+struct Once;
+
+impl DownloadReader<DataStream<MemoryConn, Sealed<MemoryConn>>, usize> for Once {
+    fn read(
+        &mut self,
+        transfer: &mut Transfer<DataStream<MemoryConn, Sealed<MemoryConn>>>,
+    ) -> FtpResult<usize> {
+        let mut bytes = [0u8; 16];
+        Ok(Read::read(transfer, &mut bytes)?)
+    }
+}
+
+#[test]
+fn a_reader_is_handed_what_comes_under_tls(rt: HostRuntime) -> Result<(), Fail> {
+    let alloc = rt.alloc();
+    let mut session = session(alloc, ["a file", "", ""])?;
+    let count = session.retr(alloc, &(), "f", &mut Once)?;
+    drop(session);
+    assert_eq!(rt; count, 6);
+    Ok(())
 }
 
 #[test]
