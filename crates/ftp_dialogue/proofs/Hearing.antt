@@ -35,7 +35,8 @@ use Rattle.ftp_dialogue.specs.Dialogue.{Expected, Tree, Say, Hear, Look, Ask, Bu
 use Rattle.ftp_dialogue.specs.Play.{play, heard_then}
 use Rattle.ftp_dialogue.specs.Lenient.{SaysNothingYet}
 use Rattle.ftp_dialogue.specs.Resuming.{Resumes, modes_of}
-use Rattle.ftp_dialogue.proofs.Places.{here}
+use Rattle.ftp_dialogue.specs.Within.{MayHear}
+use Rattle.ftp_dialogue.proofs.Places.{here, reply_may}
 use Rattle.ftp_dialogue.specs.Promises.{AbortsRead, begun_by, play_state, Goes, Leads, Rests}
 use Rattle.ftp_dialogue.specs.Steps.Moving.{Moves, Advances, WaitsFor, Hears, Takes}
 use Rattle.ftp_dialogue.specs.Link.{Link}
@@ -156,10 +157,10 @@ module _ (link : Link) (state : State) (net : Net) (t : Told) (kept ahead unsent
     fewer_left none shrinks = omega (arith, shrinks, ap length (ap (λ k. k ++ ahead') none), length-append kept ahead)
 
     -- a settled outcome hands its answer on, and takes exactly its bytes, however the input goes on
-    settles : (failed : Bool) (heard : Outcome) (answer : Result Response FtpError) → (link.tells → u ≡ after_input came ended t) → kept' ≡ [] → length ahead' ≤ length ahead + length came → ((s : PlayState) (k : Result Response FtpError → PlayState → Played) → heard_then heard codes (record s { failed = false }) k ≡ k answer (record s { bytes = left_by heard s.bytes; failed = failed })) → (outcome by codes.form kept false ≡ Waits → (more : List ℕ) (e : Bool) → GoesOn ended more e → (outcome by codes.form (((kept ++ ahead) ++ came) ++ more) e ≡ heard) × (left_by heard (((kept ++ ahead) ++ came) ++ more) ≡ (kept' ++ ahead') ++ more)) → Moves link (Hear codes next) (next answer) old (new u failed)
-    settles failed heard answer told none shrinks then_is stays = record {
+    settles : (failed : Bool) (heard : Outcome) (answer : Result Response FtpError) → MayHear answer → (link.tells → u ≡ after_input came ended t) → kept' ≡ [] → length ahead' ≤ length ahead + length came → ((s : PlayState) (k : Result Response FtpError → PlayState → Played) → heard_then heard codes (record s { failed = false }) k ≡ k answer (record s { bytes = left_by heard s.bytes; failed = failed })) → (outcome by codes.form kept false ≡ Waits → (more : List ℕ) (e : Bool) → GoesOn ended more e → (outcome by codes.form (((kept ++ ahead) ++ came) ++ more) e ≡ heard) × (left_by heard (((kept ++ ahead) ++ came) ++ more) ≡ (kept' ++ ahead') ++ more)) → Moves link (Hear codes next) (next answer) old (new u failed)
+    settles failed heard answer may told none shrinks then_is stays = record {
       leads = record {
-        within = inr (answer, here (next answer));
+        within = inr (answer, may, here (next answer));
         came = came;
         answered = [];
         goes = goes u failed came was over (fewer_left none shrinks) (input_told u came told);
@@ -198,7 +199,7 @@ module _ (link : Link) (state : State) (net : Net) (t : Told) (kept ahead unsent
 
     leads_on : (link.tells → (u.received ≡ t.received ++ came) × (u.given ≡ t.given) × NoneFailed t u × (u.sent ≡ t.sent)) → kept' ++ ahead' ≡ (kept ++ ahead) ++ came → Leads link (Hear codes next) (Hear codes next) old (new u false)
     leads_on told all = record {
-      within = inl refl;
+      within = inl (refl, refl);
       came = came;
       answered = [];
       goes = goes u false came was over (none_left came all) told;
@@ -250,7 +251,7 @@ module _ (link : Link) (state : State) (net : Net) (t : Told) (kept ahead unsent
       where
         at_now : (v : Told) → (link.tells → IsGiven t → IsGiven v) → kept' ++ ahead' ≡ (kept ++ ahead) ++ came → (link.tells → v ≡ after_input came ended t) → Leads link (Hear codes next) (Hear codes next) old (new v false)
         at_now v at_hand all same = record {
-          within = inl refl;
+          within = inl (refl, refl);
           came = came;
           answered = [];
           goes = goes v false came at_hand over (none_left came all) (input_told v came same);
@@ -276,7 +277,7 @@ module _ (link : Link) (state : State) (net : Net) (t : Told) (kept ahead unsent
   hears u (Ok (Whole reply code)) may was reads =
       let told : link.tells → u ≡ after_input reads.came ended t = λ h. tells_input (Whole reply code) reads.came ended t u (reads.told h) in
       let answer : Response = record { status = status_of code; body = reply } in
-      let moves = settles u reads.came reads.over was false (Whole reply code) (expected_reply codes.statuses answer) told reads.leaves.0 reads.past (λ s k. refl) reads.stays in
+      let moves = settles u reads.came reads.over was false (Whole reply code) (expected_reply codes.statuses answer) (reply_may codes.statuses answer) told reads.leaves.0 reads.past (λ s k. refl) reads.stays in
       let takes : Takes link (Hear codes next) old (new u false) = λ h resumes. omega (arith, reads.takes (waits_by resumes), length-append (kept ++ ahead) reads.came, ap length (ap (λ x. x.received) (told h)), length-append t.received reads.came) in
       elim (is_among codes.statuses (status_of code)) as (λ among. Moves link (Hear codes next) (next (cond among (Ok answer) (Err (fault.UnexpectedResponse answer)))) old (new u false) → Hears link codes next old (new u false) (Ready (cond among (Ok answer) (Err (fault.UnexpectedResponse answer))))) [
         | true ↦ λ m. (record { moves = m; failed = refl }, takes)
@@ -284,13 +285,13 @@ module _ (link : Link) (state : State) (net : Net) (t : Told) (kept ahead unsent
       ] moves
   hears u (Ok (Bad line)) may was reads =
       let told : link.tells → u ≡ after_input reads.came ended t = λ h. tells_input (Bad line) reads.came ended t u (reads.told h) in
-      inl (settles u reads.came reads.over was false (Bad line) (Err fault.BadResponse) told reads.leaves.0 reads.past (λ s k. refl) reads.stays, record { other = λ e. (let clash : fault.BadResponse ≡ fault.OutOfMemory = e in cc); goes_on = λ reply' e. (let clash : fault.BadResponse ≡ fault.UnexpectedResponse reply' = e in cc) })
+      inl (settles u reads.came reads.over was false (Bad line) (Err fault.BadResponse) tt told reads.leaves.0 reads.past (λ s k. refl) reads.stays, record { other = λ e. (let clash : fault.BadResponse ≡ fault.OutOfMemory = e in cc); goes_on = λ reply' e. (let clash : fault.BadResponse ≡ fault.UnexpectedResponse reply' = e in cc) })
   hears u (Ok TooLarge) may was reads =
       let told : link.tells → u ≡ after_input reads.came ended t = λ h. tells_input TooLarge reads.came ended t u (reads.told h) in
-      inl (settles u reads.came reads.over was true TooLarge (Err (fault.ConnectionError connection.ReplyTooLarge)) told reads.leaves.0 reads.past (λ s k. refl) reads.stays, record { other = λ e. (let clash : fault.ConnectionError connection.ReplyTooLarge ≡ fault.OutOfMemory = e in cc); goes_on = λ reply' e. (let clash : fault.ConnectionError connection.ReplyTooLarge ≡ fault.UnexpectedResponse reply' = e in cc) })
+      inl (settles u reads.came reads.over was true TooLarge (Err (fault.ConnectionError connection.ReplyTooLarge)) (inl refl) told reads.leaves.0 reads.past (λ s k. refl) reads.stays, record { other = λ e. (let clash : fault.ConnectionError connection.ReplyTooLarge ≡ fault.OutOfMemory = e in cc); goes_on = λ reply' e. (let clash : fault.ConnectionError connection.ReplyTooLarge ≡ fault.UnexpectedResponse reply' = e in cc) })
   hears u (Ok Ended) may was reads =
       let told : link.tells → u ≡ after_input reads.came ended t = λ h. tells_input Ended reads.came ended t u (reads.told h) in
-      inl (settles u reads.came reads.over was true Ended (Err (fault.ConnectionError connection.UnexpectedEof)) told reads.leaves.0 reads.past (λ s k. refl) reads.stays, record { other = λ e. (let clash : fault.ConnectionError connection.UnexpectedEof ≡ fault.OutOfMemory = e in cc); goes_on = λ reply' e. (let clash : fault.ConnectionError connection.UnexpectedEof ≡ fault.UnexpectedResponse reply' = e in cc) })
+      inl (settles u reads.came reads.over was true Ended (Err (fault.ConnectionError connection.UnexpectedEof)) (inr refl) told reads.leaves.0 reads.past (λ s k. refl) reads.stays, record { other = λ e. (let clash : fault.ConnectionError connection.UnexpectedEof ≡ fault.OutOfMemory = e in cc); goes_on = λ reply' e. (let clash : fault.ConnectionError connection.UnexpectedEof ≡ fault.UnexpectedResponse reply' = e in cc) })
   hears u (Ok Waits) may was reads =
       let told : link.tells → u ≡ after_input reads.came ended t = λ h. tells_input Waits reads.came ended t u (reads.told h) in
       waits_on u reads.came reads.over was told reads.leaves.0 reads.leaves.1 (reads.unended refl)

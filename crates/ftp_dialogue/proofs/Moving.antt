@@ -179,9 +179,9 @@ module _ (link : Link) (state : State) (net : Net) (a : Channel) (told : Told) (
     said_part_plays going given all = λ room more ended outcomes fit on. play-Say room (due line) next _ ∙ rw (← all, going, given) (sym (play-Say room (due line') next _))
 
     -- the line that is begun is a place of it
-    said_within : (line' ≡ line) ⊎ (line' ≡ None) → Within (Say (Ok (due line')) next) (Say (Ok (due line)) next)
-    said_within (inl same) = inl (ap (λ l. Say (Ok (due l)) next) same)
-    said_within (inr none) = inr (inl (ap (λ l. Say (Ok (due l)) next) none))
+    said_within : (line' ≡ line) ⊎ (line' ≡ None) → Within [] (Say (Ok (due line')) next) (Say (Ok (due line)) next)
+    said_within (inl same) = inl (refl, ap (λ l. Say (Ok (due l)) next) same)
+    said_within (inr none) = inr (inl (refl, ap (λ l. Say (Ok (due l)) next) none))
 
     said_part : (line' ≡ line) ⊎ (line' ≡ None) → failed ≡ a.failed → (link.tells → told.sent ++ unsent ++ due line' ≡ a.told.sent ++ a.unsent ++ due line) → Goes link [] [] before after → Leads link (Say (Ok (due line)) next) (Say (Ok (due line')) next) before after
     said_part whole going said goes = record {
@@ -288,13 +288,14 @@ leaf_ends link tree answer old mid new moves fails channel net =
     let P : SessionValue → Type 0 = λ v. Ends link tree answer old v in
     subst P (sym same) (record {
       completes = record {
-        is_of = inr (new.state, moves.leads.within);
+        is_of = inl moves.leads.within;
         came = moves.leads.came;
         answered = moves.leads.answered;
         goes = record { over = moves.leads.goes.over; received = moves.leads.goes.received; given = moves.leads.goes.given; failures = moves.leads.goes.failures; sent = moves.leads.goes.sent; said = moves.leads.goes.said; untaken = moves.leads.goes.untaken; at_hand = moves.leads.goes.at_hand; net_events = moves.leads.goes.net_events };
         keeps = kept_none (Silent old.state new.state tree) moves.leads.came old mid (moves.keeps old.state new.state refl);
         plays = λ h resumes room more ended outcomes fit on.
             moves.leads.plays h resumes room more ended outcomes fit on ∙ play-Leaf room answer new.state (play_state mid more ended outcomes);
+        fails = fails;
       };
       fails = fails;
       keeps = moves.keeps old.state new.state refl;
@@ -311,12 +312,13 @@ leaf_ends link tree answer old mid new moves fails channel net =
 pub refused_line : (link : Link) (cause : Cause) (next : Tree) (v : SessionValue) → Ends link (Say (Err cause) next) (Fault (ConnectionError cause)) v v
 refused_line link cause next v = record {
   completes = record {
-    is_of = inl tt;
+    is_of = inr (cause, next, refl, here (Say (Err cause) next));
     came = [];
     answered = [];
     goes = nothing_goes link v;
     keeps = inr (refl, refl, refl);
     plays = λ h resumes room more ended outcomes fit on. play-Refused room cause next _;
+    fails = λ f. inl f;
   };
   fails = λ f. inl f;
   keeps = inr (refl, refl, refl, refl, refl);
@@ -424,6 +426,12 @@ touched_on : (link : Link) (tree : Tree) (a b c : SessionValue) (came : List ℕ
 touched_on link tree a b c came answered goes here = λ h resumes. said_or_taken_on link a b c came answered goes h (here h resumes)
 
 module _ (link : Link) (tree tree' : Tree) (a b c : SessionValue) (first : Moves link tree tree' a b) where
+  -- a place of what is left
+  pub placed : (asked : List NetEvent) (place : Tree) → Within (outcomes_of asked) place tree' → Within (outcomes_of (first.leads.answered ++ asked)) place tree
+  placed asked place within =
+      let P : List NetOutcome → Type 0 = λ o. Within o place tree in
+      subst P (sym (outcomes-append first.leads.answered asked)) (within_on (outcomes_of first.leads.answered) (outcomes_of asked) place tree' tree within first.leads.within)
+
   -- the first part of two
   pub first_plays : (two : List ℕ) (asked : List NetEvent) → Goes link two asked b c → link.tells → However a first.leads.came first.leads.answered b (λ room s t. play room tree s ≡ play room tree' t) → (room : Room) (more : List ℕ) (ended : Bool) (outcomes : List NetOutcome) → HasRoomFor room (length c.channel.told.sent) → GoesOn c.channel.ended more ended → play room tree (play_state a ((first.leads.came ++ two) ++ more) ended (outcomes_of (first.leads.answered ++ asked) ++ outcomes)) ≡ play room tree' (play_state b (two ++ more) ended (outcomes_of asked ++ outcomes))
   first_plays two asked goes h plays room more ended outcomes fit on =
@@ -433,7 +441,7 @@ module _ (link : Link) (tree tree' : Tree) (a b c : SessionValue) (first : Moves
   -- a lead after a step
   unfoldable pub leads_on : (last : Tree) → Leads link tree' last b c → Leads link tree last a c
   leads_on last second = record {
-    within = within_on last tree' tree second.within first.leads.within;
+    within = placed second.answered last second.within;
     came = first.leads.came ++ second.came;
     answered = first.leads.answered ++ second.answered;
     goes = joined_goes link first.leads.came second.came first.leads.answered second.answered a b c first.leads.goes second.goes;
@@ -489,6 +497,7 @@ module _ (link : Link) (tree tree' : Tree) (a b c : SessionValue) (first : Moves
       plays = λ h resumes room more ended outcomes fit on.
           first_plays second.completes.came second.completes.answered second.completes.goes h (first.leads.plays h resumes) room more ended outcomes fit on
           ∙ second.completes.plays h (first.resumes resumes) room more ended outcomes fit on;
+      fails = λ f. failing (second.fails f);
     };
     keeps = kept;
     calm = keeps_after (Calm tree) (Calm tree') first.leads.came second.completes.came a b c first.calm second.calm;
@@ -501,9 +510,9 @@ module _ (link : Link) (tree tree' : Tree) (a b c : SessionValue) (first : Moves
           let P : State → Type 0 = λ from. Keeps (Silent from c.state tree') second.completes.came b c in
           keeps_after (Silent a.state c.state tree) (Silent a.state c.state tree') first.leads.came second.completes.came a b c (first.keeps a.state c.state) (subst P first.state second.keeps)
 
-      leaf_on : IsOf answer tree' → IsOf answer tree
-      leaf_on (inl fault) = inl fault
-      leaf_on (inr (state, within)) = inr (state, within_on (Leaf answer state) tree' tree within first.leads.within)
+      leaf_on : IsOf (outcomes_of second.completes.answered) answer c.state tree' → IsOf (outcomes_of (first.leads.answered ++ second.completes.answered)) answer c.state tree
+      leaf_on (inl within) = inl (placed second.completes.answered (Leaf answer c.state) within)
+      leaf_on (inr (cause, next, is, within)) = inr (cause, next, is, placed second.completes.answered (Say (Err cause) next) within)
 
       out : (line : List ℕ) → link.tells → StillSays link tree tree' first.leads.came first.leads.answered line a b ⊎ HasGoneOut line a b → HasGoneOut line a c
       out line h (inl still) = omega (arith, second.gone still.rest still.next still.is h, still.count)
@@ -528,7 +537,7 @@ module _ (link : Link) (tree tree' : Tree) (a b c : SessionValue) (first : Moves
     where
       leads_at : Leads link tree second.place a second.at
       leads_at = record {
-        within = within_on second.place tree' tree second.leads.within first.leads.within;
+        within = placed second.leads.answered second.place second.leads.within;
         came = first.leads.came ++ second.leads.came;
         answered = first.leads.answered ++ second.leads.answered;
         goes = joined_goes link first.leads.came second.leads.came first.leads.answered second.leads.answered a b second.at first.leads.goes second.leads.goes;

@@ -138,7 +138,7 @@ module _ (link : Link) (old : SessionValue) (net' : Net) where
     advances = record {
       moves = record {
         leads = record {
-          within = inr (outcome, here (next outcome));
+          within = inr (outcome, [], refl, here (next outcome));
           came = [];
           answered = Requested request outcome ∷ [];
           goes = beside_goes (Requested request outcome ∷ []) (λ h. (net', tie h, refl));
@@ -167,7 +167,7 @@ module _ (link : Link) (old : SessionValue) (net' : Net) where
     advances = record {
       moves = record {
         leads = record {
-          within = inr (fault, here (next fault));
+          within = inr (fault, [], refl, here (next fault));
           came = [];
           answered = Constructed address fault ∷ [];
           goes = beside_goes (Constructed address fault ∷ []) (λ h. (net', tie h, refl));
@@ -196,7 +196,7 @@ module _ (link : Link) (old : SessionValue) (net' : Net) where
     advances = record {
       moves = record {
         leads = record {
-          within = inr (fault, here (next fault));
+          within = inr (fault, [], refl, here (next fault));
           came = [];
           answered = Handshook fault ∷ [];
           goes = beside_goes (Handshook fault ∷ []) (λ h. (net', tie h, refl));
@@ -225,7 +225,7 @@ module _ (link : Link) (old : SessionValue) (net' : Net) where
     advances = record {
       moves = record {
         leads = record {
-          within = inl refl;
+          within = inl (refl, refl);
           came = [];
           answered = Dropped ∷ [];
           goes = beside_goes (Dropped ∷ []) (λ h. (net', tie h, refl));
@@ -254,7 +254,7 @@ module _ (link : Link) (old : SessionValue) (net' : Net) where
     advances = record {
       moves = record {
         leads = record {
-          within = inr (outcome, here (next outcome));
+          within = inr (outcome, [], refl, here (next outcome));
           came = [];
           answered = Moved moves outcome ∷ [];
           goes = beside_goes (Moved moves outcome ∷ []) (λ h. (net', tie h, refl));
@@ -369,7 +369,7 @@ dropped_still link deadline next v = record {
   advances = record {
     moves = record {
       leads = record {
-        within = inl refl;
+        within = inl (refl, refl);
         came = [];
         answered = Dropped ∷ [];
         goes = beside_goes link v (record v.net { data_conn = None }) (Dropped ∷ []) (λ h. (record v.net { data_conn = None }, refl, refl));

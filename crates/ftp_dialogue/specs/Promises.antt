@@ -15,6 +15,7 @@ use Rattle.ftp_control.specs.Answer.{is_among}
 use Rattle.ftp_base.specs.declared.types.reply.Response.{Response}
 use Rattle.ftp_base.specs.declared.types.fault.FtpError.{FtpError}
 use Rattle.ftp_base.specs.declared.types.fault.FtpError.TheVariants.{ConnectionError, OutOfMemory, SessionFailed}
+use Rattle.ftp_base.specs.declared.types.fault.ConnectionError.{ConnectionError as Cause}
 use Rattle.ftp_base.specs.declared.types.fault.ConnectionError.TheVariants.{Io}
 use Rattle.ftp_transport.specs.declared.room.Room.{Room}
 use Rattle.ftp_dialogue.specs.declared.model.NetOutcome.{NetOutcome}
@@ -198,9 +199,9 @@ pub record Goes (link : Link) (came : List ℕ) (answered : List NetEvent) (old 
 
 -- one tree is left of another, and is a place of it
 pub record Leads (link : Link) (tree tree' : Tree) (old new : SessionValue) : Type 0 where
-  pub within : Within tree' tree
   pub came : List ℕ
   pub answered : List NetEvent
+  pub within : Within (outcomes_of answered) tree' tree
   pub goes : Goes link came answered old new
   pub plays : link.tells → Resumes (modes_of old) old.channel.kept tree → However old came answered new (λ room s t. play room tree s ≡ play room tree' t)
 
@@ -208,18 +209,21 @@ pub record Leads (link : Link) (tree tree' : Tree) (old new : SessionValue) : Ty
 abbrev pub KeepsNoReply : List ℕ → SessionValue → SessionValue → Type 0
 KeepsNoReply came old new = (new.channel.kept ≡ []) ⊎ ((new.channel.kept ≡ old.channel.kept) × (came ≡ []) × (new.channel.rule ≡ old.channel.rule))
 
--- an answer is an error, or that of a leaf of the tree
-abbrev pub IsOf : Answer → Tree → Type 0
-IsOf answer tree = IsFault answer ⊎ ((state : State) × Within (Leaf answer state) tree)
+-- these outcomes lead to a leaf of the tree with this answer and this state, or to a line that can't be said, whose error is
+-- the answer
+abbrev pub IsOf : List NetOutcome → Answer → State → Tree → Type 0
+IsOf outcomes answer state tree =
+    Within outcomes (Leaf answer state) tree ⊎ ((cause : Cause) × (next : Tree) × (answer ≡ Fault (ConnectionError cause)) × Within outcomes (Say (Err cause) next) tree)
 
 -- a tree reaches its answer
 pub record Completes (link : Link) (tree : Tree) (answer : Answer) (old new : SessionValue) : Type 0 where
-  pub is_of : IsOf answer tree
   pub came : List ℕ
   pub answered : List NetEvent
+  pub is_of : IsOf (outcomes_of answered) answer new.state tree
   pub goes : Goes link came answered old new
   pub keeps : KeepsNoReply came old new
   pub plays : link.tells → Resumes (modes_of old) old.channel.kept tree → However old came answered new (λ room s t. play room tree s ≡ played.Done answer t)
+  pub fails : new.channel.failed ≡ true → (old.channel.failed ≡ true) ⊎ IsFault answer
 
 -- a node fails where a line is said, a reply is read or an address is looked up, with an error that the connection may
 -- answer there

@@ -4,7 +4,7 @@ use Rattle.futures.specs.declared.task.Poll.{Poll}
 use Rattle.futures.specs.declared.task.Poll.TheVariants.{Ready, Pending}
 use Rattle.ftp_base.specs.declared.types.reply.Response.{Response}
 use Rattle.ftp_base.specs.declared.types.fault.FtpError.{FtpError}
-use Rattle.ftp_base.specs.declared.types.fault.FtpError.TheVariants.{SessionFailed}
+use Rattle.ftp_base.specs.declared.types.fault.FtpError.TheVariants.{SessionFailed, UnexpectedResponse}
 use Rattle.ftp_calls.specs.declared.call.Answer.{Answer}
 use Rattle.ftp_calls.specs.declared.call.Answer.TheVariants.{Fault}
 use Rattle.ftp_calls.specs.declared.call.Answer.TheVariants as answers
@@ -23,10 +23,17 @@ abbrev pub after_poll : Poll (Result Response FtpError) → State → State
 after_poll (Ready heard) state = after_heard heard state
 after_poll Pending state = state
 
+-- a reply came, of an expected status or another
+abbrev pub IsReplied : Poll (Result Response FtpError) → Type 0
+IsReplied (Ready (Ok reply)) = Unit {0}
+IsReplied (Ready (Err (UnexpectedResponse reply))) = Unit {0}
+IsReplied other = ⊥
+
 pub record ReadsCounted (link : Link) (codes : Expected) (old new : SessionValue) (result : Poll (Result Response FtpError)) : Type 0 where
   pub last : SessionValue
   pub reads : (next : Result Response FtpError → Tree) → Reads link codes next old last result
   pub counts : new ≡ record last { state = after_poll result last.state }
+  pub goes_on : IsReplied result → last.channel.failed ≡ old.channel.failed
 
 -- a read by itself: a session that has failed reads nothing
 abbrev pub ReadsUnless : Bool → Link → Expected → SessionValue → SessionValue → Poll (Result Response FtpError) → Type 0
