@@ -1,5 +1,6 @@
 pub mod CatchingUp
 pub mod Coding
+pub mod Counted
 pub mod NetEvents
 pub mod Dialogue
 pub mod Dropping

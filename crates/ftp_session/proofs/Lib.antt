@@ -1,11 +1,17 @@
+pub mod Backed
+pub mod CaughtUp
 pub mod Commands
 pub mod Connecting
 pub mod CopyingLemmas
+pub mod Counting
+pub mod Failures
 pub mod FetchAnswers
 pub mod FilesLemmas
 pub mod Handed
 pub mod NegotiatedAnswers
 pub mod OpeningAnswers
 pub mod PolledLemmas
+pub mod Quiet
+pub mod Reasons
 pub mod SavingLemmas
 pub mod Trees

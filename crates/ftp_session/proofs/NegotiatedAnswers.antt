@@ -1,5 +1,5 @@
 -- What a call that opens a data connection answers: nothing that its last exchange doesn't give, or an error.
-use Rattle.std.proofs.Common.{◌≡◌, ◌&&◌, ℕ, zero, suc, Bool, true, false, cond, nat_lt, Option, Some, None, Result, Ok, Err, inl, inr, ◌⊎◌, refl, ap, sym, ◌∙◌, subst}
+use Rattle.std.proofs.Common.{◌≡◌, ◌&&◌, List, ℕ, zero, suc, Bool, true, false, cond, nat_lt, Option, Some, None, Result, Ok, Err, inl, inr, ◌⊎◌, refl, ap, sym, ◌∙◌, subst}
 use Rattle.std.specs.Net.Socket.{socket_port}
 use Rattle.std.specs.declared.net.socket_addr.SocketAddr.{SocketAddr}
 use Rattle.ftp_base.specs.declared.types.fault.FtpError.{FtpError}
@@ -27,6 +27,7 @@ use Rattle.ftp_dialogue.specs.Coding.{Coding}
 use Rattle.ftp_dialogue.specs.Dialogue.{Tree, Say, Hear, Look, Ask, Build, Secure, Move, Leaf, accepting, admitting, opening_data, at_port, concluded, connecting_to, connecting_to_peer, dialogue, doing, drain_answer, from_turn, last_turn, later, lets_in, negotiating, negotiating_unless, on_address, on_built, on_connection, opened_from, opening, closing_data, restart_turn, securing, strangers, to_address, to_port, with_left}
 use Rattle.ftp_dialogue.specs.CatchingUp.{InStepIf, MakesThen, PlaysInStep, is_behind, is_plain_read}
 use Rattle.ftp_dialogue.specs.Link.{Link, unasked}
+use Rattle.ftp_dialogue.specs.NetEvents.{outcomes_of}
 use Rattle.ftp_dialogue.proofs.Sorts.{opens_drains_none}
 use Rattle.ftp_dialogue.specs.Play.{Refusal, is_unit, refused_if_failed}
 use Rattle.ftp_dialogue.specs.Promises.{Aborts, Completes, DrainsIf, IsFault, IsOf, IsPlayed, IsRefused, IsWithheld, MakesAfter, Plays, PlaysAlone, Refuses, answer_of, begun_by}
@@ -51,24 +52,24 @@ Tells Good (Move moves next) = (outcome : NetOutcome) → Tells Good (next outco
 Tells Good (Leaf answer state) = Good answer
 
 -- so does each place within it
-place_tells : (Good : Answer → Type 0) (place tree : Tree) → Within place tree → Tells Good tree → Tells Good place
-place_tells Good place (Say (Ok line) next) (inl is) tells = let P : Tree → Type 0 = Tells Good in subst P (sym is) tells
-place_tells Good place (Say (Ok line) next) (inr (inl is)) tells = let P : Tree → Type 0 = Tells Good in subst P (sym is) tells
-place_tells Good place (Say (Ok line) next) (inr (inr within)) tells = place_tells Good place next within tells
-place_tells Good place (Say (Err cause) next) is tells = let P : Tree → Type 0 = Tells Good in subst P (sym is) tells
-place_tells Good place (Hear expected next) (inl is) tells = let P : Tree → Type 0 = Tells Good in subst P (sym is) tells
-place_tells Good place (Hear expected next) (inr (heard, within)) tells = place_tells Good place (next heard) within (tells heard)
-place_tells Good place (Look end next) (inl is) tells = let P : Tree → Type 0 = Tells Good in subst P (sym is) tells
-place_tells Good place (Look end next) (inr (address, within)) tells = place_tells Good place (next address) within (tells address)
-place_tells Good place (Ask request next) (inl is) tells = let P : Tree → Type 0 = Tells Good in subst P (sym is) tells
-place_tells Good place (Ask request next) (inr (outcome, within)) tells = place_tells Good place (next outcome) within (tells outcome)
-place_tells Good place (Build address next) (inl is) tells = let P : Tree → Type 0 = Tells Good in subst P (sym is) tells
-place_tells Good place (Build address next) (inr (fault, within)) tells = place_tells Good place (next fault) within (tells fault)
-place_tells Good place (Secure next) (inl is) tells = let P : Tree → Type 0 = Tells Good in subst P (sym is) tells
-place_tells Good place (Secure next) (inr (fault, within)) tells = place_tells Good place (next fault) within (tells fault)
-place_tells Good place (Move moves next) (inl is) tells = let P : Tree → Type 0 = Tells Good in subst P (sym is) tells
-place_tells Good place (Move moves next) (inr (outcome, within)) tells = place_tells Good place (next outcome) within (tells outcome)
-place_tells Good place (Leaf answer state) is tells = let P : Tree → Type 0 = Tells Good in subst P (sym is) tells
+place_tells : (Good : Answer → Type 0) (outcomes : List NetOutcome) (place tree : Tree) → Within outcomes place tree → Tells Good tree → Tells Good place
+place_tells Good outcomes place (Say (Ok line) next) (inl is) tells = let P : Tree → Type 0 = Tells Good in subst P (sym is.1) tells
+place_tells Good outcomes place (Say (Ok line) next) (inr (inl is)) tells = let P : Tree → Type 0 = Tells Good in subst P (sym is.1) tells
+place_tells Good outcomes place (Say (Ok line) next) (inr (inr within)) tells = place_tells Good outcomes place next within tells
+place_tells Good outcomes place (Say (Err cause) next) is tells = let P : Tree → Type 0 = Tells Good in subst P (sym is.1) tells
+place_tells Good outcomes place (Hear expected next) (inl is) tells = let P : Tree → Type 0 = Tells Good in subst P (sym is.1) tells
+place_tells Good outcomes place (Hear expected next) (inr (heard, may, within)) tells = place_tells Good outcomes place (next heard) within (tells heard)
+place_tells Good outcomes place (Look end next) (inl is) tells = let P : Tree → Type 0 = Tells Good in subst P (sym is.1) tells
+place_tells Good outcomes place (Look end next) (inr (address, within)) tells = place_tells Good outcomes place (next address) within (tells address)
+place_tells Good outcomes place (Ask request next) (inl is) tells = let P : Tree → Type 0 = Tells Good in subst P (sym is.1) tells
+place_tells Good outcomes place (Ask request next) (inr (outcome, later, split, within)) tells = place_tells Good later place (next outcome) within (tells outcome)
+place_tells Good outcomes place (Build address next) (inl is) tells = let P : Tree → Type 0 = Tells Good in subst P (sym is.1) tells
+place_tells Good outcomes place (Build address next) (inr (fault, later, split, within)) tells = place_tells Good later place (next fault) within (tells fault)
+place_tells Good outcomes place (Secure next) (inl is) tells = let P : Tree → Type 0 = Tells Good in subst P (sym is.1) tells
+place_tells Good outcomes place (Secure next) (inr (fault, later, split, within)) tells = place_tells Good later place (next fault) within (tells fault)
+place_tells Good outcomes place (Move moves next) (inl is) tells = let P : Tree → Type 0 = Tells Good in subst P (sym is.1) tells
+place_tells Good outcomes place (Move moves next) (inr (outcome, later, split, within)) tells = place_tells Good later place (next outcome) within (tells outcome)
+place_tells Good outcomes place (Leaf answer state) is tells = let P : Tree → Type 0 = Tells Good in subst P (sym is.1) tells
 
 -- The trees
 
@@ -197,9 +198,9 @@ module _ (Good : Answer → Type 0) (fails : (fault : FtpError) → Good (Fault 
       let P : Bool → Type 0 = λ b. Tells Good (cond b (negotiating coding call state.settings.restart_offset (opened_from call state)) (cond (finishes call) (closing_data coding call (with_left state)) (from_turn coding call First state))) in
       subst P (sym sort.0) (negotiating_tells Good fails (opened_from call state) coding call (last_tells (opened_from call state)) state.settings.restart_offset)
 
-  of_tells : (state : State) (told : Answer) → IsOf told (dialogue coding call state) → Good told
-  of_tells state told (inl fault) = fault_tells Good fails told fault
-  of_tells state told (inr (left, within)) = place_tells Good (Leaf told left) (dialogue coding call state) within (dialogue_tells state)
+  of_tells : (outcomes : List NetOutcome) (state left : State) (told : Answer) → IsOf outcomes told left (dialogue coding call state) → Good told
+  of_tells outcomes state left told (inl within) = place_tells Good outcomes (Leaf told left) (dialogue coding call state) within (dialogue_tells state)
+  of_tells outcomes state left told (inr (cause, next, is, within)) = let P : Answer → Type 0 = λ a. Good a in subst P (sym is) (fails (ConnectionError cause))
 
   alone_tells : (link : Link) (old new : SessionValue) (told : Answer) → PlaysAlone link coding call old new told → Good told
   alone_tells link old new told alone = made alone.made
@@ -218,7 +219,7 @@ module _ (Good : Answer → Type 0) (fails : (fault : FtpError) → Good (Fault 
       made (inr (inl played)) = by played.plays
         where
           by : Completes link (dialogue coding call old.state) told (begun_by call old) played.last ⊎ Aborts link false (dialogue coding call old.state) told (begun_by call old) played.last → Good told
-          by (inl completes) = of_tells old.state told completes.is_of
+          by (inl completes) = of_tells (outcomes_of completes.answered) old.state played.last.state told completes.is_of
           by (inr aborts) = subst F (sym aborts.is) (fails _)
       made (inr (inr withheld)) = subst F (sym withheld.is) (fails _)
 
@@ -234,13 +235,15 @@ drain_answer_told faults.DataConnectionAlreadyOpen = inr tt
 drain_answer_told faults.OutOfMemory = inr tt
 drain_answer_told faults.SessionFailed = inr tt
 
-drain_told : (state : State) (told : Answer) → IsOf told (drain_tree state) → (told ≡ answer.Unit) ⊎ IsFault told
-drain_told state told (inl fault) = inr fault
-drain_told state told (inr (left, inl is)) = let clash : Leaf told left ≡ drain_tree state = is in cc
-drain_told state told (inr (left, inr (Ok reply, is))) = inl (ap (λ t. answer_of t told) is)
-drain_told state told (inr (left, inr (Err fault, is))) =
+drain_told : (outcomes : List NetOutcome) (state left : State) (told : Answer) → IsOf outcomes told left (drain_tree state) → (told ≡ answer.Unit) ⊎ IsFault told
+drain_told outcomes state left told (inl (inl is)) = let clash : Leaf told left ≡ drain_tree state = is.1 in cc
+drain_told outcomes state left told (inl (inr (Ok reply, may, is))) = inl (ap (λ t. answer_of t told) is.1)
+drain_told outcomes state left told (inl (inr (Err fault, may, is))) =
     let T : Answer → Type 0 = λ a. (a ≡ answer.Unit) ⊎ IsFault a in
-    subst T (sym (ap (λ t. answer_of t told) is)) (drain_answer_told fault)
+    subst T (sym (ap (λ t. answer_of t told) is.1)) (drain_answer_told fault)
+drain_told outcomes state left told (inr (cause, next, is, within)) =
+    let T : Answer → Type 0 = λ a. (a ≡ answer.Unit) ⊎ IsFault a in
+    subst T (sym is) (inr tt)
 
 drained_told : (link : Link) (old new : SessionValue) (told : Answer) → MakesTree link (drain_tree old.state) old new told → (told ≡ answer.Unit) ⊎ IsFault told
 drained_told link old new told makes = go makes.made
@@ -249,7 +252,7 @@ drained_told link old new told makes = go makes.made
     F a = (a ≡ answer.Unit) ⊎ IsFault a
 
     by : (last : SessionValue) → Completes link (drain_tree old.state) told old last ⊎ Aborts link false (drain_tree old.state) told old last → F told
-    by last (inl completes) = drain_told old.state told completes.is_of
+    by last (inl completes) = drain_told (outcomes_of completes.answered) old.state last.state told completes.is_of
     by last (inr aborts) = subst F (sym aborts.is) (inr tt)
 
     go : HasFailedBefore old new told ⊎ Converses link (drain_tree old.state) old new told ⊎ IsWithheld old new told → F told

@@ -3,6 +3,7 @@
 ghost use Rattle.std.specs.Prelude.{◌≡◌};
 ghost use Rattle.ftp_session.specs.Calls.{unit_answer};
 ghost use Rattle.ftp_dialogue.specs.Coding.{chosen};
+ghost use Rattle.ftp_dialogue.specs.Counted.{CountsFaults};
 ghost use Rattle.ftp_dialogue.specs.Link.{blocking};
 ghost use Rattle.ftp_session.specs.Commands.{PlaysCommand};
 ghost use Rattle.ftp_session.specs.Trees.{login_tree, unit_tree};
@@ -28,6 +29,7 @@ where
         (unit_tree (chosen E.decoded E.encoded session.old.encoding.0)
         (Command.Cwd path.now) (Codes.Either Status.CommandOk Status.RequestedFileActionOk))
         session.old.mark session.new.mark session.old.machine session.new.machine (unit_answer result) }
+    ensures counts { CountsFaults Tr.Conn.tells session.old.machine session.new.machine (unit_answer result) }
     ensures encoding { session.new.encoding ≡ session.old.encoding }
     ensures builder { session.new.builder ≡ session.old.builder }
     ensures former { session.new.former ≡ session.old.former }
@@ -46,6 +48,7 @@ where
     Tr::Conn: Conn,
     ensures plays { PlaysCommand (blocking Tr.Conn.Conn) (login_tree (chosen E.decoded E.encoded session.old.encoding.0) user.now password.now)
         session.old.mark session.new.mark session.old.machine session.new.machine (unit_answer result) }
+    ensures counts { CountsFaults Tr.Conn.tells session.old.machine session.new.machine (unit_answer result) }
     ensures encoding { session.new.encoding ≡ session.old.encoding }
     ensures builder { session.new.builder ≡ session.old.builder }
     ensures former { session.new.former ≡ session.old.former }

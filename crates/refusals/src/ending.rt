@@ -1,10 +1,11 @@
 //! Calls that bring a transfer to its end.
 
-ghost use Rattle.std.specs.Prelude.{◌≡◌, true};
+ghost use Rattle.std.specs.Prelude.{◌≡◌, Some, true};
 ghost use Rattle.ftp_transfer.specs.Mark.{loaded};
 ghost use Rattle.ftp_session.specs.Calls.{unit_answer};
 ghost use Rattle.ftp_dialogue.specs.Coding.{chosen};
-ghost use Rattle.ftp_session.specs.Handed.{BringsToEnd, Settles};
+ghost use Rattle.ftp_dialogue.specs.Counted.{CountsFaults, CountsFaultsBeside};
+ghost use Rattle.ftp_session.specs.Handed.{BringsToEnd, Settles, with_data};
 ghost use Rattle.ftp_dialogue.specs.Link.{blocking};
 
 use ftp_base::encoding::Encoding;
@@ -25,6 +26,7 @@ where
     Tr::Conn: Conn,
     ensures finishes { BringsToEnd (blocking Tr.Conn.Conn) (chosen E.decoded E.encoded session.old.encoding.0) Call.Finish transfer
         session.old.mark session.new.mark session.old.machine session.new.machine (unit_answer result) }
+    ensures counts { CountsFaultsBeside (blocking Tr.Conn.Conn) (with_data (Some transfer.told) session.old.machine) session.new.machine (unit_answer result) }
     ensures encoding { session.new.encoding ≡ session.old.encoding }
     ensures builder { session.new.builder ≡ session.old.builder }
     ensures former { session.new.former ≡ session.old.former }
@@ -42,6 +44,7 @@ where
     Tr::Conn: Conn,
     ensures aborts { BringsToEnd (blocking Tr.Conn.Conn) (chosen E.decoded E.encoded session.old.encoding.0) Call.Abort transfer
         session.old.mark session.new.mark session.old.machine session.new.machine (unit_answer result) }
+    ensures counts { CountsFaultsBeside (blocking Tr.Conn.Conn) (with_data (Some transfer.told) session.old.machine) session.new.machine (unit_answer result) }
     ensures encoding { session.new.encoding ≡ session.old.encoding }
     ensures builder { session.new.builder ≡ session.old.builder }
     ensures former { session.new.former ≡ session.old.former }
@@ -59,6 +62,7 @@ where
     Tr::Conn: Conn,
     ensures settles { Settles (blocking Tr.Conn.Conn) (chosen E.decoded E.encoded session.old.encoding.0) left.old
         session.old.machine session.new.machine (unit_answer result) }
+    ensures counts { CountsFaults Tr.Conn.tells session.old.machine session.new.machine (unit_answer result) }
     ensures looks { left.new ≡ loaded true left.old }
     ensures mark { session.new.mark ≡ session.old.mark }
     ensures encoding { session.new.encoding ≡ session.old.encoding }

@@ -3,6 +3,7 @@
 ghost use Rattle.std.specs.Prelude.{◌≡◌};
 ghost use Rattle.ftp_session.specs.Calls.{unit_answer};
 ghost use Rattle.ftp_dialogue.specs.Coding.{chosen};
+ghost use Rattle.ftp_dialogue.specs.Counted.{CountsFaults};
 ghost use Rattle.ftp_dialogue.specs.Link.{blocking};
 ghost use Rattle.ftp_session.specs.Handed.{PlaysSeen};
 
@@ -21,6 +22,7 @@ where
     Tr::Conn: Conn,
     ensures plays { PlaysSeen (blocking Tr.Conn.Conn) (chosen E.decoded E.encoded session.old.encoding.0) Call.Resync
         session.old.mark session.new.mark session.old.machine session.new.machine (unit_answer result) }
+    ensures counts { CountsFaults Tr.Conn.tells session.old.machine session.new.machine (unit_answer result) }
     ensures encoding { session.new.encoding ≡ session.old.encoding }
     ensures builder { session.new.builder ≡ session.old.builder }
     ensures former { session.new.former ≡ session.old.former }

@@ -1,7 +1,9 @@
 //! Calls that open a data connection.
 
-ghost use Rattle.std.specs.Prelude.{◌≡◌, option_map};
+ghost use Rattle.std.specs.Prelude.{◌≡◌, IfErr, option_map};
+ghost use Rattle.ftp_calls.specs.declared.call.Answer.TheVariants.{Fault};
 ghost use Rattle.ftp_dialogue.specs.Coding.{chosen};
+ghost use Rattle.ftp_dialogue.specs.Counted.{CountsFaultsBeside};
 ghost use Rattle.ftp_dialogue.specs.Link.{asking, blocking, built_by};
 ghost use Rattle.ftp_session.specs.Calls.{bytes_answer, lines_answer};
 ghost use Rattle.ftp_session.specs.Files.{Retrieves};
@@ -29,6 +31,7 @@ where
     Tr: Transport<R>,
     ensures opens { Opens (asking (built_by B.answers session.old.builder) ⊥ (blocking Tr.Conn.Conn)) (chosen E.decoded E.encoded session.old.encoding.0) (Call.RetrAsStream path.now)
         directions.Download session.old.mark session.new.mark session.old.former session.new.former session.old.machine session.new.machine result }
+    ensures counts { IfErr result (λ fault. CountsFaultsBeside (asking (built_by B.answers session.old.builder) ⊥ (blocking Tr.Conn.Conn)) session.old.machine session.new.machine (Fault fault)) }
     ensures encoding { session.new.encoding ≡ session.old.encoding }
     ensures builder { session.new.builder ≡ session.old.builder }
 {
@@ -47,6 +50,7 @@ where
     Tr: Transport<R>,
     ensures opens { Opens (asking (built_by B.answers session.old.builder) ⊥ (blocking Tr.Conn.Conn)) (chosen E.decoded E.encoded session.old.encoding.0) (Call.AppendWithStream path.now)
         directions.Upload session.old.mark session.new.mark session.old.former session.new.former session.old.machine session.new.machine result }
+    ensures counts { IfErr result (λ fault. CountsFaultsBeside (asking (built_by B.answers session.old.builder) ⊥ (blocking Tr.Conn.Conn)) session.old.machine session.new.machine (Fault fault)) }
     ensures encoding { session.new.encoding ≡ session.old.encoding }
     ensures builder { session.new.builder ≡ session.old.builder }
 {
@@ -65,6 +69,7 @@ where
     Tr: Transport<R>,
     ensures fetches { PlaysSeen (asking (built_by B.answers session.old.builder) ⊥ (blocking Tr.Conn.Conn)) (chosen E.decoded E.encoded session.old.encoding.0) (Call.Retr path.now)
         session.old.mark session.new.mark session.old.machine session.new.machine (bytes_answer result) }
+    ensures counts { CountsFaultsBeside (asking (built_by B.answers session.old.builder) ⊥ (blocking Tr.Conn.Conn)) session.old.machine session.new.machine (bytes_answer result) }
     ensures encoding { session.new.encoding ≡ session.old.encoding }
     ensures builder { session.new.builder ≡ session.old.builder }
     ensures former { session.new.former ≡ session.old.former }
@@ -84,6 +89,7 @@ where
     Tr: Transport<R>,
     ensures fetches { PlaysSeen (asking (built_by B.answers session.old.builder) ⊥ (blocking Tr.Conn.Conn)) (chosen E.decoded E.encoded session.old.encoding.0) (Call.Nlst (option_map (λ text. text.now) path.entry))
         session.old.mark session.new.mark session.old.machine session.new.machine (lines_answer result) }
+    ensures counts { CountsFaultsBeside (asking (built_by B.answers session.old.builder) ⊥ (blocking Tr.Conn.Conn)) session.old.machine session.new.machine (lines_answer result) }
     ensures encoding { session.new.encoding ≡ session.old.encoding }
     ensures builder { session.new.builder ≡ session.old.builder }
     ensures former { session.new.former ≡ session.old.former }

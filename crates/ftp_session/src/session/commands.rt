@@ -13,6 +13,7 @@ ghost use Rattle.ftp_calls.specs.declared.exchange.Codes.{Codes as Accepted};
 ghost use Rattle.ftp_calls.specs.Exchanges.{own_row, says};
 ghost use Rattle.ftp_session.specs.Calls.{reply_answer, unit_answer};
 ghost use Rattle.ftp_dialogue.specs.Coding.{chosen};
+ghost use Rattle.ftp_dialogue.specs.Counted.{CountsFaults};
 ghost use Rattle.ftp_dialogue.specs.Link.{blocking};
 ghost use Rattle.ftp_session.specs.Commands.{PlaysCommand, PlaysRead};
 ghost use Rattle.ftp_session.specs.Handed.{PlaysSeen};
@@ -68,6 +69,7 @@ where
     pub fn login(&mut self, alloc: Global, user: &str, password: &str) -> FtpResult<()>
         ensures plays { PlaysCommand (blocking Tr.Conn.Conn) (login_tree (chosen E.decoded E.encoded self.old.encoding.0) user.now password.now)
             self.old.mark self.new.mark self.old.machine self.new.machine (unit_answer result) }
+        ensures counts { CountsFaults Tr.Conn.tells self.old.machine self.new.machine (unit_answer result) }
         ensures encoding { self.new.encoding ≡ self.old.encoding }
         ensures builder { self.new.builder ≡ self.old.builder }
         ensures former { self.new.former ≡ self.old.former }
@@ -84,6 +86,7 @@ where
             (unit_tree (chosen E.decoded E.encoded self.old.encoding.0)
             (Command.Cwd path.now) (Codes.Either Status.CommandOk Status.RequestedFileActionOk))
             self.old.mark self.new.mark self.old.machine self.new.machine (unit_answer result) }
+        ensures counts { CountsFaults Tr.Conn.tells self.old.machine self.new.machine (unit_answer result) }
         ensures encoding { self.new.encoding ≡ self.old.encoding }
         ensures builder { self.new.builder ≡ self.old.builder }
         ensures former { self.new.former ≡ self.old.former }
@@ -100,6 +103,7 @@ where
             (unit_tree (chosen E.decoded E.encoded self.old.encoding.0)
             Command.Cdup (Codes.Either Status.CommandOk Status.RequestedFileActionOk))
             self.old.mark self.new.mark self.old.machine self.new.machine (unit_answer result) }
+        ensures counts { CountsFaults Tr.Conn.tells self.old.machine self.new.machine (unit_answer result) }
         ensures encoding { self.new.encoding ≡ self.old.encoding }
         ensures builder { self.new.builder ≡ self.old.builder }
         ensures former { self.new.former ≡ self.old.former }
@@ -116,6 +120,7 @@ where
             (unit_tree (chosen E.decoded E.encoded self.old.encoding.0)
             Command.Noop (Codes.One Status.CommandOk))
             self.old.mark self.new.mark self.old.machine self.new.machine (unit_answer result) }
+        ensures counts { CountsFaults Tr.Conn.tells self.old.machine self.new.machine (unit_answer result) }
         ensures encoding { self.new.encoding ≡ self.old.encoding }
         ensures builder { self.new.builder ≡ self.old.builder }
         ensures former { self.new.former ≡ self.old.former }
@@ -133,6 +138,7 @@ where
     pub fn resync(&mut self, alloc: Global) -> FtpResult<()>
         ensures plays { PlaysSeen (blocking Tr.Conn.Conn) (chosen E.decoded E.encoded self.old.encoding.0) Call.Resync
             self.old.mark self.new.mark self.old.machine self.new.machine (unit_answer result) }
+        ensures counts { CountsFaults Tr.Conn.tells self.old.machine self.new.machine (unit_answer result) }
         ensures encoding { self.new.encoding ≡ self.old.encoding }
         ensures builder { self.new.builder ≡ self.old.builder }
         ensures former { self.new.former ≡ self.old.former }
@@ -149,6 +155,7 @@ where
             (unit_tree (chosen E.decoded E.encoded self.old.encoding.0)
             (Command.Eprt address) (Codes.One Status.CommandOk))
             self.old.mark self.new.mark self.old.machine self.new.machine (unit_answer result) }
+        ensures counts { CountsFaults Tr.Conn.tells self.old.machine self.new.machine (unit_answer result) }
         ensures encoding { self.new.encoding ≡ self.old.encoding }
         ensures builder { self.new.builder ≡ self.old.builder }
         ensures former { self.new.former ≡ self.old.former }
@@ -165,6 +172,7 @@ where
             (unit_tree (chosen E.decoded E.encoded self.old.encoding.0)
             (Command.Opts option.now (option_map (λ text. text.now) value.entry)) (Codes.One Status.CommandOk))
             self.old.mark self.new.mark self.old.machine self.new.machine (unit_answer result) }
+        ensures counts { CountsFaults Tr.Conn.tells self.old.machine self.new.machine (unit_answer result) }
         ensures encoding { self.new.encoding ≡ self.old.encoding }
         ensures builder { self.new.builder ≡ self.old.builder }
         ensures former { self.new.former ≡ self.old.former }
@@ -181,6 +189,7 @@ where
             (reply_tree (chosen E.decoded E.encoded self.old.encoding.0)
             (Command.Site command.now) (Codes.One Status.CommandOk))
             self.old.mark self.new.mark self.old.machine self.new.machine (reply_answer result) }
+        ensures counts { CountsFaults Tr.Conn.tells self.old.machine self.new.machine (reply_answer result) }
         ensures encoding { self.new.encoding ≡ self.old.encoding }
         ensures builder { self.new.builder ≡ self.old.builder }
         ensures former { self.new.former ≡ self.old.former }
@@ -195,6 +204,7 @@ where
     pub fn transfer_type(&mut self, alloc: Global, kind: FileType) -> FtpResult<()>
         ensures plays { PlaysCommand (blocking Tr.Conn.Conn) (type_tree (chosen E.decoded E.encoded self.old.encoding.0) kind)
             self.old.mark self.new.mark self.old.machine self.new.machine (unit_answer result) }
+        ensures counts { CountsFaults Tr.Conn.tells self.old.machine self.new.machine (unit_answer result) }
         ensures encoding { self.new.encoding ≡ self.old.encoding }
         ensures builder { self.new.builder ≡ self.old.builder }
         ensures former { self.new.former ≡ self.old.former }
@@ -211,6 +221,7 @@ where
             (unit_tree (chosen E.decoded E.encoded self.old.encoding.0)
             (Command.Mkd path.now) (Codes.Either Status.PathCreated Status.CommandOk))
             self.old.mark self.new.mark self.old.machine self.new.machine (unit_answer result) }
+        ensures counts { CountsFaults Tr.Conn.tells self.old.machine self.new.machine (unit_answer result) }
         ensures encoding { self.new.encoding ≡ self.old.encoding }
         ensures builder { self.new.builder ≡ self.old.builder }
         ensures former { self.new.former ≡ self.old.former }
@@ -227,6 +238,7 @@ where
             (unit_tree (chosen E.decoded E.encoded self.old.encoding.0)
             (Command.Rmd path.now) (Codes.Either Status.RequestedFileActionOk Status.CommandOk))
             self.old.mark self.new.mark self.old.machine self.new.machine (unit_answer result) }
+        ensures counts { CountsFaults Tr.Conn.tells self.old.machine self.new.machine (unit_answer result) }
         ensures encoding { self.new.encoding ≡ self.old.encoding }
         ensures builder { self.new.builder ≡ self.old.builder }
         ensures former { self.new.former ≡ self.old.former }
@@ -243,6 +255,7 @@ where
             (unit_tree (chosen E.decoded E.encoded self.old.encoding.0)
             (Command.Dele path.now) (Codes.Either Status.RequestedFileActionOk Status.CommandOk))
             self.old.mark self.new.mark self.old.machine self.new.machine (unit_answer result) }
+        ensures counts { CountsFaults Tr.Conn.tells self.old.machine self.new.machine (unit_answer result) }
         ensures encoding { self.new.encoding ≡ self.old.encoding }
         ensures builder { self.new.builder ≡ self.old.builder }
         ensures former { self.new.former ≡ self.old.former }
@@ -257,6 +270,7 @@ where
     pub fn rename(&mut self, alloc: Global, from: &str, to: &str) -> FtpResult<()>
         ensures plays { PlaysCommand (blocking Tr.Conn.Conn) (rename_tree (chosen E.decoded E.encoded self.old.encoding.0) from.now to.now)
             self.old.mark self.new.mark self.old.machine self.new.machine (unit_answer result) }
+        ensures counts { CountsFaults Tr.Conn.tells self.old.machine self.new.machine (unit_answer result) }
         ensures encoding { self.new.encoding ≡ self.old.encoding }
         ensures builder { self.new.builder ≡ self.old.builder }
         ensures former { self.new.former ≡ self.old.former }
@@ -273,6 +287,7 @@ where
             (unit_tree (chosen E.decoded E.encoded self.old.encoding.0)
             Command.Quit (Codes.One Status.Closing))
             self.old.mark self.new.mark self.old.machine self.new.machine (unit_answer result) }
+        ensures counts { CountsFaults Tr.Conn.tells self.old.machine self.new.machine (unit_answer result) }
         ensures encoding { self.new.encoding ≡ self.old.encoding }
         ensures builder { self.new.builder ≡ self.old.builder }
         ensures former { self.new.former ≡ self.old.former }
@@ -294,6 +309,7 @@ where
             (reply_tree (chosen E.decoded E.encoded self.old.encoding.0)
             (Command.Custom line.now) (Codes.Given expected.now))
             self.old.mark self.new.mark self.old.machine self.new.machine (reply_answer result) }
+        ensures counts { CountsFaults Tr.Conn.tells self.old.machine self.new.machine (reply_answer result) }
         ensures encoding { self.new.encoding ≡ self.old.encoding }
         ensures builder { self.new.builder ≡ self.old.builder }
         ensures former { self.new.former ≡ self.old.former }
@@ -308,6 +324,7 @@ where
     pub fn read_response(&mut self, alloc: Global, expected: Status) -> FtpResult<Response>
         ensures plays { PlaysRead (blocking Tr.Conn.Conn) (read_tree (expected ∷ []))
             self.old.mark self.new.mark self.old.machine self.new.machine (reply_answer result) }
+        ensures counts { CountsFaults Tr.Conn.tells self.old.machine self.new.machine (reply_answer result) }
         ensures encoding { self.new.encoding ≡ self.old.encoding }
         ensures builder { self.new.builder ≡ self.old.builder }
         ensures former { self.new.former ≡ self.old.former }
@@ -323,6 +340,7 @@ where
     pub fn read_response_in(&mut self, alloc: Global, expected: &[Status]) -> FtpResult<Response>
         ensures plays { PlaysRead (blocking Tr.Conn.Conn) (read_tree expected.now)
             self.old.mark self.new.mark self.old.machine self.new.machine (reply_answer result) }
+        ensures counts { CountsFaults Tr.Conn.tells self.old.machine self.new.machine (reply_answer result) }
         ensures encoding { self.new.encoding ≡ self.old.encoding }
         ensures builder { self.new.builder ≡ self.old.builder }
         ensures former { self.new.former ≡ self.old.former }
@@ -337,6 +355,7 @@ where
     pub fn resume_transfer(&mut self, alloc: Global, offset: u64) -> FtpResult<()>
         ensures plays { PlaysCommand (blocking Tr.Conn.Conn) (resume_tree offset)
             self.old.mark self.new.mark self.old.machine self.new.machine (unit_answer result) }
+        ensures counts { CountsFaults Tr.Conn.tells self.old.machine self.new.machine (unit_answer result) }
         ensures encoding { self.new.encoding ≡ self.old.encoding }
         ensures builder { self.new.builder ≡ self.old.builder }
         ensures former { self.new.former ≡ self.old.former }
@@ -353,6 +372,7 @@ where
         ensures answers { MayAnswer call.now result }
         ensures plays { PlaysSeen (blocking Tr.Conn.Conn) (chosen E.decoded E.encoded self.old.encoding.0)
             call.now self.old.mark self.new.mark self.old.machine self.new.machine result }
+        ensures counts { CountsFaults Tr.Conn.tells self.old.machine self.new.machine result }
     {
         look(&mut self.machine, &mut self.mark);
         self.machine
@@ -372,6 +392,7 @@ where
             own_row made true ≡ says command codes Ending.Done → PlaysCommand (blocking Tr.Conn.Conn)
             (unit_tree (chosen E.decoded E.encoded self.old.encoding.0) command codes)
             self.old.mark self.new.mark self.old.machine self.new.machine (unit_answer result) }
+        ensures counts { CountsFaults Tr.Conn.tells self.old.machine self.new.machine (unit_answer result) }
     {
         match call {
             Ok(call) => {
@@ -400,6 +421,7 @@ where
             own_row made true ≡ says command codes Ending.GivesReply → PlaysCommand (blocking Tr.Conn.Conn)
             (reply_tree (chosen E.decoded E.encoded self.old.encoding.0) command codes)
             self.old.mark self.new.mark self.old.machine self.new.machine (reply_answer result) }
+        ensures counts { CountsFaults Tr.Conn.tells self.old.machine self.new.machine (reply_answer result) }
     {
         match call {
             Ok(call) => {
@@ -419,6 +441,7 @@ where
         ensures plays { (call : Called) → IsPlain call →
             PlaysSeen (blocking Tr.Conn.Conn) (chosen E.decoded E.encoded self.old.encoding.0) call
             self.old.mark self.new.mark self.old.machine self.new.machine (Fault result) }
+        ensures counts { CountsFaults Tr.Conn.tells self.old.machine self.new.machine (Fault result) }
     {
         look(&mut self.machine, &mut self.mark);
         self.withheld()

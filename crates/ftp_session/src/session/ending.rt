@@ -7,6 +7,7 @@ ghost use Rattle.std.specs.Prelude.{◌≡◌, None, OnErr, OnOk, Some, true};
 ghost use Rattle.ftp_transfer.specs.Mark.{loaded};
 ghost use Rattle.ftp_session.specs.Calls.{unit_answer};
 ghost use Rattle.ftp_dialogue.specs.Coding.{chosen};
+ghost use Rattle.ftp_dialogue.specs.Counted.{CountsFaults, CountsFaultsBeside};
 ghost use Rattle.ftp_session.specs.Handed.{BeginsToSettle, BringsToEnd, EndsOnly, Settles, TakesBack, is_out, left_if, passed_over, with_data};
 ghost use Rattle.ftp_dialogue.specs.Link.{blocking};
 ghost use Rattle.ftp_dialogue.specs.Sound.{is_owed};
@@ -38,6 +39,7 @@ where
     pub fn finish(&mut self, alloc: Global, transfer: Transfer<Tr::Conn>) -> FtpResult<()>
         ensures finishes { BringsToEnd (blocking Tr.Conn.Conn) (chosen E.decoded E.encoded self.old.encoding.0) Call.Finish transfer
             self.old.mark self.new.mark self.old.machine self.new.machine (unit_answer result) }
+        ensures counts { CountsFaultsBeside (blocking Tr.Conn.Conn) (with_data (Some transfer.told) self.old.machine) self.new.machine (unit_answer result) }
         ensures encoding { self.new.encoding ≡ self.old.encoding }
         ensures builder { self.new.builder ≡ self.old.builder }
         ensures former { self.new.former ≡ self.old.former }
@@ -62,6 +64,7 @@ where
     pub fn abort(&mut self, alloc: Global, transfer: Transfer<Tr::Conn>) -> FtpResult<()>
         ensures aborts { BringsToEnd (blocking Tr.Conn.Conn) (chosen E.decoded E.encoded self.old.encoding.0) Call.Abort transfer
             self.old.mark self.new.mark self.old.machine self.new.machine (unit_answer result) }
+        ensures counts { CountsFaultsBeside (blocking Tr.Conn.Conn) (with_data (Some transfer.told) self.old.machine) self.new.machine (unit_answer result) }
         ensures encoding { self.new.encoding ≡ self.old.encoding }
         ensures builder { self.new.builder ≡ self.old.builder }
         ensures former { self.new.former ≡ self.old.former }
@@ -84,6 +87,7 @@ where
     pub fn settle(&mut self, alloc: Global, left: &mut Left) -> FtpResult<()>
         ensures settles { Settles (blocking Tr.Conn.Conn) (chosen E.decoded E.encoded self.old.encoding.0) left.old
             self.old.machine self.new.machine (unit_answer result) }
+        ensures counts { CountsFaults Tr.Conn.tells self.old.machine self.new.machine (unit_answer result) }
         ensures looks { left.new ≡ loaded true left.old }
         ensures mark { self.new.mark ≡ self.old.mark }
         ensures encoding { self.new.encoding ≡ self.old.encoding }

@@ -11,6 +11,7 @@ ghost use Rattle.ftp_calls.specs.declared.exchange.Fetch.{Fetch};
 ghost use Rattle.ftp_calls.specs.declared.call.Call.{Call as Called};
 ghost use Rattle.ftp_calls.specs.declared.exchange.Fetch.TheVariants.{Listed, Whole};
 ghost use Rattle.ftp_dialogue.specs.Coding.{chosen};
+ghost use Rattle.ftp_dialogue.specs.Counted.{CountsFaultsBeside};
 ghost use Rattle.ftp_dialogue.specs.Link.{asking, blocking, built_by};
 ghost use Rattle.ftp_session.specs.Calls.{bytes_answer, lines_answer};
 ghost use Rattle.ftp_session.specs.Fetched.{IsFetched};
@@ -44,6 +45,7 @@ where
         Tr: Transport<R>,
         ensures fetches { PlaysSeen (asking (built_by B.answers self.old.builder) ⊥ (blocking Tr.Conn.Conn)) (chosen E.decoded E.encoded self.old.encoding.0) (Call.Retr path.now)
             self.old.mark self.new.mark self.old.machine self.new.machine (bytes_answer result) }
+        ensures counts { CountsFaultsBeside (asking (built_by B.answers self.old.builder) ⊥ (blocking Tr.Conn.Conn)) self.old.machine self.new.machine (bytes_answer result) }
         ensures encoding { self.new.encoding ≡ self.old.encoding }
         ensures builder { self.new.builder ≡ self.old.builder }
         ensures former { self.new.former ≡ self.old.former }
@@ -64,6 +66,7 @@ where
         Tr: Transport<R>,
         ensures fetches { PlaysSeen (asking (built_by B.answers self.old.builder) ⊥ (blocking Tr.Conn.Conn)) (chosen E.decoded E.encoded self.old.encoding.0) (Call.List (option_map (λ text. text.now) path.entry))
             self.old.mark self.new.mark self.old.machine self.new.machine (lines_answer result) }
+        ensures counts { CountsFaultsBeside (asking (built_by B.answers self.old.builder) ⊥ (blocking Tr.Conn.Conn)) self.old.machine self.new.machine (lines_answer result) }
         ensures encoding { self.new.encoding ≡ self.old.encoding }
         ensures builder { self.new.builder ≡ self.old.builder }
         ensures former { self.new.former ≡ self.old.former }
@@ -80,6 +83,7 @@ where
         Tr: Transport<R>,
         ensures fetches { PlaysSeen (asking (built_by B.answers self.old.builder) ⊥ (blocking Tr.Conn.Conn)) (chosen E.decoded E.encoded self.old.encoding.0) (Call.Nlst (option_map (λ text. text.now) path.entry))
             self.old.mark self.new.mark self.old.machine self.new.machine (lines_answer result) }
+        ensures counts { CountsFaultsBeside (asking (built_by B.answers self.old.builder) ⊥ (blocking Tr.Conn.Conn)) self.old.machine self.new.machine (lines_answer result) }
         ensures encoding { self.new.encoding ≡ self.old.encoding }
         ensures builder { self.new.builder ≡ self.old.builder }
         ensures former { self.new.former ≡ self.old.former }
@@ -96,6 +100,7 @@ where
         Tr: Transport<R>,
         ensures fetches { PlaysSeen (asking (built_by B.answers self.old.builder) ⊥ (blocking Tr.Conn.Conn)) (chosen E.decoded E.encoded self.old.encoding.0) (Call.Mlsd (option_map (λ text. text.now) path.entry))
             self.old.mark self.new.mark self.old.machine self.new.machine (lines_answer result) }
+        ensures counts { CountsFaultsBeside (asking (built_by B.answers self.old.builder) ⊥ (blocking Tr.Conn.Conn)) self.old.machine self.new.machine (lines_answer result) }
         ensures encoding { self.new.encoding ≡ self.old.encoding }
         ensures builder { self.new.builder ≡ self.old.builder }
         ensures former { self.new.former ≡ self.old.former }

@@ -3,9 +3,11 @@
 //! The mark by which the session learns that the transfer was left is made before anything is sent, so a transfer that
 //! stands always has one.
 
-ghost use Rattle.std.specs.Prelude.{◌≡◌, IfOk, false, is_none, not};
+ghost use Rattle.std.specs.Prelude.{◌≡◌, IfErr, IfOk, false, is_none, not};
+ghost use Rattle.ftp_calls.specs.declared.call.Answer.TheVariants.{Fault};
 ghost use Rattle.ftp_calls.specs.declared.call.Call.{Call as Called};
 ghost use Rattle.ftp_dialogue.specs.Coding.{chosen};
+ghost use Rattle.ftp_dialogue.specs.Counted.{CountsFaultsBeside};
 ghost use Rattle.ftp_session.specs.Handed.{HandsConnection, OpensAs, OpensEither, Opens, OpensReplied, with_reply, without_reply};
 ghost use Rattle.ftp_dialogue.specs.Link.{asking, blocking, built_by};
 ghost use Rattle.ftp_transfer.specs.declared.direction.Direction.TheVariants as directions;
@@ -43,6 +45,7 @@ where
         Tr: Transport<R>,
         ensures opens { Opens (asking (built_by B.answers self.old.builder) ⊥ (blocking Tr.Conn.Conn)) (chosen E.decoded E.encoded self.old.encoding.0) (Call.RetrAsStream path.now)
             directions.Download self.old.mark self.new.mark self.old.former self.new.former self.old.machine self.new.machine result }
+        ensures counts { IfErr result (λ fault. CountsFaultsBeside (asking (built_by B.answers self.old.builder) ⊥ (blocking Tr.Conn.Conn)) self.old.machine self.new.machine (Fault fault)) }
         ensures encoding { self.new.encoding ≡ self.old.encoding }
         ensures builder { self.new.builder ≡ self.old.builder }
     {
@@ -69,6 +72,7 @@ where
         Tr: Transport<R>,
         ensures opens { Opens (asking (built_by B.answers self.old.builder) ⊥ (blocking Tr.Conn.Conn)) (chosen E.decoded E.encoded self.old.encoding.0) (Call.PutWithStream path.now)
             directions.Upload self.old.mark self.new.mark self.old.former self.new.former self.old.machine self.new.machine result }
+        ensures counts { IfErr result (λ fault. CountsFaultsBeside (asking (built_by B.answers self.old.builder) ⊥ (blocking Tr.Conn.Conn)) self.old.machine self.new.machine (Fault fault)) }
         ensures encoding { self.new.encoding ≡ self.old.encoding }
         ensures builder { self.new.builder ≡ self.old.builder }
     {
@@ -89,6 +93,7 @@ where
         Tr: Transport<R>,
         ensures opens { Opens (asking (built_by B.answers self.old.builder) ⊥ (blocking Tr.Conn.Conn)) (chosen E.decoded E.encoded self.old.encoding.0) (Call.AppendWithStream path.now)
             directions.Upload self.old.mark self.new.mark self.old.former self.new.former self.old.machine self.new.machine result }
+        ensures counts { IfErr result (λ fault. CountsFaultsBeside (asking (built_by B.answers self.old.builder) ⊥ (blocking Tr.Conn.Conn)) self.old.machine self.new.machine (Fault fault)) }
         ensures encoding { self.new.encoding ≡ self.old.encoding }
         ensures builder { self.new.builder ≡ self.old.builder }
     {
@@ -118,6 +123,7 @@ where
         Tr: Transport<R>,
         ensures opens { OpensReplied (asking (built_by B.answers self.old.builder) ⊥ (blocking Tr.Conn.Conn)) (chosen E.decoded E.encoded self.old.encoding.0) (Call.CustomDataCommand line.now expected.now)
             directions.Download self.old.mark self.new.mark self.old.former self.new.former self.old.machine self.new.machine result }
+        ensures counts { IfErr result (λ fault. CountsFaultsBeside (asking (built_by B.answers self.old.builder) ⊥ (blocking Tr.Conn.Conn)) self.old.machine self.new.machine (Fault fault)) }
         ensures encoding { self.new.encoding ≡ self.old.encoding }
         ensures builder { self.new.builder ≡ self.old.builder }
     {

@@ -8,6 +8,7 @@ ghost use Rattle.std.specs.Prelude.{◌≡◌, option_map};
 ghost use Rattle.ftp_calls.specs.declared.call.Call.{Call as Called};
 ghost use Rattle.ftp_session.specs.Calls.{features_answer, size_answer, text_answer, time_answer};
 ghost use Rattle.ftp_dialogue.specs.Coding.{chosen};
+ghost use Rattle.ftp_dialogue.specs.Counted.{CountsFaults};
 ghost use Rattle.ftp_dialogue.specs.Link.{blocking};
 ghost use Rattle.ftp_session.specs.Commands.{PlaysCommand};
 ghost use Rattle.ftp_session.specs.Trees.{feat_tree, mdtm_tree, mlst_tree, pwd_tree, size_tree};
@@ -35,6 +36,7 @@ where
     pub fn pwd(&mut self, alloc: Global) -> FtpResult<String>
         ensures plays { PlaysCommand (blocking Tr.Conn.Conn) (pwd_tree (chosen E.decoded E.encoded self.old.encoding.0))
             self.old.mark self.new.mark self.old.machine self.new.machine (text_answer result) }
+        ensures counts { CountsFaults Tr.Conn.tells self.old.machine self.new.machine (text_answer result) }
         ensures encoding { self.new.encoding ≡ self.old.encoding }
         ensures builder { self.new.builder ≡ self.old.builder }
         ensures former { self.new.former ≡ self.old.former }
@@ -50,6 +52,7 @@ where
     pub fn mlst(&mut self, alloc: Global, path: Option<&str>) -> FtpResult<String>
         ensures plays { PlaysCommand (blocking Tr.Conn.Conn) (mlst_tree (chosen E.decoded E.encoded self.old.encoding.0) (option_map (λ text. text.now) path.entry))
             self.old.mark self.new.mark self.old.machine self.new.machine (text_answer result) }
+        ensures counts { CountsFaults Tr.Conn.tells self.old.machine self.new.machine (text_answer result) }
         ensures encoding { self.new.encoding ≡ self.old.encoding }
         ensures builder { self.new.builder ≡ self.old.builder }
         ensures former { self.new.former ≡ self.old.former }
@@ -72,6 +75,7 @@ where
     pub fn mdtm(&mut self, alloc: Global, path: &str) -> FtpResult<DateTime>
         ensures plays { PlaysCommand (blocking Tr.Conn.Conn) (mdtm_tree (chosen E.decoded E.encoded self.old.encoding.0) path.now)
             self.old.mark self.new.mark self.old.machine self.new.machine (time_answer result) }
+        ensures counts { CountsFaults Tr.Conn.tells self.old.machine self.new.machine (time_answer result) }
         ensures encoding { self.new.encoding ≡ self.old.encoding }
         ensures builder { self.new.builder ≡ self.old.builder }
         ensures former { self.new.former ≡ self.old.former }
@@ -94,6 +98,7 @@ where
     pub fn size(&mut self, alloc: Global, path: &str) -> FtpResult<usize>
         ensures plays { PlaysCommand (blocking Tr.Conn.Conn) (size_tree (chosen E.decoded E.encoded self.old.encoding.0) path.now)
             self.old.mark self.new.mark self.old.machine self.new.machine (size_answer result) }
+        ensures counts { CountsFaults Tr.Conn.tells self.old.machine self.new.machine (size_answer result) }
         ensures encoding { self.new.encoding ≡ self.old.encoding }
         ensures builder { self.new.builder ≡ self.old.builder }
         ensures former { self.new.former ≡ self.old.former }
@@ -118,6 +123,7 @@ where
     pub fn feat(&mut self, alloc: Global) -> FtpResult<Features>
         ensures plays { PlaysCommand (blocking Tr.Conn.Conn) (feat_tree (chosen E.decoded E.encoded self.old.encoding.0))
             self.old.mark self.new.mark self.old.machine self.new.machine (features_answer result) }
+        ensures counts { CountsFaults Tr.Conn.tells self.old.machine self.new.machine (features_answer result) }
         ensures encoding { self.new.encoding ≡ self.old.encoding }
         ensures builder { self.new.builder ≡ self.old.builder }
         ensures former { self.new.former ≡ self.old.former }

@@ -2,6 +2,7 @@ use Rattle.std.proofs.Common.{option_map, refl}
 use Rattle.ftp_base.specs.declared.command.Command.TheVariants as command
 use Rattle.ftp_calls.specs.declared.call.Call.TheVariants.{List as Listing}
 use Rattle.ftp_calls.specs.declared.exchange.Fetch.TheVariants.{Listed}
+use Rattle.ftp_session.proofs.Reasons.{opening_reasons}
 use Rattle.ftp_session.proofs.session.client.Session.list.Goals as goal
 
 pub lines-requires : goal.lines-requires
@@ -9,3 +10,6 @@ lines-requires g c = c.fetch.ensures.fetched (Listing (option_map (λ text. text
 
 pub returns-clause-fetches : goal.returns-clause-fetches
 returns-clause-fetches g c = rw c.lines.ensures (c.fetch.ensures.plays (Listing (option_map (λ text. text.now) c.args.path)) (refl, refl, refl) c.list_call.ensures.call)
+
+pub returns-clause-counts : goal.returns-clause-counts
+returns-clause-counts g c = rw c.lines.ensures (opening_reasons _ _ (Listing (option_map (λ text. text.now) c.args.path)) _ _ _ _ _ (refl, refl, refl) tt (c.fetch.ensures.plays (Listing (option_map (λ text. text.now) c.args.path)) (refl, refl, refl) c.list_call.ensures.call))

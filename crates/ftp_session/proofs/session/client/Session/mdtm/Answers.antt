@@ -15,3 +15,9 @@ pub returns-in-Err-clause-plays : goal.returns-in-Err-clause-plays
 returns-in-Err-clause-plays g c =
     let coding = chosen g.E.Encoding.decoded g.E.Encoding.encoded c.args.self.now.encoding.0 in
     plays_command _ coding (Mdtm c.args.path.now) false _ _ _ _ _ _ (mdtm_is coding c.args.path.now) refl (c.withheld_call.ensures.plays (Mdtm c.args.path.now) (refl, refl, refl))
+
+pub returns-in-Ok-clause-counts : goal.returns-in-Ok-clause-counts
+returns-in-Ok-clause-counts g c = rw c.time.ensures c.call-answer.ensures.counts
+
+pub returns-in-Err-clause-counts : goal.returns-in-Err-clause-counts
+returns-in-Err-clause-counts g c = c.withheld_call.ensures.counts

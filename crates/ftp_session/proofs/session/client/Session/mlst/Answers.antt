@@ -15,3 +15,9 @@ pub returns-in-Err-clause-plays : goal.returns-in-Err-clause-plays
 returns-in-Err-clause-plays g c =
     let coding = chosen g.E.Encoding.decoded g.E.Encoding.encoded c.args.self.now.encoding.0 in
     plays_command _ coding (Mlst (option_map (λ text. text.now) c.args.path)) false _ _ _ _ _ _ (mlst_is coding (option_map (λ text. text.now) c.args.path)) refl (c.withheld_call.ensures.plays (Mlst (option_map (λ text. text.now) c.args.path)) (refl, refl, refl))
+
+pub returns-in-Ok-clause-counts : goal.returns-in-Ok-clause-counts
+returns-in-Ok-clause-counts g c = rw c.text.ensures c.call-answer.ensures.counts
+
+pub returns-in-Err-clause-counts : goal.returns-in-Err-clause-counts
+returns-in-Err-clause-counts g c = c.withheld_call.ensures.counts

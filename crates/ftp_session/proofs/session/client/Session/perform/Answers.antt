@@ -22,3 +22,9 @@ returns-in-Err-clause-once g c = λ made copy command codes is.
     let coding = chosen g.E.Encoding.decoded g.E.Encoding.encoded c.args.self.now.encoding.0 in
     let command_is = unit_is coding made command codes is in
     plays_command _ coding made false _ _ _ _ _ _ command_is (ap reads is) (c.withheld_call.ensures.plays made (command_is.sort.0, command_is.sort.1, command_is.sort.2))
+
+pub returns-in-Ok-clause-counts : goal.returns-in-Ok-clause-counts
+returns-in-Ok-clause-counts g c = rw c.unit.ensures c.call-answer.ensures.counts
+
+pub returns-in-Err-clause-counts : goal.returns-in-Err-clause-counts
+returns-in-Err-clause-counts g c = c.withheld_call.ensures.counts

@@ -2,6 +2,7 @@ use Rattle.std.proofs.Common.{refl}
 use Rattle.ftp_base.specs.declared.command.Command.TheVariants as command
 use Rattle.ftp_calls.specs.declared.call.Call.TheVariants.{Retr}
 use Rattle.ftp_calls.specs.declared.exchange.Fetch.TheVariants.{Whole}
+use Rattle.ftp_session.proofs.Reasons.{opening_reasons}
 use Rattle.ftp_session.proofs.session.client.Session.retr_as_buffer.Goals as goal
 
 pub bytes-requires : goal.bytes-requires
@@ -9,3 +10,6 @@ bytes-requires g c = c.fetch.ensures.fetched (Retr c.args.path.now) (refl, refl,
 
 pub returns-clause-fetches : goal.returns-clause-fetches
 returns-clause-fetches g c = rw c.bytes.ensures (c.fetch.ensures.plays (Retr c.args.path.now) (refl, refl, refl) c.retr_call.ensures.call)
+
+pub returns-clause-counts : goal.returns-clause-counts
+returns-clause-counts g c = rw c.bytes.ensures (opening_reasons _ _ (Retr c.args.path.now) _ _ _ _ _ (refl, refl, refl) tt (c.fetch.ensures.plays (Retr c.args.path.now) (refl, refl, refl) c.retr_call.ensures.call))
