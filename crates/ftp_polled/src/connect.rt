@@ -156,14 +156,8 @@ where
         };
         match polled {
             Poll::Ready(Ok(Ok(conn))) => Poll::Ready(self.begin(Ok(Ok(conn)))),
-            Poll::Ready(Ok(Err(fault))) => {
-                drop(self.transport.take());
-                Poll::Ready(Err(fault))
-            }
-            Poll::Ready(Err(AllocError)) => {
-                drop(self.transport.take());
-                Poll::Ready(Err(FtpError::OutOfMemory))
-            }
+            Poll::Ready(Ok(Err(fault))) => Poll::Ready(Err(fault)),
+            Poll::Ready(Err(AllocError)) => Poll::Ready(Err(FtpError::OutOfMemory)),
             Poll::Pending => {
                 self.shakes = true;
                 transport.poll_secure_ready(cx).wait(cx)
@@ -268,7 +262,11 @@ where
         if self.transport.is_some() {
             match self.poll_conn(cx) {
                 Poll::Ready(Ok(())) => {}
-                Poll::Ready(Err(fault)) => return Poll::Ready(Err(fault)),
+                Poll::Ready(Err(fault)) => {
+                    // Without its transport it has failed: polled again it says that it is over.
+                    drop(self.transport.take());
+                    return Poll::Ready(Err(fault));
+                }
                 Poll::Pending => return Poll::Pending,
             }
         }

@@ -32,10 +32,11 @@ where
     }
 }
 
+/// A client that connects.
+type Connecting<'r, R> = Connect<'r, R, Network, Seal, Utf8Encoding, NoStreamBuilder>;
+
 /// A client that connects under TLS to a server of which the connector refuses the connection, and could connect again.
-fn connecting<'r, R: AllocGlobal>(
-    rt: &'r R,
-) -> FtpResult<Box<Connect<'r, R, Network, Seal, Utf8Encoding, NoStreamBuilder>>> {
+fn connecting<'r, R: AllocGlobal>(rt: &'r R) -> FtpResult<Box<Connecting<'r, R>>> {
     let alloc = rt.alloc();
     let mut below = MemoryTransport::new(alloc);
     below.supply(Supply::Connects(plain(alloc)?))?;
@@ -53,6 +54,22 @@ fn a_connect_that_was_refused_is_over(rt: HostRuntime) -> Result<(), Fail> {
     let second = ends(&rt, &mut *connect);
     drop(connect);
     assert_eq!(rt; (first, second), (9, 19));
+    Ok(())
+}
+
+/// A client that connects in clear, and has no address.
+fn nowhere<'r, R: AllocGlobal>(rt: &'r R) -> FtpResult<Box<Connecting<'r, R>>> {
+    let network = Secured::new(rt.alloc(), MemoryTransport::new(rt.alloc()));
+    Ok(Box::new(rt.alloc(), Client::connect(rt, network, &[]))?)
+}
+
+#[test]
+fn a_connect_without_an_address_is_over(rt: HostRuntime) -> Result<(), Fail> {
+    let mut connect = nowhere(&rt)?;
+    let first = ends(&rt, &mut *connect);
+    let second = ends(&rt, &mut *connect);
+    drop(connect);
+    assert_eq!(rt; (first, second), (16, 19));
     Ok(())
 }
 
