@@ -3,8 +3,13 @@
 //! What the failing call was decides what is due: the result, and what it leaves.
 #![tactic(auto)]
 
+#[cfg(test)]
 mod conn;
+#[cfg(test)]
 mod device;
+#[cfg(test)]
 mod runs;
+#[cfg(test)]
 mod scene;
+#[cfg(test)]
 mod transport;
