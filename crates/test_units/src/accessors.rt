@@ -1,6 +1,7 @@
 //! Accessors, clones, comparisons, hashes and texts.
 
 use crate::described::kind;
+use crate::seen::assert_same;
 use crate::tables::{Parser, read};
 use ftp_list::{File, FileType, ParseError, PosixPex, PosixPexQuery, Text};
 use jiff::Timestamp;
@@ -36,7 +37,7 @@ fn kind_text(alloc: Global, kind_of: &FileType) -> Result<String, AllocError> {
 fn what_a_file_keeps(rt: HostRuntime) -> Result<(), Fail> {
     let line = "-rwxr-x--x 1 7 8 9 Jan 2 1970 name";
     let text = read(rt.alloc(), Parser::Line, line, 0)?;
-    assert_eq!(rt; text.as_str(), "file [name] [-] 9 86400.0 7 8 751");
+    assert_same(&rt, text.as_str(), "file [name] [-] 9 86400.0 7 8 751");
     Ok(())
 }
 
@@ -44,7 +45,7 @@ fn what_a_file_keeps(rt: HostRuntime) -> Result<(), Fail> {
 fn the_type_of_a_file(rt: HostRuntime) -> Result<(), Fail> {
     let file = some_file(rt.alloc())?;
     let text = kind_text(rt.alloc(), file.file_type())?;
-    assert_eq!(rt; text.as_str(), "file [-]");
+    assert_same(&rt, text.as_str(), "file [-]");
     Ok(())
 }
 
@@ -54,7 +55,7 @@ fn what_a_file_type_is(rt: HostRuntime) -> Result<(), Fail> {
     let of_link = kind_text(rt.alloc(), &link)?;
     let of_directory = kind_text(rt.alloc(), &FileType::Directory)?;
     let texts = (of_link.as_str(), of_directory.as_str());
-    assert_eq!(rt; texts, ("link [to]", "dir [-]"));
+    assert_same(&rt, texts, ("link [to]", "dir [-]"));
     Ok(())
 }
 
@@ -64,7 +65,7 @@ fn a_text_gives_its_string_back(rt: HostRuntime) -> Result<(), Fail> {
     let lent = text.as_str() == "a";
     let string = text.into_string();
     let all = PosixPex::default() == PosixPex::from(7);
-    assert_eq!(rt; (lent, string.as_str(), all), (true, "a", true));
+    assert_same(&rt, (lent, string.as_str(), all), (true, "a", true));
     Ok(())
 }
 
@@ -112,7 +113,7 @@ const ERRORS: [(ParseError, &str); 4] = [
 fn texts_of_refusals(rt: HostRuntime) -> Result<(), Fail> {
     for (fault, due) in &ERRORS {
         let text = format!(in rt.alloc(); "{fault}: {fault:?}")?;
-        assert_eq!(rt; text.as_str(), *due);
+        assert_same(&rt, text.as_str(), *due);
     }
     Ok(())
 }
@@ -122,9 +123,10 @@ fn debug_texts(rt: HostRuntime) -> Result<(), Fail> {
     let link = some_link(rt.alloc())?;
     let permission = PosixPex::from(5);
     let text = format!(in rt.alloc(); "{link:?}, {permission:?}, {:?}", PosixPexQuery::Owner)?;
-    assert_eq!(rt;
+    assert_same(
+        &rt,
         text.as_str(),
-        "Symlink(\"to\"), PosixPex { read: true, write: false, execute: true }, Owner"
+        "Symlink(\"to\"), PosixPex { read: true, write: false, execute: true }, Owner",
     );
     Ok(())
 }

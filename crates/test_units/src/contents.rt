@@ -1,5 +1,6 @@
 //! Bytes, texts and lists: how they are made, read and copied.
 
+use crate::seen::assert_same;
 use ftp_base::command::Command;
 use ftp_base::encoding::{Encoding, Utf8Encoding};
 use ftp_base::types::{Bytes, Items, Text};
@@ -10,7 +11,7 @@ use std::test::Fail;
 fn bytes_are_read_as_a_slice(rt: HostRuntime) -> Result<(), Fail> {
     let bytes: Bytes = Vec::from_slice(rt.alloc(), b"200 ok")?.into();
     let read = (bytes.len(), bytes[3], bytes.starts_with(b"200"));
-    assert_eq!(rt; read, (6, b' ', true));
+    assert_same(&rt, read, (6, b' ', true));
     Ok(())
 }
 
@@ -37,7 +38,7 @@ fn a_clone_of_bytes_is_equal(rt: HostRuntime) -> Result<(), Fail> {
 #[test]
 fn a_text_is_read_as_a_str(rt: HostRuntime) -> Result<(), Fail> {
     let text: Text = String::from_str(rt.alloc(), " a b ")?.into();
-    assert_eq!(rt; text.trim(), "a b");
+    assert_same(&rt, text.trim(), "a b");
     Ok(())
 }
 
@@ -46,7 +47,7 @@ fn a_text_is_shown_as_it_is(rt: HostRuntime) -> Result<(), Fail> {
     let text = Text::from_str(rt.alloc(), "a b")?;
     let shown = format!(in rt.alloc(); "{text}")?;
     let copy = text.clone()?;
-    assert_eq!(rt; (shown.as_str(), copy == text), ("a b", true));
+    assert_same(&rt, (shown.as_str(), copy == text), ("a b", true));
     Ok(())
 }
 
@@ -78,6 +79,6 @@ fn utf_8_is_the_bytes_as_they_are(rt: HostRuntime) -> Result<(), Fail> {
     let bytes = Utf8Encoding.encode(rt.alloc(), "é")?;
     let text = Utf8Encoding.decode(rt.alloc(), b"\xc3\xa9\xff")?;
     let due = (b"\xc3\xa9".as_slice(), "é\u{fffd}");
-    assert_eq!(rt; (bytes.as_slice(), text.as_str()), due);
+    assert_same(&rt, (bytes.as_slice(), text.as_str()), due);
     Ok(())
 }

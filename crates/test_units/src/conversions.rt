@@ -1,5 +1,6 @@
 //! What other errors become as one of the client's, by `?`.
 
+use crate::seen::assert_same;
 use ftp_base::types::FtpError;
 use ftp_list::ParseError;
 use std::io::ErrorKind;
@@ -26,6 +27,6 @@ fn kinds_dates_and_lines_have_an_error_of_the_client(rt: HostRuntime) -> Result<
         number(FtpError::from(ParseError::OutOfMemory)),
     ];
     // `Io` is 1, `BadResponse` 11, `OutOfMemory` 13
-    assert_eq!(rt; (kind, dates, lines), (1, [11, 13], [11, 11, 11, 13]));
+    assert_same(&rt, (kind, dates, lines), (1, [11, 13], [11, 11, 11, 13]));
     Ok(())
 }

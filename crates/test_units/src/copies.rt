@@ -1,5 +1,6 @@
 //! Copies of a text upload.
 
+use crate::seen::assert_same;
 use ftp_base::ascii::copy_crlf;
 use ftp_base::retry::write_all_retrying;
 use ftp_base::types::FtpError;
@@ -12,7 +13,7 @@ fn a_copy_is_whole_unless_an_allocation_fails(rt: HostRuntime) -> Result<(), Fai
     let mut source: &[u8] = b"a\nb";
     let mut written = Vec::with_capacity(rt.alloc(), 64)?;
     match copy_crlf(rt.alloc(), &mut source, &mut written) {
-        Ok(count) => assert_eq!(rt; count, 4),
+        Ok(count) => assert_same(&rt, count, 4),
         Err(fault) => assert!(rt; matches!(fault, FtpError::OutOfMemory), "{fault}"),
     }
     assert!(rt; b"a\r\nb".starts_with(written.as_slice()));
@@ -28,6 +29,6 @@ fn a_writer_that_takes_nothing_is_an_error_of_its_own(rt: HostRuntime) -> Result
         Err(error) => Some(error.kind()),
     };
     let due = (Some(ErrorKind::WriteZero), b"ab".as_slice());
-    assert_eq!(rt; (kind, room.as_slice()), due);
+    assert_same(&rt, (kind, room.as_slice()), due);
     Ok(())
 }

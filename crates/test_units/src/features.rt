@@ -1,5 +1,6 @@
 //! Features of a server.
 
+use crate::seen::assert_same;
 use ftp_base::command::feat::parse_features;
 use ftp_base::types::Features;
 use std::alloc::{AllocError, Global};
@@ -22,7 +23,7 @@ fn features_are_gone_through_by_their_names(rt: HostRuntime) -> Result<(), Fail>
         text.push_str(name)?;
         text.push(if value.is_some() { '=' } else { '.' })?;
     }
-    assert_eq!(rt; text.as_str(), "MLST=SIZE.");
+    assert_same(&rt, text.as_str(), "MLST=SIZE.");
     Ok(())
 }
 
@@ -41,7 +42,7 @@ fn features_are_lent_and_given_away_as_a_map(rt: HostRuntime) -> Result<(), Fail
     let features = some_features(rt.alloc())?;
     let size = matches!(features.get("SIZE"), Some(None));
     let lent = features.as_map().len();
-    assert_eq!(rt; (size, lent, features.into_map().len()), (true, 2, 2));
+    assert_same(&rt, (size, lent, features.into_map().len()), (true, 2, 2));
     Ok(())
 }
 
@@ -50,9 +51,10 @@ fn features_are_counted_and_looked_for(rt: HostRuntime) -> Result<(), Fail> {
     let features = some_features(rt.alloc())?;
     let has = [features.contains("SIZE"), features.contains("MDTM")];
     let none = Features::new(rt.alloc()).is_empty();
-    assert_eq!(rt;
+    assert_same(
+        &rt,
         (has, features.len(), features.is_empty(), none),
-        ([true, false], 2, false, true)
+        ([true, false], 2, false, true),
     );
     Ok(())
 }

@@ -27,6 +27,8 @@ mod replies;
 #[cfg(test)]
 mod rows;
 #[cfg(test)]
+mod seen;
+#[cfg(test)]
 mod splits;
 #[cfg(test)]
 mod tables;

@@ -1,5 +1,6 @@
 //! The lines of listings.
 
+use crate::seen::assert_same;
 use ftp_answers::{get_lines_from_stream, read_listing};
 use ftp_base::encoding::Utf8Encoding;
 use ftp_base::types::FtpError;
@@ -11,7 +12,7 @@ fn an_empty_line_of_a_listing_is_left_out(rt: HostRuntime) -> Result<(), Fail> {
     let [first, second] = &lines[..] else {
         return Err(Fail::new(format_args!("two lines stand")));
     };
-    assert_eq!(rt; (first.as_str(), second.as_str()), ("a", "b"));
+    assert_same(&rt, (first.as_str(), second.as_str()), ("a", "b"));
     Ok(())
 }
 
@@ -20,7 +21,7 @@ fn an_empty_line_of_a_listing_is_left_out(rt: HostRuntime) -> Result<(), Fail> {
 fn a_listing_is_whole_unless_an_allocation_fails(rt: HostRuntime) -> Result<(), Fail> {
     let mut stream: &[u8] = b"a\nb";
     match get_lines_from_stream(rt.alloc(), &mut stream) {
-        Ok(lines) => assert_eq!(rt; lines.len(), 2),
+        Ok(lines) => assert_same(&rt, lines.len(), 2),
         Err(fault) => assert!(rt; matches!(fault, FtpError::OutOfMemory), "{fault}"),
     }
     Ok(())

@@ -2,6 +2,7 @@
 
 ghost use Rattle.ftp_transport.specs.Memory.{fresh_memory};
 
+use crate::seen::assert_same;
 use ftp_transfer::mark::{SessionEnd, mark};
 use ftp_transfer::{Direction, Transfer, TransferParts};
 use ftp_transport::{MemoryConn, PollConn, Tells};
@@ -91,7 +92,11 @@ fn a_download_delivers_the_bytes_that_came(rt: HostRuntime) -> Result<(), Fail> 
         Transfer::read(&mut transfer, &mut buffer),
         Transfer::read(&mut transfer, &mut buffer),
     );
-    assert_eq!(rt; (first, front, others), (Ok(4), *b"hell", (Ok(1), Ok(0))));
+    assert_same(
+        &rt,
+        (first, front, others),
+        (Ok(4), *b"hell", (Ok(1), Ok(0))),
+    );
     Ok(())
 }
 
@@ -104,9 +109,10 @@ fn an_upload_sends_the_bytes_it_is_given(rt: HostRuntime) -> Result<(), Fail> {
         Transfer::write(&mut transfer, b"lo"),
     );
     let sent = transfer.get_ref().sent();
-    assert_eq!(rt;
+    assert_same(
+        &rt,
         (writes, sent),
-        ((Ok(3), Ok(0), Ok(2)), b"hello".as_slice())
+        ((Ok(3), Ok(0), Ok(2)), b"hello".as_slice()),
     );
     Ok(())
 }
@@ -115,7 +121,7 @@ fn an_upload_sends_the_bytes_it_is_given(rt: HostRuntime) -> Result<(), Fail> {
 fn an_empty_read_takes_no_byte(rt: HostRuntime) -> Result<(), Fail> {
     let (_session, mut transfer) = opened(rt.alloc(), Direction::Download, b"hello")?;
     let read = Transfer::read(&mut transfer, &mut []);
-    assert_eq!(rt; (read, transfer.get_ref().unread()), (Ok(0), 5));
+    assert_same(&rt, (read, transfer.get_ref().unread()), (Ok(0), 5));
     Ok(())
 }
 
@@ -125,7 +131,7 @@ fn an_empty_read_at_the_end_is_not_the_end(rt: HostRuntime) -> Result<(), Fail> 
     let empty = Transfer::read(&mut transfer, &mut []);
     transfer.get_mut().feed(b"late")?;
     let late = Transfer::read(&mut transfer, &mut [0u8; 8]);
-    assert_eq!(rt; (empty, late), (Ok(0), Ok(4)));
+    assert_same(&rt, (empty, late), (Ok(0), Ok(4)));
     Ok(())
 }
 
@@ -138,7 +144,7 @@ fn an_upload_is_read_and_a_download_written(rt: HostRuntime) -> Result<(), Fail>
         Transfer::write(&mut download, b"x\ny"),
     );
     let sent = download.get_ref().sent();
-    assert_eq!(rt; (made, sent), ((Ok(5), Ok(3)), b"x\ny".as_slice()));
+    assert_same(&rt, (made, sent), ((Ok(5), Ok(3)), b"x\ny".as_slice()));
     Ok(())
 }
 
@@ -153,7 +159,7 @@ fn a_write_without_room_fails(rt: HostRuntime) -> Result<(), Fail> {
     );
     let sent = transfer.get_ref().sent();
     let due = (Ok(2), Err(ErrorKind::WouldBlock), Ok(0));
-    assert_eq!(rt; (writes, sent), (due, b"he".as_slice()));
+    assert_same(&rt, (writes, sent), (due, b"he".as_slice()));
     Ok(())
 }
 
@@ -171,7 +177,7 @@ fn a_polled_transfer_waits_for_bytes_and_for_room(rt: HostRuntime) -> Result<(),
     );
     let due_reads = (Ok(Poll::Pending), Ok(Poll::Ready(0)));
     let due_writes = (Ok(Poll::Ready(2)), Ok(Poll::Pending));
-    assert_eq!(rt; (reads, writes), (due_reads, due_writes));
+    assert_same(&rt, (reads, writes), (due_reads, due_writes));
     Ok(())
 }
 
@@ -183,7 +189,7 @@ fn a_transfer_is_a_stream_of_std(rt: HostRuntime) -> Result<(), Fail> {
     transfer.write_all(b"hel")?;
     transfer.flush()?;
     let came = (count, text.as_str(), transfer.get_ref().sent());
-    assert_eq!(rt; came, (5, "hello", b"hel".as_slice()));
+    assert_same(&rt, came, (5, "hello", b"hel".as_slice()));
     Ok(())
 }
 
@@ -195,7 +201,7 @@ fn a_stream_of_std_fails_by_the_fault(rt: HostRuntime) -> Result<(), Fail> {
         Ok(()) => None,
         Err(error) => Some(error.kind()),
     };
-    assert_eq!(rt; kind, Some(ErrorKind::WouldBlock));
+    assert_same(&rt, kind, Some(ErrorKind::WouldBlock));
     Ok(())
 }
 
@@ -204,9 +210,10 @@ fn a_transfer_has_its_number_and_its_direction(rt: HostRuntime) -> Result<(), Fa
     let (session, download) = opened(rt.alloc(), Direction::Download, b"")?;
     let (_session, upload) = opened(rt.alloc(), Direction::Upload, b"")?;
     let directions = (download.direction(), upload.direction());
-    assert_eq!(rt;
+    assert_same(
+        &rt,
         (download.number(), directions),
-        (session.number(), (Direction::Download, Direction::Upload))
+        (session.number(), (Direction::Download, Direction::Upload)),
     );
     Ok(())
 }
@@ -220,7 +227,7 @@ fn a_transfer_that_stands_is_not_left(rt: HostRuntime) -> Result<(), Fail> {
         Transfer::read(&mut transfer, &mut buffer),
     );
     let looks = (transfer.look_beside(), session.look());
-    assert_eq!(rt; (reads, looks), ((Ok(5), Ok(0)), (false, false)));
+    assert_same(&rt, (reads, looks), ((Ok(5), Ok(0)), (false, false)));
     Ok(())
 }
 
@@ -229,7 +236,7 @@ fn a_left_transfer_is_seen(rt: HostRuntime) -> Result<(), Fail> {
     let (mut session, transfer) = opened(rt.alloc(), Direction::Download, b"hello")?;
     let mut receipt = boxed(rt.alloc(), Box::into_inner(transfer).leave())?;
     let looks = (session.look(), receipt.look_after());
-    assert_eq!(rt; (looks, receipt.number()), ((true, true), 7));
+    assert_same(&rt, (looks, receipt.number()), ((true, true), 7));
     Ok(())
 }
 
@@ -238,7 +245,7 @@ fn a_dropped_transfer_is_seen(rt: HostRuntime) -> Result<(), Fail> {
     let (mut session, transfer) = opened(rt.alloc(), Direction::Download, b"hello")?;
     let before = session.look();
     drop(transfer);
-    assert_eq!(rt; (before, session.look()), (false, true));
+    assert_same(&rt, (before, session.look()), (false, true));
     Ok(())
 }
 
@@ -265,7 +272,7 @@ fn a_receipt_is_settled_on_another_thread(rt: HostRuntime) -> Result<(), Fail> {
     let (mut session, transfer) = opened(rt.alloc(), Direction::Download, b"hello")?;
     let mut receipt = boxed(rt.alloc(), Box::into_inner(transfer).leave())?;
     let seen = thread::spawn(&rt, move || (receipt.look_after(), receipt.number()))?.join(&rt);
-    assert_eq!(rt; (seen, session.look()), ((true, 7), true));
+    assert_same(&rt, (seen, session.look()), ((true, 7), true));
     Ok(())
 }
 
@@ -275,7 +282,7 @@ fn a_left_transfer_is_closed_even_where_that_fails(rt: HostRuntime) -> Result<()
     let before = closed.load(SeqCst);
     let _receipt = boxed(rt.alloc(), Box::into_inner(transfer).leave())?;
     let after = (closed.load(SeqCst), session.look());
-    assert_eq!(rt; (before, after), (false, (true, true)));
+    assert_same(&rt, (before, after), (false, (true, true)));
     Ok(())
 }
 
@@ -285,6 +292,6 @@ fn a_dropped_transfer_is_closed_even_where_that_fails(rt: HostRuntime) -> Result
     let before = closed.load(SeqCst);
     drop(transfer);
     let after = (closed.load(SeqCst), session.look());
-    assert_eq!(rt; (before, after), (false, (true, true)));
+    assert_same(&rt, (before, after), (false, (true, true)));
     Ok(())
 }
