@@ -38,7 +38,6 @@ pub use transfer_stream::{Direction, Transfer, TransferStream};
 ///
 /// Its parameters are those of a [`Session`]: the transport, the connector of TLS, the encoding of texts on the
 /// control connection and the builder of passive data connections. [`FtpStream`] is the client over TCP sockets.
-#[derive(Drop)]
 pub struct ImplFtpStream<
     Tr: Network,
     K: Drop = NoTlsConnector,
@@ -46,6 +45,13 @@ pub struct ImplFtpStream<
     B: Drop = NoStreamBuilder,
 > {
     session: Arc<Mutex<Session<Tr, K, E, B>>, Global>,
+}
+
+impl<Tr: Network, K: Drop, E: Encoding, B: Drop> Drop for ImplFtpStream<Tr, K, E, B> {
+    fn drop(self) {
+        let Self { session } = self;
+        drop(session);
+    }
 }
 
 /// The client over TCP sockets, without TLS: the one that most programs name.

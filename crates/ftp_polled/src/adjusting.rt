@@ -29,7 +29,6 @@ pub(crate) enum Adjustment<E: Drop, B: Drop> {
 /// # Errors
 /// `OutOfMemory` where there is no memory to wait for the lock, or for the greeting's text under another encoding, and
 /// nothing changes.
-#[derive(Drop)]
 pub struct Adjust<'r, R, Tr: TaskTransport, K: Drop, E: Encoding, B: Drop>
 where
     Tr::Conn: TaskConn,
@@ -37,6 +36,21 @@ where
     rt: &'r R,
     hold: Hold<Box<Session<Tr, K, E, B>>>,
     adjustment: Option<Adjustment<E, B>>,
+}
+
+impl<R, Tr: TaskTransport, K: Drop, E: Encoding, B: Drop> Drop for Adjust<'_, R, Tr, K, E, B>
+where
+    Tr::Conn: TaskConn,
+{
+    fn drop(self) {
+        let Self {
+            rt: _,
+            hold,
+            adjustment,
+        } = self;
+        drop(hold);
+        drop(adjustment);
+    }
 }
 
 impl<'r, R: AllocGlobal, Tr: TaskTransport, K: Drop, E: Encoding, B: Drop> Future

@@ -15,7 +15,6 @@ pub(crate) type Shared<Tr, K, E, B> = Arc<Mutex<Box<Session<Tr, K, E, B>>>, Glob
 ///
 /// Its parameters are those of a [`Session`]: the transport, the connector of TLS, the encoding of texts on the
 /// control connection and the builder of passive data connections.
-#[derive(Drop)]
 pub struct ImplAsyncFtpStream<
     Tr: Network,
     K: Drop = NoTlsConnector,
@@ -23,6 +22,13 @@ pub struct ImplAsyncFtpStream<
     B: Drop = NoStreamBuilder,
 > {
     pub(crate) session: Shared<Tr, K, E, B>,
+}
+
+impl<Tr: Network, K: Drop, E: Encoding, B: Drop> Drop for ImplAsyncFtpStream<Tr, K, E, B> {
+    fn drop(self) {
+        let Self { session } = self;
+        drop(session);
+    }
 }
 
 impl<Tr: Network, K: Drop, E: Encoding, B: Drop> ImplAsyncFtpStream<Tr, K, E, B> {

@@ -24,7 +24,6 @@ use std::time::Duration;
 /// A client connects: its addresses are tried in turn, and the greeting (220) is read on the first that connects.
 ///
 /// Dropped, it closes what was made.
-#[derive(Drop)]
 pub struct Connect<'r, R, Tr: TaskTransport, K: Drop, E: Encoding, B: Drop>
 where
     Tr::Conn: TaskConn,
@@ -46,6 +45,32 @@ where
     // Why there is no session, until it is returned.
     fault: Option<FtpError>,
     greeting: PolledCall,
+}
+
+impl<R, Tr: TaskTransport, K: Drop, E: Encoding, B: Drop> Drop for Connect<'_, R, Tr, K, E, B>
+where
+    Tr::Conn: TaskConn,
+{
+    fn drop(self) {
+        let Self {
+            rt: _,
+            transport,
+            addresses,
+            limit: _,
+            tried: _,
+            lenient: _,
+            secures: _,
+            shakes: _,
+            session,
+            fault,
+            greeting,
+        } = self;
+        drop(transport);
+        drop(addresses);
+        drop(session);
+        drop(fault);
+        drop(greeting);
+    }
 }
 
 impl<'r, R: AllocGlobal, Tr: TaskTransport, K: Drop, E: Encoding, B: Drop> Connect<

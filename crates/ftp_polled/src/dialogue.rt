@@ -15,13 +15,23 @@ use std::marker::PhantomData;
 /// next call. Once a line of the call itself was begun its reply is, too, before that call sends or receives anything
 /// of its own; a plain read returns it. A whole file or listing that is dropped once its command was accepted leaves
 /// its transfer.
-#[derive(Drop)]
 pub struct Dialogue<'r, R, Tr: TaskTransport, K: Drop, E: Encoding, B: Drop, A>
 where
     Tr::Conn: TaskConn,
 {
     calling: Calling<'r, R, Tr, K, E, B>,
     gives: PhantomData<A>,
+}
+
+impl<R, Tr: TaskTransport, K: Drop, E: Encoding, B: Drop, A> Drop
+    for Dialogue<'_, R, Tr, K, E, B, A>
+where
+    Tr::Conn: TaskConn,
+{
+    fn drop(self) {
+        let Self { calling, gives: _ } = self;
+        drop(calling);
+    }
 }
 
 /// A read of one reply, which may be dropped and begun again: what was read of the reply is kept.

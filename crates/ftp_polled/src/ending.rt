@@ -141,7 +141,6 @@ where
 /// The end of a transfer: its data connection is closed, and its last reply is read.
 ///
 /// Dropped, it leaves the transfer: the last reply is read before the next command.
-#[derive(Drop)]
 pub struct Finish<'r, R, Tr: TaskTransport, K: Drop, E: Encoding, B: Drop>
 where
     Tr::Conn: TaskConn,
@@ -149,17 +148,36 @@ where
     ending: Ending<'r, R, Tr, K, E, B>,
 }
 
+impl<R, Tr: TaskTransport, K: Drop, E: Encoding, B: Drop> Drop for Finish<'_, R, Tr, K, E, B>
+where
+    Tr::Conn: TaskConn,
+{
+    fn drop(self) {
+        let Self { ending } = self;
+        drop(ending);
+    }
+}
+
 /// A transfer is aborted.
 ///
 /// Dropped before `ABOR` has gone out whole, it leaves the transfer, and the unsent tail of `ABOR` goes out before any
 /// other byte; dropped later, the transfer is over. Either way the next call reads the replies to both first: one
 /// reply of the transfer where it was left, and one of `ABOR`, before which a 426 may come.
-#[derive(Drop)]
 pub struct Abort<'r, R, Tr: TaskTransport, K: Drop, E: Encoding, B: Drop>
 where
     Tr::Conn: TaskConn,
 {
     ending: Ending<'r, R, Tr, K, E, B>,
+}
+
+impl<R, Tr: TaskTransport, K: Drop, E: Encoding, B: Drop> Drop for Abort<'_, R, Tr, K, E, B>
+where
+    Tr::Conn: TaskConn,
+{
+    fn drop(self) {
+        let Self { ending } = self;
+        drop(ending);
+    }
 }
 
 impl<'r, R, Tr: TaskTransport, K: Drop, E: Encoding, B: Drop> Finish<'r, R, Tr, K, E, B>

@@ -33,7 +33,6 @@ enum Turn {
 /// lock.
 ///
 /// Dropped, it drops the call that is under way, as a [`Dialogue`](crate::Dialogue) is dropped.
-#[derive(Drop)]
 pub struct ListEntries<'r, R, Tr: TaskTransport, K: Drop, E: Encoding, B: Drop>
 where
     Tr::Conn: TaskConn,
@@ -44,6 +43,24 @@ where
     // Neither listing waits for the lock before it is polled.
     facts: Calling<'r, R, Tr, K, E, B>,
     lines: Calling<'r, R, Tr, K, E, B>,
+}
+
+impl<R, Tr: TaskTransport, K: Drop, E: Encoding, B: Drop> Drop for ListEntries<'_, R, Tr, K, E, B>
+where
+    Tr::Conn: TaskConn,
+{
+    fn drop(self) {
+        let Self {
+            rt: _,
+            turn: _,
+            features,
+            facts,
+            lines,
+        } = self;
+        drop(features);
+        drop(facts);
+        drop(lines);
+    }
 }
 
 impl<'r, R: Clock + AllocGlobal, Tr, K: Drop, E: Encoding, B> ListEntries<'r, R, Tr, K, E, B>
@@ -147,12 +164,21 @@ where
 /// The files of a directory, as [`ListEntries`] lists them.
 ///
 /// Dropped, it drops the call that is under way, as a [`Dialogue`](crate::Dialogue) is dropped.
-#[derive(Drop)]
 pub struct ListFiles<'r, R, Tr: TaskTransport, K: Drop, E: Encoding, B: Drop>
 where
     Tr::Conn: TaskConn,
 {
     entries: ListEntries<'r, R, Tr, K, E, B>,
+}
+
+impl<R, Tr: TaskTransport, K: Drop, E: Encoding, B: Drop> Drop for ListFiles<'_, R, Tr, K, E, B>
+where
+    Tr::Conn: TaskConn,
+{
+    fn drop(self) {
+        let Self { entries } = self;
+        drop(entries);
+    }
 }
 
 impl<'r, R: Clock + AllocGlobal, Tr, K: Drop, E: Encoding, B> Future

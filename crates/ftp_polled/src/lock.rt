@@ -85,12 +85,21 @@ where
 ///
 /// # Errors
 /// `OutOfMemory` where there is no memory to wait; `AlreadyCompleted` once it was returned.
-#[derive(Drop)]
 pub struct Lock<Tr: TaskTransport, K: Drop, E: Encoding, B: Drop>
 where
     Tr::Conn: TaskConn,
 {
     hold: Hold<Box<Session<Tr, K, E, B>>>,
+}
+
+impl<Tr: TaskTransport, K: Drop, E: Encoding, B: Drop> Drop for Lock<Tr, K, E, B>
+where
+    Tr::Conn: TaskConn,
+{
+    fn drop(self) {
+        let Self { hold } = self;
+        drop(hold);
+    }
 }
 
 impl<Tr: TaskTransport, K: Drop, E: Encoding, B: Drop> Future for Lock<Tr, K, E, B>
@@ -125,12 +134,21 @@ where
 ///
 /// # Errors
 /// Those of [`Lock`].
-#[derive(Drop)]
 pub struct Failed<Tr: TaskTransport, K: Drop, E: Encoding, B: Drop>
 where
     Tr::Conn: TaskConn,
 {
     lock: Lock<Tr, K, E, B>,
+}
+
+impl<Tr: TaskTransport, K: Drop, E: Encoding, B: Drop> Drop for Failed<Tr, K, E, B>
+where
+    Tr::Conn: TaskConn,
+{
+    fn drop(self) {
+        let Self { lock } = self;
+        drop(lock);
+    }
 }
 
 impl<Tr: TaskTransport, K: Drop, E: Encoding, B: Drop> Future for Failed<Tr, K, E, B>
@@ -152,12 +170,21 @@ where
 ///
 /// # Errors
 /// Those of [`Lock`].
-#[derive(Drop)]
 pub struct LastFailure<Tr: TaskTransport, K: Drop, E: Encoding, B: Drop>
 where
     Tr::Conn: TaskConn,
 {
     lock: Lock<Tr, K, E, B>,
+}
+
+impl<Tr: TaskTransport, K: Drop, E: Encoding, B: Drop> Drop for LastFailure<Tr, K, E, B>
+where
+    Tr::Conn: TaskConn,
+{
+    fn drop(self) {
+        let Self { lock } = self;
+        drop(lock);
+    }
 }
 
 impl<Tr: TaskTransport, K: Drop, E: Encoding, B: Drop> Future for LastFailure<Tr, K, E, B>

@@ -241,7 +241,6 @@ where
 ///
 /// Dropped before it has its answer it opens none; the reply to a command that was begun is read by the next call, as that
 /// of a `Dialogue` is. Where its data command was accepted already, and the peer is waited for, the transfer is left.
-#[derive(Drop)]
 pub struct OpenTransfer<'r, R, Tr: TaskTransport, K: Drop, E: Encoding, B: Drop>
 where
     Tr::Conn: TaskConn,
@@ -249,13 +248,32 @@ where
     streaming: Streaming<'r, R, Tr, K, E, B>,
 }
 
+impl<R, Tr: TaskTransport, K: Drop, E: Encoding, B: Drop> Drop for OpenTransfer<'_, R, Tr, K, E, B>
+where
+    Tr::Conn: TaskConn,
+{
+    fn drop(self) {
+        let Self { streaming } = self;
+        drop(streaming);
+    }
+}
+
 /// A call that opens a transfer, and returns its command's reply, too. Dropped, it leaves what `OpenTransfer` does.
-#[derive(Drop)]
 pub struct OpenWithReply<'r, R, Tr: TaskTransport, K: Drop, E: Encoding, B: Drop>
 where
     Tr::Conn: TaskConn,
 {
     streaming: Streaming<'r, R, Tr, K, E, B>,
+}
+
+impl<R, Tr: TaskTransport, K: Drop, E: Encoding, B: Drop> Drop for OpenWithReply<'_, R, Tr, K, E, B>
+where
+    Tr::Conn: TaskConn,
+{
+    fn drop(self) {
+        let Self { streaming } = self;
+        drop(streaming);
+    }
 }
 
 impl<'r, R, Tr: TaskTransport, K: Drop, E: Encoding, B: Drop> OpenTransfer<'r, R, Tr, K, E, B>

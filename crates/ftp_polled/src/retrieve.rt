@@ -42,7 +42,6 @@ pub trait RetrReader<C: TaskConn + Drop>: Drop {
 ///
 /// Dropped while its data is read or its last reply is waited for, it leaves its transfer. The reader's error leaves
 /// it, too.
-#[derive(Drop)]
 pub struct Retrieve<'r, R, Tr: TaskTransport, K: Drop, E: Encoding, B: Drop, F>
 where
     Tr::Conn: TaskConn,
@@ -54,6 +53,28 @@ where
     reader: F,
     read: Option<F::Out>,
     ending: Option<Ending<'r, R, Tr, K, E, B>>,
+}
+
+impl<R, Tr: TaskTransport, K: Drop, E: Encoding, B: Drop, F> Drop
+    for Retrieve<'_, R, Tr, K, E, B, F>
+where
+    Tr::Conn: TaskConn,
+    F: RetrReader<Tr::Conn>,
+{
+    fn drop(self) {
+        let Self {
+            transfer,
+            opening,
+            reader,
+            read,
+            ending,
+        } = self;
+        drop(transfer);
+        drop(opening);
+        drop(reader);
+        drop(read);
+        drop(ending);
+    }
 }
 
 impl<'r, R: AllocGlobal, Tr, K: Drop, E: Encoding, B, F> Retrieve<'r, R, Tr, K, E, B, F>

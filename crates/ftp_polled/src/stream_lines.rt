@@ -19,7 +19,6 @@ const BUFFER: usize = 8_192;
 /// The lines of a listing are read to the end of a stream.
 ///
 /// Dropped, it drops its stream with what was read; a stream that was lent can be read on.
-#[derive(Drop)]
 pub struct StreamLines<S: AsyncRead> {
     alloc: Global,
     stream: S,
@@ -27,6 +26,19 @@ pub struct StreamLines<S: AsyncRead> {
     bytes: Option<Vec<u8>>,
     // How often in a row the stream was interrupted.
     interrupted: usize,
+}
+
+impl<S: AsyncRead> Drop for StreamLines<S> {
+    fn drop(self) {
+        let Self {
+            alloc: _,
+            stream,
+            bytes,
+            interrupted: _,
+        } = self;
+        drop(stream);
+        drop(bytes);
+    }
 }
 
 impl<S: AsyncRead> StreamLines<S> {

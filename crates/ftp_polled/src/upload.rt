@@ -24,7 +24,6 @@ use tokio::io::AsyncRead;
 ///
 /// Dropped while its data is written or its last reply is waited for, it leaves its transfer. An error of the source or
 /// of the data connection leaves it, too.
-#[derive(Drop)]
 pub struct Upload<
     'r,
     R,
@@ -43,6 +42,25 @@ where
     opening: Opening<'r, R, Tr, K, E, B>,
     copying: Copying<S, P>,
     ending: Option<Ending<'r, R, Tr, K, E, B>>,
+}
+
+impl<R, Tr: TaskTransport, K: Drop, E: Encoding, B: Drop, S: AsyncRead, P: Progress> Drop
+    for Upload<'_, R, Tr, K, E, B, S, P>
+where
+    Tr::Conn: TaskConn,
+{
+    fn drop(self) {
+        let Self {
+            transfer,
+            opening,
+            copying,
+            ending,
+        } = self;
+        drop(transfer);
+        drop(opening);
+        drop(copying);
+        drop(ending);
+    }
 }
 
 impl<'r, R: AllocGlobal, Tr, K: Drop, E: Encoding, B, S: AsyncRead, P: Progress> Upload<

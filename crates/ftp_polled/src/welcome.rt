@@ -13,13 +13,22 @@ use std::alloc::Global;
 ///
 /// # Errors
 /// Those of [`Lock`]; `OutOfMemory` for the copy.
-#[derive(Drop)]
 pub struct Welcome<'r, R, Tr: TaskTransport, K: Drop, E: Encoding, B: Drop>
 where
     Tr::Conn: TaskConn,
 {
     rt: &'r R,
     lock: Lock<Tr, K, E, B>,
+}
+
+impl<R, Tr: TaskTransport, K: Drop, E: Encoding, B: Drop> Drop for Welcome<'_, R, Tr, K, E, B>
+where
+    Tr::Conn: TaskConn,
+{
+    fn drop(self) {
+        let Self { rt: _, lock } = self;
+        drop(lock);
+    }
 }
 
 impl<'r, R: AllocGlobal, Tr: TaskTransport, K: Drop, E: Encoding, B: Drop> Future

@@ -34,7 +34,6 @@ const IN_A_ROW: u8 = 32;
 ///
 /// tokio's sockets have no shutdown of both directions outside of a task, so a close drops the socket. From then on
 /// reads, writes and questions for addresses fail with `NotConnected`.
-#[derive(Drop)]
 pub struct TokioConn {
     stream: Option<TcpStream>,
     // Whether the last read waits, and whether the last write does.
@@ -46,6 +45,23 @@ pub struct TokioConn {
     // How long a read may wait, and how long a write may.
     read_watch: Watch,
     write_watch: Watch,
+}
+
+impl Drop for TokioConn {
+    fn drop(self) {
+        let Self {
+            stream,
+            read_waits: _,
+            write_waits: _,
+            reads: _,
+            writes: _,
+            read_watch,
+            write_watch,
+        } = self;
+        drop(stream);
+        drop(read_watch);
+        drop(write_watch);
+    }
 }
 
 impl TokioConn {

@@ -30,7 +30,6 @@ use tokio::time::Handle as TimeHandle;
 type Peer = (TcpStream, SocketAddr);
 
 /// What waits on a socket of tokio for a peer's connection.
-#[derive(Drop)]
 pub struct TokioListener {
     socket: TcpListener,
     // The deadline, from the first accept on.
@@ -42,6 +41,22 @@ pub struct TokioListener {
     missed: bool,
     // What the socket was found to have while the task waited, until an accept returns it.
     accepted: Option<io::Result<Peer>>,
+}
+
+impl Drop for TokioListener {
+    fn drop(self) {
+        let Self {
+            socket,
+            alarm,
+            waits: _,
+            late: _,
+            missed: _,
+            accepted,
+        } = self;
+        drop(socket);
+        drop(alarm);
+        drop(accepted);
+    }
 }
 
 impl TokioListener {

@@ -31,13 +31,26 @@ use tokio::runtime::Handle as RuntimeHandle;
 use tokio::time::Handle as TimeHandle;
 
 /// The transport over tokio's sockets. Its runtime is one that has the network (`Net`) and the time (`Clock`).
-#[derive(Drop)]
 pub struct TokioTransport {
     reactor: Handle,
     timers: Option<TimeHandle>,
     // The connect that is under way, or whose outcome no poll has returned.
     attempt: Option<Attempt>,
     limits: Limits,
+}
+
+impl Drop for TokioTransport {
+    fn drop(self) {
+        let Self {
+            reactor,
+            timers,
+            attempt,
+            limits: _,
+        } = self;
+        drop(reactor);
+        drop(timers);
+        drop(attempt);
+    }
 }
 
 impl TokioTransport {
