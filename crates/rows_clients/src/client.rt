@@ -128,11 +128,6 @@ where
     Ok(uploaded)
 }
 
-/// What a call returned that blocks.
-fn done<R, T>(_rt: &R, outcome: FtpResult<T>) -> FtpResult<T> {
-    outcome
-}
-
 /// Makes a call by its method.
 fn make<R>(
     rt: &R,
@@ -143,7 +138,7 @@ fn make<R>(
 where
     R: Wait + RandomSource + AllocGlobal,
 {
-    Ok(made_by_method!(call, client, rt, done(rt), {
+    Ok(made_by_method!(call, client, rt, (), {
         Call::Greet | Call::PutFile(..) | Call::AppendFile(..) => {
             return Err(RowError::NotUnderstood);
         }

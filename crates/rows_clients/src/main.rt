@@ -10,6 +10,7 @@ mod beside;
 mod client;
 mod definition;
 mod faces;
+mod polled;
 mod reader;
 mod script;
 mod states;

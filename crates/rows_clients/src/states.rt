@@ -1,18 +1,20 @@
 //! The calls of the polled client, one after another, each polled to its answer.
 
+use crate::polled::{
+    Client, Stream, aborted, adjusted, bytes, control, count, done, features, finished, lines,
+    opened, reply, size, text, time, unit,
+};
 use ftp_base::status::Status;
 use ftp_base::types::{FtpError, FtpResult};
-use ftp_polled::{ImplAsyncFtpStream, TransferStream};
-use ftp_session::session::{Answer, Call, NoTlsConnector, Setting};
+use ftp_polled::ImplAsyncFtpStream;
+use ftp_session::session::{Answer, Call, Setting};
 use ftp_transfer::mark::Left;
-use ftp_transport::MemoryTransport;
 use futures::Future;
 use futures::executor::block_on;
 use futures::task::{Context, Poll};
 use rows_plays::{
-    Held, Named, Opening, Play, RowBuilder, RowState, Transfers, boxed, bytes, count, features,
-    greeted, had, lines, made_by_method, optional, recorded, reply, size, text, texts_of, time,
-    unit,
+    Held, Opening, Play, RowState, Transfers, boxed, greeted, had, made_by_method, optional,
+    recorded, texts_of,
 };
 use rows_text::RowError;
 use std::alloc::{AllocError, Global};
@@ -20,25 +22,6 @@ use std::io;
 use std::io::ErrorKind;
 use std::random::RandomSource;
 use std::sync::Wait;
-
-/// A polled client over memory whose encoding a row may choose.
-type Client = ImplAsyncFtpStream<MemoryTransport, NoTlsConnector, Named, RowBuilder>;
-
-/// A transfer of such a client.
-type Stream = TransferStream<MemoryTransport, NoTlsConnector, Named, RowBuilder>;
-
-/// The outcome of a state that is polled until it has one.
-fn done<R, F, T>(rt: &R, state: F) -> FtpResult<T>
-where
-    R: Wait + RandomSource + AllocGlobal,
-    F: Future<Output = FtpResult<T>>,
-    requires { F.can_poll state }
-{
-    match block_on(rt, state) {
-        Ok(outcome) => outcome,
-        Err(_) => Err(FtpError::OutOfMemory),
-    }
-}
 
 /// One read of a transfer.
 #[derive(Drop)]
@@ -173,11 +156,11 @@ fn make<R: Wait + RandomSource + AllocGlobal>(
     transfers: &mut Transfers<Live>,
     call: &Call,
 ) -> Result<Answer, RowError> {
-    Ok(made_by_method!(call, client, rt, done(rt), {
-        Call::Greet => reply(done(rt, client.read_response(rt, Status::Ready))),
-        Call::ReadResponse(status) => reply(done(rt, client.read_response(rt, *status))),
+    Ok(made_by_method!(call, client, rt, (rt), {
+        Call::Greet => reply(rt, client.read_response(rt, Status::Ready)),
+        Call::ReadResponse(status) => reply(rt, client.read_response(rt, *status)),
         Call::ReadResponseIn(codes) => {
-            reply(done(rt, client.read_response_in(rt, codes.as_slice())))
+            reply(rt, client.read_response_in(rt, codes.as_slice()))
         }
         Call::RetrAsStream(_)
         | Call::PutWithStream(_)
@@ -189,7 +172,7 @@ fn make<R: Wait + RandomSource + AllocGlobal>(
         | Call::Mlsd(_)
         | Call::PutFile(..)
         | Call::AppendFile(..) => carry(rt, client, transfers, call)?,
-        Call::Set(setting) => unit(set(rt, client, setting)?),
+        Call::Set(setting) => set(rt, client, setting)?,
         Call::Read(most) => transfers.receive(rt, *most)?,
         Call::Write(bytes) => transfers.send(rt, bytes.as_slice()),
         Call::Leave => transfers.leave(rt.alloc())?,
@@ -206,13 +189,13 @@ fn open<R: Wait + RandomSource + AllocGlobal>(
 ) -> Result<Answer, RowError> {
     Ok(match call {
         Call::RetrAsStream(path) => {
-            transfers.opened(done(rt, client.retr_as_stream(rt, path.as_str())))
+            transfers.opened(opened(rt, client.retr_as_stream(rt, path.as_str())))
         }
         Call::PutWithStream(path) => {
-            transfers.opened(done(rt, client.put_with_stream(rt, path.as_str())))
+            transfers.opened(opened(rt, client.put_with_stream(rt, path.as_str())))
         }
         Call::AppendWithStream(path) => {
-            transfers.opened(done(rt, client.append_with_stream(rt, path.as_str())))
+            transfers.opened(opened(rt, client.append_with_stream(rt, path.as_str())))
         }
         Call::CustomDataCommand(line, codes) => transfers.opened_with(done(
             rt,
@@ -247,15 +230,15 @@ fn carried<R: Wait + RandomSource + AllocGlobal>(
     call: &Call,
 ) -> Result<Answer, RowError> {
     Ok(match call {
-        Call::Retr(path) => bytes(done(rt, client.retr_as_buffer(rt, path.as_str()))),
-        Call::List(path) => lines(done(rt, client.list(rt, optional(path)))),
-        Call::Nlst(path) => lines(done(rt, client.nlst(rt, optional(path)))),
-        Call::Mlsd(path) => lines(done(rt, client.mlsd(rt, optional(path)))),
+        Call::Retr(path) => bytes(rt, client.retr_as_buffer(rt, path.as_str())),
+        Call::List(path) => lines(rt, client.list(rt, optional(path))),
+        Call::Nlst(path) => lines(rt, client.nlst(rt, optional(path))),
+        Call::Mlsd(path) => lines(rt, client.mlsd(rt, optional(path))),
         Call::PutFile(path, bytes) => {
-            count(done(rt, client.put_file(rt, path.as_str(), bytes.as_slice())))
+            count(rt, client.put_file(rt, path.as_str(), bytes.as_slice()))
         }
         Call::AppendFile(path, bytes) => {
-            count(done(rt, client.append_file(rt, path.as_str(), bytes.as_slice())))
+            count(rt, client.append_file(rt, path.as_str(), bytes.as_slice()))
         }
         _ => return Err(RowError::NotUnderstood),
     })
@@ -268,13 +251,13 @@ fn note<R: Wait + RandomSource + AllocGlobal>(
     transfers: &mut Transfers<Live>,
     noted: usize,
 ) -> Result<(), RowError> {
-    let control = had(done(rt, client.get_ref()))?;
+    let control = control(rt, client)?;
     Ok(transfers.note(rt.alloc(), control.transport().uploaded(), noted)?)
 }
 
 /// How many data connections are over.
 fn over<R: Wait + RandomSource + AllocGlobal>(rt: &R, client: &Client) -> Result<usize, RowError> {
-    let control = had(done(rt, client.get_ref()))?;
+    let control = control(rt, client)?;
     Ok(control.transport().uploaded().len())
 }
 
@@ -291,10 +274,10 @@ fn end<R: Wait + RandomSource + AllocGlobal>(
     let Some(Live { stream }) = transfers.take(rt.alloc())? else {
         return Ok(Answer::NoTransfer);
     };
-    Ok(unit(match call {
-        Call::Abort => done(rt, stream.abort(rt)),
-        _ => done(rt, stream.finish(rt)),
-    }))
+    Ok(match call {
+        Call::Abort => aborted(rt, stream.abort(rt)),
+        _ => finished(rt, stream.finish(rt)),
+    })
 }
 
 /// Reads the last reply of the transfer that was left.
@@ -306,7 +289,7 @@ fn drain<R: Wait + RandomSource + AllocGlobal>(
     let Some(mut receipt) = transfers.receipt() else {
         return Answer::NoTransfer;
     };
-    let answer = unit(done(rt, client.settle(rt, &mut receipt)));
+    let answer = rows_plays::unit(done(rt, client.settle(rt, &mut receipt)));
     transfers.keep(receipt, &answer);
     answer
 }
@@ -316,17 +299,22 @@ fn set<R: Wait + RandomSource + AllocGlobal>(
     rt: &R,
     client: &Client,
     setting: &Setting,
-) -> Result<FtpResult<()>, AllocError> {
+) -> Result<Answer, AllocError> {
     Ok(match setting {
-        Setting::Mode(mode) => done(rt, client.set_mode(rt, *mode)),
+        Setting::Mode(mode) => adjusted(rt, client.set_mode(rt, *mode)),
         Setting::PassiveNatWorkaround(enabled) => {
-            done(rt, client.set_passive_nat_workaround(rt, *enabled))
+            adjusted(rt, client.set_passive_nat_workaround(rt, *enabled))
         }
         Setting::ActivePeerCheck(check) => {
-            done(rt, client.set_active_peer_check(rt, check.clone()?))
+            adjusted(rt, client.set_active_peer_check(rt, check.clone()?))
         }
-        Setting::ActiveDeadline(deadline) => done(rt, client.set_active_deadline(rt, *deadline)),
-        Setting::LenientReplies(lenient) => { done(rt, client.set_lenient_replies(rt, *lenient)) }
+        Setting::ActiveDeadline(deadline) => adjusted(
+            rt,
+            client.set_active_deadline(rt, *deadline),
+        ),
+        Setting::LenientReplies(lenient) => {
+            adjusted(rt, client.set_lenient_replies(rt, *lenient))
+        }
     })
 }
 
@@ -337,7 +325,7 @@ fn told<R: Wait + RandomSource + AllocGlobal>(
     answers: &[Answer],
 ) -> Result<RowState, RowError> {
     let alloc = rt.alloc();
-    let control = had(done(rt, client.get_ref()))?;
+    let control = control(rt, client)?;
     Ok(RowState {
         asked: recorded(alloc, control.transport().asked())?,
         uploaded: Vec::new(alloc),

@@ -8,44 +8,47 @@ use rows_text::{RowError, bytes_of, file_type, pair, text, value};
 use std::alloc::Global;
 
 /// The answer of a call, by the method of that name: of a session, with its allocator, or of a client, with its runtime.
-/// `$done` gives the result of what the method returned. Calls that are no commands are the arms that are handed in.
+///
+/// Where it is used `unit`, `reply`, `text`, `time`, `size` and `features` make the answer of what the method returned; they
+/// are handed what stands in the brackets before it, as the runtime that polls a future. Calls that are no commands are the
+/// arms that are handed in.
 #[macro_export]
 macro_rules! made_by_method {
-    ($call:expr, $target:expr, $memory:expr, $done:ident($rt:expr), { $($others:tt)* }) => {
+    ($call:expr, $target:expr, $memory:expr, ($($rt:expr)?), { $($others:tt)* }) => {
         match $call {
             Call::Login(user, password) => {
-                unit($done($rt, $target.login($memory, user.as_str(), password.as_str())))
+                unit($($rt,)? $target.login($memory, user.as_str(), password.as_str()))
             }
-            Call::Cwd(path) => unit($done($rt, $target.cwd($memory, path.as_str()))),
-            Call::Cdup => unit($done($rt, $target.cdup($memory))),
-            Call::Noop => unit($done($rt, $target.noop($memory))),
-            Call::Resync => unit($done($rt, $target.resync($memory))),
-            Call::Eprt(address) => unit($done($rt, $target.eprt($memory, *address))),
+            Call::Cwd(path) => unit($($rt,)? $target.cwd($memory, path.as_str())),
+            Call::Cdup => unit($($rt,)? $target.cdup($memory)),
+            Call::Noop => unit($($rt,)? $target.noop($memory)),
+            Call::Resync => unit($($rt,)? $target.resync($memory)),
+            Call::Eprt(address) => unit($($rt,)? $target.eprt($memory, *address)),
             Call::Opts(option, value) => {
-                unit($done($rt, $target.opts($memory, option.as_str(), optional(value))))
+                unit($($rt,)? $target.opts($memory, option.as_str(), optional(value)))
             }
-            Call::Site(command) => reply($done($rt, $target.site($memory, command.as_str()))),
+            Call::Site(command) => reply($($rt,)? $target.site($memory, command.as_str())),
             Call::TransferType(kind) => {
-                unit($done($rt, $target.transfer_type($memory, kind.clone()?)))
+                unit($($rt,)? $target.transfer_type($memory, kind.clone()?))
             }
-            Call::Mkdir(path) => unit($done($rt, $target.mkdir($memory, path.as_str()))),
-            Call::Rmdir(path) => unit($done($rt, $target.rmdir($memory, path.as_str()))),
-            Call::Rm(path) => unit($done($rt, $target.rm($memory, path.as_str()))),
+            Call::Mkdir(path) => unit($($rt,)? $target.mkdir($memory, path.as_str())),
+            Call::Rmdir(path) => unit($($rt,)? $target.rmdir($memory, path.as_str())),
+            Call::Rm(path) => unit($($rt,)? $target.rm($memory, path.as_str())),
             Call::Rename(from, to) => {
-                unit($done($rt, $target.rename($memory, from.as_str(), to.as_str())))
+                unit($($rt,)? $target.rename($memory, from.as_str(), to.as_str()))
             }
-            Call::Quit => unit($done($rt, $target.quit($memory))),
-            Call::Pwd => text($done($rt, $target.pwd($memory))),
-            Call::Mlst(path) => text($done($rt, $target.mlst($memory, optional(path)))),
-            Call::Mdtm(path) => time($done($rt, $target.mdtm($memory, path.as_str()))),
-            Call::Size(path) => size($done($rt, $target.size($memory, path.as_str()))),
-            Call::Feat => features($done($rt, $target.feat($memory))),
+            Call::Quit => unit($($rt,)? $target.quit($memory)),
+            Call::Pwd => text($($rt,)? $target.pwd($memory)),
+            Call::Mlst(path) => text($($rt,)? $target.mlst($memory, optional(path))),
+            Call::Mdtm(path) => time($($rt,)? $target.mdtm($memory, path.as_str())),
+            Call::Size(path) => size($($rt,)? $target.size($memory, path.as_str())),
+            Call::Feat => features($($rt,)? $target.feat($memory)),
             Call::ResumeTransfer(offset) => {
-                unit($done($rt, $target.resume_transfer($memory, *offset)))
+                unit($($rt,)? $target.resume_transfer($memory, *offset))
             }
             Call::CustomCommand(line, codes) => {
                 let made = $target.custom_command($memory, line.as_str(), codes.as_slice());
-                reply($done($rt, made))
+                reply($($rt,)? made)
             }
             $($others)*
         }

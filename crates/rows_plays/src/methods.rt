@@ -189,11 +189,6 @@ where
     Ok(transfers.take_uploaded(rt.alloc()))
 }
 
-/// What a call returned that blocks.
-fn done<T>(_blocking: (), outcome: FtpResult<T>) -> FtpResult<T> {
-    outcome
-}
-
 /// Makes a call by its method.
 ///
 /// # Errors
@@ -208,7 +203,7 @@ where
     R: Wait + RandomSource + AllocGlobal,
 {
     let alloc = rt.alloc();
-    Ok(made_by_method!(call, session, alloc, done(()), {
+    Ok(made_by_method!(call, session, alloc, (), {
         Call::Greet => reply(session.read_response(alloc, Status::Ready)),
         Call::ReadResponse(status) => reply(session.read_response(alloc, *status)),
         Call::ReadResponseIn(codes) => reply(session.read_response_in(alloc, codes.as_slice())),

@@ -1,13 +1,13 @@
 //! Rows of calls that are dropped, on the polled client: its connections wait before each byte.
 
-use crate::face::{Face, failed, kept, server};
+use crate::face::{Face, failed, server};
 use crate::log::Log;
 use crate::polled::{Client, PolledFace};
 use crate::receiving::done;
 use crate::script::{Asked, Kind, Net, Script, Step};
 use ftp_base::encoding::Utf8Encoding;
 use ftp_base::types::FtpResult;
-use ftp_polled::{Dialogue, Secure};
+use ftp_polled::{Dialogue, TransferStream};
 use ftp_session::session::{Answer, Call, NoStreamBuilder};
 use futures::Future;
 use futures::executor::block_on;
@@ -21,9 +21,6 @@ use std::sync::Wait;
 
 /// A NOOP that was made and isn't polled yet.
 type Waiting<'r, R> = Dialogue<'r, R, Net, Seal, Utf8Encoding, NoStreamBuilder, ()>;
-
-/// A client that is put under TLS, or taken from under it.
-type Changing<'r, R> = Secure<'r, R, Net, Seal, Utf8Encoding, NoStreamBuilder>;
 
 /// Plays a row, where the call that is dropped is polled so often: its transcript.
 ///
@@ -91,22 +88,44 @@ fn noop<'r, R: AllocGlobal>(
     }
 }
 
-/// The outcome of a future that is polled so often; none where it waits.
-fn outcome_of<R, F, T>(
-    rt: &R,
-    state: &mut F,
-    polls: usize,
-) -> Result<Option<FtpResult<T>>, RowError>
+/// What a call returns, as an answer. A client and a transfer are dropped.
+trait Answers: Drop {
+    fn answer(self) -> Answer;
+}
+
+impl Answers for Vec<u8> {
+    fn answer(self) -> Answer {
+        bytes(Ok(self))
+    }
+}
+
+impl Answers for TransferStream<Net, Seal> {
+    fn answer(self) -> Answer {
+        drop(self);
+        Answer::Opened
+    }
+}
+
+impl Answers for Client {
+    fn answer(self) -> Answer {
+        drop(self);
+        Answer::Unit
+    }
+}
+
+/// The answer of a call that is polled so often; none where it waits. Its state is dropped.
+fn answer_of<R, F, T>(rt: &R, mut state: F, polls: usize) -> Result<Option<Answer>, RowError>
 where
     R: Wait + RandomSource + AllocGlobal,
-    F: Future<Output = FtpResult<T>>,
-    T: Drop,
+    F: Future<Output = FtpResult<T>> + Drop,
+    T: Answers,
     requires { (state : F) → F.can_poll state }
 {
     for _ in 0..polls {
-        match block_on(rt, poll_immediate(&mut *state)) {
+        match block_on(rt, poll_immediate(&mut state)) {
             Ok(None) => {}
-            Ok(outcome) => return Ok(outcome),
+            Ok(Some(Ok(value))) => return Ok(Some(value.answer())),
+            Ok(Some(Err(fault))) => return Ok(Some(failed(fault))),
             Err(_) => return Err(RowError::OutOfMemory),
         }
     }
@@ -126,31 +145,16 @@ where
 {
     match (asked, face.client()) {
         (Asked::Call(Call::RetrAsStream(path)), Some(client)) => {
-            let mut state = client.retr_as_stream(rt, path.as_str());
-            Ok(match outcome_of(rt, &mut state, polls)? {
-                Some(outcome) => Some(opened(outcome)),
-                None => None,
-            })
+            answer_of(rt, client.retr_as_stream(rt, path.as_str()), polls)
         }
         (Asked::Call(Call::Retr(path)), Some(client)) => {
-            let mut state = client.retr_as_buffer(rt, path.as_str());
-            Ok(match outcome_of(rt, &mut state, polls)? {
-                Some(outcome) => Some(bytes(outcome)),
-                None => None,
-            })
+            answer_of(rt, client.retr_as_buffer(rt, path.as_str()), polls)
         }
-        _ => changed(rt, face, script, asked, polls),
-    }
-}
-
-/// The answer of a call that opened a transfer, which is dropped.
-fn opened<T: Drop>(outcome: FtpResult<T>) -> Answer {
-    match outcome {
-        Ok(transfer) => {
-            drop(transfer);
-            Answer::Opened
+        (Asked::Secure(name), Some(_)) => {
+            secured(rt, face, script.seal(rt.alloc())?, name.as_str(), polls)
         }
-        Err(fault) => failed(fault),
+        (Asked::Clear, Some(_)) => cleared(rt, face, polls),
+        _ => Err(RowError::NotUnderstood),
     }
 }
 
@@ -168,21 +172,16 @@ where
     let seal = script.seal(rt.alloc())?;
     let net = Box::into_inner(script.net(rt.alloc(), log, true)?);
     let seal = Box::into_inner(seal);
-    let mut state = Client::connect_secure_implicit(rt, net, &[server()], seal, name);
-    let Some(outcome) = outcome_of(rt, &mut state, polls)? else {
-        drop(state);
-        return Ok(None);
-    };
-    let mut client = None;
-    Ok(Some(kept(rt.alloc(), outcome, &mut client)?))
+    let state = Client::connect_secure_implicit(rt, net, &[server()], seal, name);
+    answer_of(rt, state, polls)
 }
 
-/// The client of a face is changed, polled so often, and dropped, where it waits. The answer, where it doesn't.
-fn changed<R>(
+/// The client of a face is put under TLS, polled so often, and dropped. The answer, where it has one.
+fn secured<R>(
     rt: &R,
     face: &mut PolledFace,
-    script: &Script,
-    asked: &Asked,
+    seal: Box<Seal>,
+    name: &str,
     polls: usize,
 ) -> Result<Option<Answer>, RowError>
 where
@@ -191,31 +190,17 @@ where
     let Some(client) = face.take_client() else {
         return Err(RowError::NotUnderstood);
     };
-    let mut state = changing(rt, Box::into_inner(client), script, asked)?;
-    let Some(outcome) = outcome_of(rt, &mut state, polls)? else {
-        drop(state);
-        return Ok(None);
-    };
-    let mut client = None;
-    Ok(Some(kept(rt.alloc(), outcome, &mut client)?))
+    let state = Box::into_inner(client).into_secure(rt, Box::into_inner(seal), name);
+    answer_of(rt, state, polls)
 }
 
-/// The state of a client that is changed.
-fn changing<'r, R: AllocGlobal>(
-    rt: &'r R,
-    client: Client,
-    script: &Script,
-    asked: &Asked,
-) -> Result<Changing<'r, R>, RowError> {
-    match asked {
-        Asked::Secure(name) => {
-            let seal = Box::into_inner(script.seal(rt.alloc())?);
-            Ok(client.into_secure(rt, seal, name.as_str()))
-        }
-        Asked::Clear => Ok(client.clear_command_channel(rt)),
-        _ => {
-            drop(client);
-            Err(RowError::NotUnderstood)
-        }
-    }
+/// The client's control connection is taken from under TLS, polled so often, and dropped. The answer, where it has one.
+fn cleared<R>(rt: &R, face: &mut PolledFace, polls: usize) -> Result<Option<Answer>, RowError>
+where
+    R: Wait + RandomSource + AllocGlobal,
+{
+    let Some(client) = face.take_client() else {
+        return Err(RowError::NotUnderstood);
+    };
+    answer_of(rt, Box::into_inner(client).clear_command_channel(rt), polls)
 }

@@ -2,11 +2,11 @@
 
 use crate::face::{Face, kept, server};
 use crate::log::Log;
-use crate::receiving::{Live, done};
+use crate::receiving::{Live, changed, done, opened, unit};
 use crate::script::{Asked, Line, Net, Script};
 use ftp_polled::ImplAsyncFtpStream;
 use ftp_session::session::{Answer, Call, Setting};
-use rows_plays::{Transfers, boxed, bytes, count, had, lines, optional, size, unit};
+use rows_plays::{Transfers, boxed, bytes, count, had, lines, optional, size};
 use rows_text::RowError;
 use rows_tls::Seal;
 use std::alloc::Global;
@@ -137,9 +137,9 @@ impl PolledFace {
         let outcome = match asked {
             Asked::Secure(name) => {
                 let seal = Box::into_inner(script.seal(rt.alloc())?);
-                done(rt, client.into_secure(rt, seal, name.as_str()))
+                changed(rt, client.into_secure(rt, seal, name.as_str()))
             }
-            _ => done(rt, client.clear_command_channel(rt)),
+            _ => changed(rt, client.clear_command_channel(rt)),
         };
         Ok(Some(kept(rt.alloc(), outcome, &mut self.client)?))
     }
@@ -174,11 +174,11 @@ where
     R: Wait + RandomSource + AllocGlobal,
 {
     Ok(match call {
-        Call::Noop => unit(done(rt, client.noop(rt))),
-        Call::Resync => unit(done(rt, client.resync(rt))),
-        Call::Quit => unit(done(rt, client.quit(rt))),
+        Call::Noop => unit(rt, client.noop(rt)),
+        Call::Resync => unit(rt, client.resync(rt)),
+        Call::Quit => unit(rt, client.quit(rt)),
         Call::Size(path) => size(done(rt, client.size(rt, path.as_str()))),
-        Call::ResumeTransfer(offset) => unit(done(rt, client.resume_transfer(rt, *offset))),
+        Call::ResumeTransfer(offset) => unit(rt, client.resume_transfer(rt, *offset)),
         _ => transferred(rt, client, transfers, call)?,
     })
 }
@@ -195,17 +195,17 @@ where
 {
     Ok(match call {
         Call::RetrAsStream(path) => {
-            transfers.opened(done(rt, client.retr_as_stream(rt, path.as_str())))
+            opened(rt, transfers, client.retr_as_stream(rt, path.as_str()))
         }
         Call::PutWithStream(path) => {
-            transfers.opened(done(rt, client.put_with_stream(rt, path.as_str())))
+            opened(rt, transfers, client.put_with_stream(rt, path.as_str()))
         }
         Call::Retr(path) => bytes(done(rt, client.retr_as_buffer(rt, path.as_str()))),
         Call::List(path) => lines(done(rt, client.list(rt, optional(path)))),
         Call::PutFile(path, source) => {
             count(done(rt, client.put_file(rt, path.as_str(), source.as_slice())))
         }
-        Call::Set(Setting::Mode(mode)) => unit(done(rt, client.set_mode(rt, *mode))),
+        Call::Set(Setting::Mode(mode)) => rows_plays::unit(done(rt, client.set_mode(rt, *mode))),
         _ => return Err(RowError::NotUnderstood),
     })
 }
@@ -218,7 +218,7 @@ where
     let Some(Live { stream }) = transfers.take(rt.alloc())? else {
         return Ok(Answer::NoTransfer);
     };
-    Ok(unit(match call {
+    Ok(rows_plays::unit(match call {
         Call::Abort => done(rt, stream.abort(rt)),
         _ => done(rt, stream.finish(rt)),
     }))

@@ -1,14 +1,17 @@
 //! A transfer of the polled client, and calls that are polled to their answers.
 
 use crate::face::sent;
+use crate::polled::Client;
 use crate::script::{Line, Net};
+use ftp_base::encoding::Utf8Encoding;
 use ftp_base::types::{FtpError, FtpResult};
-use ftp_polled::TransferStream;
+use ftp_polled::{Dialogue, OpenTransfer, Secure, TransferStream};
+use ftp_session::session::{Answer, NoStreamBuilder};
 use ftp_transfer::mark::Left;
 use futures::Future;
 use futures::executor::block_on;
 use futures::task::{Context, Poll};
-use rows_plays::Held;
+use rows_plays::{Held, Transfers};
 use rows_tls::Seal;
 use std::io;
 use std::io::ErrorKind;
@@ -29,6 +32,41 @@ where
         Ok(outcome) => outcome,
         Err(_) => Err(FtpError::OutOfMemory),
     }
+}
+
+/// A call that returns an `A`.
+type Made<'r, R, A> = Dialogue<'r, R, Net, Seal, Utf8Encoding, NoStreamBuilder, A>;
+
+/// The answer of a call that returns nothing: a function for each kind of future is cheaper to prove where it is called
+/// than `done` is.
+pub fn unit<R>(rt: &R, state: Made<'_, R, ()>) -> Answer
+where
+    R: Wait + RandomSource + AllocGlobal,
+{
+    rows_plays::unit(done(rt, state))
+}
+
+/// The answer of a call that opens a transfer.
+pub fn opened<R>(
+    rt: &R,
+    transfers: &mut Transfers<Live>,
+    state: OpenTransfer<'_, R, Net, Seal, Utf8Encoding, NoStreamBuilder>,
+) -> Answer
+where
+    R: Wait + RandomSource + AllocGlobal,
+{
+    transfers.opened(done(rt, state))
+}
+
+/// The client that a change to TLS or from it leaves.
+pub fn changed<R>(
+    rt: &R,
+    state: Secure<'_, R, Net, Seal, Utf8Encoding, NoStreamBuilder>,
+) -> FtpResult<Client>
+where
+    R: Wait + RandomSource + AllocGlobal,
+{
+    done(rt, state)
 }
 
 /// One read of a transfer.

@@ -102,17 +102,12 @@ where
     Ok(())
 }
 
-/// What a call returned that blocks.
-fn done<R, T>(_rt: &R, outcome: FtpResult<T>) -> FtpResult<T> {
-    outcome
-}
-
 /// Makes a call by its method.
 fn make<R>(rt: &R, client: &FtpStream, call: &Call) -> Result<Answer, RowError>
 where
     R: Net<Listener = TcpListener, Stream = TcpStream> + Clock + Wait + AllocGlobal,
 {
-    Ok(made_by_method!(call, client, rt, done(rt), {
+    Ok(made_by_method!(call, client, rt, (), {
         Call::Retr(path) => bytes(client.retr_as_buffer(rt, path.as_str())),
         Call::List(path) => lines(client.list(rt, optional(path))),
         Call::PutFile(path, bytes) => {

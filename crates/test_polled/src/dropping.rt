@@ -1,6 +1,6 @@
 //! Calls that are dropped at random, of tasks that share a client: none gets another's answer.
 
-use crate::scene::{Client, listening};
+use crate::scene::{Client, client_of, listening};
 use ftp_base::encoding::Utf8Encoding;
 use ftp_base::types::FtpResult;
 use ftp_polled::Dialogue;
@@ -157,7 +157,7 @@ where
 {
     let mut runtime = LocalRuntime::new(rt)?;
     let transport = TokioTransport::of_runtime(runtime.handle())?;
-    let client = runtime.block_on(rt, Client::connect(rt, transport, &[address]))??;
+    let client = client_of(rt, &mut runtime, Client::connect(rt, transport, &[address]))?;
     let tally = Tally::new();
     let mut seed = 1;
     for _ in 0..ROUNDS {

@@ -1,7 +1,7 @@
 //! Clients whose sockets have time limits, with servers that stop in the midst.
 
 use crate::clients::write_passive;
-use crate::scene::{Client, Runtime, done, listening, running};
+use crate::scene::{Client, Runtime, client_of, listening, noop, running};
 use ftp_base::types::{ConnectionError, FtpError, FtpResult};
 use ftp_tokio::TokioTransport;
 use futures::Future;
@@ -24,8 +24,7 @@ where
 {
     let limit = Some(Duration::from_millis(LIMIT));
     let transport = TokioTransport::of_runtime_with_limits(runtime.handle(), None, limit, None)?;
-    let client = runtime.block_on(rt, Client::connect(rt, transport, &[address]))??;
-    Ok(Box::new(rt.alloc(), client)?)
+    client_of(rt, runtime, Client::connect(rt, transport, &[address]))
 }
 
 /// The kind of the error of a call that a connection's error ended.
@@ -71,9 +70,9 @@ fn a_reply_is_waited_for_until_the_limit_from_its_own_call_on(rt: HostRuntime) -
     let client = client(&rt, &mut runtime, address)?;
     // no turn of the event loop sees this time pass
     thread::sleep(&rt, Duration::from_millis(LIMIT * 2));
-    let first = done(&rt, &mut runtime, client.noop(&rt));
+    let first = noop(&rt, &mut runtime, &client);
     let second = kind_of(&rt, &mut runtime, client.noop(&rt))?;
-    let third = done(&rt, &mut runtime, client.noop(&rt));
+    let third = noop(&rt, &mut runtime, &client);
     drop(client);
     drop(runtime);
     let served = serving.join(&rt).is_ok();
@@ -103,7 +102,7 @@ fn data_that_stall_end_their_download_and_the_client_goes_on(rt: HostRuntime) ->
     let mut runtime = running(&rt)?;
     let client = client(&rt, &mut runtime, address)?;
     let fault = kind_of(&rt, &mut runtime, client.retr_as_buffer(&rt, "a"))?;
-    let after = done(&rt, &mut runtime, client.noop(&rt));
+    let after = noop(&rt, &mut runtime, &client);
     drop(client);
     drop(runtime);
     let served = serving.join(&rt).is_ok();

@@ -1,7 +1,7 @@
 //! Directories that a client lists as files, over tokio's sockets.
 
 use crate::clients::write_passive;
-use crate::scene::{Scene, came, done, greeted, listening, send, waits};
+use crate::scene::{Scene, came, done, greeted, listening, next, send, waits};
 use ftp_list::Listing;
 use std::alloc::AllocGlobal;
 use std::io::Write;
@@ -100,8 +100,7 @@ fn a_list_of_files_is_dropped_between_its_calls(rt: HostRuntime) -> Result<(), F
     let mut scene = greeted(&rt)?;
     let waited = dropped_list(&rt, &mut scene);
     let replied = send(&mut scene.server, b"425 no\r\n200 ok\r\n");
-    let noop = scene.client.noop(&rt);
-    let answered = done(&rt, &mut scene.runtime, noop);
+    let answered = next(&rt, &mut scene);
     let sent = came(&mut scene.server, b"FEAT\r\nPASV\r\nNOOP\r\n");
     drop(scene);
     assert_eq!(rt; (waited, replied, sent), (true, true, true));

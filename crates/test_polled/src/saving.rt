@@ -1,7 +1,7 @@
 //! Downloads to a writer, uploads, and what they report their progress to.
 
 use crate::clients::write_passive;
-use crate::scene::{Scene, done, greeted, listening};
+use crate::scene::{Scene, answered, done, greeted, listening, next};
 use ftp_base::types::{FileType, FtpResult};
 use ftp_polled::AllowStdIo;
 use ftp_session::session::{Failure, NoProgress, Progress};
@@ -49,8 +49,8 @@ where
     let mut told = Told(0);
     let write = scene.client.write_to(rt, "a", bytes, &mut told);
     let count: FtpResult<u64> = scene.runtime.block_on(rt, write)?;
-    let noop = scene.client.noop(rt);
-    Ok((count?, told.0, done(rt, &mut scene.runtime, noop)))
+    let answer = next(rt, scene);
+    Ok((count?, told.0, answer))
 }
 
 #[test]
@@ -104,12 +104,11 @@ fn a_writer_that_fails_leaves_its_download(rt: HostRuntime) -> Result<(), Fail> 
         .write_to(&rt, "a", AllowStdIo(Full), NoProgress);
     let full = done(&rt, &mut scene.runtime, write);
     let place = failure(&rt, &mut scene)?;
-    let noop = scene.client.noop(&rt);
-    let next = done(&rt, &mut scene.runtime, noop);
+    let answer = next(&rt, &mut scene);
     drop(scene);
     let gave = giving.join(&rt).is_ok();
     assert_eq!(rt;
-        (full, place, next, gave),
+        (full, place, answer, gave),
         (1, Some(Failure::Caller), 0, true)
     );
     Ok(())
@@ -182,7 +181,7 @@ where
     scene.server.write_all(b"200 ok\r\n")?;
     write_passive(&mut scene.server, port)?;
     let binary = scene.client.transfer_type(rt, FileType::Binary);
-    let binary = done(rt, &mut scene.runtime, binary);
+    let binary = answered(rt, &mut scene.runtime, binary);
     let mut told = Told(0);
     let mut source = Failing {
         left: 150_000,

@@ -1,7 +1,9 @@
 //! A client of a task, and the server's end of its connections, on loopback.
 
+use ftp_base::encoding::Utf8Encoding;
 use ftp_base::types::FtpResult;
-use ftp_polled::ImplAsyncFtpStream;
+use ftp_polled::{Connect, Dialogue, ImplAsyncFtpStream, TransferStream};
+use ftp_session::session::{NoStreamBuilder, NoTlsConnector};
 use ftp_tokio::{TokioConn, TokioTransport};
 use futures::Future;
 use futures::future::poll_immediate;
@@ -17,6 +19,30 @@ use tokio::runtime::LocalRuntime;
 
 /// A polled client over tokio's sockets.
 pub type Client = ImplAsyncFtpStream<TokioTransport>;
+
+/// A call of such a client that returns an `A`.
+pub type Call<'r, R, A> = Dialogue<
+    'r,
+    R,
+    TokioTransport,
+    NoTlsConnector,
+    Utf8Encoding,
+    NoStreamBuilder,
+    A,
+>;
+
+/// A client of such a kind that connects.
+pub type Connecting<'r, R> = Connect<
+    'r,
+    R,
+    TokioTransport,
+    NoTlsConnector,
+    Utf8Encoding,
+    NoStreamBuilder,
+>;
+
+/// A transfer of such a client, in a box.
+pub type Live = Box<TransferStream<TokioTransport>>;
 
 /// A runtime of one task, in a box, which is dropped by one call.
 pub type Runtime = Box<LocalRuntime>;
@@ -74,7 +100,7 @@ fn accepted(listener: &TcpListener, sent: &[u8]) -> io::Result<TcpStream> {
 /// A client whose greeting was read, the server's end of its control connection, and the runtime that polls it.
 #[derive(Drop)]
 pub struct Scene {
-    pub client: Client,
+    pub client: Box<Client>,
     pub server: TcpStream,
     pub runtime: Runtime,
 }
@@ -95,14 +121,14 @@ where
 }
 
 /// A client whose greeting was read, and its server.
-fn connected<R>(rt: &R, runtime: &mut Runtime) -> Result<(Client, TcpStream), Fail>
+fn connected<R>(rt: &R, runtime: &mut Runtime) -> Result<(Box<Client>, TcpStream), Fail>
 where
     R: Net<Listener = TcpListener, Stream = TcpStream> + Wait + Clock + RandomSource + AllocGlobal,
 {
     let transport = transport(runtime)?;
     let (conn, server) = pair(rt, runtime, b"220 ready\r\n")?;
     let connect = Client::connect_with_stream(rt, transport, conn);
-    Ok((runtime.block_on(rt, connect)??, server))
+    Ok((client_of(rt, runtime, connect)?, server))
 }
 
 /// The number of an error; 0 where there is none.
@@ -126,6 +152,69 @@ where
         Ok(answer) => number(answer),
         Err(_error) => 255,
     }
+}
+
+/// Polls a command to its answer: the number of its error, as `done` returns it. A call of a function at one type of future
+/// is cheaper to prove than one of `done`.
+pub fn answered<R>(rt: &R, runtime: &mut LocalRuntime, command: Call<'_, R, ()>) -> u8
+where
+    R: Net + Wait + Clock + RandomSource + AllocGlobal,
+{
+    done(rt, runtime, command)
+}
+
+/// Sends NOOP: the number of its error.
+pub fn noop<R>(rt: &R, runtime: &mut LocalRuntime, client: &Client) -> u8
+where
+    R: Net + Wait + Clock + RandomSource + AllocGlobal,
+{
+    answered(rt, runtime, client.noop(rt))
+}
+
+/// Sends NOOP on the client of a scene: the number of its error.
+pub fn next<R>(rt: &R, scene: &mut Scene) -> u8
+where
+    R: Net + Wait + Clock + RandomSource + AllocGlobal,
+{
+    noop(rt, &mut scene.runtime, &scene.client)
+}
+
+/// Polls a command once, and returns whether it waits.
+pub fn command_waits<R>(rt: &R, runtime: &mut LocalRuntime, command: &mut Call<'_, R, ()>) -> bool
+where
+    R: Net + Wait + Clock + RandomSource + AllocGlobal,
+{
+    waits(rt, runtime, command)
+}
+
+/// Polls a connect to its answer: the number of its error.
+pub fn connects<R>(rt: &R, runtime: &mut LocalRuntime, connect: Connecting<'_, R>) -> u8
+where
+    R: Net + Wait + Clock + RandomSource + AllocGlobal,
+{
+    done(rt, runtime, connect)
+}
+
+/// The client of a connect, in a box, which is dropped by one call.
+pub fn client_of<R>(
+    rt: &R,
+    runtime: &mut LocalRuntime,
+    connect: Connecting<'_, R>,
+) -> Result<Box<Client>, Fail>
+where
+    R: Net + Wait + Clock + RandomSource + AllocGlobal,
+{
+    let client = runtime.block_on(rt, connect)??;
+    Ok(Box::new(rt.alloc(), client)?)
+}
+
+/// Finishes a transfer: the number of the error.
+pub fn finished<R>(rt: &R, scene: &mut Scene, transfer: Live) -> u8
+where
+    R: Net + Wait + Clock + RandomSource + AllocGlobal,
+{
+    let finish = scene.client.finish(rt, Box::into_inner(transfer));
+    done(rt, &mut scene.runtime, finish)
 }
 
 /// Polls a state once, and returns whether it waits.

@@ -1,7 +1,10 @@
 //! Clients over tokio's sockets that connect by themselves, and what they were set to.
 
 use crate::counted::polled;
-use crate::scene::{Client, Scene, done, greeted, listening, pair, running, send, transport};
+use crate::scene::{
+    Client, Scene, client_of, connects, done, greeted, listening, noop, pair, running, send,
+    transport,
+};
 use ftp_base::encoding::Utf8Encoding;
 use ftp_base::types::{FtpError, FtpResult};
 use ftp_polled::ImplAsyncFtpStream;
@@ -26,16 +29,14 @@ fn serve(alloc: Global, listener: &TcpListener, replies: &str) -> io::Result<Str
 }
 
 /// What NOOP results in of a client that connects to the first of these addresses that accepts.
-fn noop<R>(rt: &R, addresses: &[SocketAddr]) -> Result<u8, Fail>
+fn answer_at<R>(rt: &R, addresses: &[SocketAddr]) -> Result<u8, Fail>
 where
     R: Net<Listener = TcpListener, Stream = TcpStream> + Wait + Clock + RandomSource + AllocGlobal,
 {
     let mut runtime = running(rt)?;
     let connect = Client::connect(rt, transport(&runtime)?, addresses);
-    let client = runtime.block_on(rt, connect)??;
-    let noop = client.noop(rt);
-    drop(client);
-    Ok(done(rt, &mut runtime, noop))
+    let client = client_of(rt, &mut runtime, connect)?;
+    Ok(noop(rt, &mut runtime, &client))
 }
 
 #[test]
@@ -45,7 +46,7 @@ fn a_client_connects_to_the_first_that_listens(rt: HostRuntime) -> Result<(), Fa
     let (listener, address) = listening(&rt)?;
     let replies = "220 ready\r\n200 ok\r\n";
     let serving = thread::spawn(&rt, move || serve(rt.alloc(), &listener, replies))?;
-    let answer = noop(&rt, &[dead, address])?;
+    let answer = answer_at(&rt, &[dead, address])?;
     let received = serving.join(&rt)?;
     assert_eq!(rt; (answer, received.as_str()), (0, "NOOP\r\n"));
     Ok(())
@@ -59,19 +60,19 @@ where
 {
     let mut runtime = running(rt)?;
     let connect = Client::connect(rt, transport(&runtime)?, &[address]);
-    let client = runtime.block_on(rt, connect)??;
-    let noop = client.noop(rt);
-    let refused = (
-        done(rt, &mut runtime, noop),
-        has_failed(rt, &mut runtime, &client),
-    );
-    let noop = client.noop(rt);
-    let cut = (
-        done(rt, &mut runtime, noop),
-        has_failed(rt, &mut runtime, &client),
-    );
-    drop(client);
+    let client = client_of(rt, &mut runtime, connect)?;
+    let refused = seen(rt, &mut runtime, &client);
+    let cut = seen(rt, &mut runtime, &client);
     Ok([refused, cut])
+}
+
+/// The number of the error of NOOP, and whether the client has failed then.
+fn seen<R>(rt: &R, runtime: &mut LocalRuntime, client: &Client) -> (u8, u8)
+where
+    R: Net + Wait + Clock + RandomSource + AllocGlobal,
+{
+    let answer = noop(rt, runtime, client);
+    (answer, has_failed(rt, runtime, client))
 }
 
 /// 1 where the client has failed, 0 where it hasn't, and 2 where the call fails.
@@ -122,9 +123,9 @@ where
 {
     let mut runtime = running(rt)?;
     let strict = Client::connect(rt, transport(&runtime)?, &[address]);
-    let strict = done(rt, &mut runtime, strict);
+    let strict = connects(rt, &mut runtime, strict);
     let lenient = Client::connect_lenient(rt, transport(&runtime)?, &[address]);
-    Ok((strict, done(rt, &mut runtime, lenient)))
+    Ok((strict, connects(rt, &mut runtime, lenient)))
 }
 
 /// The number of the error of a client that reads such a greeting leniently on a connection.
@@ -135,7 +136,7 @@ where
     let mut runtime = running(rt)?;
     let (conn, _server) = pair(rt, &runtime, b"+22 hello\r\n220 ready\r\n")?;
     let connect = Client::connect_with_stream_lenient(rt, transport(&runtime)?, conn);
-    Ok(done(rt, &mut runtime, connect))
+    Ok(connects(rt, &mut runtime, connect))
 }
 
 #[test]
@@ -158,7 +159,7 @@ where
     let (_listener, address) = listening(rt)?;
     let mut runtime = running(rt)?;
     let connect = Client::connect_timeout(rt, transport(&runtime)?, address, limit);
-    Ok(done(rt, &mut runtime, connect))
+    Ok(connects(rt, &mut runtime, connect))
 }
 
 #[test]

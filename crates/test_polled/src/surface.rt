@@ -1,11 +1,11 @@
 //! A client that connects to an address that is a text, what it was greeted with, and the lines of its transfer.
 
 use crate::clients::write_passive;
-use crate::scene::{Client, Scene, done, greeted, listening, running, transport};
+use crate::scene::{
+    Client, Live, Scene, connects, finished, greeted, listening, running, transport,
+};
 use ftp_base::status::Status;
 use ftp_base::types::FtpResult;
-use ftp_polled::TransferStream;
-use ftp_tokio::TokioTransport;
 use std::alloc::AllocGlobal;
 use std::io::Write;
 use std::net::{Net, TcpListener, TcpStream};
@@ -28,7 +28,7 @@ where
 {
     let mut runtime = running(rt)?;
     let connect = Client::connect_to(rt, transport(&runtime)?, address);
-    Ok(done(rt, &mut runtime, connect))
+    Ok(connects(rt, &mut runtime, connect))
 }
 
 #[test]
@@ -54,9 +54,6 @@ where
     write!(text, "{}|", welcome.as_deref().unwrap_or("none"))?;
     Ok(())
 }
-
-/// A transfer, in a box, which is dropped by one call.
-type Live = Box<TransferStream<TokioTransport>>;
 
 /// A data connection that a client opens by a line of its own, on which these bytes come.
 fn opened<R>(rt: &R, scene: &mut Scene, data: &[u8]) -> Result<Live, Fail>
@@ -100,8 +97,7 @@ fn a_client_tells_its_greeting_and_the_lines_of_its_transfer(rt: HostRuntime) ->
     let mut transfer = opened(&rt, &mut scene, b"a\r\n\r\nb\nc")?;
     add_lines(&rt, &mut scene, &mut transfer, &mut text)?;
     scene.server.write_all(b"226 done\r\n")?;
-    let finish = scene.client.finish(&rt, Box::into_inner(transfer));
-    let finished = done(&rt, &mut scene.runtime, finish);
+    let finished = finished(&rt, &mut scene, transfer);
     drop(scene);
     assert_eq!(rt; (text.as_str(), finished), ("220 ready|a|b|c|", 0));
     Ok(())

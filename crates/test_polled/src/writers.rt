@@ -1,7 +1,7 @@
 //! An upload that `tokio`'s own writing writes.
 
 use crate::clients::write_passive;
-use crate::scene::{Scene, done, greeted, listening};
+use crate::scene::{Live, Scene, finished, greeted, listening};
 use ftp_base::types::FtpResult;
 use ftp_polled::TransferStream;
 use ftp_tokio::TokioTransport;
@@ -14,9 +14,6 @@ use std::sync::Wait;
 use std::test::Fail;
 use std::time::Clock;
 use tokio::io::{shutdown, write_all};
-
-/// A transfer, in a box, which is dropped by one call.
-type Live = Box<TransferStream<TokioTransport>>;
 
 /// An upload whose data connection goes to this port.
 fn uploading<R>(rt: &R, scene: &mut Scene, port: u16) -> Result<Live, Fail>
@@ -55,8 +52,7 @@ fn an_upload_is_written_by_what_writes_to_tokios_writers(rt: HostRuntime) -> Res
     let mut transfer = uploading(&rt, &mut scene, address.port())?;
     write_whole(&rt, &mut scene, &mut transfer, "a line\r\n")?;
     scene.server.write_all(b"226 done\r\n")?;
-    let finish = scene.client.finish(&rt, Box::into_inner(transfer));
-    let finished = done(&rt, &mut scene.runtime, finish);
+    let finished = finished(&rt, &mut scene, transfer);
     let bytes = received(&rt, &listener)?;
     drop(scene);
     assert_eq!(rt; (finished, bytes.as_slice()), (0, b"a line\r\n".as_slice()));
