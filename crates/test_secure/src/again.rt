@@ -35,6 +35,15 @@ where
 /// A client that connects.
 type Connecting<'r, R> = Connect<'r, R, Network, Seal, Utf8Encoding, NoStreamBuilder>;
 
+/// The numbers of the errors with which a connect ends that is polled to its end twice.
+fn twice<R>(rt: &R, mut connect: Box<Connecting<'_, R>>) -> (u8, u8)
+where
+    R: Wait + RandomSource + AllocGlobal,
+{
+    let first = ends(rt, &mut *connect);
+    (first, ends(rt, &mut *connect))
+}
+
 /// A client that connects under TLS to a server of which the connector refuses the connection, and could connect again.
 fn connecting<'r, R: AllocGlobal>(rt: &'r R) -> FtpResult<Box<Connecting<'r, R>>> {
     let alloc = rt.alloc();
@@ -49,11 +58,8 @@ fn connecting<'r, R: AllocGlobal>(rt: &'r R) -> FtpResult<Box<Connecting<'r, R>>
 
 #[test]
 fn a_connect_that_was_refused_is_over(rt: HostRuntime) -> Result<(), Fail> {
-    let mut connect = connecting(&rt)?;
-    let first = ends(&rt, &mut *connect);
-    let second = ends(&rt, &mut *connect);
-    drop(connect);
-    assert_eq!(rt; (first, second), (9, 19));
+    let came = twice(&rt, connecting(&rt)?);
+    assert_eq!(rt; came, (9, 19));
     Ok(())
 }
 
@@ -65,11 +71,8 @@ fn nowhere<'r, R: AllocGlobal>(rt: &'r R) -> FtpResult<Box<Connecting<'r, R>>> {
 
 #[test]
 fn a_connect_without_an_address_is_over(rt: HostRuntime) -> Result<(), Fail> {
-    let mut connect = nowhere(&rt)?;
-    let first = ends(&rt, &mut *connect);
-    let second = ends(&rt, &mut *connect);
-    drop(connect);
-    assert_eq!(rt; (first, second), (16, 19));
+    let came = twice(&rt, nowhere(&rt)?);
+    assert_eq!(rt; came, (16, 19));
     Ok(())
 }
 

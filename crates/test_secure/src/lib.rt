@@ -1,4 +1,4 @@
-//! Tests of connections under TLS, of transports that make them, and of sessions on them, over memory.
+//! Tests of connections under TLS, of transports that make them, and of what no row of `rows_secure` makes on them, over memory.
 #![tactic(auto)]
 
 #[cfg(test)]
@@ -9,7 +9,5 @@ mod data_calls;
 mod handshakes;
 #[cfg(test)]
 mod networks;
-#[cfg(test)]
-mod sessions;
 #[cfg(test)]
 mod streams;
