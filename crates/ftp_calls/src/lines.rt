@@ -5,9 +5,15 @@ ghost use Rattle.std.specs.Prelude.{◌≡◌, ℕ, List, map, string_bytes};
 use std::marker::Model;
 
 /// Lines of text, made from a `Vec<String>` and given back as one without taking memory.
-#[derive(Drop)]
 pub struct Lines {
     lines: Vec<String>,
+}
+
+impl Drop for Lines {
+    fn drop(self) {
+        let Self { lines } = self;
+        drop(lines);
+    }
 }
 
 impl Model for Lines {

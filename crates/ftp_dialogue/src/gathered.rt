@@ -20,10 +20,16 @@ const CHUNK: usize = 65_536;
 const FIRST: usize = 8_192;
 
 /// The bytes that were read so far, at the front of a buffer that has room for more.
-#[derive(Drop)]
 pub struct Gathered {
     buffer: Vec<u8>,
     filled: usize,
+}
+
+impl Drop for Gathered {
+    fn drop(self) {
+        let Self { buffer, filled: _ } = self;
+        drop(buffer);
+    }
 }
 
 impl Model for Gathered {

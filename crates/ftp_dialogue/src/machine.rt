@@ -14,7 +14,6 @@ use std::marker::Model;
 /// A transport, the control channel on one of its connections, and the state of the dialogues. Beside them stand the
 /// listener while a data connection is waited for, and the data connection, from the moment that it was made. As long as
 /// it stands there is room for its record where it is handed back to.
-#[derive(Drop)]
 pub struct Machine<Tr: Network> {
     /// The transport, which makes the data connections.
     pub transport: Tr,
@@ -26,6 +25,25 @@ pub struct Machine<Tr: Network> {
     /// The data connection, unless it was handed out.
     pub data_conn: Option<Tr::Conn>,
     pub(crate) failures: Failures,
+}
+
+impl<Tr: Network> Drop for Machine<Tr> {
+    fn drop(self) {
+        let Self {
+            transport,
+            channel,
+            state,
+            listener,
+            data_conn,
+            failures,
+        } = self;
+        drop(transport);
+        drop(channel);
+        drop(state);
+        drop(listener);
+        drop(data_conn);
+        drop(failures);
+    }
 }
 
 impl<Tr: Network> Model for Machine<Tr> {

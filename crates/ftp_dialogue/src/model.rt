@@ -12,12 +12,20 @@ use std::io::ErrorKind;
 use std::net::SocketAddr;
 
 /// What went over a data connection.
-#[derive(Clone, Drop)]
+#[derive(Clone)]
 pub struct Traffic {
     /// The bytes that were read from it.
     pub received: Bytes,
     /// The bytes that were written to it.
     pub sent: Bytes,
+}
+
+impl Drop for Traffic {
+    fn drop(self) {
+        let Self { received, sent } = self;
+        drop(received);
+        drop(sent);
+    }
 }
 
 /// What stands beside the control connection.

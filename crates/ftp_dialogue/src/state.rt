@@ -20,7 +20,7 @@ use std::time::Duration;
 pub const ACTIVE_DEADLINE_SECONDS: u64 = 60;
 
 /// The settings of a session.
-#[derive(Clone, Drop)]
+#[derive(Clone)]
 pub struct Settings {
     /// Who opens data connections.
     pub mode: Mode,
@@ -40,6 +40,23 @@ pub struct Settings {
     pub restart_offset: u64,
     /// Whether the caller's builder makes passive data connections, in the transport's place.
     pub stream_builder: bool,
+}
+
+impl Drop for Settings {
+    fn drop(self) {
+        let Self {
+            mode: _,
+            passive_nat_workaround: _,
+            active_peer_check,
+            active_deadline: _,
+            reply_rule: _,
+            text: _,
+            secure: _,
+            restart_offset: _,
+            stream_builder: _,
+        } = self;
+        drop(active_peer_check);
+    }
 }
 
 /// Whether another reply follows one of this status.
@@ -263,7 +280,7 @@ impl Counts {
 }
 
 /// What a session keeps beside its control channel.
-#[derive(Clone, Drop)]
+#[derive(Clone)]
 pub struct State {
     /// Its settings.
     pub settings: Settings,
@@ -277,6 +294,22 @@ pub struct State {
     pub unanswered: u64,
     /// Whether one of them is `ABOR`, and 426 may come before its reply.
     pub aborting: bool,
+}
+
+impl Drop for State {
+    fn drop(self) {
+        let Self {
+            settings,
+            counts,
+            uploads: _,
+            welcome,
+            unanswered: _,
+            aborting: _,
+        } = self;
+        drop(settings);
+        drop(counts);
+        drop(welcome);
+    }
 }
 
 impl State {

@@ -20,13 +20,24 @@ use std::marker::Model;
 const MOST_BYTES: usize = (1 << 63) - 1;
 
 /// The bytes that haven't gone out: those from a place on, of a text or as they are.
-#[derive(Drop)]
 pub struct Unsent {
     bytes: Items<u8>,
     next: usize,
     text: bool,
     /// Whether the byte that went out last is CR.
     after_return: bool,
+}
+
+impl Drop for Unsent {
+    fn drop(self) {
+        let Self {
+            bytes,
+            next: _,
+            text: _,
+            after_return: _,
+        } = self;
+        drop(bytes);
+    }
 }
 
 impl Model for Unsent {

@@ -15,7 +15,7 @@ use std::marker::Model;
 use std::time::Duration;
 
 /// One file of a listing.
-#[derive(Debug, PartialEq, Eq, Hash, Drop)]
+#[derive(Debug, PartialEq, Eq, Hash)]
 pub struct File {
     pub(crate) name: Text,
     pub(crate) file_type: FileType,
@@ -28,6 +28,25 @@ pub struct File {
     pub(crate) owner: PosixPex,
     pub(crate) group: PosixPex,
     pub(crate) others: PosixPex,
+}
+
+impl Drop for File {
+    fn drop(self) {
+        let Self {
+            name,
+            file_type,
+            size: _,
+            seconds: _,
+            nanoseconds: _,
+            uid: _,
+            gid: _,
+            owner: _,
+            group: _,
+            others: _,
+        } = self;
+        drop(name);
+        drop(file_type);
+    }
 }
 
 impl Model for File {

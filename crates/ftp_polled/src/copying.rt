@@ -29,7 +29,6 @@ const BLOCK: usize = 65_536;
 pub(crate) const STEPS: u32 = 64;
 
 /// A source, and how far it was copied.
-#[derive(Drop)]
 pub(crate) struct Copying<S: AsyncRead, P: Progress> {
     source: S,
     progress: P,
@@ -42,6 +41,23 @@ pub(crate) struct Copying<S: AsyncRead, P: Progress> {
     stop: Option<Stop>,
     // Whether the data connection failed.
     data_failed: bool,
+}
+
+impl<S: AsyncRead, P: Progress> Drop for Copying<S, P> {
+    fn drop(self) {
+        let Self {
+            source,
+            progress,
+            block,
+            interrupted: _,
+            count: _,
+            stop: _,
+            data_failed: _,
+        } = self;
+        drop(source);
+        drop(progress);
+        drop(block);
+    }
 }
 
 /// Why a source is read no more.

@@ -174,7 +174,6 @@ where
 }
 
 /// An opening whose transfer is returned with the session, for its end.
-#[derive(Drop)]
 struct Streaming<'r, R, Tr: TaskTransport, K: Drop, E: Encoding, B: Drop>
 where
     Tr::Conn: TaskConn,
@@ -183,6 +182,21 @@ where
     // The session of the transfer, until that is returned; none where there was no memory to share it.
     session: Option<Shared<Tr, K, E, B>>,
     is_shared: bool,
+}
+
+impl<R, Tr: TaskTransport, K: Drop, E: Encoding, B: Drop> Drop for Streaming<'_, R, Tr, K, E, B>
+where
+    Tr::Conn: TaskConn,
+{
+    fn drop(self) {
+        let Self {
+            opening,
+            session,
+            is_shared: _,
+        } = self;
+        drop(opening);
+        drop(session);
+    }
 }
 
 /// What a stream's opening returns.

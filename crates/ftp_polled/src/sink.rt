@@ -22,7 +22,6 @@ use tokio::io::AsyncWrite;
 const BUFFER: usize = 65_536;
 
 /// What reads a download into a writer, and reports how far it has come. It makes of it how many bytes were written.
-#[derive(Drop)]
 pub struct Sink<W: AsyncWrite, P: Progress> {
     writer: W,
     progress: P,
@@ -36,6 +35,25 @@ pub struct Sink<W: AsyncWrite, P: Progress> {
     count: u64,
     ended: bool,
     data_failed: bool,
+}
+
+impl<W: AsyncWrite, P: Progress> Drop for Sink<W, P> {
+    fn drop(self) {
+        let Self {
+            writer,
+            progress,
+            buffer,
+            filled: _,
+            written: _,
+            interrupted: _,
+            count: _,
+            ended: _,
+            data_failed: _,
+        } = self;
+        drop(writer);
+        drop(progress);
+        drop(buffer);
+    }
 }
 
 impl<W: AsyncWrite, P: Progress> Sink<W, P> {

@@ -37,13 +37,24 @@ enum Step {
 }
 
 /// A change of TLS of a session.
-#[derive(Drop)]
 pub(crate) struct Change<K: Drop> {
     step: Step,
     // Whether the connection is put under TLS, and not taken from under it.
     secures: bool,
     // The connector, until the session has it. None where there was no memory for the server's name.
     handed: Option<Handed<K>>,
+}
+
+impl<K: Drop> Drop for Change<K> {
+    fn drop(self) {
+        let Self {
+            step,
+            secures: _,
+            handed,
+        } = self;
+        drop(step);
+        drop(handed);
+    }
 }
 
 /// A command of a change and the status that accepts it, in memory of its own.

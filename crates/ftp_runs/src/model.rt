@@ -28,7 +28,6 @@ pub enum Item {
 }
 
 /// What events have made of a session.
-#[derive(Drop)]
 pub struct Script {
     /// The calls that are done. The last reply of a transfer that was left is an item by itself, where one was read.
     pub items: Items<Item>,
@@ -68,4 +67,40 @@ pub struct Script {
     pub state: State,
     /// Whether it has failed.
     pub failed: bool,
+}
+
+impl Drop for Script {
+    fn drop(self) {
+        let Self {
+            items,
+            answers,
+            call,
+            polled: _,
+            leaving: _,
+            heard: _,
+            bytes,
+            ended: _,
+            room: _,
+            said,
+            sent,
+            unsent,
+            untaken,
+            net_record,
+            seen: _,
+            form: _,
+            rule: _,
+            state,
+            failed: _,
+        } = self;
+        drop(items);
+        drop(answers);
+        drop(call);
+        drop(bytes);
+        drop(said);
+        drop(sent);
+        drop(unsent);
+        drop(untaken);
+        drop(net_record);
+        drop(state);
+    }
 }

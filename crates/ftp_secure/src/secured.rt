@@ -18,7 +18,6 @@ use std::alloc::{AllocError, Global};
 use std::net::SocketAddr;
 
 /// A transport whose connections may be under TLS, over a transport `Tr`. `K` is the connector.
-#[derive(Drop)]
 pub struct Secured<Tr: Network, K: Secures<Tr::Conn>> {
     pub(crate) below: Tr,
     // What puts connections under TLS, and the server's name.
@@ -27,6 +26,21 @@ pub struct Secured<Tr: Network, K: Secures<Tr::Conn>> {
     pub(crate) connecting: Option<K::Connecting>,
     // The data connections that are over, from the first that the transport below couldn't take.
     over: Vec<DataStream<Tr::Conn, K::Stream>>,
+}
+
+impl<Tr: Network, K: Secures<Tr::Conn>> Drop for Secured<Tr, K> {
+    fn drop(self) {
+        let Self {
+            below,
+            connector,
+            connecting,
+            over,
+        } = self;
+        drop(below);
+        drop(connector);
+        drop(connecting);
+        drop(over);
+    }
 }
 
 impl<Tr: Network, K: Secures<Tr::Conn>> Secured<Tr, K> {

@@ -20,7 +20,6 @@ use std::net::{Ipv4Addr, SocketAddr, SocketAddrV4};
 ///
 /// Polled, a read waits where no byte is left and the end wasn't announced, and a write waits where no room is
 /// left. Blocking, the input ends after the last byte, and a write where no room is left fails.
-#[derive(Drop)]
 pub struct MemoryConn {
     input: Vec<u8>,
     begun: usize,
@@ -36,6 +35,28 @@ pub struct MemoryConn {
     last_fault: Option<ErrorKind>,
     // How many reads were asked of it; the record doesn't have them.
     reads: u64,
+}
+
+impl Drop for MemoryConn {
+    fn drop(self) {
+        let Self {
+            input,
+            begun: _,
+            read: _,
+            closed: _,
+            ended: _,
+            room: _,
+            local: _,
+            peer: _,
+            sent,
+            closed_here: _,
+            failures: _,
+            last_fault: _,
+            reads: _,
+        } = self;
+        drop(input);
+        drop(sent);
+    }
 }
 
 impl Model for MemoryConn {

@@ -23,12 +23,25 @@ use std::time::Duration;
 /// A transport over memory. A connect returns the next item that it was supplied with where that is a connection or an
 /// error, and else is refused; an accept returns the next item where that is a peer or an error, and else its deadline
 /// passes at once. A listen consumes no item.
-#[derive(Drop)]
 pub struct MemoryTransport {
     ready: VecDeque<Supply>,
     asked: Vec<Asked>,
     closed: Vec<MemoryConn>,
     port: u16,
+}
+
+impl Drop for MemoryTransport {
+    fn drop(self) {
+        let Self {
+            ready,
+            asked,
+            closed,
+            port: _,
+        } = self;
+        drop(ready);
+        drop(asked);
+        drop(closed);
+    }
 }
 
 /// A listener over memory, to which the peers come that its transport was supplied with.

@@ -20,9 +20,15 @@ use std::time::{Clock, Duration};
 
 /// A connection over a TCP socket. A read or write that waits longer than the socket's time limit (`set_read_timeout`,
 /// `set_write_timeout`) fails with `TimedOut`.
-#[derive(Drop)]
 pub struct TcpConn {
     stream: TcpStream,
+}
+
+impl Drop for TcpConn {
+    fn drop(self) {
+        let Self { stream } = self;
+        drop(stream);
+    }
 }
 
 impl TcpConn {

@@ -14,10 +14,17 @@ use std::{io, thread};
 const PAUSE: u64 = 1;
 
 /// What waits on a TCP socket for a peer's connection.
-#[derive(Drop)]
 pub struct TcpConnListener {
     socket: TcpListener,
     since: Option<Instant>,
+}
+
+impl Drop for TcpConnListener {
+    fn drop(self) {
+        let Self { socket, since } = self;
+        drop(socket);
+        drop(since);
+    }
 }
 
 impl TcpConnListener {

@@ -3,6 +3,7 @@
 use rows_plays::{Live, NamedSession, Play, Transfers, encoded, make, polled, texts_of, unread};
 use rows_text::RowError;
 use std::alloc::Global;
+use std::mem;
 use std::random::RandomSource;
 use std::sync::Wait;
 
@@ -68,14 +69,14 @@ where
 /// # Errors
 /// `OutOfMemory` where an allocation failed that is no call's.
 pub fn happened(alloc: Global, play: &Play) -> Result<Came, RowError> {
-    let state = polled(alloc, &play.events, play)?;
+    let mut state = polled(alloc, &play.events, play)?;
     let end = Traffic {
         sent: state.sent.len(),
         taken: state.taken,
     };
     let failed = state.failed;
     Ok(Came {
-        answers: state.answers,
+        answers: mem::replace(&mut state.answers, Vec::new(alloc)),
         before: Vec::new(alloc),
         end,
         failed,

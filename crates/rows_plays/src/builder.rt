@@ -23,11 +23,21 @@ enum Fault {
 
 /// A builder over memory, which returns the same whatever address it is asked for: an error, or a connection on which
 /// these bytes come.
-#[derive(Drop)]
 pub struct RowBuilder {
     alloc: Global,
     fault: Option<Fault>,
     bytes: Vec<u8>,
+}
+
+impl Drop for RowBuilder {
+    fn drop(self) {
+        let Self {
+            alloc: _,
+            fault: _,
+            bytes,
+        } = self;
+        drop(bytes);
+    }
 }
 
 impl RowBuilder {

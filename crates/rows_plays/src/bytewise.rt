@@ -69,9 +69,15 @@ impl Conn for ByteConn {
 }
 
 /// A transport over memory that hands out such connections.
-#[derive(Drop)]
 pub struct ByteTransport {
     memory: MemoryTransport,
+}
+
+impl Drop for ByteTransport {
+    fn drop(self) {
+        let Self { memory } = self;
+        drop(memory);
+    }
 }
 
 impl Network for ByteTransport {

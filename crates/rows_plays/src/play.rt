@@ -15,7 +15,6 @@ use rows_text::{RowError, bytes_of, value};
 use std::alloc::{AllocError, Global};
 
 /// What is played of a row.
-#[derive(Drop)]
 pub struct Play {
     /// All bytes of the server.
     pub input: Vec<u8>,
@@ -34,6 +33,28 @@ pub struct Play {
     pub dial: Option<Box<Dial>>,
     /// How it comes to its data connections.
     pub setup: Box<Setup>,
+}
+
+impl Drop for Play {
+    fn drop(self) {
+        let Self {
+            input,
+            calls,
+            events,
+            runs,
+            piece: _,
+            encoding,
+            dial,
+            setup,
+        } = self;
+        drop(input);
+        drop(calls);
+        drop(events);
+        drop(runs);
+        drop(encoding);
+        drop(dial);
+        drop(setup);
+    }
 }
 
 impl Play {

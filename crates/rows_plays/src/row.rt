@@ -5,7 +5,6 @@ use rows_text::RowError;
 use std::alloc::Global;
 
 /// A row, as far as it was read.
-#[derive(Drop)]
 pub struct Row<'a> {
     /// The set that it belongs to.
     pub set: &'a str,
@@ -23,6 +22,23 @@ pub struct Row<'a> {
     pub lists: Option<&'a str>,
     /// The lines of the transcript that is due; none before the line `--`.
     due: Option<String>,
+}
+
+impl Drop for Row<'_> {
+    fn drop(self) {
+        let Self {
+            set: _,
+            title: _,
+            lines,
+            has_events: _,
+            wants_welcome: _,
+            is_of_sessions: _,
+            lists: _,
+            due,
+        } = self;
+        drop(lines);
+        drop(due);
+    }
 }
 
 impl<'a> Row<'a> {

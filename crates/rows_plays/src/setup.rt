@@ -8,7 +8,7 @@ use crate::session::NamedSession;
 use crate::settings::setting;
 use ftp_base::types::{ConnectionError, FtpError};
 use ftp_dialogue::rule_by;
-use ftp_session::session::{Setting, Settings, State};
+use ftp_session::session::{Setting, State};
 use ftp_transport::{MemoryConn, MemoryTransport, Request, RequestOutcome, Supply};
 use rows_text::{RowError, bytes_of, value};
 use std::alloc::{AllocError, Global};
@@ -28,18 +28,35 @@ enum Item {
 }
 
 /// The settings of a row's session, the ends of its connection and what its transport is supplied with.
-#[derive(Drop)]
 pub struct Setup {
     /// Whether the session reads replies leniently.
     pub lenient: bool,
     // The one way in which it does, where the row is played in one alone.
     only: Option<bool>,
-    settings: Settings,
+    state: State,
     local: SocketAddr,
     peer: SocketAddr,
     port: u16,
     items: Vec<Item>,
     builder: Option<Box<RowBuilder>>,
+}
+
+impl Drop for Setup {
+    fn drop(self) {
+        let Self {
+            lenient: _,
+            only: _,
+            state,
+            local: _,
+            peer: _,
+            port: _,
+            items,
+            builder,
+        } = self;
+        drop(state);
+        drop(items);
+        drop(builder);
+    }
 }
 
 impl Setup {
@@ -49,7 +66,7 @@ impl Setup {
         Setup {
             lenient: false,
             only: None,
-            settings: State::new().settings,
+            state: State::new(),
             local: unspecified,
             peer: unspecified,
             port: 0,
@@ -76,20 +93,20 @@ impl Setup {
     /// Has the session read replies leniently, or strictly; whether the row is played so.
     pub fn reads(&mut self, lenient: bool) -> bool {
         self.lenient = lenient;
-        self.settings.reply_rule = rule_by(lenient);
+        self.state.settings.reply_rule = rule_by(lenient);
         self.only.is_none_or(|only| only == lenient)
     }
 
     /// A setting changes.
     fn change(&mut self, setting: Setting) {
         match setting {
-            Setting::Mode(mode) => self.settings.mode = mode,
+            Setting::Mode(mode) => self.state.settings.mode = mode,
             Setting::PassiveNatWorkaround(enabled) => {
-                self.settings.passive_nat_workaround = enabled;
+                self.state.settings.passive_nat_workaround = enabled;
             }
-            Setting::ActivePeerCheck(check) => self.settings.active_peer_check = check,
-            Setting::ActiveDeadline(deadline) => self.settings.active_deadline = deadline,
-            Setting::LenientReplies(lenient) => self.settings.reply_rule = rule_by(lenient),
+            Setting::ActivePeerCheck(check) => self.state.settings.active_peer_check = check,
+            Setting::ActiveDeadline(deadline) => self.state.settings.active_deadline = deadline,
+            Setting::LenientReplies(lenient) => self.state.settings.reply_rule = rule_by(lenient),
         }
     }
 
@@ -101,7 +118,7 @@ impl Setup {
 
     /// The session has this builder of data connections.
     pub fn has_builder(&mut self, builder: Box<RowBuilder>) {
-        self.settings.stream_builder = true;
+        self.state.settings.stream_builder = true;
         self.builder = Some(builder);
     }
 
@@ -120,7 +137,7 @@ impl Setup {
 
     /// A state in which a session with these settings begins.
     pub fn state(&self) -> Result<State, AllocError> {
-        let settings = self.settings.clone()?;
+        let settings = self.state.settings.clone()?;
         let mut state = State::new();
         drop(mem::replace(&mut state.settings, settings));
         Ok(state)
@@ -128,10 +145,10 @@ impl Setup {
 
     /// Sets a session so.
     pub fn set(&self, session: &mut NamedSession) -> Result<(), AllocError> {
-        session.set_mode(self.settings.mode);
-        session.set_passive_nat_workaround(self.settings.passive_nat_workaround);
-        session.set_active_peer_check(self.settings.active_peer_check.clone()?);
-        session.set_active_deadline(self.settings.active_deadline);
+        session.set_mode(self.state.settings.mode);
+        session.set_passive_nat_workaround(self.state.settings.passive_nat_workaround);
+        session.set_active_peer_check(self.state.settings.active_peer_check.clone()?);
+        session.set_active_deadline(self.state.settings.active_deadline);
         session.set_lenient_replies(self.lenient);
         if let Some(builder) = &self.builder {
             session.set_passive_stream_builder(builder.again()?);
@@ -141,10 +158,10 @@ impl Setup {
 
     /// Sets a session so whose connections take one byte a write.
     pub fn set_bytewise(&self, session: &mut ByteSession) -> Result<(), AllocError> {
-        session.set_mode(self.settings.mode);
-        session.set_passive_nat_workaround(self.settings.passive_nat_workaround);
-        session.set_active_peer_check(self.settings.active_peer_check.clone()?);
-        session.set_active_deadline(self.settings.active_deadline);
+        session.set_mode(self.state.settings.mode);
+        session.set_passive_nat_workaround(self.state.settings.passive_nat_workaround);
+        session.set_active_peer_check(self.state.settings.active_peer_check.clone()?);
+        session.set_active_deadline(self.state.settings.active_deadline);
         session.set_lenient_replies(self.lenient);
         if let Some(builder) = &self.builder {
             session.set_passive_stream_builder(ByteBuilder::new(builder.again()?));

@@ -4,7 +4,6 @@ use rows_text::shown;
 use std::alloc::{AllocError, Global};
 
 /// Where a session or a definition stands after a part of a row.
-#[derive(Drop)]
 pub struct RowState {
     /// What its transport was asked, line by line.
     pub asked: Vec<String>,
@@ -20,6 +19,25 @@ pub struct RowState {
     pub failed: bool,
     /// What the server greeted with.
     pub welcome: Option<String>,
+}
+
+impl Drop for RowState {
+    fn drop(self) {
+        let Self {
+            asked,
+            uploaded,
+            sent,
+            answers,
+            taken: _,
+            failed: _,
+            welcome,
+        } = self;
+        drop(asked);
+        drop(uploaded);
+        drop(sent);
+        drop(answers);
+        drop(welcome);
+    }
 }
 
 /// How far a row had come at a place: how many requests were made, bytes sent and answers returned.

@@ -38,11 +38,23 @@ pub trait Held: Drop {
 }
 
 /// What a face holds of its transfers.
-#[derive(Drop)]
 pub struct Transfers<T: Drop> {
     live: Option<T>,
     receipt: Option<Left>,
     uploaded: Vec<Vec<u8>>,
+}
+
+impl<T: Drop> Drop for Transfers<T> {
+    fn drop(self) {
+        let Self {
+            live,
+            receipt,
+            uploaded,
+        } = self;
+        drop(live);
+        drop(receipt);
+        drop(uploaded);
+    }
 }
 
 impl<T: Held> Transfers<T> {

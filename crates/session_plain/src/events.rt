@@ -14,8 +14,8 @@ use ftp_base::encoding::Encoding;
 use ftp_base::types::{Bytes, Items};
 use ftp_runs::Event;
 use ftp_runs::model::{Item, Ran, Script};
-use ftp_session::model::{PlayState, Wait};
-use ftp_session::session::{Answer, Call};
+use ftp_session::model::{NetOutcome, NetRecord, PlayState, Wait};
+use ftp_session::session::{Answer, Call, State};
 use ftp_transport::Room;
 use std::alloc::{AllocError, Global};
 use std::mem;
@@ -257,11 +257,63 @@ fn begun(first: &PlayState, here: &Script) -> Result<PlayState, AllocError>
     ensures { IfOk result (λ begun. begun ≡
         record first.now { bytes = here.now.bytes; ended = here.now.ended }) }
 {
-    let bytes = here.bytes.clone()?;
-    let mut begun = first.clone()?;
+    let bytes = copied_bytes(&here.bytes)?;
+    let mut begun = copied(first)?;
     begun.bytes = bytes;
     begun.ended = here.ended;
     Ok(begun)
+}
+
+/// A copy of where a run stands.
+fn copied(there: &PlayState) -> Result<PlayState, AllocError>
+    ensures { IfOk result (λ copy. copy ≡ there.now) }
+{
+    let said = copied_bytes(&there.said)?;
+    let unsent = copied_bytes(&there.unsent)?;
+    let bytes = copied_bytes(&there.bytes)?;
+    let outcomes = copied_outcomes(&there.outcomes)?;
+    let net_record = copied_record(&there.net_record)?;
+    let state = copied_state(&there.state)?;
+    Ok(PlayState {
+        failed: there.failed,
+        said,
+        unsent,
+        local: there.local,
+        peer: there.peer,
+        bytes,
+        ended: there.ended,
+        outcomes,
+        net_record,
+        state,
+    })
+}
+
+/// A copy of bytes.
+fn copied_bytes(bytes: &Bytes) -> Result<Bytes, AllocError>
+    ensures { IfOk result (λ copy. copy ≡ bytes.now) }
+{
+    bytes.clone()
+}
+
+/// A copy of what happened beside the control connection.
+fn copied_outcomes(outcomes: &Items<NetOutcome>) -> Result<Items<NetOutcome>, AllocError>
+    ensures { IfOk result (λ copy. copy ≡ outcomes.now) }
+{
+    outcomes.clone()
+}
+
+/// A copy of what stands beside the control connection.
+fn copied_record(record: &NetRecord) -> Result<NetRecord, AllocError>
+    ensures { IfOk result (λ copy. copy ≡ record.now) }
+{
+    record.clone()
+}
+
+/// A copy of a session's state.
+fn copied_state(state: &State) -> Result<State, AllocError>
+    ensures { IfOk result (λ copy. copy ≡ state.now) }
+{
+    state.clone()
 }
 
 /// A call is done, and these are the answers: the run stands there.

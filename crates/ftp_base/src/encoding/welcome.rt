@@ -13,10 +13,18 @@ use std::alloc::Global;
 use std::marker::Model;
 
 /// The greeting of a server and its text, which follows the session's encoding.
-#[derive(Clone, Debug, Drop)]
+#[derive(Clone, Debug)]
 pub struct WelcomeMessage {
     greeting: Bytes,
     text: Text,
+}
+
+impl Drop for WelcomeMessage {
+    fn drop(self) {
+        let Self { greeting, text } = self;
+        drop(greeting);
+        drop(text);
+    }
 }
 
 impl Model for WelcomeMessage {

@@ -17,9 +17,16 @@ use std::marker::Model;
 use std::ops::{DerefSlice, DerefStr};
 
 /// A list of bytes, made from a `Vec<u8>` and given back as one without taking memory.
-#[derive(Clone, Drop)]
+#[derive(Clone)]
 pub struct Bytes {
     items: Vec<u8>,
+}
+
+impl Drop for Bytes {
+    fn drop(self) {
+        let Self { items } = self;
+        drop(items);
+    }
 }
 
 impl Model for Bytes {
@@ -158,9 +165,16 @@ impl Eq for Bytes {
 }
 
 /// A text, made from a `String` and given back as one without taking memory.
-#[derive(Clone, Drop)]
+#[derive(Clone)]
 pub struct Text {
     text: String,
+}
+
+impl Drop for Text {
+    fn drop(self) {
+        let Self { text } = self;
+        drop(text);
+    }
 }
 
 impl Model for Text {

@@ -20,9 +20,16 @@ use std::marker::Model;
 
 /// The features of a server: for each name a value or none. A contract sees the names with their
 /// values, in the order of names.
-#[derive(Clone, Drop)]
+#[derive(Clone)]
 pub struct Features {
     map: BTreeMap<String, Option<String>>,
+}
+
+impl Drop for Features {
+    fn drop(self) {
+        let Self { map } = self;
+        drop(map);
+    }
 }
 
 impl Model for Features {

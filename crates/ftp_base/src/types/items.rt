@@ -11,9 +11,15 @@ use std::fmt;
 use std::marker::Model;
 
 /// A list of values, made from a `Vec` and given back as one without taking memory.
-#[derive(Drop)]
 pub struct Items<T> {
     items: Vec<T>,
+}
+
+impl<T: Drop> Drop for Items<T> {
+    fn drop(self) {
+        let Self { items } = self;
+        drop(items);
+    }
 }
 
 impl<T> Model for Items<T> {

@@ -22,7 +22,7 @@ pub enum Mode {
 }
 
 /// Which peers may open an active data connection.
-#[derive(Clone, Debug, PartialEq, Eq, Drop)]
+#[derive(Clone, Debug, PartialEq, Eq)]
 pub enum ActivePeerCheck {
     /// The peer of the control connection, and no other.
     ControlPeer,
@@ -30,6 +30,15 @@ pub enum ActivePeerCheck {
     Any,
     /// The listed addresses, and no other.
     Allow(Items<IpAddr>),
+}
+
+impl Drop for ActivePeerCheck {
+    fn drop(self) {
+        match self {
+            ActivePeerCheck::ControlPeer | ActivePeerCheck::Any => {}
+            ActivePeerCheck::Allow(items) => drop(items),
+        }
+    }
 }
 
 impl Default for ActivePeerCheck {

@@ -19,11 +19,21 @@ use std::marker::Model;
 pub(crate) const AHEAD_LIMIT: usize = 8_192;
 
 /// The bytes that were received and not looked at: a part of a buffer.
-#[derive(Drop)]
 pub(crate) struct ReadAhead {
     buffer: Vec<u8>,
     start: usize,
     end: usize,
+}
+
+impl Drop for ReadAhead {
+    fn drop(self) {
+        let Self {
+            buffer,
+            start: _,
+            end: _,
+        } = self;
+        drop(buffer);
+    }
 }
 
 impl Model for ReadAhead {

@@ -33,7 +33,6 @@ use std::mem;
 ///
 /// A read or a write that has to wait may be dropped: what was read is kept for the next read, and the unsent
 /// tail of a line goes out before any other byte.
-#[derive(Drop)]
 pub struct ControlChannel<C: Tells + Drop> {
     pub(super) conn: C,
     pub(super) ahead: ReadAhead,
@@ -42,6 +41,24 @@ pub struct ControlChannel<C: Tells + Drop> {
     pub(super) ended: bool,
     pub(super) failed: bool,
     pub(super) rule: ReplyRule,
+}
+
+impl<C: Tells + Drop> Drop for ControlChannel<C> {
+    fn drop(self) {
+        let Self {
+            conn,
+            ahead,
+            reply,
+            outbox,
+            ended: _,
+            failed: _,
+            rule: _,
+        } = self;
+        drop(conn);
+        drop(ahead);
+        drop(reply);
+        drop(outbox);
+    }
 }
 
 impl<C: Tells + Drop> Model for ControlChannel<C> {

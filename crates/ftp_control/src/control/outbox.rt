@@ -13,10 +13,16 @@ use futures::task::Poll;
 use std::io::ErrorKind;
 
 /// The last line, and how many of its bytes went out.
-#[derive(Drop)]
 pub(crate) struct Outbox {
     pub(crate) line: Vec<u8>,
     pub(crate) sent: usize,
+}
+
+impl Drop for Outbox {
+    fn drop(self) {
+        let Self { line, sent: _ } = self;
+        drop(line);
+    }
 }
 
 /// Sends what is unsent, as far as there is room. `Pending` says that the connection waits for room.

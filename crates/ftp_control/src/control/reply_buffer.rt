@@ -23,11 +23,21 @@ use std::mem;
 pub const REPLY_LIMIT: usize = 262_144;
 
 /// The bytes of the reply under way, where its last line begins, and the phase that its whole lines have reached.
-#[derive(Drop)]
 pub(crate) struct ReplyBuffer {
     pub(crate) bytes: Vec<u8>,
     pub(crate) line_start: usize,
     pub(crate) phase: Phase,
+}
+
+impl Drop for ReplyBuffer {
+    fn drop(self) {
+        let Self {
+            bytes,
+            line_start: _,
+            phase: _,
+        } = self;
+        drop(bytes);
+    }
 }
 
 /// Consumes a piece of the reply, for which there is room.

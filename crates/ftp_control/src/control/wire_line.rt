@@ -21,9 +21,15 @@ use std::marker::Model;
 /// The bytes of one command as they go out: CR and LF stand only at their end, each byte 255 is doubled.
 ///
 /// No other bytes can be sent on a control channel, so no text becomes a second command.
-#[derive(Drop)]
 pub struct WireLine {
     bytes: Bytes,
+}
+
+impl Drop for WireLine {
+    fn drop(self) {
+        let Self { bytes } = self;
+        drop(bytes);
+    }
 }
 
 impl Model for WireLine {

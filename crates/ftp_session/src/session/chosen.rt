@@ -9,8 +9,14 @@ use ftp_base::encoding::{EncodeError, Encoding, Utf8Encoding};
 use std::alloc::{AllocError, Global};
 
 /// The encoding that was set, or UTF-8, read lossily, where none was (RFC 2640, section 2.1).
-#[derive(Drop)]
 pub struct Chosen<E: Encoding>(pub(super) Option<E>);
+
+impl<E: Encoding> Drop for Chosen<E> {
+    fn drop(self) {
+        let Self(encoding) = self;
+        drop(encoding);
+    }
+}
 
 impl<E: Encoding> Encoding for Chosen<E> {
     ghost decoded = { λ chosen bytes. decoded_by E.decoded chosen.0 bytes };

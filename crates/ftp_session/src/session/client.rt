@@ -32,7 +32,6 @@ use std::marker::PhantomData;
 /// builder of passive data connections. Without the last three, as in `Session<TcpTransport>`, it has no TLS, reads
 /// and writes UTF-8, and lets the transport make its data connections. A session that can be put under TLS is one over a
 /// transport of `ftp_secure`, as `Session<Secured<TcpTransport, K>, K>`.
-#[derive(Drop)]
 pub struct Session<
     Tr: Network,
     K: Drop = NoTlsConnector,
@@ -48,6 +47,24 @@ pub struct Session<
     pub(super) mark: Option<SessionEnd>,
     /// That of the transfer before, as the last look left it: what was found there stays in evidence.
     pub(super) former: Option<SessionEnd>,
+}
+
+impl<Tr: Network, K: Drop, E: Encoding, B: Drop> Drop for Session<Tr, K, E, B> {
+    fn drop(self) {
+        let Self {
+            machine,
+            encoding,
+            connector: _,
+            builder,
+            mark,
+            former,
+        } = self;
+        drop(machine);
+        drop(encoding);
+        drop(builder);
+        drop(mark);
+        drop(former);
+    }
 }
 
 impl<Tr: Network, K: Drop, E: Encoding, B: Drop> Session<Tr, K, E, B> {

@@ -32,12 +32,24 @@ use std::marker::Model;
 use std::mem;
 
 /// A call under way, and where it stands.
-#[derive(Drop)]
 pub struct PolledCall {
     call: Call,
     looks: bool,
     over: bool,
     stage: Stage,
+}
+
+impl Drop for PolledCall {
+    fn drop(self) {
+        let Self {
+            call,
+            looks: _,
+            over: _,
+            stage,
+        } = self;
+        drop(call);
+        drop(stage);
+    }
 }
 
 impl Model for PolledCall {

@@ -9,10 +9,16 @@ use std::marker::Model;
 /// The receipt for a transfer that was left: what became of its end of the mark.
 ///
 /// Who is shown the receipt finds the transfer left, whichever thread left it.
-#[derive(Drop)]
 pub struct Left {
     pub(super) number: u64,
     pub(super) place: Place,
+}
+
+impl Drop for Left {
+    fn drop(self) {
+        let Self { number: _, place } = self;
+        drop(place);
+    }
 }
 
 impl Model for Left {

@@ -8,10 +8,16 @@ use super::word::Place;
 use std::marker::Model;
 
 /// The end that a session holds of the transfer that it owes.
-#[derive(Drop)]
 pub struct SessionEnd {
     pub(super) number: u64,
     pub(super) place: Place,
+}
+
+impl Drop for SessionEnd {
+    fn drop(self) {
+        let Self { number: _, place } = self;
+        drop(place);
+    }
 }
 
 impl Model for SessionEnd {
