@@ -10,6 +10,8 @@ mod connects;
 #[cfg(test)]
 mod counted;
 #[cfg(test)]
+mod cuts;
+#[cfg(test)]
 mod dropping;
 #[cfg(test)]
 mod limits;

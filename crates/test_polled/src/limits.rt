@@ -17,12 +17,17 @@ use std::{io, thread};
 /// The limit, in milliseconds.
 const LIMIT: u64 = 100;
 
-/// A client whose reads wait no longer than the limit.
-fn client<R>(rt: &R, runtime: &mut Runtime, address: SocketAddr) -> Result<Box<Client>, Fail>
+/// A client whose reads wait no longer than so many milliseconds.
+pub fn client<R>(
+    rt: &R,
+    runtime: &mut Runtime,
+    address: SocketAddr,
+    limit: u64,
+) -> Result<Box<Client>, Fail>
 where
     R: Net + Wait + Clock + RandomSource + AllocGlobal,
 {
-    let limit = Some(Duration::from_millis(LIMIT));
+    let limit = Some(Duration::from_millis(limit));
     let transport = TokioTransport::of_runtime_with_limits(runtime.handle(), None, limit, None)?;
     client_of(rt, runtime, Client::connect(rt, transport, &[address]))
 }
@@ -67,7 +72,7 @@ fn a_reply_is_waited_for_until_the_limit_from_its_own_call_on(rt: HostRuntime) -
     let (listener, address) = listening(&rt)?;
     let serving = thread::spawn(&rt, move || answer_one(&rt, &listener))?;
     let mut runtime = running(&rt)?;
-    let client = client(&rt, &mut runtime, address)?;
+    let client = client(&rt, &mut runtime, address, LIMIT)?;
     // no turn of the event loop sees this time pass
     thread::sleep(&rt, Duration::from_millis(LIMIT * 2));
     let first = noop(&rt, &mut runtime, &client);
@@ -100,7 +105,7 @@ fn data_that_stall_end_their_download_and_the_client_goes_on(rt: HostRuntime) ->
     let (data, _address) = listening(&rt)?;
     let serving = thread::spawn(&rt, move || stall(&listener, &data))?;
     let mut runtime = running(&rt)?;
-    let client = client(&rt, &mut runtime, address)?;
+    let client = client(&rt, &mut runtime, address, LIMIT)?;
     let fault = kind_of(&rt, &mut runtime, client.retr_as_buffer(&rt, "a"))?;
     let after = noop(&rt, &mut runtime, &client);
     drop(client);
