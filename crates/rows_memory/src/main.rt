@@ -2,8 +2,10 @@
 //!
 //! The first line of the input is a number: so many allocations are made first and given back. A sweep has the tool fail
 //! always the same allocation of the program, and gives each number below, so that one build serves all runs
-//! (`.ci/fail-allocations`). Rows follow, written as docs/ROWS.md says but with the answers alone as their transcripts, or
-//! under a heading lines `list FORM NOW TEXT` of a listing, each with a line `due FILE` after it; an empty line ends either.
+//! (`.ci/fail-allocations`). Rows follow, written as docs/ROWS.md says but with the answers alone as their transcripts; or
+//! under a heading lines `list FORM NOW TEXT` of a listing, each with a line `due FILE` after it, or a line `secure BYTES`
+//! of what a session's server sends before it is put under TLS, with a line `under BYTES` of what it sends then. An empty
+//! line ends each.
 //! A line that isn't understood ends the program with status 1.
 #![tactic(auto)]
 
@@ -12,6 +14,7 @@ mod judge;
 mod listing;
 mod played;
 mod reader;
+mod secure;
 
 use rows_text::RowError;
 use std::process::ExitCode;

@@ -1,8 +1,8 @@
 //! Reads the rows, and has each played.
 
 use crate::judge::{judge, judge_events};
-use crate::listing;
 use crate::played::{called, happened};
+use crate::{listing, secure};
 use rows_plays::{Play, Row};
 use rows_text::RowError;
 use std::io;
@@ -28,7 +28,7 @@ where
     Ok(())
 }
 
-/// Plays a row, or reads a line of a listing.
+/// Plays a row, reads a line of a listing, or puts a session under TLS.
 fn play_paragraph<R>(rt: &R, paragraph: &str) -> Result<(), RowError>
 where
     R: Wait + Print + RandomSource + AllocGlobal,
@@ -47,6 +47,11 @@ where
         } else if let Some(due) = line.strip_prefix("due ") {
             let words = listed.take().ok_or(RowError::NotUnderstood)?;
             listing::play(rt, words, due)?;
+        } else if let Some(bytes) = line.strip_prefix("secure ") {
+            listed = Some(bytes);
+        } else if let Some(bytes) = line.strip_prefix("under ") {
+            let server = listed.take().ok_or(RowError::NotUnderstood)?;
+            secure::play(rt, server, bytes)?;
         } else {
             let row = row.as_mut().ok_or(RowError::NotUnderstood)?;
             row.read(rt.alloc(), line)?;
