@@ -2,6 +2,7 @@ pub mod Backed
 pub mod CaughtUp
 pub mod Commands
 pub mod Connecting
+pub mod ConnectingCounts
 pub mod CopyingLemmas
 pub mod Counting
 pub mod Failures

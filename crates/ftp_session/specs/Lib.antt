@@ -2,6 +2,7 @@ pub mod Calls
 pub mod Commands
 pub mod Connecting
 pub mod Copying
+pub mod Counting
 pub mod Fetched
 pub mod Files
 pub mod Handed

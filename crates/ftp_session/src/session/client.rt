@@ -7,6 +7,7 @@
 ghost use Rattle.std.specs.Prelude.{◌≡◌, IfOk, MatchResult, Ok, IfErr, OnOk, OnErr, Some, None, length, option_map};
 ghost use Rattle.ftp_control.specs.Channel.{IsSound, untaken};
 ghost use Rattle.ftp_session.specs.Calls.{Connects, FailsToConnect};
+ghost use Rattle.ftp_session.specs.Counting.{CountsInGreeting};
 ghost use Rattle.ftp_dialogue.specs.Coding.{chosen};
 ghost use Rattle.ftp_dialogue.specs.NetEvents.{first_net};
 ghost use Rattle.ftp_dialogue.specs.Link.{blocking};
@@ -132,6 +133,8 @@ impl<Tr: Network, K: Drop, E: Encoding, B: Drop> Session<Tr, K, E, B> {
             (first_net (Tr.asked transport) (Tr.ready transport) (Tr.closed transport)) session.machine (Ok tt))
             (λ fault. FailsToConnect (blocking Tr.Conn.Conn) (chosen E.decoded E.encoded None) ReplyRule.Strict (Tr.Conn.told conn)
             (first_net (Tr.asked transport) (Tr.ready transport) (Tr.closed transport)) fault) }
+        ensures counts { IfErr result (λ fault. CountsInGreeting (blocking Tr.Conn.Conn) (chosen E.decoded E.encoded None) ReplyRule.Strict (Tr.Conn.told conn)
+            (first_net (Tr.asked transport) (Tr.ready transport) (Tr.closed transport)) fault) }
     {
         Session::greeted(alloc, transport, conn, ReplyRule::Strict)
     }
@@ -154,6 +157,8 @@ impl<Tr: Network, K: Drop, E: Encoding, B: Drop> Session<Tr, K, E, B> {
             (λ session. Connects (blocking Tr.Conn.Conn) (chosen E.decoded E.encoded None) ReplyRule.Lenient (Tr.Conn.told conn)
             (first_net (Tr.asked transport) (Tr.ready transport) (Tr.closed transport)) session.machine (Ok tt))
             (λ fault. FailsToConnect (blocking Tr.Conn.Conn) (chosen E.decoded E.encoded None) ReplyRule.Lenient (Tr.Conn.told conn)
+            (first_net (Tr.asked transport) (Tr.ready transport) (Tr.closed transport)) fault) }
+        ensures counts { IfErr result (λ fault. CountsInGreeting (blocking Tr.Conn.Conn) (chosen E.decoded E.encoded None) ReplyRule.Lenient (Tr.Conn.told conn)
             (first_net (Tr.asked transport) (Tr.ready transport) (Tr.closed transport)) fault) }
     {
         Session::greeted(alloc, transport, conn, ReplyRule::Lenient)

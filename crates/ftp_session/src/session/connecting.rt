@@ -3,12 +3,13 @@
 //! The addresses are asked for in turn, and the greeting is read on the first that connects. What is asked and what it
 //! results in are nodes of a dialogue (`connecting`), as all requests of a session are.
 
-ghost use Rattle.std.specs.Prelude.{◌≡◌, IfOk, MatchResult, Ok, Err, Some, None, length};
+ghost use Rattle.std.specs.Prelude.{◌≡◌, IfErr, IfOk, MatchResult, Ok, Err, Some, None, length};
 ghost use Rattle.std.specs.Duration.{as_nanos};
 ghost use Rattle.ftp_base.specs.declared.types.fault.ConnectionError.TheVariants as faults;
 ghost use Rattle.ftp_transport.specs.Asking.{connects_to};
 ghost use Rattle.ftp_dialogue.specs.Coding.{chosen};
 ghost use Rattle.ftp_session.specs.Connecting.{ConnectsBy, FailsToConnectBy, connects_within};
+ghost use Rattle.ftp_session.specs.Counting.{CountsConnecting};
 ghost use Rattle.ftp_dialogue.specs.Link.{blocking};
 
 use super::client::Session;
@@ -46,6 +47,7 @@ where
         ensures connects { MatchResult result
             (λ session. ConnectsBy (blocking Tr.Conn.Conn) (chosen E.decoded E.encoded None) ReplyRule.Strict Tr.refuses (connects_to None addresses.now) faults.NoAddress (Tr.ready transport) (Tr.closed transport) (Tr.asked transport) session.machine (Ok tt))
             (λ fault. FailsToConnectBy (blocking Tr.Conn.Conn) (chosen E.decoded E.encoded None) ReplyRule.Strict Tr.refuses (connects_to None addresses.now) faults.NoAddress (Tr.ready transport) (Tr.closed transport) (Tr.asked transport) fault) }
+        ensures counts { IfErr result (λ fault. CountsConnecting (blocking Tr.Conn.Conn) (chosen E.decoded E.encoded None) ReplyRule.Strict Tr.refuses (connects_to None addresses.now) faults.NoAddress (Tr.ready transport) (Tr.closed transport) (Tr.asked transport) fault) }
     {
         Session::connect_in_turn(
             alloc,
@@ -78,6 +80,7 @@ where
         ensures connects { MatchResult result
             (λ session. ConnectsBy (blocking Tr.Conn.Conn) (chosen E.decoded E.encoded None) ReplyRule.Lenient Tr.refuses (connects_to None addresses.now) faults.NoAddress (Tr.ready transport) (Tr.closed transport) (Tr.asked transport) session.machine (Ok tt))
             (λ fault. FailsToConnectBy (blocking Tr.Conn.Conn) (chosen E.decoded E.encoded None) ReplyRule.Lenient Tr.refuses (connects_to None addresses.now) faults.NoAddress (Tr.ready transport) (Tr.closed transport) (Tr.asked transport) fault) }
+        ensures counts { IfErr result (λ fault. CountsConnecting (blocking Tr.Conn.Conn) (chosen E.decoded E.encoded None) ReplyRule.Lenient Tr.refuses (connects_to None addresses.now) faults.NoAddress (Tr.ready transport) (Tr.closed transport) (Tr.asked transport) fault) }
     {
         Session::connect_in_turn(
             alloc,
@@ -113,6 +116,7 @@ where
         ensures connects { MatchResult result
             (λ session. ConnectsBy (blocking Tr.Conn.Conn) (chosen E.decoded E.encoded None) ReplyRule.Strict Tr.refuses (connects_within limit address) faults.TimedOut (Tr.ready transport) (Tr.closed transport) (Tr.asked transport) session.machine (Ok tt))
             (λ fault. FailsToConnectBy (blocking Tr.Conn.Conn) (chosen E.decoded E.encoded None) ReplyRule.Strict Tr.refuses (connects_within limit address) faults.TimedOut (Tr.ready transport) (Tr.closed transport) (Tr.asked transport) fault) }
+        ensures counts { IfErr result (λ fault. CountsConnecting (blocking Tr.Conn.Conn) (chosen E.decoded E.encoded None) ReplyRule.Strict Tr.refuses (connects_within limit address) faults.TimedOut (Tr.ready transport) (Tr.closed transport) (Tr.asked transport) fault) }
     {
         let addresses = [address];
         let count = if limit.is_zero() { 0 } else { 1 };

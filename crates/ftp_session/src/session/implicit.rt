@@ -3,12 +3,13 @@
 //! The connector puts the connection under TLS before the greeting is read on it. Data connections are put under TLS by
 //! the same connector; neither `PBSZ` nor `PROT` is sent.
 
-ghost use Rattle.std.specs.Prelude.{◌≡◌, Err, IfOk, MatchResult, None, length, string_bytes};
+ghost use Rattle.std.specs.Prelude.{◌≡◌, Err, IfErr, IfOk, MatchResult, None, length, string_bytes};
 ghost use Rattle.ftp_base.specs.declared.types.fault.ConnectionError.TheVariants as faults;
 ghost use Rattle.ftp_transport.specs.Asking.{connects_to};
 ghost use Rattle.ftp_dialogue.specs.Coding.{chosen};
 ghost use Rattle.ftp_dialogue.specs.Link.{blocking};
 ghost use Rattle.ftp_dialogue.specs.NetEvents.{first_net};
+ghost use Rattle.ftp_session.specs.Counting.{CountsConnectingUnder};
 ghost use Rattle.ftp_session.specs.Implicit.{ConnectsUnder, FailsToConnectUnder, FailsUnder, GreetsUnder};
 ghost use Rattle.ftp_session.specs.Securing.{HandsOver};
 
@@ -50,6 +51,8 @@ where
             (λ session. ConnectsUnder (blocking Tr.Conn.Conn)
             (HandsOver Tr.Conn Tr.Conn.told Tr.gives (Tr.answers connector domain.now)) (chosen E.decoded E.encoded None) Tr.refuses (connects_to None addresses.now) faults.NoAddress (Tr.ready transport) (Tr.closed transport) (Tr.asked transport) session.machine)
             (λ fault. FailsToConnectUnder (blocking Tr.Conn.Conn)
+            (HandsOver Tr.Conn Tr.Conn.told Tr.gives (Tr.answers connector domain.now)) (chosen E.decoded E.encoded None) Tr.refuses (connects_to None addresses.now) faults.NoAddress (Tr.ready transport) (Tr.closed transport) (Tr.asked transport) fault) }
+        ensures counts { IfErr result (λ fault. CountsConnectingUnder (blocking Tr.Conn.Conn)
             (HandsOver Tr.Conn Tr.Conn.told Tr.gives (Tr.answers connector domain.now)) (chosen E.decoded E.encoded None) Tr.refuses (connects_to None addresses.now) faults.NoAddress (Tr.ready transport) (Tr.closed transport) (Tr.asked transport) fault) }
     {
         let Ok(name) = String::from_str(alloc, domain) else {
