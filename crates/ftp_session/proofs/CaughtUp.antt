@@ -25,7 +25,7 @@ use Rattle.ftp_session.proofs.Failures.{Caught, after_none, counts_since, light,
 
 -- Replies that are due to commands that were dropped
 
-caught_on : (tells : Type 0) (old middle new : SessionValue) (fault : Option FtpError) → Caught tells old middle None → Caught tells middle new fault → Caught tells old new fault
+pub caught_on : (tells : Type 0) (old middle new : SessionValue) (fault : Option FtpError) → Caught tells old middle None → Caught tells middle new fault → Caught tells old new fault
 caught_on tells old middle new None first second = (λ h. record { failures = (second.0 h).failures ∙ (first.0 h).failures; last_fault = (second.0 h).last_fault ∙ (first.0 h).last_fault }, λ f. first.1 (second.1 f))
 caught_on tells old middle new (Some fault) first second = after_none tells old middle new (Fault fault) first.0 first.1 second
 

@@ -9,10 +9,12 @@ pub mod Failures
 pub mod FetchAnswers
 pub mod FilesLemmas
 pub mod Handed
+pub mod Kept
 pub mod NegotiatedAnswers
 pub mod OpeningAnswers
 pub mod PolledLemmas
 pub mod Quiet
 pub mod Reasons
 pub mod SavingLemmas
+pub mod SecuringCounts
 pub mod Trees

@@ -1,11 +1,15 @@
 -- When an error of a connection is returned, and when `SessionFailed` is, by the calls that come to a connection, change it
 -- or move a whole file over one: only where a failure was counted, or something that was asked gave the error.
-use Rattle.std.specs.Prelude.{◌≡◌, ◌⊎◌, List, [], ◌∷◌, Result, Ok, Err}
+use Rattle.std.specs.Prelude.{◌≡◌, ◌⊎◌, ℕ, true, List, [], ◌∷◌, Option, Result, Ok, Err, codes}
 use Rattle.std.specs.declared.io.ErrorKind.{ErrorKind}
+use Rattle.ftp_base.specs.declared.command.Command.TheVariants.{Custom}
+use Rattle.ftp_base.specs.declared.status.Status.{Status}
+use Rattle.ftp_base.specs.declared.status.Status.TheVariants.{AuthOk, CommandOk}
 use Rattle.ftp_base.specs.declared.types.fault.ConnectionError.{ConnectionError}
 use Rattle.ftp_base.specs.declared.types.fault.ConnectionError.TheVariants.{Io}
 use Rattle.ftp_base.specs.declared.types.fault.FtpError.{FtpError}
 use Rattle.ftp_base.specs.declared.types.fault.FtpError.TheVariants.{ConnectionError as Connection, SessionFailed}
+use Rattle.ftp_base.specs.declared.types.reply.Response.{Response}
 use Rattle.ftp_transport.specs.Asking.{RefusedInTurn}
 use Rattle.ftp_transport.specs.Told.{Told}
 use Rattle.ftp_transport.specs.declared.request.Asked.{Asked}
@@ -14,13 +18,19 @@ use Rattle.ftp_transport.specs.declared.request.RequestOutcome.TheVariants.{Refu
 use Rattle.ftp_transport.specs.declared.supply.Supply.{Supply}
 use Rattle.ftp_control.specs.declared.control.rule.ReplyRule.{ReplyRule}
 use Rattle.ftp_control.specs.declared.control.rule.ReplyRule.TheVariants.{Strict}
+use Rattle.ftp_calls.specs.declared.call.Answer.TheVariants.{Reply}
+use Rattle.ftp_calls.specs.declared.exchange.Codes.TheVariants.{Given}
+use Rattle.ftp_transfer.specs.Mark.{End}
 use Rattle.ftp_dialogue.specs.Coding.{Coding}
 use Rattle.ftp_dialogue.specs.Counted.{CountsFailure}
 use Rattle.ftp_dialogue.specs.Link.{Link}
 use Rattle.ftp_dialogue.specs.NetEvents.{Net, first_net}
 use Rattle.ftp_dialogue.specs.State.{SessionValue}
 use Rattle.ftp_session.specs.Calls.{Connects}
+use Rattle.ftp_session.specs.Commands.{PlaysCommand}
 use Rattle.ftp_session.specs.Connecting.{IsConnected}
+use Rattle.ftp_session.specs.Handed.{LooksIf, as_seen, watches}
+use Rattle.ftp_session.specs.Trees.{reply_tree}
 
 -- Coming to a connection
 
@@ -68,3 +78,30 @@ FailsAtFirst link handshake coding told net fault =
 pub record CountsConnectingUnder (link : Link) (handshake : Told → Result Told FtpError → Type 0) (coding : Coding) (refuses : List Supply → ConnectionError → Type 0) (requests : List Request) (none : ConnectionError) (ready : List Supply) (closed : List Told) (asked : List Asked) (fault : FtpError) : Type 0 where
   pub counted : (kind : ErrorKind) → fault ≡ Connection (Io kind) → link.tells → IsRefusedAtLast refuses requests none (Io kind) ready asked ⊎ OnConnected link coding refuses requests none ready closed asked (λ told net. FailsAtFirst link handshake coding told net fault)
   pub had_failed : fault ≡ SessionFailed → OnConnected link coding refuses requests none ready closed asked (λ told net. handshake told (Err fault))
+
+-- Changes of TLS
+
+-- a session looked, and this command was accepted: this is so of the record of its connection then
+pub record OnceAccepted (link : Link) (coding : Coding) (line : List ℕ) (status : Status) (mark : Option End) (old : SessionValue) (Is : Told → Type 0) : Type 0 where
+  pub seen : Option End
+  pub looks : LooksIf (watches mark old) mark seen
+  pub between : Option End
+  pub at : SessionValue
+  pub reply : Response
+  pub plays : PlaysCommand link (reply_tree coding (Custom line) (Given (status ∷ []))) seen between (as_seen seen old) at (Reply reply)
+  pub is : Is at.channel.told
+
+-- the handshake gave this error, or the connection that it made counted a failure
+abbrev pub FailsInChange : (Told → Result Told FtpError → Type 0) → FtpError → Told → Told → Type 0
+FailsInChange handshake fault told new =
+    handshake told (Err fault) ⊎ ((under : Told) × handshake told (Ok under) × CountsFailure under new)
+
+-- a session isn't put under TLS: its connection failed before the handshake, in it or after it
+pub record CountsSecuring (link : Link) (handshake : Told → Result Told FtpError → Type 0) (coding : Coding) (mark : Option End) (old new : SessionValue) (fault : FtpError) : Type 0 where
+  pub counted : (kind : ErrorKind) → fault ≡ Connection (Io kind) → link.tells → CountsFailure old.channel.told new.channel.told ⊎ OnceAccepted link coding (codes "AUTH TLS") AuthOk mark old (λ told. FailsInChange handshake fault told new.channel.told)
+  pub had_failed : fault ≡ SessionFailed → (old.channel.failed ≡ true) ⊎ OnceAccepted link coding (codes "AUTH TLS") AuthOk mark old (λ told. handshake told (Err fault))
+
+-- a connection isn't taken from under TLS: it failed before that, or its stream gave the error
+pub record CountsClearing (link : Link) (gives : Told → Result Told FtpError → Type 0) (coding : Coding) (mark : Option End) (old new : SessionValue) (fault : FtpError) : Type 0 where
+  pub counted : (kind : ErrorKind) → fault ≡ Connection (Io kind) → link.tells → CountsFailure old.channel.told new.channel.told ⊎ OnceAccepted link coding (codes "CCC") CommandOk mark old (λ told. gives told (Err fault))
+  pub had_failed : fault ≡ SessionFailed → (old.channel.failed ≡ true) ⊎ OnceAccepted link coding (codes "CCC") CommandOk mark old (λ told. gives told (Err fault))

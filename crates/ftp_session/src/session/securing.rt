@@ -4,10 +4,11 @@
 //! anew on it, so that no byte that was received in clear is part of a later reply. From then on each data connection is
 //! put under TLS by the same connector, which the transport keeps.
 
-ghost use Rattle.std.specs.Prelude.{◌≡◌, Err, string_bytes};
+ghost use Rattle.std.specs.Prelude.{◌≡◌, Err, IfErr, string_bytes};
 ghost use Rattle.ftp_dialogue.specs.Coding.{chosen};
 ghost use Rattle.ftp_dialogue.specs.Link.{blocking};
 ghost use Rattle.ftp_dialogue.specs.Promises.{failed_from};
+ghost use Rattle.ftp_session.specs.Counting.{CountsClearing, CountsSecuring};
 ghost use Rattle.ftp_session.specs.Securing.{Changes, ChangesThen, Clears, HandsOver, Protects, ProtectsData, Secures, TakesOff, is_beside, secured, unchanged};
 
 use super::Owed;
@@ -38,6 +39,9 @@ where
         ensures secures { Secures (blocking Tr.Conn.Conn)
             (HandsOver Tr.Conn Tr.Conn.told Tr.gives (Tr.answers connector domain.now)) (chosen E.decoded E.encoded self.old.encoding.0)
             self.old.mark self.new.mark self.old.machine self.new.machine result }
+        ensures counts { IfErr result (λ fault. CountsSecuring (blocking Tr.Conn.Conn)
+            (HandsOver Tr.Conn Tr.Conn.told Tr.gives (Tr.answers connector domain.now)) (chosen E.decoded E.encoded self.old.encoding.0)
+            self.old.mark self.old.machine self.new.machine fault) }
         ensures encoding { self.new.encoding ≡ self.old.encoding }
         ensures builder { self.new.builder ≡ self.old.builder }
         ensures former { self.new.former ≡ self.old.former }
@@ -73,6 +77,8 @@ where
     pub fn clear_command_channel(&mut self, alloc: Global) -> FtpResult<()>
         ensures clears { Clears (blocking Tr.Conn.Conn) (TakesOff Tr.Conn Tr.Conn.told Tr.gives) (chosen E.decoded E.encoded self.old.encoding.0)
             self.old.mark self.new.mark self.old.machine self.new.machine result }
+        ensures counts { IfErr result (λ fault. CountsClearing (blocking Tr.Conn.Conn) (TakesOff Tr.Conn Tr.Conn.told Tr.gives) (chosen E.decoded E.encoded self.old.encoding.0)
+            self.old.mark self.old.machine self.new.machine fault) }
         ensures encoding { self.new.encoding ≡ self.old.encoding }
         ensures builder { self.new.builder ≡ self.old.builder }
         ensures former { self.new.former ≡ self.old.former }

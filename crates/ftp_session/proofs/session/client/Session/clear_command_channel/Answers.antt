@@ -1,4 +1,5 @@
 use Rattle.std.proofs.Common.{Ok, Err, inr, refl}
+use Rattle.ftp_session.proofs.SecuringCounts.{clearing_counts}
 use Rattle.ftp_session.proofs.session.client.Session.clear_command_channel.Goals as goal
 
 pub returns-in-Ok-clause-clears : goal.returns-in-Ok-clause-clears
@@ -20,3 +21,6 @@ returns-in-Err-clause-clears g c =
       looks = c.look.ensures.looks;
       clears = inr (beside, record { between = c.custom_command.new.self.mark; middle = c.custom_command.new.self.machine; reply = Err c.in-Err.fault; plays = plays; later = (refl, refl, refl) });
     }
+
+pub returns-in-Ok-clause-counts : goal.returns-in-Ok-clause-counts
+returns-in-Ok-clause-counts g c = clearing_counts _ _ _ _ _ _ _ _ (returns-in-Ok-clause-clears g c)

@@ -1,4 +1,5 @@
 use Rattle.std.proofs.Common.{Ok, Err, inr, refl}
+use Rattle.ftp_session.proofs.SecuringCounts.{securing_counts}
 use Rattle.ftp_session.proofs.session.client.Session.into_secure.Goals as goal
 
 pub returns-in-Ok-custom_command-clause-secures : goal.returns-in-Ok-custom_command-clause-secures
@@ -21,3 +22,6 @@ returns-in-Err-clause-secures g c =
       looks = c.look.ensures.looks;
       secures = inr (inr (beside, record { between = c.custom_command.new.self.mark; middle = c.custom_command.new.self.machine; reply = Err c.in-Err.fault; plays = plays; later = (refl, refl, refl) }));
     }
+
+pub returns-in-Ok-custom_command-clause-counts : goal.returns-in-Ok-custom_command-clause-counts
+returns-in-Ok-custom_command-clause-counts g c = securing_counts _ _ _ _ _ _ _ _ (returns-in-Ok-custom_command-clause-secures g c)
