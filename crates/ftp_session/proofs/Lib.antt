@@ -7,6 +7,7 @@ pub mod CopyingLemmas
 pub mod Counting
 pub mod Failures
 pub mod FetchAnswers
+pub mod FilesCounts
 pub mod FilesLemmas
 pub mod Handed
 pub mod Kept

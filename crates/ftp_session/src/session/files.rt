@@ -3,9 +3,10 @@
 //! Each opens a transfer as its stream form does, moves the bytes, and brings the transfer to its end, of which the
 //! caller sees nothing. An upload that fails leaves its transfer: its last reply is read before the next command.
 
-ghost use Rattle.std.specs.Prelude.{◌≡◌};
+ghost use Rattle.std.specs.Prelude.{◌≡◌, IfErr};
 ghost use Rattle.ftp_dialogue.specs.Coding.{chosen};
 ghost use Rattle.ftp_dialogue.specs.Link.{asking, blocking, built_by};
+ghost use Rattle.ftp_session.specs.Counting.{CountsDownload, CountsSaving, CountsUpload};
 ghost use Rattle.ftp_session.specs.Saving.{Receives, WritesTo};
 ghost use Rattle.ftp_session.specs.Files.{Abandons, FinishesWhole, Puts, Retrieves, Stores, failed_if, first_of, lacks_memory, unless_failed};
 
@@ -68,6 +69,8 @@ where
         Tr: Transport<R>,
         ensures puts { Puts (asking (built_by B.answers self.old.builder) ⊥ (blocking Tr.Conn.Conn)) (blocking Tr.Conn.Conn) (chosen E.decoded E.encoded self.old.encoding.0) (Call.PutWithStream path.now)
             (S.remaining source.old) (S.remaining source.new) self.old.mark self.new.mark self.old.former self.new.former self.old.machine self.new.machine result }
+        ensures counts { IfErr result (λ fault. CountsUpload (asking (built_by B.answers self.old.builder) ⊥ (blocking Tr.Conn.Conn)) (blocking Tr.Conn.Conn) (chosen E.decoded E.encoded self.old.encoding.0) (Call.PutWithStream path.now)
+            (S.remaining source.old) (S.remaining source.new) self.old.mark self.old.former self.new.former self.old.machine self.new.machine fault) }
         ensures encoding { self.new.encoding ≡ self.old.encoding }
         ensures builder { self.new.builder ≡ self.old.builder }
     {
@@ -90,6 +93,8 @@ where
         Tr: Transport<R>,
         ensures puts { Puts (asking (built_by B.answers self.old.builder) ⊥ (blocking Tr.Conn.Conn)) (blocking Tr.Conn.Conn) (chosen E.decoded E.encoded self.old.encoding.0) (Call.PutWithStream path.now)
             (S.remaining source.old) (S.remaining source.new) self.old.mark self.new.mark self.old.former self.new.former self.old.machine self.new.machine result }
+        ensures counts { IfErr result (λ fault. CountsUpload (asking (built_by B.answers self.old.builder) ⊥ (blocking Tr.Conn.Conn)) (blocking Tr.Conn.Conn) (chosen E.decoded E.encoded self.old.encoding.0) (Call.PutWithStream path.now)
+            (S.remaining source.old) (S.remaining source.new) self.old.mark self.old.former self.new.former self.old.machine self.new.machine fault) }
         ensures encoding { self.new.encoding ≡ self.old.encoding }
         ensures builder { self.new.builder ≡ self.old.builder }
     {
@@ -114,6 +119,8 @@ where
         Tr: Transport<R>,
         ensures puts { Puts (asking (built_by B.answers self.old.builder) ⊥ (blocking Tr.Conn.Conn)) (blocking Tr.Conn.Conn) (chosen E.decoded E.encoded self.old.encoding.0) (Call.AppendWithStream path.now)
             (S.remaining source.old) (S.remaining source.new) self.old.mark self.new.mark self.old.former self.new.former self.old.machine self.new.machine result }
+        ensures counts { IfErr result (λ fault. CountsUpload (asking (built_by B.answers self.old.builder) ⊥ (blocking Tr.Conn.Conn)) (blocking Tr.Conn.Conn) (chosen E.decoded E.encoded self.old.encoding.0) (Call.AppendWithStream path.now)
+            (S.remaining source.old) (S.remaining source.new) self.old.mark self.old.former self.new.former self.old.machine self.new.machine fault) }
         ensures encoding { self.new.encoding ≡ self.old.encoding }
         ensures builder { self.new.builder ≡ self.old.builder }
     {
@@ -136,6 +143,8 @@ where
         Tr: Transport<R>,
         ensures puts { Puts (asking (built_by B.answers self.old.builder) ⊥ (blocking Tr.Conn.Conn)) (blocking Tr.Conn.Conn) (chosen E.decoded E.encoded self.old.encoding.0) (Call.AppendWithStream path.now)
             (S.remaining source.old) (S.remaining source.new) self.old.mark self.new.mark self.old.former self.new.former self.old.machine self.new.machine result }
+        ensures counts { IfErr result (λ fault. CountsUpload (asking (built_by B.answers self.old.builder) ⊥ (blocking Tr.Conn.Conn)) (blocking Tr.Conn.Conn) (chosen E.decoded E.encoded self.old.encoding.0) (Call.AppendWithStream path.now)
+            (S.remaining source.old) (S.remaining source.new) self.old.mark self.old.former self.new.former self.old.machine self.new.machine fault) }
         ensures encoding { self.new.encoding ≡ self.old.encoding }
         ensures builder { self.new.builder ≡ self.old.builder }
     {
@@ -165,6 +174,8 @@ where
         Tr: Transport<R>,
         ensures retrieves { Retrieves (asking (built_by B.answers self.old.builder) ⊥ (blocking Tr.Conn.Conn)) (blocking Tr.Conn.Conn) (chosen E.decoded E.encoded self.old.encoding.0) (Call.RetrAsStream path.now)
             F.reads self.old.mark self.new.mark self.old.former self.new.former self.old.machine self.new.machine result }
+        ensures counts { IfErr result (λ fault. CountsDownload (asking (built_by B.answers self.old.builder) ⊥ (blocking Tr.Conn.Conn)) (blocking Tr.Conn.Conn) (chosen E.decoded E.encoded self.old.encoding.0) (Call.RetrAsStream path.now)
+            F.reads self.old.mark self.old.former self.new.former self.old.machine self.new.machine fault) }
         ensures encoding { self.new.encoding ≡ self.old.encoding }
         ensures builder { self.new.builder ≡ self.old.builder }
     {
@@ -200,6 +211,8 @@ where
         Tr: Transport<R>,
         ensures writes { WritesTo (asking (built_by B.answers self.old.builder) ⊥ (blocking Tr.Conn.Conn)) (blocking Tr.Conn.Conn) (chosen E.decoded E.encoded self.old.encoding.0) (Call.RetrAsStream path.now)
             (W.contents writer.old) (W.contents writer.new) self.old.mark self.new.mark self.old.former self.new.former self.old.machine self.new.machine result }
+        ensures counts { IfErr result (λ fault. CountsSaving (asking (built_by B.answers self.old.builder) ⊥ (blocking Tr.Conn.Conn)) (blocking Tr.Conn.Conn) (chosen E.decoded E.encoded self.old.encoding.0) (Call.RetrAsStream path.now)
+            (W.contents writer.old) (W.contents writer.new) self.old.mark self.old.former self.new.former self.old.machine self.new.machine fault) }
         ensures encoding { self.new.encoding ≡ self.old.encoding }
         ensures builder { self.new.builder ≡ self.old.builder }
     {

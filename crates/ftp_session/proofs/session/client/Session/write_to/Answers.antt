@@ -1,3 +1,6 @@
+use Rattle.std.proofs.Common.{refl}
+use Rattle.ftp_calls.specs.declared.call.Call.TheVariants.{RetrAsStream}
+use Rattle.ftp_session.proofs.FilesCounts.{of_opening, saving_counts}
 use Rattle.ftp_session.proofs.SavingLemmas.{writes_on}
 use Rattle.ftp_session.proofs.session.client.Session.write_to.Goals as goal
 
@@ -6,3 +9,9 @@ returns-in-Ok-clause-writes g c =
     let opened = rw c.in-Ok.is at c.retr_as_stream.ensures.opens in
     let receives = rw c.retr_as_stream.ensures.encoding at c.receive.ensures.receives in
     rw c.receive.ensures.former (writes_on _ _ _ _ _ c.retr_as_stream.new.self.mark _ _ c.retr_as_stream.new.self.former _ c.retr_as_stream.new.self.machine _ c.in-Ok.transfer _ _ _ opened receives)
+
+pub returns-in-Ok-clause-counts : goal.returns-in-Ok-clause-counts
+returns-in-Ok-clause-counts g c = saving_counts _ _ (λ h. h) _ (RetrAsStream c.args.path.now) (refl, refl, refl) tt _ _ _ _ _ _ _ _ _ (returns-in-Ok-clause-writes g c)
+
+pub returns-in-Err-clause-counts : goal.returns-in-Err-clause-counts
+returns-in-Err-clause-counts g c = of_opening _ _ _ _ _ c.in-Err.ensures.counts

@@ -1,0 +1,226 @@
+-- Failures that are counted while a whole file is moved.
+use Rattle.std.proofs.Common.{◌≡◌, ℕ, Bool, true, false, List, Option, Some, None, Result, Ok, Err, inl, inr, ◌⊎◌, refl, ap, sym, subst}
+use Rattle.std.specs.Prelude.{IfErr}
+use Rattle.std.specs.Io.KnownBytes.{Appends}
+use Rattle.std.specs.declared.io.ErrorKind.{ErrorKind}
+use Rattle.ftp_base.specs.Ascii.{AppendsFront, IsCopyFault}
+use Rattle.ftp_base.specs.declared.types.fault.ConnectionError.TheVariants as cause
+use Rattle.ftp_base.specs.declared.types.fault.FtpError.{FtpError}
+use Rattle.ftp_base.specs.declared.types.fault.FtpError.TheVariants as faults
+use Rattle.ftp_calls.specs.Exchanges.{row_of}
+use Rattle.ftp_calls.specs.Kinds.{IsOpening}
+use Rattle.ftp_calls.specs.declared.call.Answer.{Answer}
+use Rattle.ftp_calls.specs.declared.call.Answer.TheVariants.{Fault, Opened}
+use Rattle.ftp_calls.specs.declared.call.Call.{Call}
+use Rattle.ftp_calls.specs.declared.exchange.Turn.TheVariants.{Second}
+use Rattle.ftp_transfer.specs.Mark.{End}
+use Rattle.ftp_transfer.specs.Transfer.{TransferValue}
+use Rattle.ftp_transfer.specs.declared.direction.Direction.{Direction}
+use Rattle.ftp_transfer.specs.declared.direction.Direction.TheVariants.{Download, Upload}
+use Rattle.ftp_dialogue.specs.Coding.{Coding}
+use Rattle.ftp_dialogue.specs.Counted.{CountsFailure, CountsFaultsBeside, IsGivenBeside}
+use Rattle.ftp_dialogue.specs.Dialogue.{wire_data}
+use Rattle.ftp_dialogue.specs.Link.{Link}
+use Rattle.ftp_dialogue.specs.Sound.{cannot_open}
+use Rattle.ftp_dialogue.specs.State.{SessionValue}
+use Rattle.ftp_session.specs.Copying.{Copies, GaveUp, Hinders, Wrote, WroteFront}
+use Rattle.ftp_session.specs.Counting.{CopyStops, CountsDownload, CountsSaving, CountsUpload, CountsWhole, GivesOn, OnOpened, SaveStops}
+use Rattle.ftp_session.specs.Files.{EndsUpload, FinishesWhole, OpensAndReads, OpensAndStores, Puts, PutsFrom, Retrieves, RetrievesFrom, failed_if, first_of, lacks_memory, unless_failed}
+use Rattle.ftp_session.specs.Handed.{OpensOne, as_seen, with_data}
+use Rattle.ftp_session.specs.Saving.{EndsEarly, OpensAndReceives, SaveFails, Saves, StopsAt, WritesFrom, WritesTo}
+use Rattle.ftp_session.proofs.Backed.{OpensOnly}
+use Rattle.ftp_session.proofs.CaughtUp.{caught_on}
+use Rattle.ftp_session.proofs.Failures.{Caught, none_then}
+use Rattle.ftp_session.proofs.Kept.{same_kept, seen_kept, step_kept}
+use Rattle.ftp_session.proofs.Quiet.{IsGrave}
+use Rattle.ftp_session.proofs.Reasons.{ends_reasons, opened_reasons}
+
+-- Where the error comes from
+
+module _ (link : Link) (Gives : Type 0) (old new : SessionValue) (fault : FtpError) where
+  -- the transfer gave it
+  of_transfer : (IsGrave fault → Gives) → CountsWhole link Gives old new fault
+  of_transfer gives = record {
+    counted = λ kind is h. inr (inr (gives (subst IsGrave (sym is) tt)));
+    had_failed = λ is. inr (inr (inr (gives (subst IsGrave (sym is) tt))));
+  }
+
+  -- no transfer was opened
+  pub of_opening : CountsFaultsBeside link old new (Fault fault) → CountsWhole link Gives old new fault
+  of_opening counts = record { counted = λ kind is h. counted kind is (counts.counted kind (ap Fault is) h); had_failed = λ is. failed is (counts.had_failed (ap Fault is)) }
+    where
+      P : FtpError → Type 0
+      P f = IsGivenBeside link f old.net new.net
+
+      counted : (kind : ErrorKind) → fault ≡ faults.ConnectionError (cause.Io kind) → CountsFailure old.channel.told new.channel.told ⊎ IsGivenBeside link (faults.ConnectionError (cause.Io kind)) old.net new.net → CountsFailure old.channel.told new.channel.told ⊎ IsGivenBeside link fault old.net new.net ⊎ Gives
+      counted kind is (inl more) = inl more
+      counted kind is (inr gives) = inr (inl (subst P (sym is) gives))
+
+      failed : fault ≡ faults.SessionFailed → (old.channel.failed ≡ true) ⊎ (cannot_open new.state.counts ≡ Some faults.SessionFailed) ⊎ IsGivenBeside link faults.SessionFailed old.net new.net → (old.channel.failed ≡ true) ⊎ (cannot_open new.state.counts ≡ Some faults.SessionFailed) ⊎ IsGivenBeside link fault old.net new.net ⊎ Gives
+      failed is (inl was) = inl was
+      failed is (inr (inl spent)) = inr (inl spent)
+      failed is (inr (inr gives)) = inr (inr (inl (subst P (sym is) gives)))
+
+  -- the end of the transfer gave it, on a session as one in which nothing had failed
+  of_end : (ends : Link) (same : link.tells → ends.tells) (at : SessionValue) → Caught link.tells old at None → CountsFaultsBeside ends at new (Fault fault) → (IsGivenBeside ends fault at.net new.net → Gives) → CountsWhole link Gives old new fault
+  of_end ends same at kept counts gives = record { counted = λ kind is h. counted kind is h (counts.counted kind (ap Fault is) (same h)); had_failed = λ is. failed is (counts.had_failed (ap Fault is)) }
+    where
+      P : FtpError → Type 0
+      P f = IsGivenBeside ends f at.net new.net
+
+      counted : (kind : ErrorKind) → fault ≡ faults.ConnectionError (cause.Io kind) → link.tells → CountsFailure at.channel.told new.channel.told ⊎ IsGivenBeside ends (faults.ConnectionError (cause.Io kind)) at.net new.net → CountsFailure old.channel.told new.channel.told ⊎ IsGivenBeside link fault old.net new.net ⊎ Gives
+      counted kind is h (inl more) = inl (none_then old.channel.told at.channel.told new.channel.told (kept.0 h) more)
+      counted kind is h (inr given) = inr (inr (gives (subst P (sym is) given)))
+
+      failed : fault ≡ faults.SessionFailed → (at.channel.failed ≡ true) ⊎ (cannot_open new.state.counts ≡ Some faults.SessionFailed) ⊎ IsGivenBeside ends faults.SessionFailed at.net new.net → (old.channel.failed ≡ true) ⊎ (cannot_open new.state.counts ≡ Some faults.SessionFailed) ⊎ IsGivenBeside link fault old.net new.net ⊎ Gives
+      failed is (inl was) = inl (kept.1 was)
+      failed is (inr (inl spent)) = inr (inl spent)
+      failed is (inr (inr given)) = inr (inr (inr (gives (subst P (sym is) given))))
+
+-- The end of a whole file's transfer
+
+failed_at : (link : Link) (lost : Bool) (old last new : SessionValue) (told : Answer) → new ≡ failed_if lost last → CountsFaultsBeside link old last told → CountsFaultsBeside link old new told
+failed_at link true old last new told is counts =
+    let P : SessionValue → Type 0 = λ v. CountsFaultsBeside link old v told in
+    subst P (sym is) (record { counted = counts.counted; had_failed = counts.had_failed })
+failed_at link false old last new told is counts =
+    let P : SessionValue → Type 0 = λ v. CountsFaultsBeside link old v told in
+    subst P (sym is) counts
+
+finishes_reasons : (link : Link) (coding : Coding) (transfer : TransferValue) (mark after : Option End) (old new : SessionValue) (fault : FtpError) → FinishesWhole link coding transfer mark after old new (Err fault) → CountsFaultsBeside link (with_data (Some transfer.told) old) new (Fault fault)
+finishes_reasons link coding transfer mark after old new fault (last, brings, is) =
+    failed_at link (lacks_memory (Err fault)) (with_data (Some transfer.told) old) last new (Fault fault) is (ends_reasons link coding false transfer mark after old last (Fault fault) brings)
+
+-- a transfer was opened, and nothing failed
+opened_kept : (link : Link) (coding : Coding) (called : Call) (direction : Direction) (mark after former kept : Option End) (old new : SessionValue) (transfer : TransferValue) → OpensOne link coding called direction mark after former kept old new (Ok transfer) → Caught link.tells old new None
+opened_kept link coding called direction mark after former kept old new transfer (keeps, opens) =
+    caught_on link.tells old opens.given new None (step_kept link coding called old opens.given Opened (λ fault. fault) opens.plays) (same_kept link.tells opens.given new (ap (λ v. v.channel) opens.hands.new_is))
+
+-- What stops the bytes of a file
+
+copy_stops : (tells : Type 0) (text : Bool) (source source' : Option (List ℕ)) (old new : TransferValue) (fault : FtpError) → GaveUp tells text source source' old new fault → IsGrave fault → CopyStops tells text source source' fault old new
+copy_stops tells text source source' old new fault gave grave = go gave.wrote
+  where
+    hinders : WroteFront tells (wire_data text gave.given) old new → Hinders tells old new fault → CopyStops tells text source source' fault old new
+    hinders front (inl memory) = absurd (subst IsGrave memory grave)
+    hinders front (inr (inl large)) = absurd (subst IsGrave large grave)
+    hinders front (inr (inr counts)) = (gave.given, gave.taken, inr (front, counts))
+
+    go : (Wrote tells (wire_data text gave.given) old new × IsCopyFault fault) ⊎ (WroteFront tells (wire_data text gave.given) old new × Hinders tells old new fault) → CopyStops tells text source source' fault old new
+    go (inl all) = (gave.given, gave.taken, inl all)
+    go (inr (front, why)) = hinders front why
+
+save_stops : (tells : Type 0) (writer writer' : Option (List ℕ)) (old new : TransferValue) (fault : FtpError) → SaveFails tells writer writer' old new fault → IsGrave fault → SaveStops tells writer writer' fault old new
+save_stops tells writer writer' old new fault fails grave = go fails.cause
+  where
+    early : Appends writer writer' fails.given → EndsEarly tells old new fault → SaveStops tells writer writer' fault old new
+    early all (inl memory) = absurd (subst IsGrave memory grave)
+    early all (inr counts) = (fails.given, fails.gave, inr (all, counts))
+
+    go : (Appends writer writer' fails.given × EndsEarly tells old new fault) ⊎ (AppendsFront writer writer' fails.given × StopsAt fails.given fault) → SaveStops tells writer writer' fault old new
+    go (inl (all, why)) = early all why
+    go (inr stops) = (fails.given, fails.gave, inl stops)
+
+-- Whole files
+
+module _ (opens ends : Link) (same : opens.tells → ends.tells) (coding : Coding) (called : Call) (sort : IsOpening called) (only : OpensOnly (row_of called Second)) (mark after former kept : Option End) (old new : SessionValue) where
+  -- a session that opened a transfer, with the data connection of one
+  kept_beside : (direction : Direction) (between marked : Option End) (given : SessionValue) (transfer over : TransferValue) → OpensOne opens coding called direction between marked former kept (as_seen between old) given (Ok transfer) → Caught opens.tells old (with_data (Some over.told) given) None
+  kept_beside direction between marked given transfer over opened =
+      caught_on opens.tells old given (with_data (Some over.told) given) None (seen_kept opens.tells between old given (opened_kept opens coding called direction between marked former kept (as_seen between old) given transfer opened)) (same_kept opens.tells given (with_data (Some over.told) given) refl)
+
+  pub upload_counts : (source source' : Option (List ℕ)) (result : Result ℕ FtpError) → Puts opens ends coding called source source' mark after former kept old new result → IfErr result (λ fault. CountsUpload opens ends coding called source source' mark former kept old new fault)
+  upload_counts source source' result puts = go puts.goes_on
+    where
+      P : Result ℕ FtpError → Type 0
+      P r = IfErr r (λ fault. CountsUpload opens ends coding called source source' mark former kept old new fault)
+
+      stores : OpensAndStores opens ends coding called source source' puts.between after former kept (as_seen puts.between old) new result → P result
+      stores s = ending s.stores.copied s.stores.copies s.stores.ends
+        where
+          Moves : TransferValue → Result ℕ FtpError → TransferValue → Type 0
+          Moves t copied u = Copies ends.tells s.given.state.settings.text source source' t u copied
+
+          on : (fault : FtpError) → CopyStops ends.tells s.given.state.settings.text source source' fault s.transfer s.stores.sent ⊎ ((count : ℕ) × Copies ends.tells s.given.state.settings.text source source' s.transfer s.stores.sent (Ok count) × IsGivenBeside ends fault (with_data (Some s.stores.sent.told) s.given).net new.net) → OnOpened opens coding called Upload mark former kept old (λ transfer given. GivesOn ends (λ t copied u. Copies ends.tells given.state.settings.text source source' t u copied) (CopyStops ends.tells given.state.settings.text source source') transfer given new fault)
+          on fault why = record {
+            transfer = s.transfer;
+            marked = s.marked;
+            given = s.given;
+            opened = record { between = puts.between; looks = puts.looks; goes_on = s.opened };
+            is = record { over = s.stores.sent; why = why };
+          }
+
+          last : (count : ℕ) → Copies ends.tells s.given.state.settings.text source source' s.transfer s.stores.sent (Ok count) → (ended : Result (Unit {0}) FtpError) → FinishesWhole ends coding s.stores.sent s.marked after s.given new ended → P (unless_failed count ended)
+          last count copied (Ok done) finishes = tt
+          last count copied (Err fault) finishes =
+              of_end opens _ old new fault ends same (with_data (Some s.stores.sent.told) s.given) (kept_beside Upload puts.between s.marked s.given s.transfer s.stores.sent s.opened) (finishes_reasons ends coding s.stores.sent s.marked after s.given new fault finishes) (λ given. on fault (inr (count, copied, given)))
+
+          ending : (copied : Result ℕ FtpError) → Copies ends.tells s.given.state.settings.text source source' s.transfer s.stores.sent copied → EndsUpload ends coding s.stores.sent s.marked after s.given new copied result → P result
+          ending (Ok count) copied (ended, finishes, is) = subst P (sym is) (last count copied ended finishes)
+          ending (Err fault) gave (left, is) = subst P (sym is) (of_transfer opens _ old new fault (λ grave. on fault (inl (copy_stops ends.tells s.given.state.settings.text source source' s.transfer s.stores.sent fault gave grave))))
+
+      go : PutsFrom opens ends coding called source source' puts.between after former kept (as_seen puts.between old) new result → P result
+      go (inl s) = stores s
+      go (inr (fault, is, opened, none)) = subst P (sym is) (of_opening opens _ old new fault (opened_reasons opens coding called sort only Upload mark after former kept old new (Err fault) (record { between = puts.between; looks = puts.looks; goes_on = opened })))
+
+  pub download_counts : {T : Type 0} (Reads : TransferValue → Result T FtpError → TransferValue → Type 0) (result : Result T FtpError) → Retrieves opens ends coding called Reads mark after former kept old new result → IfErr result (λ fault. CountsDownload opens ends coding called Reads mark former kept old new fault)
+  download_counts {T} Reads result retrieves = go retrieves.goes_on
+    where
+      P : Result T FtpError → Type 0
+      P r = IfErr r (λ fault. CountsDownload opens ends coding called Reads mark former kept old new fault)
+
+      reads : OpensAndReads opens ends coding called Reads retrieves.between after former kept (as_seen retrieves.between old) new result → P result
+      reads s = ending s.read s.reads s.is
+        where
+          on : (fault : FtpError) → Reads s.transfer (Err fault) s.over ⊎ ((value : T) × Reads s.transfer (Ok value) s.over × IsGivenBeside ends fault (with_data (Some s.over.told) s.given).net new.net) → OnOpened opens coding called Download mark former kept old (λ transfer given. GivesOn ends Reads (λ error t u. Reads t (Err error) u) transfer given new fault)
+          on fault why = record {
+            transfer = s.transfer;
+            marked = s.marked;
+            given = s.given;
+            opened = record { between = retrieves.between; looks = retrieves.looks; goes_on = s.opened };
+            is = record { over = s.over; why = why };
+          }
+
+          last : (value : T) → Reads s.transfer (Ok value) s.over → (ended : Result (Unit {0}) FtpError) → FinishesWhole ends coding s.over s.marked after s.given new ended → P (unless_failed value ended)
+          last value read (Ok done) finishes = tt
+          last value read (Err fault) finishes =
+              of_end opens _ old new fault ends same (with_data (Some s.over.told) s.given) (kept_beside Download retrieves.between s.marked s.given s.transfer s.over s.opened) (finishes_reasons ends coding s.over s.marked after s.given new fault finishes) (λ given. on fault (inr (value, read, given)))
+
+          ending : (read : Result T FtpError) → Reads s.transfer read s.over → result ≡ first_of read s.ended → P result
+          ending (Ok value) read is = subst P (sym is) (last value read s.ended s.ends_it)
+          ending (Err fault) read is = subst P (sym is) (of_transfer opens _ old new fault (λ grave. on fault (inl read)))
+
+      go : RetrievesFrom opens ends coding called Reads retrieves.between after former kept (as_seen retrieves.between old) new result → P result
+      go (inl s) = reads s
+      go (inr (fault, is, opened)) = subst P (sym is) (of_opening opens _ old new fault (opened_reasons opens coding called sort only Download mark after former kept old new (Err fault) (record { between = retrieves.between; looks = retrieves.looks; goes_on = opened })))
+
+  pub saving_counts : (writer writer' : Option (List ℕ)) (result : Result ℕ FtpError) → WritesTo opens ends coding called writer writer' mark after former kept old new result → IfErr result (λ fault. CountsSaving opens ends coding called writer writer' mark former kept old new fault)
+  saving_counts writer writer' result writes = go writes.goes_on
+    where
+      P : Result ℕ FtpError → Type 0
+      P r = IfErr r (λ fault. CountsSaving opens ends coding called writer writer' mark former kept old new fault)
+
+      receives : OpensAndReceives opens ends coding called writer writer' writes.between after former kept (as_seen writes.between old) new result → P result
+      receives s = ending s.receives.saved s.receives.saves s.receives.is
+        where
+          on : (fault : FtpError) → SaveStops ends.tells writer writer' fault s.transfer s.receives.over ⊎ ((count : ℕ) × Saves ends.tells writer writer' s.transfer s.receives.over (Ok count) × IsGivenBeside ends fault (with_data (Some s.receives.over.told) s.given).net new.net) → OnOpened opens coding called Download mark former kept old (λ transfer given. GivesOn ends (λ t saved u. Saves ends.tells writer writer' t u saved) (SaveStops ends.tells writer writer') transfer given new fault)
+          on fault why = record {
+            transfer = s.transfer;
+            marked = s.marked;
+            given = s.given;
+            opened = record { between = writes.between; looks = writes.looks; goes_on = s.opened };
+            is = record { over = s.receives.over; why = why };
+          }
+
+          last : (count : ℕ) → Saves ends.tells writer writer' s.transfer s.receives.over (Ok count) → (ended : Result (Unit {0}) FtpError) → FinishesWhole ends coding s.receives.over s.marked after s.given new ended → P (unless_failed count ended)
+          last count saved (Ok done) finishes = tt
+          last count saved (Err fault) finishes =
+              of_end opens _ old new fault ends same (with_data (Some s.receives.over.told) s.given) (kept_beside Download writes.between s.marked s.given s.transfer s.receives.over s.opened) (finishes_reasons ends coding s.receives.over s.marked after s.given new fault finishes) (λ given. on fault (inr (count, saved, given)))
+
+          ending : (saved : Result ℕ FtpError) → Saves ends.tells writer writer' s.transfer s.receives.over saved → result ≡ first_of saved s.receives.ended → P result
+          ending (Ok count) saved is = subst P (sym is) (last count saved s.receives.ended s.receives.ends)
+          ending (Err fault) fails is = subst P (sym is) (of_transfer opens _ old new fault (λ grave. on fault (inl (save_stops ends.tells writer writer' s.transfer s.receives.over fault fails grave))))
+
+      go : WritesFrom opens ends coding called writer writer' writes.between after former kept (as_seen writes.between old) new result → P result
+      go (inl s) = receives s
+      go (inr (fault, is, opened, none)) = subst P (sym is) (of_opening opens _ old new fault (opened_reasons opens coding called sort only Download mark after former kept old new (Err fault) (record { between = writes.between; looks = writes.looks; goes_on = opened })))
