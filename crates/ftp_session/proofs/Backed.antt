@@ -54,7 +54,7 @@ use Rattle.ftp_dialogue.specs.declared.state.State.{State}
 use Rattle.ftp_session.proofs.Quiet.{IsGrave, IsIo, Quiet, of_bytes, quiet_fault, wire_plain}
 
 -- an error that these states give, or an outcome since
-abbrev Or : (State → FtpError → Type 0) → NetOutcome → State → FtpError → Type 0
+abbrev pub Or : (State → FtpError → Type 0) → NetOutcome → State → FtpError → Type 0
 Or May outcome state fault = May state fault ⊎ (given_by outcome ≡ Some fault)
 
 -- each answer of a tree that is such an error has its reason
@@ -75,7 +75,7 @@ or_into : (May More : State → FtpError → Type 0) → ((state : State) (fault
 or_into May More into outcome state fault (inl may) = inl (into state fault may)
 or_into May More into outcome state fault (inr given) = inr given
 
-more : (May More : State → FtpError → Type 0) → ((state : State) (fault : FtpError) → May state fault → More state fault) → (tree : Tree) → Backed May tree → Backed More tree
+pub more : (May More : State → FtpError → Type 0) → ((state : State) (fault : FtpError) → May state fault → More state fault) → (tree : Tree) → Backed May tree → Backed More tree
 more May More into (Say (Ok line) next) backed = more May More into next backed
 more May More into (Say (Err why) next) backed = backed
 more May More into (Hear expected next) backed = (λ heard may. more May More into (next heard) (backed.0 heard may), backed.1)
@@ -90,7 +90,7 @@ after_outcome : (May : State → FtpError → Type 0) (outcome : NetOutcome) (tr
 after_outcome May outcome tree backed = more May (Or May outcome) (λ state fault may. inl may) tree backed
 
 -- a tree without such answers needs no reason
-quiet_backed : (May : State → FtpError → Type 0) (tree : Tree) → Quiet tree → Backed May tree
+pub quiet_backed : (May : State → FtpError → Type 0) (tree : Tree) → Quiet tree → Backed May tree
 quiet_backed May (Say (Ok line) next) quiet = quiet_backed May next quiet
 quiet_backed May (Say (Err why) next) quiet = quiet
 quiet_backed May (Hear expected next) quiet = (λ heard may. quiet_backed May (next heard) (quiet.0 heard may), quiet.1)
@@ -101,11 +101,11 @@ quiet_backed May (Secure next) quiet = absurd quiet
 quiet_backed May (Move movement next) quiet = absurd quiet
 quiet_backed May (Leaf told state) quiet = λ fault is grave. absurd (quiet fault is grave)
 
-light_fault : (May : State → FtpError → Type 0) (fault : FtpError) (state : State) → (IsGrave fault → ⊥) → Backed May (Leaf (Fault fault) state)
+pub light_fault : (May : State → FtpError → Type 0) (fault : FtpError) (state : State) → (IsGrave fault → ⊥) → Backed May (Leaf (Fault fault) state)
 light_fault May fault state none = quiet_backed May (Leaf (Fault fault) state) (quiet_fault fault state none)
 
 -- an error that an outcome gave
-given_fault : (May : State → FtpError → Type 0) (outcome : NetOutcome) (fault : FtpError) (state : State) → given_by outcome ≡ Some fault → Backed (Or May outcome) (Leaf (Fault fault) state)
+pub given_fault : (May : State → FtpError → Type 0) (outcome : NetOutcome) (fault : FtpError) (state : State) → given_by outcome ≡ Some fault → Backed (Or May outcome) (Leaf (Fault fault) state)
 given_fault May outcome fault state given = λ other is grave. inr (given ∙ ap Some (let same : fault ≡ other = cc in same))
 
 -- A line, and a reply
@@ -166,14 +166,14 @@ module _ (state : State) where
       go true = secured_backed May opened first
       go false = first
 
-  opening_backed : (May : State → FtpError → Type 0) (m : Mode) (opened : Tree) → Backed May opened → Backed May (opening m opened state)
+  pub opening_backed : (May : State → FtpError → Type 0) (m : Mode) (opened : Tree) → Backed May opened → Backed May (opening m opened state)
   opening_backed May mode.Active opened first = λ host. accepting_backed May (securing opened state) (securing_backed May opened first) host strangers
   opening_backed May mode.Passive opened first = securing_backed May opened first
   opening_backed May mode.ExtendedPassive opened first = securing_backed May opened first
 
   module _ (May : State → FtpError → Type 0) (coding : Coding) where
     -- one exchange
-    exchange_backed : (exchange : Exchange) (after : State → Tree) → ((heard : Result Response FtpError) → MayHear heard → Backed May (concluded coding exchange.ending state after heard)) → ((kind : ErrorKind) → answer_of (concluded coding exchange.ending state after (Err (faults.ConnectionError (cause.Io kind)))) (Fault (faults.ConnectionError (cause.Io kind))) ≡ Fault faults.SessionFailed → ⊥) → Backed May (doing coding (Exchanges exchange) state after)
+    pub exchange_backed : (exchange : Exchange) (after : State → Tree) → ((heard : Result Response FtpError) → MayHear heard → Backed May (concluded coding exchange.ending state after heard)) → ((kind : ErrorKind) → answer_of (concluded coding exchange.ending state after (Err (faults.ConnectionError (cause.Io kind)))) (Fault (faults.ConnectionError (cause.Io kind))) ≡ Fault faults.SessionFailed → ⊥) → Backed May (doing coding (Exchanges exchange) state after)
     exchange_backed exchange after heard broken = line_backed May coding exchange.says (Hear (expected_of exchange.hears) (concluded coding exchange.ending state after)) (heard, broken)
 
     continued_backed : (after : State → Tree) → Backed May (after state) → (heard : Result Response FtpError) → MayHear heard → Backed May (concluded coding ending.Continues state after heard)
@@ -225,7 +225,7 @@ module _ (state : State) where
       opening_data_backed mode.Passive = exchange_backed (record { says = Some command.Pasv; hears = One PassiveMode; ending = ending.GivesAddress }) (later coding call (Passive offset)) passive_backed (λ kind same. cc same)
       opening_data_backed mode.ExtendedPassive = exchange_backed (record { says = Some command.Epsv; hears = One ExtendedPassiveMode; ending = ending.GivesPort }) (later coding call (ExtendedPassive offset)) extended_backed (λ kind same. cc same)
 
-      negotiating_backed : ((fault : FtpError) → cannot_open state.counts ≡ Some fault → May state fault) → Backed May (negotiating coding call offset state)
+      pub negotiating_backed : ((fault : FtpError) → cannot_open state.counts ≡ Some fault → May state fault) → Backed May (negotiating coding call offset state)
       negotiating_backed spent = go (cannot_open state.counts) refl
         where
           go : (fault : Option FtpError) → cannot_open state.counts ≡ fault → Backed May (negotiating_unless fault coding call offset state)
@@ -235,7 +235,7 @@ module _ (state : State) where
 -- A whole data connection
 
 -- an answer whose error has its reason
-abbrev Reasoned : (State → FtpError → Type 0) → Answer → Type 0
+abbrev pub Reasoned : (State → FtpError → Type 0) → Answer → Type 0
 Reasoned May told = ((state : State) (fault : FtpError) → told ≡ Fault fault → IsGrave fault → May state fault) × (told ≡ Fault faults.SessionFailed → ⊥)
 
 reasoned_after : (May : State → FtpError → Type 0) (outcome : NetOutcome) (told : Answer) → Reasoned May told → Reasoned (Or May outcome) told
@@ -309,7 +309,7 @@ close_reasoned May true came.Closed told reasoned = reasoned_after May came.Clos
 close_reasoned May true (came.Failed kind) told reasoned = given_answer May (came.Failed kind) kind refl
 close_reasoned May true came.NoMemory told reasoned = reasoned_after May came.NoMemory told reasoned
 
-closing_fetch_backed : (May : State → FtpError → Type 0) (form : Fetch) (told : Answer) (state : State) → Reasoned May told → Backed May (fetch_closing_data form told state)
+pub closing_fetch_backed : (May : State → FtpError → Type 0) (form : Fetch) (told : Answer) (state : State) → Reasoned May told → Backed May (fetch_closing_data form told state)
 closing_fetch_backed May form told state reasoned = λ outcome. ending_fetch_backed (Or May outcome) form (closed_as (told_of_close state.uploads outcome) told) state (close_reasoned May state.uploads outcome told reasoned)
 
 too_long_reasoned : (May : State → FtpError → Type 0) (form : Fetch) → Reasoned May (too_long form)

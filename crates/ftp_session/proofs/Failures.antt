@@ -73,13 +73,13 @@ failed_answer link place fault at new quiet fails is = go place quiet fails.is
     go (Move movement next) quiet same = absurd quiet
     go (Leaf told state) quiet same = other fails.kind same
 
-aborts_count : (link : Link) (tree : Tree) (told : Answer) (old new : SessionValue) → Quiet tree → Aborts link false tree told old new → CountsFaults link.tells old new told
-aborts_count link tree told old new quiet aborts = go aborts.cause
+pub aborts_count : (link : Link) (begun : Bool) (tree : Tree) (told : Answer) (old new : SessionValue) → Quiet tree → Aborts link begun tree told old new → CountsFaults link.tells old new told
+aborts_count link begun tree told old new quiet aborts = go aborts.cause
   where
     place : Quiet aborts.place
     place = place_quiet (outcomes_of aborts.leads.answered) aborts.place tree aborts.leads.within quiet
 
-    go : Fails link aborts.place aborts.fault aborts.at new ⊎ LacksMemory link false tree aborts.place aborts.leads.came aborts.fault old aborts.at new → CountsFaults link.tells old new told
+    go : Fails link aborts.place aborts.fault aborts.at new ⊎ LacksMemory link begun tree aborts.place aborts.leads.came aborts.fault old aborts.at new → CountsFaults link.tells old new told
     go (inl fails) = record {
       counted = λ kind is h. counts_since fails.kind old.channel.told aborts.at.channel.told new.channel.told (aborts.leads.goes.failures h) (fails.failed h);
       had_failed = λ is. absurd (failed_answer link aborts.place aborts.fault aborts.at new place fails (let both : Fault aborts.fault ≡ Fault faults.SessionFailed = sym aborts.is ∙ is in cc));
@@ -90,7 +90,7 @@ aborts_count link tree told old new quiet aborts = go aborts.cause
 
 pub made_counts : (link : Link) (tree : Tree) (told : Answer) (old new : SessionValue) → Quiet tree → Completes link tree told old new ⊎ Aborts link false tree told old new → CountsFaults link.tells old new told
 made_counts link tree told old new quiet (inl completes) = light link.tells old new told (answer_quiet (outcomes_of completes.answered) told new.state tree completes.is_of quiet)
-made_counts link tree told old new quiet (inr aborts) = aborts_count link tree told old new quiet aborts
+made_counts link tree told old new quiet (inr aborts) = aborts_count link false tree told old new quiet aborts
 
 -- A call by itself
 

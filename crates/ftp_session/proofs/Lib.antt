@@ -1,10 +1,12 @@
 pub mod Backed
 pub mod CaughtUp
+pub mod Causes
 pub mod Commands
 pub mod Connecting
 pub mod ConnectingCounts
 pub mod CopyingLemmas
 pub mod Counting
+pub mod EveryCall
 pub mod Failures
 pub mod FetchAnswers
 pub mod FilesCounts
@@ -13,6 +15,7 @@ pub mod Handed
 pub mod Kept
 pub mod NegotiatedAnswers
 pub mod OpeningAnswers
+pub mod PolledCounts
 pub mod PolledLemmas
 pub mod Quiet
 pub mod Reasons

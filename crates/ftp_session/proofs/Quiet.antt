@@ -215,7 +215,7 @@ module _ (coding : Coding) (state : State) (after : State → Tree) (quiet_after
   faulty_quiet ending.Stops is fault bytes = absurd is
 
   -- an error of the connection is no failure of before
-  broken_quiet : (how : Ending) → IsQuietEnding how → (kind : ErrorKind) → answer_of (concluded coding how state after (Err (faults.ConnectionError (cause.Io kind)))) (Fault (faults.ConnectionError (cause.Io kind))) ≡ Fault faults.SessionFailed → ⊥
+  pub broken_quiet : (how : Ending) → IsQuietEnding how → (kind : ErrorKind) → answer_of (concluded coding how state after (Err (faults.ConnectionError (cause.Io kind)))) (Fault (faults.ConnectionError (cause.Io kind))) ≡ Fault faults.SessionFailed → ⊥
   broken_quiet ending.Done is kind same = cc same
   broken_quiet ending.GivesReply is kind same = cc same
   broken_quiet ending.TakesReply is kind same = cc same
@@ -236,7 +236,7 @@ module _ (coding : Coding) (state : State) (after : State → Tree) (quiet_after
   broken_quiet ending.Drains is kind same = cc same
   broken_quiet ending.Stops is kind same = absurd is
 
-  heard_quiet : (how : Ending) → IsQuietEnding how → (heard : Result Response FtpError) → MayHear heard → Quiet (concluded coding how state after heard)
+  pub heard_quiet : (how : Ending) → IsQuietEnding how → (heard : Result Response FtpError) → MayHear heard → Quiet (concluded coding how state after heard)
   heard_quiet how is (Ok reply) may = accepted_quiet how is reply
   heard_quiet how is (Err fault) may = faulty_quiet how is fault may
 
@@ -259,12 +259,12 @@ passed_quiet state next quiet reply = go (eqb (code_of reply.status) (code_of No
     go true = quiet_fault (faults.UnexpectedResponse reply) state (λ grave. grave)
     go false = quiet
 
-seeking_quiet : (left : ℕ) (state : State) → Quiet (seeking left state)
+pub seeking_quiet : (left : ℕ) (state : State) → Quiet (seeking left state)
 unfolding seeking
 seeking_quiet zero state = (sought_quiet state (λ reply. Leaf (Fault (faults.UnexpectedResponse reply)) state) (λ reply. quiet_fault (faults.UnexpectedResponse reply) state (λ grave. grave)), λ kind same. cc same)
 seeking_quiet (suc left) state = (sought_quiet state (passing_over (seeking left state) state) (passed_quiet state (seeking left state) (seeking_quiet left state)), λ kind same. cc same)
 
-row_quiet : (coding : Coding) (row : Row) (state : State) (after : State → Tree) → IsQuietRow row → Quiet (after state) → Quiet (doing coding row state after)
+pub row_quiet : (coding : Coding) (row : Row) (state : State) (after : State → Tree) → IsQuietRow row → Quiet (after state) → Quiet (doing coding row state after)
 row_quiet coding (Exchanges exchange) state after is quiet =
     quiet_saying coding exchange.says _ (heard_quiet coding state after quiet exchange.ending is, broken_quiet coding state after quiet exchange.ending is)
 row_quiet coding (Arms offset) state after is quiet = λ fault same grave. cc same
@@ -282,7 +282,7 @@ row_quiet coding (Moves movement) state after is quiet = absurd is
 abbrev pub IsQuietCall : Call → Type 0
 IsQuietCall call = IsQuietRow (row_of call First) × IsQuietRow (row_of call Second)
 
-clash : {T : Type 0} → true ≡ false → T
+pub clash : {T : Type 0} → true ≡ false → T
 clash is = cc is
 
 pub plain_quiet : (called : Call) → IsPlain called → IsQuietCall called
@@ -349,7 +349,7 @@ ending_goes (ending.Finishes close) is = absurd is
 ending_goes ending.Drains is = (refl, refl)
 ending_goes ending.Stops is = absurd is
 
-row_goes : (row : Row) → IsQuietRow row → (opens row ≡ false) × (finishing_row row ≡ false)
+pub row_goes : (row : Row) → IsQuietRow row → (opens row ≡ false) × (finishing_row row ≡ false)
 row_goes (Exchanges exchange) is = ending_goes exchange.ending is
 row_goes (Arms offset) is = (refl, refl)
 row_goes Resyncs is = (refl, refl)

@@ -14,6 +14,7 @@ use Rattle.ftp_calls.specs.declared.call.Call.TheVariants.{Drain}
 use Rattle.ftp_calls.specs.declared.exchange.Turn.TheVariants.{First}
 use Rattle.ftp_transfer.specs.Mark.{End}
 use Rattle.ftp_dialogue.specs.Coding.{Coding}
+use Rattle.ftp_dialogue.specs.Counted.{CountsFaults}
 use Rattle.ftp_dialogue.specs.Dropping.{DropsCall}
 use Rattle.ftp_calls.specs.Exchanges.{drains}
 use Rattle.ftp_dialogue.specs.CatchingUp.{CatchesUp, is_behind, is_plain_read}
@@ -118,6 +119,11 @@ PollsUnless false link may_wait coding p q mark after old new result = PollsSeen
 -- a poll of a call
 abbrev pub PollsCall : Link → Type 0 → Coding → UnderWay → UnderWay → Option End → Option End → SessionValue → SessionValue → Poll Answer → Type 0
 PollsCall link may_wait coding p q mark after old new result = PollsUnless p.over link may_wait coding p q mark after old new result
+
+-- an error that a poll gives was counted in that poll: of a command, which asks nothing beside the control connection
+abbrev pub CountsPoll : Type 0 → SessionValue → SessionValue → Poll Answer → Type 0
+CountsPoll tells old new (Ready answer) = CountsFaults tells old new answer
+CountsPoll tells old new Pending = Unit {0}
 
 -- a call that is dropped, unless it has its answer
 abbrev pub DropsUnless : Bool → Type 0 → UnderWay → SessionValue → SessionValue → Type 0

@@ -1,7 +1,8 @@
 //! How a session comes to its connection.
 
-ghost use Rattle.std.specs.Prelude.{◌≡◌, IfOk, MatchResult, Ok, None};
+ghost use Rattle.std.specs.Prelude.{◌≡◌, IfErr, IfOk, MatchResult, Ok, None};
 ghost use Rattle.ftp_session.specs.Calls.{Connects, FailsToConnect};
+ghost use Rattle.ftp_session.specs.Counting.{CountsInGreeting};
 ghost use Rattle.ftp_dialogue.specs.Coding.{chosen};
 ghost use Rattle.ftp_dialogue.specs.NetEvents.{first_net};
 ghost use Rattle.ftp_dialogue.specs.Link.{blocking};
@@ -28,6 +29,8 @@ where
         (λ session. Connects (blocking Tr.Conn.Conn) (chosen E.decoded E.encoded None) ReplyRule.Strict (Tr.Conn.told conn)
         (first_net (Tr.asked transport) (Tr.ready transport) (Tr.closed transport)) session.machine (Ok tt))
         (λ fault. FailsToConnect (blocking Tr.Conn.Conn) (chosen E.decoded E.encoded None) ReplyRule.Strict (Tr.Conn.told conn)
+        (first_net (Tr.asked transport) (Tr.ready transport) (Tr.closed transport)) fault) }
+    ensures counts { IfErr result (λ fault. CountsInGreeting (blocking Tr.Conn.Conn) (chosen E.decoded E.encoded None) ReplyRule.Strict (Tr.Conn.told conn)
         (first_net (Tr.asked transport) (Tr.ready transport) (Tr.closed transport)) fault) }
 {
     Session::connect_with_stream(alloc, transport, conn)

@@ -1,8 +1,9 @@
 //! Changes of TLS.
 
-ghost use Rattle.std.specs.Prelude.{◌≡◌};
+ghost use Rattle.std.specs.Prelude.{◌≡◌, IfErr};
 ghost use Rattle.ftp_dialogue.specs.Coding.{chosen};
 ghost use Rattle.ftp_dialogue.specs.Link.{blocking};
+ghost use Rattle.ftp_session.specs.Counting.{CountsSecuring};
 ghost use Rattle.ftp_session.specs.Securing.{HandsOver, Secures};
 
 use ftp_base::encoding::Encoding;
@@ -24,6 +25,9 @@ where
     ensures secures { Secures (blocking Tr.Conn.Conn)
         (HandsOver Tr.Conn Tr.Conn.told Tr.gives (Tr.answers connector domain.now)) (chosen E.decoded E.encoded session.old.encoding.0)
         session.old.mark session.new.mark session.old.machine session.new.machine result }
+    ensures counts { IfErr result (λ fault. CountsSecuring (blocking Tr.Conn.Conn)
+        (HandsOver Tr.Conn Tr.Conn.told Tr.gives (Tr.answers connector domain.now)) (chosen E.decoded E.encoded session.old.encoding.0)
+        session.old.mark session.old.machine session.new.machine fault) }
     ensures encoding { session.new.encoding ≡ session.old.encoding }
     ensures builder { session.new.builder ≡ session.old.builder }
     ensures former { session.new.former ≡ session.old.former }

@@ -6,6 +6,7 @@ ghost use Rattle.ftp_dialogue.specs.Coding.{chosen};
 ghost use Rattle.ftp_dialogue.specs.Counted.{CountsFaultsBeside};
 ghost use Rattle.ftp_dialogue.specs.Link.{asking, blocking, built_by};
 ghost use Rattle.ftp_session.specs.Calls.{bytes_answer, lines_answer};
+ghost use Rattle.ftp_session.specs.Counting.{CountsDownload, CountsSaving};
 ghost use Rattle.ftp_session.specs.Files.{Retrieves};
 ghost use Rattle.ftp_session.specs.Handed.{Opens, PlaysSeen};
 ghost use Rattle.ftp_session.specs.Saving.{WritesTo};
@@ -118,6 +119,8 @@ where
     Tr: Transport<R>,
     ensures retrieves { Retrieves (asking (built_by B.answers session.old.builder) ⊥ (blocking Tr.Conn.Conn)) (blocking Tr.Conn.Conn) (chosen E.decoded E.encoded session.old.encoding.0) (Call.RetrAsStream path.now)
         F.reads session.old.mark session.new.mark session.old.former session.new.former session.old.machine session.new.machine result }
+    ensures counts { IfErr result (λ fault. CountsDownload (asking (built_by B.answers session.old.builder) ⊥ (blocking Tr.Conn.Conn)) (blocking Tr.Conn.Conn) (chosen E.decoded E.encoded session.old.encoding.0) (Call.RetrAsStream path.now)
+        F.reads session.old.mark session.old.former session.new.former session.old.machine session.new.machine fault) }
     ensures encoding { session.new.encoding ≡ session.old.encoding }
     ensures builder { session.new.builder ≡ session.old.builder }
 {
@@ -146,6 +149,8 @@ where
     Tr: Transport<R>,
     ensures writes { WritesTo (asking (built_by B.answers session.old.builder) ⊥ (blocking Tr.Conn.Conn)) (blocking Tr.Conn.Conn) (chosen E.decoded E.encoded session.old.encoding.0) (Call.RetrAsStream path.now)
         (W.contents writer.old) (W.contents writer.new) session.old.mark session.new.mark session.old.former session.new.former session.old.machine session.new.machine result }
+    ensures counts { IfErr result (λ fault. CountsSaving (asking (built_by B.answers session.old.builder) ⊥ (blocking Tr.Conn.Conn)) (blocking Tr.Conn.Conn) (chosen E.decoded E.encoded session.old.encoding.0) (Call.RetrAsStream path.now)
+        (W.contents writer.old) (W.contents writer.new) session.old.mark session.old.former session.new.former session.old.machine session.new.machine fault) }
     ensures encoding { session.new.encoding ≡ session.old.encoding }
     ensures builder { session.new.builder ≡ session.old.builder }
 {

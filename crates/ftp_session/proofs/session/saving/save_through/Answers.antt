@@ -1,7 +1,7 @@
 use Rattle.std.proofs.Common.{◌≡◌, ◌<◌, ◌+◌, ◌∙◌, ap, length, take, sym, arith}
 use Rattle.std.proofs.lemmas.List.{length-take-le}
 use Rattle.ftp_transport.specs.Told.{after_read}
-use Rattle.ftp_session.proofs.SavingLemmas.{data_fails, save_fails_as, saved_all, saved_more, saved_none, some_read, too_much, writer_fails}
+use Rattle.ftp_session.proofs.SavingLemmas.{data_fails, save_fails_as, saved_more, saved_none, some_read, too_much, writer_fails}
 use Rattle.ftp_session.proofs.session.saving.save_through.Goals as goal
 
 pub loop-init : goal.loop-init

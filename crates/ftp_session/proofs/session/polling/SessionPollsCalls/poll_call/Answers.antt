@@ -1,5 +1,6 @@
 use Rattle.std.proofs.Common.{rules}
 use Rattle.futures.specs.declared.task.Poll.TheVariants.{Ready, Pending}
+use Rattle.ftp_session.proofs.PolledCounts.{polls_counted}
 use Rattle.ftp_session.proofs.PolledLemmas.{polls_seen}
 use Rattle.ftp_session.proofs.session.polling.SessionPollsCalls.poll_call.Goals as goal
 
@@ -12,3 +13,9 @@ pub returns-in-Pending-clause-polls : goal.returns-in-Pending-clause-polls
 returns-in-Pending-clause-polls g c =
     let polls = rw c.in-Pending.is at c.poll_in_step.ensures.polls in
     rw (← c.polled.view_is) (polls_seen _ _ _ _ _ _ _ _ c.look_first.new.machine _ c.poll_in_step.new.stage Pending c.if-polled.false c.look_first.ensures polls (search rules))
+
+pub returns-in-Ready-clause-counts : goal.returns-in-Ready-clause-counts
+returns-in-Ready-clause-counts g c = λ plain. polls_counted _ _ _ _ _ _ _ _ _ (Ready c.in-Ready.answer) (search rules) (returns-in-Ready-clause-polls g c) plain
+
+pub returns-in-Pending-clause-counts : goal.returns-in-Pending-clause-counts
+returns-in-Pending-clause-counts g c = λ plain. tt
