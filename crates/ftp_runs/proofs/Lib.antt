@@ -1,3 +1,4 @@
+pub mod CallCauses
 pub mod Carried
 pub mod Drained
 pub mod EventLemmas

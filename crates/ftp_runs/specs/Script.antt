@@ -16,16 +16,11 @@ use Rattle.ftp_dialogue.specs.declared.model.Wait.TheVariants as wait
 use Rattle.ftp_runs.specs.declared.model.Ran.{Ran}
 use Rattle.ftp_runs.specs.declared.model.Ran.TheVariants.{Finished, Waiting}
 use Rattle.ftp_control.specs.declared.control.form.ReplyForm.{ReplyForm}
-use Rattle.ftp_calls.specs.declared.exchange.Turn.TheVariants.{First}
 use Rattle.ftp_dialogue.specs.Coding.{Coding}
-use Rattle.ftp_calls.specs.Exchanges.{row_of, finishes, is_read, negotiates}
-use Rattle.ftp_calls.specs.declared.exchange.Row.{Row}
-use Rattle.ftp_calls.specs.declared.exchange.Row.TheVariants.{Exchanges, Arms, Sets, Moves}
-use Rattle.ftp_control.specs.declared.control.form.ReplyForm.TheVariants.{Plain}
-use Rattle.ftp_dialogue.specs.Dialogue.{expected_of, dialogue}
+use Rattle.ftp_calls.specs.Exchanges.{finishes, is_read}
+use Rattle.ftp_dialogue.specs.Dialogue.{dialogue}
 use Rattle.ftp_dialogue.specs.declared.state.State.{State}
 use Rattle.ftp_control.specs.declared.control.rule.ReplyRule.{ReplyRule}
-use Rattle.ftp_control.specs.declared.control.rule.ReplyRule.TheVariants.{Strict, Lenient}
 use Rattle.ftp_dialogue.specs.Lenient.{SameForm}
 use Rattle.ftp_dialogue.specs.Resuming.{Modes, Resumes, modes_in}
 use Rattle.ftp_runs.specs.Run.{replay}

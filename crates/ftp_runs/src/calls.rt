@@ -8,6 +8,7 @@ ghost use Rattle.ftp_dialogue.specs.Coding.{chosen, coding_of};
 ghost use Rattle.ftp_session.specs.Handed.{LooksIf, as_seen, watches};
 ghost use Rattle.ftp_dialogue.specs.Link.{asking, blocking, built_by};
 ghost use Rattle.ftp_dialogue.specs.Promises.{FailsWith};
+ghost use Rattle.ftp_runs.specs.Counting.{CountsEach};
 ghost use Rattle.ftp_runs.specs.Runs.{Runs};
 ghost use Rattle.ftp_dialogue.specs.Sound.{Sound};
 
@@ -43,6 +44,9 @@ where
     fn run(&mut self, alloc: Global, rt: &R, calls: &[Call]) -> FtpResult<Vec<Answer>>
         ensures runs { IfOk result (λ answers.
             Runs (asking (built_by B.answers self.old.builder) ⊥ (blocking Tr.Conn.Conn)) (chosen E.decoded E.encoded self.old.encoding.0) calls.now
+            (as_seen self.new.mark self.old.machine) self.new.machine answers.items) }
+        ensures counts { IfOk result (λ answers.
+            CountsEach (asking (built_by B.answers self.old.builder) ⊥ (blocking Tr.Conn.Conn)) (chosen E.decoded E.encoded self.old.encoding.0) calls.now
             (as_seen self.new.mark self.old.machine) self.new.machine answers.items) }
         ensures looks { OnOk result (LooksIf (watches self.old.mark self.old.machine) self.old.mark self.new.mark) }
         ensures count { IfOk result (λ answers. length answers.items ≡ length calls.now) }
@@ -88,6 +92,8 @@ where
     requires none { answers.items ≡ [] }
     requires room { length calls.now ≤ vec_capacity answers }
     ensures runs { Runs (asking (built_by B.answers builder.now) ⊥ (blocking Tr.Conn.Conn)) (coding_of E.decoded E.encoded encoding.now) calls.now machine.old
+        machine.new result.items }
+    ensures counts { CountsEach (asking (built_by B.answers builder.now) ⊥ (blocking Tr.Conn.Conn)) (coding_of E.decoded E.encoded encoding.now) calls.now machine.old
         machine.new result.items }
     ensures fails { FailsWith machine.old machine.new result.items }
     ensures count { length result.items ≡ length calls.now }
