@@ -1,8 +1,7 @@
 //! The calls of the blocking client, one after another.
 
-use crate::face::{Face, failed, kept, sent};
-use crate::log::Log;
-use crate::script::{Asked, Line, Net, Script};
+use crate::face::{Face, failed, kept};
+use crate::script::{Asked, Script};
 use crate::session::connect;
 use ftp_base::types::FtpResult;
 use ftp_blocking::{ImplFtpStream, TransferStream};
@@ -10,7 +9,7 @@ use ftp_session::session::{Answer, Call, Setting};
 use ftp_transfer::mark::Left;
 use rows_plays::{Held, Transfers, boxed, bytes, count, had, lines, optional, size, unit};
 use rows_text::RowError;
-use rows_tls::Seal;
+use rows_tls::{Line, Log, Net, Seal};
 use std::alloc::Global;
 use std::io;
 use std::io::{Read, Write};
@@ -37,7 +36,7 @@ impl Held for Live {
     }
 
     fn sent(&self) -> &[u8] {
-        sent(self.stream.get_ref())
+        self.stream.get_ref().sent()
     }
 
     fn take_in<R>(&mut self, _rt: &R, buffer: &mut [u8]) -> io::Result<usize>

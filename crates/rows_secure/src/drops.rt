@@ -1,10 +1,9 @@
 //! Rows of calls that are dropped, on the polled client: its connections wait before each byte.
 
 use crate::face::{Face, failed, server};
-use crate::log::Log;
 use crate::polled::{Client, PolledFace};
 use crate::receiving::done;
-use crate::script::{Asked, Kind, Net, Script, Step};
+use crate::script::{Asked, Kind, Script, Step};
 use ftp_base::encoding::Utf8Encoding;
 use ftp_base::types::FtpResult;
 use ftp_polled::{Dialogue, TransferStream};
@@ -14,7 +13,7 @@ use futures::executor::block_on;
 use futures::future::poll_immediate;
 use rows_plays::{boxed, bytes, text_of, unit};
 use rows_text::RowError;
-use rows_tls::Seal;
+use rows_tls::{Log, Net, Seal};
 use std::alloc::{AllocError, Global};
 use std::random::RandomSource;
 use std::sync::Wait;

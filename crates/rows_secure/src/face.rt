@@ -1,12 +1,11 @@
 //! What plays a row: a session, or a client.
 
-use crate::log::Log;
-use crate::script::{Asked, Line, Script};
+use crate::script::{Asked, Script};
 use ftp_base::types::{FtpError, FtpResult};
-use ftp_secure::DataStream;
 use ftp_session::session::Answer;
 use rows_plays::{boxed, text_of, unit};
 use rows_text::RowError;
+use rows_tls::{Line, Log};
 use std::alloc::{AllocError, Global};
 use std::net::{Ipv4Addr, SocketAddr, SocketAddrV4};
 use std::random::RandomSource;
@@ -46,15 +45,6 @@ pub trait Face: Drop + Sized {
     fn live(&self) -> Option<&Line>;
 }
 
-/// What was written to a data connection.
-pub fn sent(conn: &Line) -> &[u8] {
-    match conn {
-        DataStream::Tcp(conn) => conn.sent(),
-        DataStream::Ssl(stream) => stream.clear.sent(),
-        DataStream::Gone(_) => &[],
-    }
-}
-
 /// What a call returned that gives its client back: the answer, and the client, where there still is one.
 ///
 /// # Errors
@@ -86,7 +76,7 @@ pub fn failed(fault: FtpError) -> Answer {
 fn said(alloc: Global, answer: &Option<Answer>, live: Option<&Line>) -> Result<String, AllocError> {
     match (answer, live) {
         (None, _) => String::from_str(alloc, "gone"),
-        (Some(Answer::Opened), Some(DataStream::Ssl(_))) => {
+        (Some(Answer::Opened), Some(line)) if line.is_under() => {
             String::from_str(alloc, "opened under TLS")
         }
         (Some(answer), _) => text_of(alloc, answer),

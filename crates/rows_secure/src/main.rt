@@ -8,14 +8,11 @@
 mod client;
 mod drops;
 mod face;
-mod log;
 mod polled;
 mod receiving;
 mod script;
 mod session;
 mod tally;
-mod wire;
-mod wires;
 
 use anyhow::{Context, Result};
 use std::io;

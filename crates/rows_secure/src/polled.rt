@@ -1,14 +1,13 @@
 //! The calls of the polled client, one after another, each polled to its answer.
 
 use crate::face::{Face, kept, server};
-use crate::log::Log;
 use crate::receiving::{Live, changed, done, opened, unit};
-use crate::script::{Asked, Line, Net, Script};
+use crate::script::{Asked, Script};
 use ftp_polled::ImplAsyncFtpStream;
 use ftp_session::session::{Answer, Call, Setting};
 use rows_plays::{Transfers, boxed, bytes, count, had, lines, optional, size};
 use rows_text::RowError;
-use rows_tls::Seal;
+use rows_tls::{Line, Log, Net, Seal};
 use std::alloc::Global;
 use std::random::RandomSource;
 use std::sync::Wait;

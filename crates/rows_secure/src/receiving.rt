@@ -1,8 +1,6 @@
 //! A transfer of the polled client, and calls that are polled to their answers.
 
-use crate::face::sent;
 use crate::polled::Client;
-use crate::script::{Line, Net};
 use ftp_base::encoding::Utf8Encoding;
 use ftp_base::types::{FtpError, FtpResult};
 use ftp_polled::{Dialogue, OpenTransfer, Secure, TransferStream};
@@ -12,7 +10,7 @@ use futures::Future;
 use futures::executor::block_on;
 use futures::task::{Context, Poll};
 use rows_plays::{Held, Transfers};
-use rows_tls::Seal;
+use rows_tls::{Line, Net, Seal};
 use std::io;
 use std::io::ErrorKind;
 use std::random::RandomSource;
@@ -129,7 +127,7 @@ impl Held for Live {
     }
 
     fn sent(&self) -> &[u8] {
-        sent(self.conn())
+        self.conn().sent()
     }
 
     fn take_in<R>(&mut self, rt: &R, buffer: &mut [u8]) -> io::Result<usize>

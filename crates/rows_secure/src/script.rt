@@ -1,25 +1,14 @@
 //! What a row says: what its server, its data connections and its connector give, and the calls of the client.
 
-use crate::log::Log;
-use crate::wire::Wire;
-use crate::wires::{Supplied, Wires};
 use ftp_base::types::Text;
-use ftp_secure::{DataStream, Secured};
 use ftp_session::session::{Call, Session};
 use rows_plays::{boxed, call, had};
 use rows_text::{RowError, bytes_of, pair, text, text_of, value};
-use rows_tls::{Seal, Sealed};
+use rows_tls::{Line, Log, Net, Seal, Wire, Wires};
 use std::alloc::{AllocError, Global};
-use std::collections::VecDeque;
 use std::net::SocketAddr;
 
-/// A transport whose connections may be put under TLS.
-pub type Net = Secured<Wires, Seal>;
-
-/// A connection of such a transport.
-pub type Line = DataStream<Wire, Sealed<Wire>>;
-
-/// A session on such a connection.
+/// A session whose connections may be put under TLS.
 pub type Secure = Session<Net, Seal>;
 
 /// A call of a row.
@@ -191,23 +180,19 @@ impl Script {
     /// # Errors
     /// `OutOfMemory`.
     pub fn net(&self, alloc: Global, log: &Log, slow: bool) -> Result<Box<Net>, RowError> {
-        let mut ready = VecDeque::new(alloc);
+        let mut wires = Wires::new(alloc, log)?;
         if self.is_implicit() {
             if let Some(control) = self.control(alloc, log, slow)? {
-                ready.push_back(Supplied::Connects(control))?;
+                wires.supply(None, control)?;
             }
         }
         for item in &self.items {
             let mut conn = Wire::new(alloc, log, 'U', slow)?;
             conn.feed(item.bytes.as_slice())?;
             conn.end();
-            ready.push_back(match item.peer {
-                Some(peer) => Supplied::Comes(peer, conn),
-                None => Supplied::Connects(conn),
-            })?;
+            wires.supply(item.peer, conn)?;
         }
-        let wires = Wires::with(alloc, ready, log.share()?);
-        Ok(boxed(alloc, Secured::new(alloc, wires))?)
+        Ok(boxed(alloc, Net::new(alloc, wires))?)
     }
 
     /// A session on the row's connection, of which nothing was read; none where the row connects.
@@ -226,7 +211,7 @@ impl Script {
         let Some(control) = self.control(alloc, log, slow)? else {
             return Err(RowError::NotUnderstood);
         };
-        let control = boxed(alloc, DataStream::Tcp(control))?;
+        let control = boxed(alloc, Line::new(control))?;
         let net = self.net(alloc, log, slow)?;
         let session = Session::new(alloc, Box::into_inner(net), Box::into_inner(control));
         Ok(Some(boxed(alloc, had(session)?)?))

@@ -1,14 +1,14 @@
 //! The calls of a session, one after another.
 
-use crate::face::{Face, failed, sent, server};
-use crate::log::Log;
-use crate::script::{Asked, Line, Script, Secure};
+use crate::face::{Face, failed, server};
+use crate::script::{Asked, Script, Secure};
 use ftp_base::types::FtpResult;
 use ftp_session::session::{Answer, Call, Session, Setting};
 use ftp_transfer::Transfer;
 use ftp_transfer::mark::Left;
 use rows_plays::{Held, Transfers, boxed, bytes, count, lines, optional, size, unit};
 use rows_text::RowError;
+use rows_tls::{Line, Log};
 use std::alloc::Global;
 use std::io;
 use std::io::{Read, Write};
@@ -29,7 +29,7 @@ impl Held for Live {
     }
 
     fn sent(&self) -> &[u8] {
-        sent(self.transfer.get_ref())
+        self.transfer.get_ref().sent()
     }
 
     fn take_in<R>(&mut self, _rt: &R, buffer: &mut [u8]) -> io::Result<usize>

@@ -14,7 +14,6 @@ use std::sync::atomic::Ordering::SeqCst;
 
 /// A connector that is handed what comes in clear on its streams, in order; nothing comes on those after the last. It fails
 /// for a server without a dot in its name, and a stream to one that ends in a dot can't give its connection back.
-#[derive(Drop)]
 pub struct Seal {
     alloc: Global,
     texts: Vec<String>,
@@ -23,6 +22,22 @@ pub struct Seal {
     // How many handshakes were begun, and how many streams were made.
     handshakes: AtomicU32,
     streams: AtomicU32,
+}
+
+impl Drop for Seal {
+    fn drop(self) {
+        let Self {
+            alloc: _,
+            texts,
+            refusals,
+            handshakes,
+            streams,
+        } = self;
+        drop(texts);
+        drop(refusals);
+        drop(handshakes);
+        drop(streams);
+    }
 }
 
 impl Seal {

@@ -3,10 +3,10 @@
 ghost use Rattle.std.specs.Prelude.{◌≡◌, ◌≤◌, ◌<◌, length};
 ghost use Rattle.ftp_transport.specs.Told.{WritesSome};
 
+use crate::covers::Covers;
 use crate::log::Log;
 use ftp_transport::{Conn, MemoryConn, PollConn, TaskConn, Tells, Waiting};
 use futures::task::{Context, Poll};
-use rows_tls::Covers;
 use std::alloc::{AllocError, Global};
 use std::io::ErrorKind;
 use std::net::SocketAddr;

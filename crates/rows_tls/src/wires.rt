@@ -16,27 +16,52 @@ use std::io::ErrorKind;
 use std::net::SocketAddr;
 use std::time::Duration;
 
-/// What the next request results in.
+/// What the next request results in: a connect in this connection, or an accept, where it is from a peer at an address.
 #[derive(Drop)]
-pub enum Supplied {
-    /// A connect: this connection.
-    Connects(Wire),
-    /// An accept: this connection, from a peer at this address.
-    Comes(SocketAddr, Wire),
+struct Supplied {
+    peer: Option<SocketAddr>,
+    conn: Wire,
 }
 
 /// A transport that was supplied with connections. Its listeners get port 0, and a listener is its address.
-#[derive(Drop)]
 pub struct Wires {
     alloc: Global,
     ready: VecDeque<Supplied>,
     log: Log,
 }
 
+impl Drop for Wires {
+    fn drop(self) {
+        let Self {
+            alloc: _,
+            ready,
+            log,
+        } = self;
+        drop(ready);
+        drop(log);
+    }
+}
+
 impl Wires {
-    /// A transport with these connections.
-    pub fn with(alloc: Global, ready: VecDeque<Supplied>, log: Log) -> Wires {
-        Wires { alloc, ready, log }
+    /// A transport without connections.
+    ///
+    /// # Errors
+    /// Where an allocation fails.
+    pub fn new(alloc: Global, log: &Log) -> Result<Wires, AllocError> {
+        Ok(Wires {
+            alloc,
+            ready: VecDeque::new(alloc),
+            log: log.share()?,
+        })
+    }
+
+    /// A request after those that have connections results in this one: an accept, where it is from a peer at an address,
+    /// else a connect.
+    ///
+    /// # Errors
+    /// Where an allocation fails.
+    pub fn supply(&mut self, peer: Option<SocketAddr>, conn: Wire) -> Result<(), AllocError> {
+        Ok(self.ready.push_back(Supplied { peer, conn })?)
     }
 
     /// An address was asked for, or came.
@@ -50,8 +75,11 @@ impl Wires {
     fn connected(&mut self, address: SocketAddr) -> Connected<Wire> {
         self.note('D', address)?;
         match self.ready.pop_front() {
-            Some(Supplied::Connects(conn)) => Ok(Ok(conn)),
-            _ => Ok(Err(ConnectionError::Io(ErrorKind::ConnectionRefused))),
+            Some(Supplied { peer: None, conn }) => Ok(Ok(conn)),
+            other => {
+                drop(other);
+                Ok(Err(ConnectionError::Io(ErrorKind::ConnectionRefused)))
+            }
         }
     }
 
@@ -64,11 +92,19 @@ impl Wires {
     /// The connection of a peer.
     fn accepted(&mut self) -> Accepted<Wire> {
         match self.ready.pop_front() {
-            Some(Supplied::Comes(address, conn)) => {
+            Some(
+                Supplied {
+                    peer: Some(address),
+                    conn,
+                },
+            ) => {
                 self.note('P', address)?;
                 Ok(Ok((conn, address)))
             }
-            _ => Ok(Err(ConnectionError::TimedOut)),
+            other => {
+                drop(other);
+                Ok(Err(ConnectionError::TimedOut))
+            }
         }
     }
 }

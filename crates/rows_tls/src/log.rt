@@ -16,10 +16,16 @@ struct Entry {
 }
 
 /// A share of the log of a row. What there is no memory for is left out of it.
-#[derive(Drop)]
 pub struct Log {
     alloc: Global,
     entries: Arc<Mutex<Vec<Entry>>, Global>,
+}
+
+impl Drop for Log {
+    fn drop(self) {
+        let Self { alloc: _, entries } = self;
+        drop(entries);
+    }
 }
 
 /// Adds bytes to these entries: to the last, where that has this letter and goes on.
