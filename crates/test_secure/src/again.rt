@@ -1,22 +1,21 @@
 //! Futures of the polled client that are polled again after they have returned their results.
 
-use crate::streams::{Network, number, plain, server};
+use crate::scene::{net, session};
+use crate::streams::{number, server};
 use ftp_base::encoding::Utf8Encoding;
 use ftp_base::types::{FtpError, FtpResult};
 use ftp_polled::{Connect, ImplAsyncFtpStream, Secure};
-use ftp_secure::{DataStream, Secured};
-use ftp_session::session::{NoStreamBuilder, Session};
-use ftp_transport::{MemoryConn, MemoryTransport, Supply};
+use ftp_session::session::NoStreamBuilder;
 use futures::Future;
 use futures::executor::block_on;
-use rows_tls::Seal;
+use rows_tls::{Net, Seal};
 use std::alloc::Global;
 use std::random::RandomSource;
 use std::sync::Wait;
 use std::test::Fail;
 
 /// A polled client that may be put under the TLS of the tests.
-type Client = ImplAsyncFtpStream<Network, Seal>;
+type Client = ImplAsyncFtpStream<Net, Seal>;
 
 /// The number of the error with which a future ends.
 fn ends<R, F, T>(rt: &R, state: &mut F) -> u8
@@ -33,7 +32,7 @@ where
 }
 
 /// A client that connects.
-type Connecting<'r, R> = Connect<'r, R, Network, Seal, Utf8Encoding, NoStreamBuilder>;
+type Connecting<'r, R> = Connect<'r, R, Net, Seal, Utf8Encoding, NoStreamBuilder>;
 
 /// The numbers of the errors with which a connect ends that is polled to its end twice.
 fn twice<R>(rt: &R, mut connect: Box<Connecting<'_, R>>) -> (u8, u8)
@@ -47,12 +46,10 @@ where
 /// A client that connects under TLS to a server of which the connector refuses the connection, and could connect again.
 fn connecting<'r, R: AllocGlobal>(rt: &'r R) -> FtpResult<Box<Connecting<'r, R>>> {
     let alloc = rt.alloc();
-    let mut below = MemoryTransport::new(alloc);
-    below.supply(Supply::Connects(plain(alloc)?))?;
-    below.supply(Supply::Connects(plain(alloc)?))?;
-    let seal = Box::into_inner(Seal::new(alloc, "220 hi\r\n")?);
-    let network = Secured::new(alloc, below);
-    let connect = Client::connect_secure_implicit(rt, network, &[server()], seal, "localhost");
+    let seal = Seal::new(alloc, "220 hi\r\n")?;
+    let net = Box::into_inner(net(alloc, 2, "plain")?);
+    let seal = Box::into_inner(seal);
+    let connect = Client::connect_secure_implicit(rt, net, &[server()], seal, "localhost");
     Ok(Box::new(alloc, connect)?)
 }
 
@@ -65,8 +62,8 @@ fn a_connect_that_was_refused_is_over(rt: HostRuntime) -> Result<(), Fail> {
 
 /// A client that connects in clear, and has no address.
 fn nowhere<'r, R: AllocGlobal>(rt: &'r R) -> FtpResult<Box<Connecting<'r, R>>> {
-    let network = Secured::new(rt.alloc(), MemoryTransport::new(rt.alloc()));
-    Ok(Box::new(rt.alloc(), Client::connect(rt, network, &[]))?)
+    let net = Box::into_inner(net(rt.alloc(), 0, "")?);
+    Ok(Box::new(rt.alloc(), Client::connect(rt, net, &[]))?)
 }
 
 #[test]
@@ -79,15 +76,12 @@ fn a_connect_without_an_address_is_over(rt: HostRuntime) -> Result<(), Fail> {
 /// A client that is put under TLS, of which the connector refuses the connection.
 fn securing<'r, R: AllocGlobal>(
     rt: &'r R,
-) -> FtpResult<Box<Secure<'r, R, Network, Seal, Utf8Encoding, NoStreamBuilder>>> {
+) -> FtpResult<Box<Secure<'r, R, Net, Seal, Utf8Encoding, NoStreamBuilder>>> {
     let alloc = rt.alloc();
-    let mut conn = MemoryConn::new(alloc);
-    conn.feed(b"234 go\r\n")?;
-    let network = Secured::new(alloc, MemoryTransport::new(alloc));
-    let session = Session::new(alloc, network, DataStream::Tcp(conn))?;
-    let client = Client::new(alloc, session)?;
-    let seal = Box::into_inner(Seal::new(alloc, "")?);
-    Ok(Box::new(alloc, client.into_secure(rt, seal, "localhost"))?)
+    let seal = Seal::new(alloc, "")?;
+    let client = Client::new(alloc, Box::into_inner(session(alloc, 0)?))?;
+    let change = client.into_secure(rt, Box::into_inner(seal), "localhost");
+    Ok(Box::new(alloc, change)?)
 }
 
 #[test]

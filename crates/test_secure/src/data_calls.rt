@@ -1,14 +1,13 @@
 //! The calls of data connections that no row of TLS makes, in a secure session over memory (RFC 4217, section 9).
 
-use crate::streams::{Network, number};
+use crate::scene::session;
+use crate::streams::number;
 use ftp_base::status::Status;
 use ftp_base::types::FtpResult;
-use ftp_secure::{DataStream, Secured};
 use ftp_session::session::{DownloadReader, NoProgress, Session};
 use ftp_transfer::Transfer;
-use ftp_transport::{MemoryConn, MemoryTransport, Supply};
-use rows_tls::{Seal, Sealed};
-use std::alloc::Global;
+use rows_tls::{Line, Net, Seal};
+use std::alloc::{AllocError, Global};
 use std::io::Read;
 use std::test::Fail;
 
@@ -16,18 +15,22 @@ use std::test::Fail;
 const REPLIES: &str =
     "200 a\r\n200 b\r\n227 x (10,0,0,1,4,0).\r\n150 b\r\n226 d\r\n227 x (10,0,0,1,4,0).\r\n150 b\r\n226 d\r\n227 x (10,0,0,1,4,0).\r\n150 b\r\n226 d\r\n";
 
-/// A secure session with three data connections, on which these come under TLS.
-fn session(alloc: Global, data: [&str; 3]) -> FtpResult<Box<Session<Network, Seal>>> {
-    let mut below = MemoryTransport::new(alloc);
+/// A session of the tests.
+type Secure = Session<Net, Seal>;
+
+/// A connector on whose streams the replies come, and then these.
+fn seal(alloc: Global, data: [&str; 3]) -> Result<Box<Seal>, AllocError> {
     let mut seal = Seal::new(alloc, REPLIES)?;
     for text in data {
-        below.supply(Supply::Connects(MemoryConn::new(alloc)))?;
         seal.then(text)?;
     }
-    let mut conn = MemoryConn::new(alloc);
-    conn.feed(b"234 go\r\n".as_slice())?;
-    let session = Session::new(alloc, Secured::new(alloc, below), DataStream::Tcp(conn))?;
-    let mut session = Box::new(alloc, session)?;
+    Ok(seal)
+}
+
+/// A secure session with three data connections, on which these come under TLS.
+fn secured(alloc: Global, data: [&str; 3]) -> FtpResult<Box<Secure>> {
+    let seal = seal(alloc, data)?;
+    let mut session = session(alloc, 3)?;
     session.into_secure(alloc, Box::into_inner(seal), "ftp.example")?;
     Ok(session)
 }
@@ -36,11 +39,8 @@ fn session(alloc: Global, data: [&str; 3]) -> FtpResult<Box<Session<Network, Sea
 #[derive(Drop)]
 struct Once;
 
-impl DownloadReader<DataStream<MemoryConn, Sealed<MemoryConn>>, usize> for Once {
-    fn read(
-        &mut self,
-        transfer: &mut Transfer<DataStream<MemoryConn, Sealed<MemoryConn>>>,
-    ) -> FtpResult<usize> {
+impl DownloadReader<Line, usize> for Once {
+    fn read(&mut self, transfer: &mut Transfer<Line>) -> FtpResult<usize> {
         let mut bytes = [0u8; 16];
         Ok(Read::read(transfer, &mut bytes)?)
     }
@@ -49,33 +49,55 @@ impl DownloadReader<DataStream<MemoryConn, Sealed<MemoryConn>>, usize> for Once 
 #[test]
 fn a_reader_is_handed_what_comes_under_tls(rt: HostRuntime) -> Result<(), Fail> {
     let alloc = rt.alloc();
-    let mut session = session(alloc, ["a file", "", ""])?;
+    let mut session = secured(alloc, ["a file", "", ""])?;
     let count = session.retr(alloc, &(), "f", &mut Once)?;
     drop(session);
     assert_eq!(rt; count, 6);
     Ok(())
 }
 
+/// How many names and how many facts come.
+fn listed(alloc: Global, session: &mut Secure) -> FtpResult<(usize, usize)> {
+    let names = session.nlst(alloc, &(), None)?.len();
+    Ok((names, session.mlsd(alloc, &(), None)?.len()))
+}
+
+/// How many bytes a download to a writer has, and whether they are those of the file.
+fn saved(alloc: Global, session: &mut Secure) -> FtpResult<(u64, bool)> {
+    let mut bytes = Vec::new(alloc);
+    let count = session.write_to(alloc, &(), "f", &mut bytes, &mut NoProgress)?;
+    Ok((count, bytes.as_slice() == b"a file".as_slice()))
+}
+
 #[test]
 fn names_facts_and_a_download_to_a_writer_come_under_tls(rt: HostRuntime) -> Result<(), Fail> {
     let alloc = rt.alloc();
-    let mut session = session(alloc, ["a\r\nb\r\n", "type=file; c\r\n", "a file"])?;
-    let names = session.nlst(alloc, &(), None)?;
-    let facts = session.mlsd(alloc, &(), None)?;
-    let mut bytes = Vec::new(alloc);
-    let count = session.write_to(alloc, &(), "f", &mut bytes, &mut NoProgress)?;
-    let came = (
-        names.len(),
-        facts.len(),
-        count,
-        bytes.as_slice() == b"a file".as_slice(),
-    );
-    drop(names);
-    drop(facts);
-    drop(bytes);
+    let mut session = secured(alloc, ["a\r\nb\r\n", "type=file; c\r\n", "a file"])?;
+    let listed = listed(alloc, &mut session)?;
+    let saved = saved(alloc, &mut session)?;
     drop(session);
-    assert_eq!(rt; came, (2, 1, 6, true));
+    assert_eq!(rt; (listed, saved), ((2, 1), (6, true)));
     Ok(())
+}
+
+/// Whether a transfer is under TLS, and the number of the error with which it ends.
+fn ends(alloc: Global, session: &mut Secure, transfer: Transfer<Line>) -> (bool, u8) {
+    let is_under = transfer.get_ref().is_under();
+    (is_under, number(session.finish(alloc, transfer)))
+}
+
+/// The end of an upload to a file's end.
+fn appended(alloc: Global, session: &mut Secure) -> FtpResult<(bool, u8)> {
+    let transfer = session.append_with_stream(alloc, &(), "f")?;
+    Ok(ends(alloc, session, transfer))
+}
+
+/// The end of a download by a data command of the caller's.
+fn commanded(alloc: Global, session: &mut Secure) -> FtpResult<(bool, u8)> {
+    let expected = [Status::AboutToSend];
+    let (reply, transfer) = session.custom_data_command(alloc, &(), "RETR f", &expected)?;
+    drop(reply);
+    Ok(ends(alloc, session, transfer))
 }
 
 #[test]
@@ -83,25 +105,11 @@ fn what_is_appended_and_a_data_command_of_the_callers_go_under_tls(
     rt: HostRuntime,
 ) -> Result<(), Fail> {
     let alloc = rt.alloc();
-    let mut session = session(alloc, ["", "", ""])?;
+    let mut session = secured(alloc, ["", "", ""])?;
     let count = session.append_file(alloc, &(), "f", &mut b"xy".as_slice())?;
-    let transfer = Box::new(alloc, session.append_with_stream(alloc, &(), "f")?)?;
-    let appends = matches!(transfer.get_ref(), DataStream::Ssl(_));
-    let first = number(session.finish(alloc, Box::into_inner(transfer)));
-    let (reply, transfer) = session.custom_data_command(
-        alloc,
-        &(),
-        "RETR f",
-        &[Status::AboutToSend],
-    )?;
-    drop(reply);
-    let transfer = Box::new(alloc, transfer)?;
-    let gets = matches!(transfer.get_ref(), DataStream::Ssl(_));
-    let second = number(session.finish(alloc, Box::into_inner(transfer)));
+    let appends = appended(alloc, &mut session)?;
+    let gets = commanded(alloc, &mut session)?;
     drop(session);
-    assert_eq!(rt;
-        (count, appends, first, gets, second),
-        (2, true, 0, true, 0)
-    );
+    assert_eq!(rt; (count, appends, gets), (2, (true, 0), (true, 0)));
     Ok(())
 }

@@ -1,11 +1,11 @@
 //! A connection that is put under TLS by polls.
 
+use crate::networks::keep;
 use crate::streams::{Network, number, plain};
 use ftp_base::types::{FtpError, FtpResult};
-use ftp_secure::{DataStream, SecureNetwork, Secured};
+use ftp_secure::{DataStream, Secured};
 use ftp_transport::{MemoryTransport, PollConn, PollTransport};
 use futures::task::Poll;
-use rows_tls::Seal;
 use std::alloc::Global;
 use std::test::Fail;
 
@@ -13,8 +13,7 @@ use std::test::Fail;
 fn keeping(alloc: Global, domain: Option<&str>) -> FtpResult<Box<Network>> {
     let mut network = Box::new(alloc, Secured::new(alloc, MemoryTransport::new(alloc)))?;
     if let Some(domain) = domain {
-        let seal = Seal::new(alloc, "clear!")?;
-        network.keep(Box::into_inner(seal), String::from_str(alloc, domain)?);
+        keep(alloc, &mut network, domain)?;
     }
     Ok(network)
 }

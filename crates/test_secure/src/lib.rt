@@ -10,4 +10,6 @@ mod handshakes;
 #[cfg(test)]
 mod networks;
 #[cfg(test)]
+mod scene;
+#[cfg(test)]
 mod streams;
