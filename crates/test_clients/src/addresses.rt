@@ -1,19 +1,16 @@
 //! Clients that connect to an address that is a text.
 
 use crate::scene::number;
-use crate::server::serve;
+use crate::server::serving;
 use ftp_base::types::{ConnectionError, FtpError};
 use ftp_blocking::FtpStream;
 use std::io::ErrorKind;
-use std::net::TcpListener;
 use std::test::Fail;
-use std::thread;
 
 #[test]
 fn a_client_connects_to_an_address_that_is_a_text(rt: HostRuntime) -> Result<(), Fail> {
-    let listener = TcpListener::bind(&rt, "127.0.0.1:0")?;
-    let address = format!(in rt.alloc(); "{}", listener.local_addr()?)?;
-    let serving = thread::spawn(&rt, move || serve(&rt, &listener, "send 220 ready"))?;
+    let (serving, address) = serving(rt, "send 220 ready")?;
+    let address = format!(in rt.alloc(); "{address}")?;
     let connected = number(FtpStream::connect_to(&rt, address.as_str()));
     let served = serving.join(&rt).is_ok();
     assert_eq!(rt; (connected, served), (0, true));

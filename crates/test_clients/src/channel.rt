@@ -75,8 +75,8 @@ fn replies_and_lines_come_in_pieces(rt: HostRuntime) -> Result<(), Fail> {
     let lines = lines(alloc, &mut channel);
     drop(channel);
     // `UnexpectedEof` is 2, `SessionFailed` 14
-    assert_eq!(rt; replies?, [1000, 8, 7, 7, 2002]);
-    assert_eq!(rt; lines?, [5, 1000, 4, 5, 2002, 2014]);
+    let due = ([1000, 8, 7, 7, 2002], [5, 1000, 4, 5, 2002, 2014]);
+    assert_eq!(rt; (replies?, lines?), due);
     Ok(())
 }
 

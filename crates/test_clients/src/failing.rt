@@ -1,14 +1,13 @@
 //! Whether a client has failed, and what its calls result in then.
 
 use crate::scene::number;
-use crate::server::serve;
+use crate::server::serving;
 use ftp_base::types::FtpResult;
 use ftp_blocking::FtpStream;
 use ftp_session::session::Failure;
 use std::net::{Net, SocketAddr, TcpListener, TcpStream};
 use std::sync::Wait;
 use std::test::Fail;
-use std::thread;
 use std::time::Clock;
 
 /// The numbers of the errors of three calls, and whether the client has failed after each; and where it did.
@@ -26,15 +25,14 @@ where
 
 #[test]
 fn a_client_tells_that_it_has_failed(rt: HostRuntime) -> Result<(), Fail> {
-    let listener = TcpListener::bind(&rt, "127.0.0.1:0")?;
-    let address = listener.local_addr()?;
-    let script = "send 220 ready;line;send 550 no;line";
-    let serving = thread::spawn(&rt, move || serve(&rt, &listener, script))?;
+    let (serving, address) = serving(rt, "send 220 ready;line;send 550 no;line")?;
     let (calls, places) = calls(&rt, address)?;
     let noted = serving.join(&rt)?;
     // `UnexpectedResponse` is 10, `UnexpectedEof` 2, `SessionFailed` 14
-    assert_eq!(rt; calls, [(10, false), (2, true), (14, true)]);
-    assert_eq!(rt; places, [None, Some(Failure::Control)]);
-    assert_eq!(rt; noted.as_str(), "DELE a|NOOP|");
+    let due = [(10, false), (2, true), (14, true)];
+    assert_eq!(rt;
+        (calls, places, noted.as_str()),
+        (due, [None, Some(Failure::Control)], "DELE a|NOOP|")
+    );
     Ok(())
 }

@@ -1,7 +1,7 @@
 //! Clients whose sockets have time limits, with servers that stop in the midst.
 
 use crate::scene::{boxed, number};
-use crate::server::serve;
+use crate::server::serving;
 use ftp_base::types::{ActivePeerCheck, ConnectionError, FtpError, FtpResult, Mode};
 use ftp_blocking::FtpStream;
 use ftp_transport::TcpTransport;
@@ -9,7 +9,6 @@ use std::io::{ErrorKind, Read};
 use std::net::{Net, SocketAddr, TcpListener, TcpStream};
 use std::sync::Wait;
 use std::test::Fail;
-use std::thread;
 use std::time::{Clock, Duration};
 
 /// The limit, in milliseconds.
@@ -37,9 +36,7 @@ where
 
 #[test]
 fn a_reply_that_does_not_come_ends_its_call_and_the_session(rt: HostRuntime) -> Result<(), Fail> {
-    let listener = TcpListener::bind(&rt, "127.0.0.1:0")?;
-    let address = listener.local_addr()?;
-    let serving = thread::spawn(&rt, move || serve(&rt, &listener, "send 220 r;line;line"))?;
+    let (serving, address) = serving(rt, "send 220 r;line;line")?;
     let client = client(&rt, address)?;
     let first = kind_of(client.noop(&rt));
     let second = number(client.noop(&rt));
@@ -95,9 +92,7 @@ const ACTIVE: &str =
 fn data_that_stall_end_their_read_and_the_client_goes_on(rt: HostRuntime) -> Result<(), Fail> {
     let late = (2, Some(ErrorKind::TimedOut), 0);
     for (mode, steps) in [(Mode::Passive, PASSIVE), (Mode::Active, ACTIVE)] {
-        let listener = TcpListener::bind(&rt, "127.0.0.1:0")?;
-        let address = listener.local_addr()?;
-        let serving = thread::spawn(&rt, move || serve(&rt, &listener, steps))?;
+        let (serving, address) = serving(rt, steps)?;
         let came = visited(&rt, address, mode)?;
         let served = serving.join(&rt).is_ok();
         assert_eq!(rt; (came, served), (late, true));

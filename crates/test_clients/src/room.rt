@@ -46,9 +46,12 @@ fn a_blocking_write_without_room_fails_the_session(rt: HostRuntime) -> Result<()
     let none = two_commands(rt.alloc(), 0)?;
     let two = two_commands(rt.alloc(), 2)?;
     let six = two_commands(rt.alloc(), 6)?;
-    assert_eq!(rt; none, ("would block", "failed", 0, 7));
-    assert_eq!(rt; two, ("would block", "failed", 2, 7));
-    assert_eq!(rt; six, ("ok", "would block", 6, 15));
+    let due = [
+        ("would block", "failed", 0, 7),
+        ("would block", "failed", 2, 7),
+        ("ok", "would block", 6, 15),
+    ];
+    assert_eq!(rt; [none, two, six], due);
     Ok(())
 }
 

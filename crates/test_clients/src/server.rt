@@ -17,7 +17,9 @@
 
 use std::io::{BufRead, BufReader, ErrorKind, Read, Write};
 use std::net::{Net, SocketAddr, TcpListener, TcpStream};
-use std::{io, mem};
+use std::test::Fail;
+use std::thread::{JoinHandle, Threads};
+use std::{io, mem, thread};
 
 /// The server's end of a client's connections, where the client listens by PORT, and what the server noted.
 #[derive(Drop)]
@@ -40,6 +42,21 @@ where
         play(rt, &mut server, word, argument)?;
     }
     String::from_str(rt.alloc(), server.noted.as_str()).map_err(io::Error::from)
+}
+
+/// A thread that plays a script, and returns what was noted.
+pub type Serving = JoinHandle<io::Result<String>>;
+
+/// A thread that plays a script with the next client, and the address at which it does.
+pub fn serving<R>(rt: R, steps: &'static str) -> Result<(Serving, SocketAddr), Fail>
+where
+    R: Threads + Net<Listener = TcpListener, Stream = TcpStream>,
+    R: AllocGlobal + Copy + Send + 'static,
+{
+    let listener = TcpListener::bind(&rt, "127.0.0.1:0")?;
+    let address = listener.local_addr()?;
+    let thread = thread::spawn(&rt, move || serve(&rt, &listener, steps))?;
+    Ok((thread, address))
 }
 
 /// The next client's server.
