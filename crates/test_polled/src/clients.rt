@@ -22,8 +22,8 @@ fn a_state_that_waits_sends_its_line_and_lets_the_reply_come(rt: HostRuntime) ->
     let last = answered(&rt, &mut scene.runtime, quit);
     let quitted = came(&mut scene.server, b"QUIT\r\n");
     drop(scene);
-    assert_eq!(rt; (waits, sent, replied, quitted), (true, true, true, true));
-    assert_eq!(rt; (first, last), (0, 0));
+    let held = [waits, sent, replied, quitted];
+    assert_eq!(rt; (held, first, last), ([true; 4], 0, 0));
     Ok(())
 }
 

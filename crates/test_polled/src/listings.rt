@@ -65,8 +65,8 @@ fn lines_that_cannot_be_read_leave_the_files(rt: HostRuntime) -> Result<(), Fail
     let fed = feeding.join(&rt).is_ok();
     let sent = came(&mut scene.server, b"FEAT\r\nPASV\r\nLIST pub\r\n");
     drop(scene);
-    assert_eq!(rt; text.as_str(), "a.txt 1234|b.txt 8192|?hello|?total of 8|");
-    assert_eq!(rt; (fed, sent), (true, true));
+    let due = "a.txt 1234|b.txt 8192|?hello|?total of 8|";
+    assert_eq!(rt; (text.as_str(), fed, sent), (due, true, true));
     Ok(())
 }
 
@@ -103,7 +103,6 @@ fn a_list_of_files_is_dropped_between_its_calls(rt: HostRuntime) -> Result<(), F
     let answered = next(&rt, &mut scene);
     let sent = came(&mut scene.server, b"FEAT\r\nPASV\r\nNOOP\r\n");
     drop(scene);
-    assert_eq!(rt; (waited, replied, sent), (true, true, true));
-    assert_eq!(rt; answered, 0);
+    assert_eq!(rt; (waited, replied, sent, answered), (true, true, true, 0));
     Ok(())
 }

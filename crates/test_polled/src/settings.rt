@@ -195,9 +195,12 @@ fn an_active_client_waits_for_its_server_as_long_as_it_was_set_to(
     let read = scene.server.read_exact(&mut line).is_ok();
     drop(scene);
     let in_time = start.elapsed(&rt)? < Duration::from_secs(5);
-    assert_eq!(rt; (sent, read, line), (true, true, *b"PORT 127,0,0,1,"));
+    let held = [sent, read, in_time, polls < 10];
     // TimedOut
-    assert_eq!(rt; (set, fault, in_time, polls < 10), (0, 8, true, true));
+    assert_eq!(rt;
+        (held, line, set, fault),
+        ([true; 4], *b"PORT 127,0,0,1,", 0, 8)
+    );
     Ok(())
 }
 

@@ -83,8 +83,8 @@ fn a_write_reaches_the_peer_and_a_closed_connection_is_not_connected(
     drop(conn);
     drop(runtime);
     let gone = Some(ErrorKind::NotConnected);
-    assert_eq!(rt; (ends, reached), (due, true));
-    assert_eq!(rt; (written, faults), (Ok(Poll::Ready(4)), [None, gone, gone]));
+    let closes = (Ok(Poll::Ready(4)), [None, gone, gone]);
+    assert_eq!(rt; (ends, reached, (written, faults)), (due, true, closes));
     Ok(())
 }
 
