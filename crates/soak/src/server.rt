@@ -34,6 +34,7 @@ pub fn serve<R: Clock + AllocGlobal>(
 ) -> io::Result<()> {
     for session in 0..u64::MAX {
         let (mut stream, _peer) = listener.accept()?;
+        forget(data)?;
         let script = Script {
             seed,
             session,
@@ -45,6 +46,19 @@ pub fn serve<R: Clock + AllocGlobal>(
         }
     }
     Ok(())
+}
+
+/// Lets go of the data connections of earlier sessions. A client that is gone with replies unread has reset its connection,
+/// and the line by which it would have used the last one is lost. No client of this session has made one, as it isn't
+/// greeted yet.
+fn forget(data: &TcpListener) -> io::Result<()> {
+    data.set_nonblocking(true)?;
+    for _ in 0..u64::MAX {
+        if data.accept().is_err() {
+            break;
+        }
+    }
+    data.set_nonblocking(false)
 }
 
 /// Serves a client to the end of its session.
