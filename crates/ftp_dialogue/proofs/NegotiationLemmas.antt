@@ -773,7 +773,7 @@ module _ (link : Link) (coding : Coding) (call : Call) (way : Way) (opens : nego
       let T : Tree → Type 0 = λ t. Moves link tree t old mid in
       let L : State → Tree = λ s. Leaf answer (with_transfer s) in
       let ends : Ends link tree answer old new = subst V (sym same) (leaf_ends link tree answer old mid (record mid { state = with_transfer mid.state }) (subst T (ap L (sym moves.state)) moves) (λ f. inl (sym still.advances.failed ∙ f)) refl refl) in
-      subst P (sym done) (walks_end link coding call way opens stage' answer old new (inl ends) may)
+      subst P (sym done) (walks_end link coding call way opens stage' answer old new (inl ends) may.0)
   stands_walks (PerformsAll task) stage' old mid new result may still (on, at, same) =
       let P : Step → Type 0 = λ r. Walks link coding call (OpeningData way) stage' old new r in
       let Q : Stage → Type 0 = λ s. Walks link coding call (OpeningData way) s old new Next in

@@ -108,10 +108,10 @@ may_perform call turn ending task of row leads kind = (asks_opens call turn endi
 pub asking_answers : (call : Call) (turn : Turn) (ending : Ending) (asking : Asking) → TurnOf call turn → ending_of (row_of call turn) ≡ Some ending → agrees ending ≡ true → AskingAnswers (kind_of ending) asking → AskingOf call asking
 asking_answers call turn ending (PeerPort port) of row leads answers = tt
 asking_answers call turn ending (Connection address) of row leads answers = tt
-asking_answers call turn ending (Peer (GivesAnswer answer)) of row leads answers = (turn, inl of, row_answers (row_of call turn) ending answer row answers)
+asking_answers call turn ending (Peer (GivesAnswer answer)) of row leads answers = ((turn, inl of, row_answers (row_of call turn) ending answer row answers.0), answers.1)
 asking_answers call turn ending (Peer (PerformsAll task)) of row leads answers = may_perform call turn ending task of row leads answers
 asking_answers call turn ending (Accepting peer left opened) of row leads answers = absurd answers
-asking_answers call turn ending (Securing (GivesAnswer answer)) of row leads answers = (turn, inl of, row_answers (row_of call turn) ending answer row answers)
+asking_answers call turn ending (Securing (GivesAnswer answer)) of row leads answers = ((turn, inl of, row_answers (row_of call turn) ending answer row answers.0), answers.1)
 asking_answers call turn ending (Securing (PerformsAll task)) of row leads answers = may_perform call turn ending task of row leads answers
 
 many_nodes : (turn : Turn) → most_reads + strangers + 19 < nodes_from turn

@@ -376,7 +376,7 @@ agrees (Performs task) = true
 agrees other = false
 
 abbrev pub OpeningAnswers : Kind → Opening → Type 0
-OpeningAnswers kind (GivesAnswer answer) = AnswersKind kind answer
+OpeningAnswers kind (GivesAnswer answer) = AnswersKind kind answer × (IsFault answer → ⊥)
 OpeningAnswers kind (PerformsAll task) = kind ≡ kind_of_task task
 
 abbrev pub AskingAnswers : Kind → Asking → Type 0

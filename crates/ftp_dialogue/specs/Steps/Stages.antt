@@ -287,9 +287,9 @@ MayFetch call form = MayGive call (kind_of_fetch form)
 abbrev pub MayPerform : Call → Task → Type 0
 MayPerform call task = MayGive call (kind_of_task task)
 
--- what is kept while an outcome is awaited: the answer, or what is done with the data connection
+-- what is kept while an outcome is awaited: the answer, which is no error, or what is done with the data connection
 abbrev pub OpeningOf : Call → Opening → Type 0
-OpeningOf call (GivesAnswer answer) = MayAnswer call answer
+OpeningOf call (GivesAnswer answer) = MayAnswer call answer × (IsFault answer → ⊥)
 OpeningOf call (Performs task) = MayPerform call task
 
 abbrev pub AskingOf : Call → Asked → Type 0
