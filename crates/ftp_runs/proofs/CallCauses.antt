@@ -11,14 +11,15 @@ use Rattle.ftp_calls.specs.declared.call.Call.{Call}
 use Rattle.ftp_dialogue.specs.Coding.{Coding}
 use Rattle.ftp_dialogue.specs.Counted.{CountsFailure, IsGivenBeside}
 use Rattle.ftp_dialogue.specs.Link.{Link}
-use Rattle.ftp_dialogue.specs.Promises.{Plays}
+use Rattle.ftp_dialogue.specs.CatchingUp.{PlaysInStep}
 use Rattle.ftp_dialogue.specs.State.{SessionValue}
-use Rattle.ftp_dialogue.specs.Steps.Moving.{MadeDrained}
-use Rattle.ftp_dialogue.proofs.DrainingLemmas.{drained_plays}
+use Rattle.ftp_dialogue.proofs.CatchingUpLemmas.{plays_in_step}
 use Rattle.ftp_session.specs.Calls.{sends}
-use Rattle.ftp_session.proofs.Causes.{Causes, plays_causes}
+use Rattle.ftp_session.proofs.Causes.{Causes}
+use Rattle.ftp_session.proofs.Reasons.{step_causes}
 use Rattle.ftp_session.proofs.EveryCall.{Short, every_backed, took_no_more}
 use Rattle.ftp_runs.specs.Counting.{CountsEach, HasCause}
+use Rattle.ftp_runs.proofs.InStep.{MadeInStep}
 
 -- A call
 
@@ -36,15 +37,15 @@ has_cause link called old new answer causes = record { counted = λ kind is h. g
     go kind (inr (inl gives)) = inr (inl gives)
     go kind (inr (inr short)) = inr (inr (wrote_none (sends called) kind short))
 
-pub call_causes : (link : Link) (coding : Coding) (called : Call) (old new : SessionValue) (answer : Answer) → Plays link coding called old new answer → HasCause link called old new answer
+pub call_causes : (link : Link) (coding : Coding) (called : Call) (old new : SessionValue) (answer : Answer) → PlaysInStep link coding called old new answer → HasCause link called old new answer
 call_causes link coding called old new answer plays =
-    has_cause link called old new answer (plays_causes link (Short (sends called)) (unlike_failed (sends called)) coding called old new answer (λ state. every_backed coding state called) plays)
+    has_cause link called old new answer (step_causes link (Short (sends called)) (unlike_failed (sends called)) coding called old new answer (λ state. every_backed coding state called) plays)
 
 -- A list
 
-one_more : (link : Link) (coding : Coding) (done : List Call) (called : Call) (old mid new : SessionValue) (answers : List Answer) (answer : Answer) → CountsEach link coding done old mid answers → Plays link coding called mid new answer → HasCause link called mid new answer → CountsEach link coding (done ++ called ∷ []) old new (answers ++ answer ∷ [])
+one_more : (link : Link) (coding : Coding) (done : List Call) (called : Call) (old mid new : SessionValue) (answers : List Answer) (answer : Answer) → CountsEach link coding done old mid answers → PlaysInStep link coding called mid new answer → HasCause link called mid new answer → CountsEach link coding (done ++ called ∷ []) old new (answers ++ answer ∷ [])
 one_more link coding [] called old mid new answers answer none plays causes =
-    let P : SessionValue → Type 0 = λ v. Plays link coding called v new answer in
+    let P : SessionValue → Type 0 = λ v. PlaysInStep link coding called v new answer in
     let Q : SessionValue → Type 0 = λ v. HasCause link called v new answer in
     (new, answer, [], ap (λ l. l ++ answer ∷ []) none.1, subst P none.0 plays, subst Q none.0 causes, (refl, refl))
 one_more link coding (first ∷ done) called old mid new answers answer (middle, told, later, is, first_plays, first_causes, each) plays causes =
@@ -59,11 +60,11 @@ pub record CountsSoFar (link : Link) (coding : Coding) (calls to_make : List Cal
 pub none_made : (link : Link) (coding : Coding) (calls : List Call) (v : SessionValue) → CountsSoFar link coding calls calls v v []
 none_made link coding calls v = record { done = []; split = refl; each = (refl, refl) }
 
-pub next_counted : (link : Link) (coding : Coding) (calls : List Call) (i : ℕ) (called : Call) (old mid new : SessionValue) (answers answers' : List Answer) (answer : Answer) → i < length calls → called ≡ get_or calls i called → answers' ≡ answers ++ answer ∷ [] → CountsSoFar link coding calls (drop i calls) old mid answers → MadeDrained link coding called mid new answer → CountsSoFar link coding calls (drop (i + 1) calls) old new answers'
+pub next_counted : (link : Link) (coding : Coding) (calls : List Call) (i : ℕ) (called : Call) (old mid new : SessionValue) (answers answers' : List Answer) (answer : Answer) → i < length calls → called ≡ get_or calls i called → answers' ≡ answers ++ answer ∷ [] → CountsSoFar link coding calls (drop i calls) old mid answers → MadeInStep link coding called mid new answer → CountsSoFar link coding calls (drop (i + 1) calls) old new answers'
 next_counted link coding calls i called old mid new answers answers' answer inside is pushed so_far made =
     let P : List Answer → Type 0 = λ a. CountsEach link coding (so_far.done ++ called ∷ []) old new a in
     let left : drop i calls ≡ called ∷ drop (i + 1) calls = drop_more calls i called inside ∙ ap (λ c. c ∷ drop (i + 1) calls) (sym is) in
-    let plays = drained_plays link coding called mid new answer made in
+    let plays = plays_in_step link coding called mid new answer made in
     record {
       done = so_far.done ++ called ∷ [];
       split = so_far.split ∙ ap (λ l. so_far.done ++ l) left ∙ sym (append_assoc so_far.done (called ∷ []) (drop (i + 1) calls));

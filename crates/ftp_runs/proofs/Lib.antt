@@ -4,6 +4,7 @@ pub mod Drained
 pub mod EventLemmas
 pub mod Following
 pub mod HiddenCalls
+pub mod InStep
 pub mod Leaving
 pub mod ClosingData
 pub mod Polling

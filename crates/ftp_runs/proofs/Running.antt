@@ -1,14 +1,11 @@
 -- Lemmas on lists of calls.
-use Rattle.std.proofs.lemmas.List.{drop_more}
-use Rattle.std.proofs.Math.ListN.{drop_of_length-le}
-use Rattle.std.proofs.Common.{◌≡◌, ℕ, ◌+◌, ◌<◌, ◌≤◌, drop, get_or, Bool, true, false, cond, List, [], ◌∷◌, ◌++◌, length, length-append, inl, inr, ◌⊎◌, refl, ap, sym, ◌∙◌, subst, append_assoc, append-nil}
+use Rattle.std.proofs.Common.{◌≡◌, ℕ, ◌+◌, Bool, true, false, cond, List, [], ◌∷◌, ◌++◌, length, length-append, inl, inr, ◌⊎◌, refl, ap, sym, ◌∙◌, subst, append_assoc, append-nil}
 use Rattle.ftp_control.specs.declared.control.rule.ReplyRule.{ReplyRule}
 use Rattle.ftp_transport.specs.declared.room.Room.{Room}
 use Rattle.ftp_dialogue.specs.NetEvents.{NetEvent, outcomes_of}
 use Rattle.ftp_dialogue.proofs.NetEvents.{outcomes-append}
 use Rattle.ftp_dialogue.specs.declared.state.State.{State}
 use Rattle.ftp_calls.specs.declared.call.Answer.{Answer}
-use Rattle.ftp_calls.specs.declared.call.Answer.TheVariants.{Fault}
 use Rattle.ftp_calls.specs.declared.call.Call.{Call}
 use Rattle.ftp_calls.specs.declared.call.Call.TheVariants.{Drain}
 use Rattle.ftp_dialogue.specs.declared.model.PlayState.{PlayState}
@@ -23,14 +20,14 @@ use Rattle.ftp_dialogue.specs.Dialogue.{dialogue, entered}
 use Rattle.ftp_calls.specs.Exchanges.{drains_first, is_local}
 use Rattle.ftp_dialogue.specs.declared.model.NetOutcome.{NetOutcome}
 use Rattle.ftp_dialogue.specs.Play.{Taken, after_drain, is_unit, play_call, play_drained, play_drained_if}
-use Rattle.ftp_dialogue.proofs.CarryingLemmas.{beside_goes, refused_so, taken_going, taken_goes_on, taken_plays, taken_resumes}
+use Rattle.ftp_dialogue.proofs.CarryingLemmas.{beside_goes, refused_so, taken_goes_on, taken_plays, taken_resumes}
 use Rattle.ftp_dialogue.specs.Resuming.{Resumes, Silent, modes_in, modes_of}
 use Rattle.ftp_runs.specs.Run.{run, before, and_then, MayBeSilent, OneView, ResumesDrain}
-use Rattle.ftp_dialogue.specs.Promises.{begun_by, lacks_of, DrainsFirst, DrainsIf, However, MakesAfter, Goes, FailsWith, HasFault, play_state, Completes, Aborts, Plays, PlaysAlone, IsRefusal, IsRefused, IsPlayed, IsWithheld, due_of, refusal_of}
-use Rattle.ftp_runs.specs.Runs.{BeginsAfter, before_all, Agrees, AllRefused, Makes, RanTo, RunsTo, RunAborts, Runs}
+use Rattle.ftp_dialogue.specs.Promises.{begun_by, DrainsFirst, DrainsIf, However, MakesAfter, Goes, FailsWith, HasFault, play_state, Completes, Aborts, IsRefused, IsPlayed, due_of, refusal_of}
+use Rattle.ftp_runs.specs.Runs.{BeginsAfter, before_all, Agrees, RanTo, RunAborts, RunCatchesUp}
 use Rattle.ftp_dialogue.specs.Steps.Moving.{Keeps, Ends, IsMade, Made, MadeDrained}
 use Rattle.ftp_dialogue.proofs.Hearing.{begun_resumes, nothing_resumes}
-use Rattle.ftp_dialogue.proofs.DrainingLemmas.{Due, drained_plays, due_so, due_taken, failed_undue, goes_from, taken_unrefused, unit_is}
+use Rattle.ftp_dialogue.proofs.DrainingLemmas.{Due, due_so, due_taken, goes_from, taken_unrefused, unit_is}
 use Rattle.ftp_dialogue.proofs.Moving.{Finishes, finishes, nothing_goes, joined_goes, goes_after, fitted}
 use Rattle.ftp_dialogue.specs.Link.{Link}
 
@@ -127,7 +124,7 @@ ran_nothing link coding calls v = record {
 
 -- a run so far, where these are left to make
 abbrev pub RunsSoFar : Link → Coding → List Call → List Call → SessionValue → SessionValue → List Answer → Type 0
-RunsSoFar link coding calls to_make old new answers = Reached link coding calls to_make old new answers ⊎ RunAborts link coding calls to_make old new answers
+RunsSoFar link coding calls to_make old new answers = Reached link coding calls to_make old new answers ⊎ RunAborts link coding calls to_make old new answers ⊎ RunCatchesUp link coding calls to_make old new answers
 
 -- one call more is done
 split_more : (calls later : List Call) (call : Call) (done : List Call) → calls ≡ done ++ call ∷ later → calls ≡ (done ++ call ∷ []) ++ later
@@ -337,7 +334,7 @@ module _ (link : Link) (coding : Coding) (calls later : List Call) (call : Call)
     where
       go : Ends link (dialogue coding call start.state) answer (begun_by call start) made.last ⊎ Aborts link false (dialogue coding call start.state) answer (begun_by call start) made.last → RunsSoFar link coding calls later old new (answers ++ answer ∷ [])
       go (inl ends) = inl (completes_next link coding calls later call old start new answers answer there made.going made.apart (finishes link (dialogue coding call start.state) answer (begun_by call start) made.last new made.lets_go ends))
-      go (inr aborts) = inr (aborts_next link coding calls later call call old mid start made.last new answers answer reached.ran begins made.lets_go made.going aborts)
+      go (inr aborts) = inr (inl (aborts_next link coding calls later call call old mid start made.last new answers answer reached.ran begins made.lets_go made.going aborts))
 
   -- the drain comes before it
   drain_answer : (due : due_of call mid ≡ true) (new : SessionValue) (answer : Answer) → DrainsFirst (Made link coding) call mid new answer → RunsSoFar link coding calls later old new (answers ++ answer ∷ [])
@@ -368,7 +365,7 @@ module _ (link : Link) (coding : Coding) (calls later : List Call) (call : Call)
           let P : SessionValue → Type 0 = λ v. A v answer in
           let Q : Answer → Type 0 = λ a. A drains.middle a in
           let B : Bool → Type 0 = λ b. BeginsAfter b link coding call Drain mid mid in
-          subst P (sym ends.1) (subst Q (sym ends.0) (inr (aborts_next link coding calls later call Drain old mid mid last drains.middle answers drains.first reached.ran (subst B (sym due) (inl (refl, refl))) lets_go (due_taken call mid due) aborts)))
+          subst P (sym ends.1) (subst Q (sym ends.0) (inr (inl (aborts_next link coding calls later call Drain old mid mid last drains.middle answers drains.first reached.ran (subst B (sym due) (inl (refl, refl))) lets_go (due_taken call mid due) aborts))))
 
       played : IsMade link coding Drain mid drains.middle drains.first → IsPlayed link coding Drain mid drains.middle drains.first
       played made = record { going = made.going; apart = made.apart; last = made.last; plays = ended made.plays; lets_go = made.lets_go }
@@ -393,99 +390,3 @@ module _ (link : Link) (coding : Coding) (calls later : List Call) (call : Call)
       go false none made =
           let P : Bool → Type 0 = λ b. BeginsAfter b link coding call call mid mid in
           call_answer mid new answer (comes_next link coding calls later call old mid answers reached none) (subst P (sym none) (refl, refl)) made
-
-all_snoc : (calls : List Call) (first : List Answer) (call : Call) (answer : Answer) → AllRefused calls first → (is_local call ≡ false → IsRefusal answer) → AllRefused (calls ++ call ∷ []) (first ++ answer ∷ [])
-all_snoc [] first call answer none is =
-    let P : List Answer → Type 0 = λ l. AllRefused (call ∷ []) (l ++ answer ∷ []) in
-    subst P (sym none) (is, refl)
-all_snoc (one ∷ calls) [] call answer all is = absurd all
-all_snoc (one ∷ calls) (first ∷ answers) call answer all is = (all.0, all_snoc calls answers call answer all.1 is)
-
--- one call more is made
-makes_more : (link : Link) (coding : Coding) (made : List Call) (call : Call) (old mid new : SessionValue) (answers : List Answer) (answer : Answer) → Makes link coding made old mid answers → Plays link coding call mid new answer → Makes link coding (made ++ call ∷ []) old new (answers ++ answer ∷ [])
-makes_more link coding [] call old mid new answers answer so_far plays =
-    let P : SessionValue → Type 0 = λ v. Plays link coding call v new answer in
-    (new, answer, [], ap (λ a. a ++ answer ∷ []) so_far.1, subst P so_far.0 plays, (refl, refl))
-makes_more link coding (first ∷ made) call old mid new answers answer so_far plays =
-    (so_far.0, so_far.1, so_far.2 ++ answer ∷ [], ap (λ a. a ++ answer ∷ []) so_far.3, so_far.4, makes_more link coding made call so_far.0 mid new so_far.2 answer so_far.5 plays)
-
--- a call after one that was aborted
-aborted_more : (link : Link) (coding : Coding) (calls to_make : List Call) (call : Call) (old mid new : SessionValue) (answers : List Answer) (answer : Answer) → RunAborts link coding calls (call ∷ to_make) old mid answers → Plays link coding call mid new answer → RunAborts link coding calls to_make old new (answers ++ answer ∷ [])
-aborted_more link coding calls to_make call old mid new answers answer broke plays = record {
-  first = broke.first;
-  call = broke.call;
-  made = broke.made ++ call ∷ [];
-  before = broke.before;
-  ran = let P : List Call → Type 0 = λ l. RanTo link coding calls (broke.call ∷ l) old broke.before broke.first in subst P (sym (append_assoc broke.made (call ∷ []) to_make)) broke.ran;
-  part = broke.part;
-  middle = broke.middle;
-  begins = broke.begins;
-  going = broke.going;
-  fault = broke.fault;
-  last = broke.last;
-  aborts = broke.aborts;
-  after = broke.after;
-  lets_go = broke.lets_go;
-  later = broke.later ++ answer ∷ [];
-  answers_are = ap (λ a. a ++ answer ∷ []) broke.answers_are ∙ append_assoc broke.first (Fault broke.fault ∷ broke.later) (answer ∷ []);
-  makes = makes_more link coding broke.made call broke.after mid new broke.later answer broke.makes plays;
-  failed = λ failed. by_itself failed (broke.failed failed);
-}
-  where
-    go : PlaysAlone link coding call mid new answer → broke.after.channel.failed ≡ true → (mid.channel ≡ broke.after.channel) × AllRefused broke.made broke.later → (new.channel ≡ broke.after.channel) × AllRefused (broke.made ++ call ∷ []) (broke.later ++ answer ∷ [])
-    go alone failed so_far = by alone.made
-      where
-        by : IsRefused link.tells call mid new answer ⊎ IsPlayed link coding call mid new answer ⊎ IsWithheld mid new answer → (new.channel ≡ broke.after.channel) × AllRefused (broke.made ++ call ∷ []) (broke.later ++ answer ∷ [])
-        by (inl refused) =
-            let so = refused_so link.beside link.tells coding call mid new answer refused in
-            (so.channel ∙ so_far.0, all_snoc broke.made broke.later call answer so_far.1 (λ abroad. so.refusal_is))
-        by (inr (inl played)) = apart (is_local call) refl
-          where
-            apart : (b : Bool) → is_local call ≡ b → (new.channel ≡ broke.after.channel) × AllRefused (broke.made ++ call ∷ []) (broke.later ++ answer ∷ [])
-            apart true local = (played.apart local ∙ so_far.0, all_snoc broke.made broke.later call answer so_far.1 (λ abroad. (let clash : true ≡ false = sym local ∙ abroad in cc)))
-            apart false abroad =
-                let clash : true ≡ false = sym failed ∙ sym (ap (λ c. c.failed) so_far.0) ∙ taken_going call mid.channel.failed (lacks_of call mid) played.going abroad in
-                cc
-        by (inr (inr none)) =
-            let clash : true ≡ false = sym failed ∙ sym (ap (λ c. c.failed) so_far.0) ∙ none.going in
-            cc
-
-    by_itself : broke.after.channel.failed ≡ true → (mid.channel ≡ broke.after.channel) × AllRefused broke.made broke.later → (new.channel ≡ broke.after.channel) × AllRefused (broke.made ++ call ∷ []) (broke.later ++ answer ∷ [])
-    by_itself failed so_far =
-        let P : Bool → Type 0 = λ b. DrainsIf b (PlaysAlone link coding) call mid new answer in
-        go (subst P (failed_undue call mid (ap (λ c. c.failed) so_far.0 ∙ failed)) plays.makes) failed so_far
-
--- no call is left
-ran_all : (link : Link) (coding : Coding) (calls : List Call) (old new : SessionValue) (answers : List Answer) → Reached link coding calls [] old new answers → RunsTo link coding calls old new answers
-ran_all link coding calls old new answers reached = record {
-  came = reached.ran.came;
-  answered = reached.ran.answered;
-  goes = reached.ran.goes;
-  runs = λ h agrees room more ended outcomes fit on.
-      reached.ran.runs h agrees room more ended outcomes fit on
-      ∙ ap (before_all answers) (run-nil coding room (play_state new more ended outcomes))
-      ∙ before_all-Finished answers [] (play_state new more ended outcomes)
-      ∙ ap (λ a. Finished a (play_state new more ended outcomes)) (append-nil answers);
-}
-
--- the next of the calls
-pub next_of : (link : Link) (coding : Coding) (calls : List Call) (i : ℕ) (call : Call) (old mid new : SessionValue) (answers answers' : List Answer) (answer : Answer) → i < length calls → call ≡ get_or calls i call → answers' ≡ answers ++ answer ∷ [] → RunsSoFar link coding calls (drop i calls) old mid answers → MadeDrained link coding call mid new answer → RunsSoFar link coding calls (drop (i + 1) calls) old new answers'
-next_of link coding calls i call old mid new answers answers' answer inside is pushed so_far made =
-    let P : List Answer → Type 0 = λ a. RunsSoFar link coding calls (drop (i + 1) calls) old new a in
-    let Q : List Call → Type 0 = λ l. RunsSoFar link coding calls l old mid answers in
-    let left : drop i calls ≡ call ∷ drop (i + 1) calls = drop_more calls i call inside ∙ ap (λ c. c ∷ drop (i + 1) calls) (sym is) in
-    subst P (sym pushed) (go (subst Q left so_far))
-  where
-    go : RunsSoFar link coding calls (call ∷ drop (i + 1) calls) old mid answers → RunsSoFar link coding calls (drop (i + 1) calls) old new (answers ++ answer ∷ [])
-    go (inl reached) = next_answer link coding calls (drop (i + 1) calls) call old mid answers reached new answer made
-    go (inr broke) = inr (aborted_more link coding calls (drop (i + 1) calls) call old mid new answers answer broke (drained_plays link coding call mid new answer made))
-
--- no call is left, or one was aborted
-pub all_of : (link : Link) (coding : Coding) (calls : List Call) (i : ℕ) (old new : SessionValue) (answers : List Answer) → length calls ≤ i → RunsSoFar link coding calls (drop i calls) old new answers → Runs link coding calls old new answers
-all_of link coding calls i old new answers past so_far =
-    let P : List Call → Type 0 = λ l. RunsSoFar link coding calls l old new answers in
-    go (subst P (drop_of_length-le calls {i = i} past) so_far)
-  where
-    go : RunsSoFar link coding calls [] old new answers → Runs link coding calls old new answers
-    go (inl reached) = inl (ran_all link coding calls old new answers reached)
-    go (inr broke) = inr broke

@@ -15,7 +15,8 @@ use Rattle.ftp_dialogue.specs.NetEvents.{NetEvent}
 use Rattle.ftp_calls.specs.Exchanges.{is_local}
 use Rattle.ftp_dialogue.specs.Dialogue.{dialogue}
 use Rattle.ftp_dialogue.specs.Play.{Taken}
-use Rattle.ftp_dialogue.specs.Promises.{However, Goes, IsRefusal, Plays, IsPlayed, refusal_of, Aborts, begun_by, due_of}
+use Rattle.ftp_dialogue.specs.CatchingUp.{PlaysInStep, is_behind}
+use Rattle.ftp_dialogue.specs.Promises.{However, Goes, IsRefusal, IsPlayed, refusal_of, Aborts, begun_by, due_of}
 use Rattle.ftp_runs.specs.Run.{run, before, OneView}
 use Rattle.ftp_dialogue.specs.Link.{Link}
 
@@ -52,11 +53,12 @@ AllRefused [] answers = answers ≡ []
 AllRefused (call ∷ calls) [] = ⊥
 AllRefused (call ∷ calls) (answer ∷ answers) = (is_local call ≡ false → IsRefusal answer) × AllRefused calls answers
 
--- calls made one after another: each is its dialogue, or is refused, or is aborted
+-- calls made one after another: each, after the replies that are due to commands that were dropped, is its dialogue, or is
+-- refused, or is aborted; RFC 959, sections 4.2 and 5.4
 abbrev pub Makes : Link → Coding → List Call → SessionValue → SessionValue → List Answer → Type 0
 Makes link coding [] old new answers = (new ≡ old) × (answers ≡ [])
 Makes link coding (call ∷ calls) old new answers =
-    (middle : SessionValue) × (answer : Answer) × (later : List Answer) × (answers ≡ answer ∷ later) × Plays link coding call old middle answer × Makes link coding calls middle new later
+    (middle : SessionValue) × (answer : Answer) × (later : List Answer) × (answers ≡ answer ∷ later) × PlaysInStep link coding call old middle answer × Makes link coding calls middle new later
 
 -- the dialogue that was aborted: a call's own, after the drain where one was due; or that of the drain
 abbrev pub BeginsAfter : Bool → Link → Coding → Call → Call → SessionValue → SessionValue → Type 0
@@ -87,6 +89,19 @@ pub record RunAborts (link : Link) (coding : Coding) (calls to_make : List Call)
   pub makes : Makes link coding made after new later
   pub failed : after.channel.failed ≡ true → (new.channel ≡ after.channel) × AllRefused made later
 
+-- a run in which replies are due to commands that were dropped before it, where these are left to make: the answers of the
+-- calls before the first that reads them are the definition's, and that one and each later one that was made is in step
+pub record RunCatchesUp (link : Link) (coding : Coding) (calls to_make : List Call) (old new : SessionValue) (answers : List Answer) : Type 0 where
+  pub first : List Answer
+  pub call : Call
+  pub made : List Call
+  pub before : SessionValue
+  pub ran : RanTo link coding calls (call ∷ made ++ to_make) old before first
+  pub behind : is_behind call before ≡ true
+  pub later : List Answer
+  pub answers_are : answers ≡ first ++ later
+  pub makes : Makes link coding (call ∷ made) before new later
+
 -- the run of a list of calls
 abbrev pub Runs : Link → Coding → List Call → SessionValue → SessionValue → List Answer → Type 0
-Runs link coding calls old new answers = RunsTo link coding calls old new answers ⊎ RunAborts link coding calls [] old new answers
+Runs link coding calls old new answers = RunsTo link coding calls old new answers ⊎ RunAborts link coding calls [] old new answers ⊎ RunCatchesUp link coding calls [] old new answers

@@ -8,15 +8,20 @@ ghost use Rattle.ftp_dialogue.specs.Coding.{chosen, coding_of};
 ghost use Rattle.ftp_session.specs.Handed.{LooksIf, as_seen, watches};
 ghost use Rattle.ftp_dialogue.specs.Link.{asking, blocking, built_by};
 ghost use Rattle.ftp_dialogue.specs.Promises.{FailsWith};
+ghost use Rattle.ftp_calls.specs.Exchanges.{drains};
+ghost use Rattle.ftp_dialogue.specs.CatchingUp.{InStepIf, is_behind, is_plain_read};
+ghost use Rattle.ftp_dialogue.specs.Steps.Moving.{MadeDrained};
 ghost use Rattle.ftp_runs.specs.Counting.{CountsEach};
 ghost use Rattle.ftp_runs.specs.Runs.{Runs};
 ghost use Rattle.ftp_dialogue.specs.Sound.{Sound};
 
 use ftp_base::encoding::Encoding;
 use ftp_base::types::{FtpError, FtpResult};
+use ftp_calls::exchange::drains;
 use ftp_dialogue::machine::Machine;
 use ftp_session::session::{Answer, Call, LendsMachine, Lent, Session, make};
-use ftp_transport::{Conn, Network, PassiveStreamBuilder, Transport};
+use ftp_transport::{Conn, Network, NeverWaits, PassiveStreamBuilder, Transport};
+use futures::task::Poll;
 use std::alloc::Global;
 
 /// Makes lists of calls, over a transport that a runtime `R` serves.
@@ -36,8 +41,8 @@ where
 {
     /// Makes these calls, one after another, and returns their answers in order. After a call in which the session
     /// failed each fails with `SessionFailed`. Whether a transfer was left that was handed out before is looked at
-    /// once, before the first call. A list is for a session in step: replies that are due to commands that were dropped
-    /// are read by the session's own calls alone.
+    /// once, before the first call. Replies that are due to commands that were dropped are read by the first call that goes
+    /// over the control connection, as by the session's own calls; an error of such a read is that call's answer.
     ///
     /// # Errors
     /// `OutOfMemory` where there is no memory for the answers, and nothing changes.
@@ -99,8 +104,39 @@ where
     ensures count { length result.items ≡ length calls.now }
 {
     for call in calls {
-        let answer = make(machine, alloc, rt, builder, encoding, call);
+        let answer = make_in_step(machine, alloc, rt, builder, encoding, call);
         answers.push(answer).unwrap();
     }
     answers
+}
+
+/// Makes a call of a list, after the replies that are due to commands that were dropped, where it reads them first. An
+/// error of such a read is its answer; a read of the last reply of a transfer that was left is over with them.
+fn make_in_step<Tr: Network, R, E: Encoding, B: PassiveStreamBuilder<Tr::Conn>>(
+    machine: &mut Machine<Tr>,
+    alloc: Global,
+    rt: &R,
+    builder: &Option<B>,
+    encoding: &E,
+    call: &Call,
+) -> Answer
+where
+    Tr::Conn: Conn,
+    Tr: Transport<R>,
+    ensures made { InStepIf (is_behind call.now machine.old) (blocking Tr.Conn.Conn) (is_plain_read call.now) (drains call.now)
+        (MadeDrained (asking (built_by B.answers builder.now) ⊥ (blocking Tr.Conn.Conn)) (coding_of E.decoded E.encoded encoding.now) call.now)
+        machine.old machine.new result }
+{
+    if machine.is_behind(call) {
+        match machine.poll_catch_up(alloc, call, &mut NeverWaits) {
+            Poll::Ready(None) => {
+                if drains(call) {
+                    return Answer::Unit;
+                }
+            }
+            Poll::Ready(Some(fault)) => return Answer::Fault(fault),
+            Poll::Pending => unreachable!(),
+        }
+    }
+    make(machine, alloc, rt, builder, encoding, call)
 }

@@ -115,7 +115,7 @@ drain_happens link coding old new alone = go alone.made
     go (inr (inr withheld)) = (let wrong : answer.Unit ≡ Fault faults.OutOfMemory = withheld.is in cc)
 
 module _ (link : Link) (Also : FtpError → Type 0) where
-  light_causes : (old new : SessionValue) (told : Answer) → ((fault : FtpError) → told ≡ Fault fault → IsGrave fault → ⊥) → Causes link Also old new told
+  pub light_causes : (old new : SessionValue) (told : Answer) → ((fault : FtpError) → told ≡ Fault fault → IsGrave fault → ⊥) → Causes link Also old new told
   light_causes old new told none = record {
     counted = λ kind is h. absurd (none (faults.ConnectionError (cause.Io kind)) is tt);
     had_failed = λ is. absurd (none faults.SessionFailed is tt);
@@ -125,7 +125,7 @@ module _ (link : Link) (Also : FtpError → Type 0) where
   one_cause old new one none = light_causes old new (Fault one) (λ fault is grave. none (let same : fault ≡ one = cc in subst IsGrave same grave))
 
   -- what a call without such questions counts
-  counted_causes : (old new : SessionValue) (told : Answer) → CountsFaults link.tells old new told → Causes link Also old new told
+  pub counted_causes : (old new : SessionValue) (told : Answer) → CountsFaults link.tells old new told → Causes link Also old new told
   counted_causes old new told counts = record { counted = λ kind is h. inl (counts.counted kind is h); had_failed = λ is. inl (counts.had_failed is) }
 
   module _ (unlike : Also faults.SessionFailed → ⊥) where
@@ -231,7 +231,7 @@ module _ (link : Link) (Also : FtpError → Type 0) where
         go (inr (inr withheld)) = subst P (sym withheld.is) (one_cause old new faults.OutOfMemory (λ grave. grave))
 
     -- after a part in which nothing failed
-    after_part : (old middle new : SessionValue) (told : Answer) → (link.tells → NoneFailed old.channel.told middle.channel.told) → (middle.channel.failed ≡ true → old.channel.failed ≡ true) → Happens link old.net middle.net → Causes link Also middle new told → Causes link Also old new told
+    pub after_part : (old middle new : SessionValue) (told : Answer) → (link.tells → NoneFailed old.channel.told middle.channel.told) → (middle.channel.failed ≡ true → old.channel.failed ≡ true) → Happens link old.net middle.net → Causes link Also middle new told → Causes link Also old new told
     after_part old middle new told none failed happens counts = record {
       counted = λ kind is h. counted kind h (counts.counted kind is h);
       had_failed = λ is. had (counts.had_failed is);

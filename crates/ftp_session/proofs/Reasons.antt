@@ -34,7 +34,7 @@ use Rattle.ftp_session.specs.Handed.{BringsToEnd, BringsToEndIf, Ends, EndsWitho
 use Rattle.ftp_transfer.specs.Transfer.{TransferValue}
 use Rattle.ftp_transfer.specs.declared.direction.Direction.{Direction}
 use Rattle.ftp_session.proofs.Backed.{Backed, OpensOnly, Spent, ends_backed, more, opens_backed}
-use Rattle.ftp_session.proofs.Causes.{Happens, NoOther, SpentOr, all_caused, alone_causes, given_after, happens_on, happens_to, nothing_happens, plays_causes}
+use Rattle.ftp_session.proofs.Causes.{Causes, Happens, NoOther, SpentOr, after_part as causes_after, all_caused, alone_causes, counted_causes, given_after, happens_on, happens_to, light_causes, nothing_happens, plays_causes}
 use Rattle.ftp_session.proofs.Failures.{none_then}
 use Rattle.ftp_session.proofs.Quiet.{IsGrave}
 use Rattle.ftp_session.proofs.CaughtUp.{given, up_caught}
@@ -51,17 +51,9 @@ light_beside link old new told none = record {
 pub one_beside : (link : Link) (old new : SessionValue) (one : FtpError) → (IsGrave one → ⊥) → CountsFaultsBeside link old new (Fault one)
 one_beside link old new one none = light_beside link old new (Fault one) (λ fault is grave. none (let same : fault ≡ one = cc in subst IsGrave same grave))
 
--- what a call without such questions counts
-counts_beside : (link : Link) (old new : SessionValue) (told : Answer) → CountsFaults link.tells old new told → CountsFaultsBeside link old new told
-counts_beside link old new told counts = record { counted = λ kind is h. inl (counts.counted kind is h); had_failed = λ is. inl (counts.had_failed is) }
-
 pub alone_reasons : (link : Link) (coding : Coding) (called : Call) (old new : SessionValue) (told : Answer) → ((state : State) → Backed Spent (dialogue coding called state)) → PlaysAlone link coding called old new told → CountsFaultsBeside link old new told
 alone_reasons link coding called old new told backed alone =
     all_caused link old new told (alone_causes link NoOther (λ none. none) coding called old new told (λ state. more Spent (SpentOr NoOther) (λ s fault spent. inl spent) (dialogue coding called state) (backed state)) alone)
-
-plays_reasons : (link : Link) (coding : Coding) (called : Call) (old new : SessionValue) (told : Answer) → ((state : State) → Backed Spent (dialogue coding called state)) → Plays link coding called old new told → CountsFaultsBeside link old new told
-plays_reasons link coding called old new told backed plays =
-    all_caused link old new told (plays_causes link NoOther (λ none. none) coding called old new told (λ state. more Spent (SpentOr NoOther) (λ s fault spent. inl spent) (dialogue coding called state) (backed state)) plays)
 
 -- After a part in which nothing failed
 
@@ -79,12 +71,6 @@ after_part link old middle new told none failed happens counts = record {
     had (inl was) = inl (failed was)
     had (inr (inl spent)) = inr (inl spent)
     had (inr (inr gives)) = inr (inr (given_after link faults.SessionFailed old.net middle.net new.net happens gives))
-
--- an error of that part is the answer
-of_part : (link : Link) (old middle new : SessionValue) (told : Answer) → new ≡ middle → CountsFaults link.tells old middle told → CountsFaultsBeside link old new told
-of_part link old middle new told same counts =
-    let P : SessionValue → Type 0 = λ v. CountsFaultsBeside link old v told in
-    subst P (sym same) (counts_beside link old middle told counts)
 
 -- Replies that are due to commands that were dropped
 
@@ -169,22 +155,28 @@ up_happens link plain old new up = go up.flush up.flushes up.then_reads
 
 -- A call in step, and after the look
 
-pub step_reasons : (link : Link) (coding : Coding) (called : Call) (old new : SessionValue) (told : Answer) → ((state : State) → Backed Spent (dialogue coding called state)) → PlaysInStep link coding called old new told → CountsFaultsBeside link old new told
-step_reasons link coding called old new told backed step = go (is_behind called old) step.plays
+pub step_causes : (link : Link) (Also : FtpError → Type 0) (unlike : Also faults.SessionFailed → ⊥) (coding : Coding) (called : Call) (old new : SessionValue) (told : Answer) → ((state : State) → Backed (SpentOr Also) (dialogue coding called state)) → PlaysInStep link coding called old new told → Causes link Also old new told
+step_causes link Also unlike coding called old new told backed step = go (is_behind called old) step.plays
   where
     P : Answer → Type 0
-    P a = CountsFaultsBeside link old new a
+    P a = Causes link Also old new a
 
-    then : (middle : SessionValue) (fault : Option FtpError) (ends : Bool) → CatchesUp (unasked link) (is_plain_read called) old middle (Ready fault) → MakesThen fault ends (Plays link coding called) middle new told → CountsFaultsBeside link old new told
-    then middle (Some fault) ends up stops = subst P (sym stops.0) (of_part link old middle new (Fault fault) stops.1 (up_caught (unasked link) (is_plain_read called) old middle (Some fault) up))
-    then middle None true up stops = subst P (sym stops.0) (light_beside link old new answer.Unit (λ fault same grave. cc same))
+    then : (middle : SessionValue) (fault : Option FtpError) (ends : Bool) → CatchesUp (unasked link) (is_plain_read called) old middle (Ready fault) → MakesThen fault ends (Plays link coding called) middle new told → Causes link Also old new told
+    then middle (Some fault) ends up stops =
+        let Q : SessionValue → Type 0 = λ v. Causes link Also old v (Fault fault) in
+        subst P (sym stops.0) (subst Q (sym stops.1) (counted_causes link Also old middle (Fault fault) (up_caught (unasked link) (is_plain_read called) old middle (Some fault) up)))
+    then middle None true up stops = subst P (sym stops.0) (light_causes link Also old new answer.Unit (λ fault same grave. cc same))
     then middle None false up plays =
         let caught = up_caught (unasked link) (is_plain_read called) old middle None up in
-        after_part link old middle new told caught.0 caught.1 (asked_happens link old.net middle.net (up_happens (unasked link) (is_plain_read called) old middle up)) (plays_reasons link coding called middle new told backed plays)
+        causes_after link Also unlike old middle new told caught.0 caught.1 (asked_happens link old.net middle.net (up_happens (unasked link) (is_plain_read called) old middle up)) (plays_causes link Also unlike coding called middle new told backed plays)
 
-    go : (b : Bool) → InStepIf b (unasked link) (is_plain_read called) (drains called) (Plays link coding called) old new told → CountsFaultsBeside link old new told
-    go false plays = plays_reasons link coding called old new told backed plays
+    go : (b : Bool) → InStepIf b (unasked link) (is_plain_read called) (drains called) (Plays link coding called) old new told → Causes link Also old new told
+    go false plays = plays_causes link Also unlike coding called old new told backed plays
     go true first = then first.middle first.fault (drains called) first.catches_up first.then_makes
+
+pub step_reasons : (link : Link) (coding : Coding) (called : Call) (old new : SessionValue) (told : Answer) → ((state : State) → Backed Spent (dialogue coding called state)) → PlaysInStep link coding called old new told → CountsFaultsBeside link old new told
+step_reasons link coding called old new told backed step =
+    all_caused link old new told (step_causes link NoOther (λ none. none) coding called old new told (λ state. more Spent (SpentOr NoOther) (λ s fault spent. inl spent) (dialogue coding called state) (backed state)) step)
 
 seen_net : (b : Bool) (v : SessionValue) → (left_if b v).net ≡ v.net
 seen_net true v = refl
