@@ -27,7 +27,7 @@ use Rattle.ftp_runs.specs.declared.model.Script.{Script}
 use Rattle.ftp_dialogue.specs.State.{SessionValue}
 use Rattle.ftp_dialogue.specs.Coding.{Coding}
 use Rattle.ftp_runs.specs.Script.{unread, is_over, start_of, script_of, after_event, start_script, idle, with_call, without_call, MayCancel}
-use Rattle.ftp_runs.specs.Following.{Attended, Attends, Grows, Place, Follows, Starts, PollsHere}
+use Rattle.ftp_runs.specs.Following.{Attended, Attends, Grows, Happens, Passes, PassesIf, Place, Follows, Starts, PollsHere, parts_here}
 use Rattle.ftp_dialogue.specs.Steps.Polls.{polled_answer}
 use Rattle.ftp_dialogue.specs.Promises.{HasFault, FailsWith, play_state}
 use Rattle.ftp_runs.specs.Runs.{before_all}
@@ -384,3 +384,9 @@ through F v w a b state net before after is =
 -- nothing happens beside the control connection
 pub grows_none : (builds : Builds) (v : SessionValue) → Grows builds v v
 grows_none builds v = ([], refl)
+
+-- an event that ends no script
+pub passes_on : (builds : Builds) (coding : Coding) (v w : SessionValue) (call call' : Option Call) (stage stage' : Stage) (course course' : Course) (event : Event) (result : Option Answer) (kind : Event) → event ≡ kind → parts_here call course v kind ≡ false → Happens builds coding v w call call' stage stage' course course' event result → Passes builds coding v w call call' stage stage' course course' event result
+passes_on builds coding v w call call' stage stage' course course' event result kind is none happens =
+    let P : Bool → Type 0 = λ b. PassesIf b builds coding v w call call' stage stage' course course' event result in
+    subst P (sym (ap (λ e. parts_here call course v e) is ∙ none)) happens

@@ -1,6 +1,8 @@
 pub mod CallCauses
 pub mod Carried
+pub mod CaughtUp
 pub mod Drained
+pub mod Drops
 pub mod EventLemmas
 pub mod Following
 pub mod HiddenCalls
@@ -11,4 +13,5 @@ pub mod Polling
 pub mod Replay
 pub mod Running
 pub mod Scripts
+pub mod Stretches
 pub mod Unheard

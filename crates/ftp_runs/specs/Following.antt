@@ -1,5 +1,5 @@
 -- How a session follows its script between two events.
-use Rattle.std.specs.Prelude.{◌≤◌, ◌+◌, ◌≡◌, ◌⊎◌, ◌||◌, ℕ, Bool, true, false, Option, Some, None, is_none, List, [], ◌∷◌, ◌++◌, length}
+use Rattle.std.specs.Prelude.{◌≤◌, ◌+◌, ◌≡◌, ◌⊎◌, ◌||◌, ◌&&◌, not, ℕ, Bool, true, false, Option, Some, None, is_none, List, [], ◌∷◌, ◌++◌, length}
 use Rattle.ftp_control.specs.Saying.{said}
 use Rattle.futures.specs.declared.task.Poll.{Poll}
 use Rattle.futures.specs.declared.task.Poll.TheVariants.{Ready, Pending}
@@ -18,13 +18,15 @@ use Rattle.ftp_calls.specs.declared.call.Answer.TheVariants.{Fault, Unit as Noth
 use Rattle.ftp_calls.specs.declared.call.Call.{Call}
 use Rattle.ftp_calls.specs.declared.call.Call.TheVariants.{Drain, Finish, Leave}
 use Rattle.ftp_calls.specs.declared.call.Event.{Event}
-use Rattle.ftp_calls.specs.declared.call.Event.TheVariants.{Feed, Poll as Polling}
+use Rattle.ftp_calls.specs.declared.call.Event.TheVariants.{Cancel, Feed, Poll as Polling}
 use Rattle.ftp_calls.specs.declared.exchange.Turn.TheVariants.{First}
 use Rattle.ftp_dialogue.specs.declared.stage.Stage.{Stage}
 use Rattle.ftp_dialogue.specs.declared.stage.Stage.TheVariants.{At}
 use Rattle.ftp_dialogue.specs.State.{SessionValue, LetsGo}
 use Rattle.ftp_dialogue.specs.Coding.{Coding}
-use Rattle.ftp_calls.specs.Exchanges.{aborts, finishes, is_read}
+use Rattle.ftp_calls.specs.Exchanges.{drains, finishes, is_read}
+use Rattle.ftp_dialogue.specs.CatchingUp.{CatchesUp, is_behind, is_plain_read}
+use Rattle.ftp_dialogue.specs.Dropping.{DropsCall as DropsStage}
 use Rattle.ftp_dialogue.specs.Dialogue.{dialogue}
 use Rattle.ftp_dialogue.specs.Resuming.{Modes, Resumes, modes_of}
 use Rattle.ftp_dialogue.specs.Sound.{holds}
@@ -34,12 +36,12 @@ use Rattle.ftp_dialogue.specs.Play.{Taken, is_unit, needs_data}
 use Rattle.ftp_dialogue.specs.Promises.{Aborts, HasFault, IsRefused, Rests, due_of, refusal_of}
 use Rattle.ftp_dialogue.specs.Steps.Polls.{is_first, entered_state, entered_at, entered_tree, polled_answer, MayPollAt}
 use Rattle.ftp_dialogue.specs.Steps.Stages.{remaining, begun_at, StageOf}
-use Rattle.ftp_dialogue.specs.Steps.Moving.{Apart, CarriesOut, DropsAbort, HasBegun, PollsTo}
+use Rattle.ftp_dialogue.specs.Steps.Moving.{Apart, CarriesOut, HasBegun, PollsTo}
 use Rattle.ftp_runs.specs.declared.model.Item.{Item}
 use Rattle.ftp_runs.specs.declared.model.Item.TheVariants.{Hidden}
 use Rattle.ftp_runs.specs.declared.model.Script.{Script}
-use Rattle.ftp_runs.specs.Script.{unread, is_over, start_of, after_event, IsLawful, MayCancel}
-use Rattle.ftp_dialogue.specs.Link.{Builds, over_memory, plain}
+use Rattle.ftp_runs.specs.Script.{unread, is_over, start_of, after_event, drops_begun, IsLawful, MayCancel}
+use Rattle.ftp_dialogue.specs.Link.{Builds, builds_nothing, over_memory, plain}
 
 -- since the calls before it were done, no less of a call is said and taken than was; where it has begun, more is
 pub record Since (coding : Coding) (old : SessionValue) (items : List Item) (answers : List Answer) (came : List ℕ) (answered : List NetEvent) (v : SessionValue) (begun : Bool) : Type 0 where
@@ -246,20 +248,30 @@ HasLeftIf true v w = HasLeft v w
 HasLeftIf false v w = w ≡ v
 
 -- a call that brings a transfer to its end is dropped: it leaves the transfer; where it was polled it has closed the data
--- connection, but for an abort whose line hasn't gone out
-abbrev pub DropsEnd : Bool → Bool → Stage → SessionValue → SessionValue → Type 0
-DropsEnd true true stage v w = DropsAbort (Unit {0}) stage v w
-DropsEnd true false stage v w = w ≡ v
-DropsEnd false aborts stage v w = HasLeft v w
+-- connection
+abbrev pub DropsEnd : Bool → SessionValue → SessionValue → Type 0
+DropsEnd true v w = w ≡ v
+DropsEnd false v w = HasLeft v w
+
+-- a call is dropped that leaves no reply that is due
+abbrev pub DropsUnder : Bool → Course → SessionValue → SessionValue → Type 0
+DropsUnder true course v w = DropsEnd course.polled v w
+DropsUnder false course v w = HasLeftIf course.leaving v w
+
+-- one is dropped where it stands, and the transfer is left that was to be left once it is over
+pub record DropsHere (call : Call) (course : Course) (stage : Stage) (v w : SessionValue) : Type 0 where
+  pub gone : SessionValue
+  pub drops : DropsStage (Unit {0}) call stage v gone
+  pub leaves : HasLeftIf course.leaving gone w
+
+abbrev pub DropsIf : Bool → Call → Course → Stage → SessionValue → SessionValue → Type 0
+DropsIf true call course stage v w = DropsHere call course stage v w
+DropsIf false call course stage v w = DropsUnder (finishes call) course v w
 
 -- the call under way is dropped
-abbrev pub DropsUnder : Bool → Call → Course → Stage → SessionValue → SessionValue → Type 0
-DropsUnder true call course stage v w = DropsEnd course.polled (aborts call) stage v w
-DropsUnder false call course stage v w = HasLeftIf course.leaving v w
-
 abbrev pub DropsCall : Option Call → Course → Stage → SessionValue → SessionValue → Course → Type 0
 DropsCall None course stage v w course' = (w ≡ v) × (course' ≡ course)
-DropsCall (Some call) course stage v w course' = DropsUnder (finishes call) call course stage v w × (course' ≡ at_rest)
+DropsCall (Some call) course stage v w course' = DropsIf (drops_begun (Some call) course.polled) call course stage v w × (course' ≡ at_rest)
 
 -- the transfer that is held is left: behind a call under way that was polled, else before it, unless it took the transfer
 abbrev pub LeavesBeside : Bool → Bool → Course → SessionValue → SessionValue → Course → Type 0
@@ -270,3 +282,58 @@ LeavesBeside false false course v w course' = HasLeft v w × (course' ≡ course
 abbrev pub LeavesNow : Option Call → Course → SessionValue → SessionValue → Course → Type 0
 LeavesNow None course v w course' = HasLeft v w × (course' ≡ course)
 LeavesNow (Some call) course v w course' = LeavesBeside course.polled (finishes call) course v w course'
+
+-- An event that ends the script
+
+abbrev pub reads_here : Option Call → Course → SessionValue → Bool
+reads_here None course v = false
+reads_here (Some call) course v = not course.polled && is_behind call v
+
+abbrev pub parts_here : Option Call → Course → SessionValue → Event → Bool
+parts_here call course v Polling = reads_here call course v
+parts_here call course v Cancel = drops_begun call course.polled
+parts_here call course v other = false
+
+-- a call is dropped that has begun
+pub record DropsBegun (v w : SessionValue) (call call' : Option Call) (stage : Stage) (course course' : Course) (result : Option Answer) : Type 0 where
+  pub part : Call
+  pub is : call ≡ Some part
+  pub drops : DropsHere part course stage v w
+  pub over : call' ≡ None
+  pub resting : course' ≡ at_rest
+  pub none : result ≡ None
+
+-- a call has read the replies that were due, and is polled, or was a read of one of them; an error in place of one is its
+-- answer; or they are waited for
+abbrev pub EndsOrPolls : Bool → Builds → Coding → Call → Option Call → Stage → Stage → Course → SessionValue → SessionValue → Option Answer → Type 0
+EndsOrPolls true builds coding part call' stage stage' course' middle w result = (w ≡ middle) × (call' ≡ None) × (course' ≡ at_rest) × (result ≡ Some Nothing)
+EndsOrPolls false builds coding part call' stage stage' course' middle w result = Happens builds coding middle w (Some part) call' stage stage' at_rest course' Polling result × FailedStays middle w result
+
+abbrev pub CaughtThen : Poll (Option FtpError) → Builds → Coding → Call → Option Call → Stage → Stage → Course → SessionValue → SessionValue → Option Answer → Type 0
+CaughtThen (Ready None) builds coding part call' stage stage' course' middle w result = EndsOrPolls (drains part) builds coding part call' stage stage' course' middle w result
+CaughtThen (Ready (Some fault)) builds coding part call' stage stage' course' middle w result = (w ≡ middle) × (call' ≡ None) × (course' ≡ at_rest) × (result ≡ Some (Fault fault))
+CaughtThen Pending builds coding part call' stage stage' course' middle w result = (w ≡ middle) × (call' ≡ Some part) × (stage' ≡ stage) × (course' ≡ at_rest) × (result ≡ None)
+
+pub record CatchesUpHere (builds : Builds) (coding : Coding) (v w : SessionValue) (call call' : Option Call) (stage stage' : Stage) (course' : Course) (result : Option Answer) : Type 0 where
+  pub part : Call
+  pub is : call ≡ Some part
+  pub middle : SessionValue
+  pub caught : Poll (Option FtpError)
+  pub catches_up : CatchesUp (over_memory builds_nothing) (is_plain_read part) v middle caught
+  pub given : IsGiven middle.channel.told
+  pub sound : IsSound (Unit {0}) middle.channel
+  pub then : CaughtThen caught builds coding part call' stage stage' course' middle w result
+
+abbrev pub PartsHere : Builds → Coding → SessionValue → SessionValue → Option Call → Option Call → Stage → Stage → Course → Course → Event → Option Answer → Type 0
+PartsHere builds coding v w call call' stage stage' course course' Cancel result = DropsBegun v w call call' stage course course' result
+PartsHere builds coding v w call call' stage stage' course course' Polling result = CatchesUpHere builds coding v w call call' stage stage' course' result
+PartsHere builds coding v w call call' stage stage' course course' other result = ⊥
+
+abbrev pub PassesIf : Bool → Builds → Coding → SessionValue → SessionValue → Option Call → Option Call → Stage → Stage → Course → Course → Event → Option Answer → Type 0
+PassesIf true builds coding v w call call' stage stage' course course' event result = PartsHere builds coding v w call call' stage stage' course course' event result
+PassesIf false builds coding v w call call' stage stage' course course' event result = Happens builds coding v w call call' stage stage' course course' event result
+
+-- an event of a list: of a script, or one that ends it
+abbrev pub Passes : Builds → Coding → SessionValue → SessionValue → Option Call → Option Call → Stage → Stage → Course → Course → Event → Option Answer → Type 0
+Passes builds coding v w call call' stage stage' course course' event result =
+    PassesIf (parts_here call course v event) builds coding v w call call' stage stage' course course' event result

@@ -1,6 +1,6 @@
 -- Polled runs: what a list of events makes of a session. Each Poll plays all calls anew, on all bytes that came by
 -- then; no buffer and no state of a call under way occurs here.
-use Rattle.std.specs.Prelude.{◌≡◌, ◌⊎◌, ℕ, Bool, true, false, ◌||◌, ◌==◌, Option, Some, None, is_none, List, [], ◌∷◌, ◌++◌, length, take, drop, if◌then◌else◌}
+use Rattle.std.specs.Prelude.{◌≡◌, ◌⊎◌, ℕ, zero, suc, Bool, true, false, ◌||◌, ◌&&◌, not, ◌==◌, Option, Some, None, is_none, List, [], ◌∷◌, ◌++◌, length, take, drop, if◌then◌else◌}
 use Rattle.ftp_transport.specs.declared.room.Room.{Room}
 use Rattle.ftp_transport.specs.declared.room.Room.TheVariants.{Any, UpTo}
 use Rattle.ftp_transport.specs.Told.{Told}
@@ -17,7 +17,8 @@ use Rattle.ftp_runs.specs.declared.model.Ran.{Ran}
 use Rattle.ftp_runs.specs.declared.model.Ran.TheVariants.{Finished, Waiting}
 use Rattle.ftp_control.specs.declared.control.form.ReplyForm.{ReplyForm}
 use Rattle.ftp_dialogue.specs.Coding.{Coding}
-use Rattle.ftp_calls.specs.Exchanges.{finishes, is_read}
+use Rattle.ftp_calls.specs.Exchanges.{aborts, drains, drains_first, finishes, is_read}
+use Rattle.ftp_dialogue.specs.CatchingUp.{opens_beside}
 use Rattle.ftp_dialogue.specs.Dialogue.{dialogue}
 use Rattle.ftp_dialogue.specs.declared.state.State.{State}
 use Rattle.ftp_control.specs.declared.control.rule.ReplyRule.{ReplyRule}
@@ -274,11 +275,54 @@ abbrev pub script : Coding → PlayState → Script → List Event → Script
 script coding start s [] = s
 script coding start s (event ∷ events) = script coding start (after_event coding start s event) events
 
--- Lawful lists: a call is dropped before its first Poll, or it is a plain read, or `Finish`; and a reply under way is
--- resumed in the mode in which it was read before, leniently as one of the form that it was read as, unless it is no
--- whole reply of the call's form. Of a session that has failed, of a call that is refused and of one that needs no data
--- connection and waits for room before it hears, nothing is asked
+-- Where a script ends, and another begins: a server answers its commands in their order, so that the reply of a command
+-- that was dropped comes before that of the next: RFC 959, sections 4.2 and 5.4
 
+-- a call that was polled is dropped, and a reply of it may be due from now on: of a plain read none is, nor of `Finish`,
+-- whose transfer is left
+abbrev pub drops_begun : Option Call → Bool → Bool
+drops_begun None polled = false
+drops_begun (Some call) polled = polled && not (is_read call || (finishes call && not (aborts call)))
+
+-- replies are due to commands that were dropped, and a call reads them first, in a session that goes on
+abbrev pub reads_due : Call → Bool → State → Bool
+reads_due call failed state = not (failed || (state.unanswered == 0)) && (drains_first call || drains call) && not (opens_beside call state.counts.owed)
+
+-- it does at its first Poll
+abbrev pub reads_first : Option Call → Bool → Bool → State → Bool
+reads_first None polled failed state = false
+reads_first (Some call) polled failed state = not polled && reads_due call failed state
+
+-- the event ends the script
+abbrev pub parts : Script → Event → Bool
+parts s event.Poll = reads_first s.call s.polled s.failed s.state
+parts s event.Cancel = drops_begun s.call s.polled
+parts s other = false
+
+-- but for so many first events: where a call has read what was due, its Start and its Poll are these
+abbrev pub parts_beyond : ℕ → Script → Event → Bool
+parts_beyond zero s event = parts s event
+parts_beyond (suc n) s event = false
+
+abbrev pub one_less : ℕ → ℕ
+one_less zero = zero
+one_less (suc n) = n
+
+-- so many of the first events are left after these
+abbrev pub still : ℕ → List Event → ℕ
+still n [] = n
+still n (event ∷ events) = still (one_less n) events
+
+-- no event ends the script
+abbrev pub Whole : Coding → PlayState → ℕ → Script → List Event → Type 0
+Whole coding start n s [] = Unit {0}
+Whole coding start n s (event ∷ events) = (parts_beyond n s event ≡ false) × Whole coding start (one_less n) (after_event coding start s event) events
+
+-- Lawful lists: a reply under way is resumed in the mode in which it was read before, leniently as one of the form that it
+-- was read as, unless it is no whole reply of the call's form. Of a session that has failed, of a call that is refused and
+-- of one that needs no data connection and waits for room before it hears, nothing is asked
+
+-- a call is dropped before its first Poll, or it is a plain read, or `Finish`: the script goes on
 abbrev pub MayCancel : Option Call → Bool → Type 0
 MayCancel None polled = Unit {0}
 MayCancel (Some call) polled = (polled ≡ false) ⊎ (is_read call ≡ true) ⊎ (call ≡ Finish)
@@ -318,9 +362,14 @@ IsLawful coding start s event.End = Unit {0}
 IsLawful coding start s (event.Room more) = Unit {0}
 IsLawful coding start s (event.Start call) = Unit {0}
 IsLawful coding start s event.Poll = MayPollNext coding start s.call s
-IsLawful coding start s event.Cancel = MayCancel s.call s.polled
+IsLawful coding start s event.Cancel = Unit {0}
 IsLawful coding start s event.Leave = Unit {0}
 
-abbrev pub Lawful : Coding → PlayState → Script → List Event → Type 0
-Lawful coding start s [] = Unit {0}
-Lawful coding start s (event ∷ events) = IsLawful coding start s event × Lawful coding start (after_event coding start s event) events
+-- nothing is asked of the event that ends the script, nor of later ones: those of each script are asked for themselves
+abbrev pub Unless : Bool → Type 0 → Type 0
+Unless true Asked = Unit {0}
+Unless false Asked = Asked
+
+abbrev pub Lawful : Coding → PlayState → ℕ → Script → List Event → Type 0
+Lawful coding start n s [] = Unit {0}
+Lawful coding start n s (event ∷ events) = Unless (parts_beyond n s event) (IsLawful coding start s event × Lawful coding start (one_less n) (after_event coding start s event) events)

@@ -12,14 +12,20 @@ use Rattle.ftp_control.specs.Reading.{GoesOn}
 use Rattle.ftp_control.specs.Channel.{Channel, untaken}
 use Rattle.ftp_control.specs.Saying.{said}
 use Rattle.ftp_calls.specs.declared.call.Answer.{Answer}
-use Rattle.ftp_calls.specs.declared.call.Answer.TheVariants.{Fault}
+use Rattle.ftp_calls.specs.declared.call.Answer.TheVariants.{Fault, Unit as Nothing}
 use Rattle.ftp_calls.specs.declared.call.Call.{Call}
 use Rattle.ftp_calls.specs.declared.call.Event.{Event}
-use Rattle.ftp_calls.specs.declared.call.Event.TheVariants.{Feed, Poll}
+use Rattle.ftp_calls.specs.declared.call.Event.TheVariants.{Cancel, Feed, Poll, Start}
+use Rattle.futures.specs.declared.task.Poll.{Poll as Polled}
+use Rattle.futures.specs.declared.task.Poll.TheVariants.{Ready, Pending}
 use Rattle.ftp_runs.specs.declared.model.Script.{Script}
 use Rattle.ftp_dialogue.specs.State.{SessionValue, LetsGo}
 use Rattle.ftp_dialogue.specs.Coding.{Coding}
-use Rattle.ftp_calls.specs.Exchanges.{finishes}
+use Rattle.ftp_calls.specs.Exchanges.{drains, finishes}
+use Rattle.ftp_dialogue.specs.CatchingUp.{CatchesUp, is_plain_read}
+use Rattle.ftp_dialogue.specs.Dropping.{DropsCall}
+use Rattle.ftp_dialogue.specs.Steps.Stages.{StageOf, begun_at, remaining}
+use Rattle.ftp_dialogue.specs.declared.stage.Stage.{Stage}
 use Rattle.ftp_dialogue.specs.Dialogue.{Tree, with_left}
 use Rattle.ftp_dialogue.specs.Sound.{holds}
 use Rattle.ftp_dialogue.specs.Play.{is_due, play, finally}
@@ -33,8 +39,8 @@ use Rattle.ftp_calls.specs.declared.call.Call.TheVariants.{Drain}
 use Rattle.ftp_dialogue.specs.Play.{Taken}
 use Rattle.ftp_dialogue.specs.Promises.{play_state, begun_by, refusal_of, Aborts, IsApart, IsRefusal}
 use Rattle.ftp_runs.specs.Runs.{before_all}
-use Rattle.ftp_runs.specs.Script.{script, script_of, start_of, unread, is_over, draining, drained_to, dropped, polled_as, run_with, succeeded, Lawful, MayCancel}
-use Rattle.ftp_dialogue.specs.Link.{Builds, over_memory, plain}
+use Rattle.ftp_runs.specs.Script.{script, script_of, start_of, unread, is_over, draining, drained_to, dropped, drops_begun, parts_beyond, polled_as, run_with, still, succeeded, Lawful, MayCancel, Whole}
+use Rattle.ftp_dialogue.specs.Link.{Builds, builds_nothing, over_memory, plain}
 
 -- what was sent and what is unsent, joined, begin what was said; where they aren't all of it, the tail of an earlier
 -- line is still unsent
@@ -81,19 +87,6 @@ pub record HoldsAt (builds : Builds) (outcomes : List NetOutcome) (old : Session
 abbrev pub leaves_dropped : Option Call → Bool → Bool
 leaves_dropped None leaving = false
 leaves_dropped (Some call) leaving = finishes call || leaving
-
--- after the last event the call under way is dropped: nothing goes over the control connection, and where it may be dropped
--- the session stands where the script does after a Cancel
-pub record EndsAt (builds : Builds) (coding : Coding) (outcomes : List NetOutcome) (old : SessionValue) (s : Script) (new : SessionValue) (answers : List Answer) : Type 0 where
-  pub last : SessionValue
-  pub at : HoldsAt builds outcomes old s last answers
-  pub channel : new.channel ≡ last.channel
-  pub stays : leaves_dropped s.call s.leaving ≡ false → new ≡ last
-  pub drops : MayCancel s.call s.polled → HoldsAt builds outcomes old (dropped coding (start_of old outcomes) s.call s) new answers
-
-abbrev pub ScriptHolds : Builds → Coding → List NetOutcome → SessionValue → ReplyForm → List Event → SessionValue → List Answer → Type 0
-ScriptHolds builds coding outcomes old form events new answers =
-    EndsAt builds coding outcomes old (script coding (start_of old outcomes) (script_of old form) events) new answers
 
 -- the transfer that is held, if any, is left: its data connection is closed and handed back
 abbrev pub LeavesHeldIf : Bool → SessionValue → SessionValue → Type 0
@@ -165,6 +158,39 @@ pub record LeftOf (builds : Builds) (coding : Coding) (old : SessionValue) (s : 
   pub reaches : Reaches coding old s.items came answered (entering s.polled call v) s.answers call tree
   pub since : CallHasBegun coding old s came answered v begun
 
+-- the call under way has begun, and is dropped where it stands: a reply is due from then on exactly where one of its lines
+-- was begun whose reply hasn't come; and the transfer is left that was to be left once the call is over
+pub record DropsAt (builds : Builds) (coding : Coding) (old : SessionValue) (s : Script) (middle after : SessionValue) : Type 0 where
+  pub call : Call
+  pub stage : Stage
+  pub stage_of : StageOf call stage
+  pub under_way : LeftOf builds coding old s middle call (begun_at stage) (remaining coding call middle.state stage)
+  pub gone : SessionValue
+  pub drops : DropsCall (Unit {0}) call stage middle gone
+  pub leaves : LeavesThen s.leaving gone after
+
+-- where it leaves no reply that is due nothing goes over the control connection, and the session stands where the script does
+-- after a Cancel
+pub record DropsFree (builds : Builds) (coding : Coding) (outcomes : List NetOutcome) (old : SessionValue) (s : Script) (last new : SessionValue) (answers : List Answer) : Type 0 where
+  pub channel : new.channel ≡ last.channel
+  pub stays : leaves_dropped s.call s.leaving ≡ false → new ≡ last
+  pub drops : HoldsAt builds outcomes old (dropped coding (start_of old outcomes) s.call s) new answers
+
+abbrev pub DropsIf : Bool → Builds → Coding → List NetOutcome → SessionValue → Script → SessionValue → SessionValue → List Answer → Type 0
+DropsIf true builds coding outcomes old s last new answers = DropsAt builds coding old s last new
+DropsIf false builds coding outcomes old s last new answers = DropsFree builds coding outcomes old s last new answers
+
+-- after the last event the call under way is dropped
+pub record EndsAt (builds : Builds) (coding : Coding) (outcomes : List NetOutcome) (old : SessionValue) (s : Script) (new : SessionValue) (answers : List Answer) : Type 0 where
+  pub last : SessionValue
+  pub at : HoldsAt builds outcomes old s last answers
+  pub drops : DropsIf (drops_begun s.call s.polled) builds coding outcomes old s last new answers
+
+-- no event ends the script, and so it is that of the list
+pub record ScriptHolds (builds : Builds) (coding : Coding) (outcomes : List NetOutcome) (old : SessionValue) (form : ReplyForm) (n : ℕ) (events : List Event) (new : SessionValue) (answers : List Answer) : Type 0 where
+  pub whole : Whole coding (start_of old outcomes) n (script_of old form) events
+  pub ends : EndsAt builds coding outcomes old (script coding (start_of old outcomes) (script_of old form) events) new answers
+
 abbrev pub IsOfFailed : Answer → Type 0
 IsOfFailed answer = IsRefusal answer ⊎ IsApart answer
 
@@ -188,10 +214,12 @@ IsPolled coding start (Some call) s here = IsPolledIf (is_due call s.failed s.st
 
 -- a call was aborted at a Poll, in a session that the events before had resulted in; the later events find no call
 -- under way, and result in `Later`
-pub record ScriptAborts (builds : Builds) (Later : SessionValue → List Event → List Answer → Type 0) (coding : Coding) (outcomes : List NetOutcome) (old : SessionValue) (form : ReplyForm) (events : List Event) (new : SessionValue) (answers : List Answer) : Type 0 where
+pub record ScriptAborts (builds : Builds) (Later : ℕ → SessionValue → List Event → List Answer → Type 0) (coding : Coding) (outcomes : List NetOutcome) (old : SessionValue) (form : ReplyForm) (n : ℕ) (events : List Event) (new : SessionValue) (answers : List Answer) : Type 0 where
   pub before : List Event
   pub later : List Event
   pub split : events ≡ before ++ Poll ∷ later
+  pub whole : Whole coding (start_of old outcomes) n (script_of old form) before
+  pub reads_none : parts_beyond (still n before) (script coding (start_of old outcomes) (script_of old form) before) Poll ≡ false
   pub first : List Answer
   pub here : Script
   pub polled : IsPolled coding (start_of old outcomes) (script coding (start_of old outcomes) (script_of old form) before).call (script coding (start_of old outcomes) (script_of old form) before) here
@@ -210,21 +238,82 @@ pub record ScriptAborts (builds : Builds) (Later : SessionValue → List Event �
   pub leaves : LeavesThen here.leaving gone after
   pub others : List Answer
   pub answers_are : answers ≡ first ++ Fault fault ∷ others
-  pub goes_on : Later after later others
+  pub goes_on : Later zero after later others
   pub failed : after.channel.failed ≡ true → (new.channel.failed ≡ true) × AreRefused others
+
+-- a call that has begun was dropped, in a session that the events before had resulted in; the later events find no call
+-- under way, and result in `Later`
+pub record ScriptDrops (builds : Builds) (Later : ℕ → SessionValue → List Event → List Answer → Type 0) (coding : Coding) (outcomes : List NetOutcome) (old : SessionValue) (form : ReplyForm) (n : ℕ) (events : List Event) (answers : List Answer) : Type 0 where
+  pub before : List Event
+  pub later : List Event
+  pub split : events ≡ before ++ Cancel ∷ later
+  pub whole : Whole coding (start_of old outcomes) n (script_of old form) before
+  pub begun : parts_beyond (still n before) (script coding (start_of old outcomes) (script_of old form) before) Cancel ≡ true
+  pub first : List Answer
+  pub middle : SessionValue
+  pub at : HoldsAt builds outcomes old (script coding (start_of old outcomes) (script_of old form) before) middle first
+  pub after : SessionValue
+  pub drops : DropsAt builds coding old (script coding (start_of old outcomes) (script_of old form) before) middle after
+  pub others : List Answer
+  pub answers_are : answers ≡ first ++ others
+  pub goes_on : Later zero after later others
+
+-- an answer, and what follows after it
+pub record AnswersThen (Rest : List Answer → Type 0) (answer : Answer) (others : List Answer) : Type 0 where
+  pub rest : List Answer
+  pub others_are : others ≡ answer ∷ rest
+  pub goes_on : Rest rest
+
+-- replies that were due were read: the call begins, and is polled at once, but for a read of the last reply of a transfer that
+-- was left, which was among them
+abbrev pub EndsOrBegins : Bool → (ℕ → SessionValue → List Event → List Answer → Type 0) → Call → SessionValue → List Event → List Answer → Type 0
+EndsOrBegins true Later call after later others = AnswersThen (Later zero after later) Nothing others
+EndsOrBegins false Later call after later others = Later 2 after (Start call ∷ Poll ∷ later) others
+
+-- they are waited for, and so the call is still to be polled; or an error in place of one is its answer
+abbrev pub BeginsThen : Polled (Option FtpError) → (ℕ → SessionValue → List Event → List Answer → Type 0) → Call → SessionValue → List Event → SessionValue → List Answer → Type 0
+BeginsThen (Ready None) Later call after later new others = EndsOrBegins (drains call) Later call after later others
+BeginsThen (Ready (Some fault)) Later call after later new others =
+    AnswersThen (λ rest. Later zero after later rest × (after.channel.failed ≡ true → (new.channel.failed ≡ true) × AreRefused rest)) (Fault fault) others
+BeginsThen Pending Later call after later new others = Later zero after (Start call ∷ later) others
+
+-- a call first read the replies that were due to commands that were dropped, in a session that the events before had
+-- resulted in, after the unsent tail of a line; the call and the later events result in `Later`
+pub record ScriptCatchesUp (builds : Builds) (Later : ℕ → SessionValue → List Event → List Answer → Type 0) (coding : Coding) (outcomes : List NetOutcome) (old : SessionValue) (form : ReplyForm) (n : ℕ) (events : List Event) (new : SessionValue) (answers : List Answer) : Type 0 where
+  pub before : List Event
+  pub later : List Event
+  pub split : events ≡ before ++ Poll ∷ later
+  pub whole : Whole coding (start_of old outcomes) n (script_of old form) before
+  pub due : parts_beyond (still n before) (script coding (start_of old outcomes) (script_of old form) before) Poll ≡ true
+  pub first : List Answer
+  pub middle : SessionValue
+  pub at : HoldsAt builds outcomes old (script coding (start_of old outcomes) (script_of old form) before) middle first
+  pub call : Call
+  pub call_is : (script coding (start_of old outcomes) (script_of old form) before).call ≡ Some call
+  pub after : SessionValue
+  pub caught : Polled (Option FtpError)
+  pub catches_up : CatchesUp (over_memory builds_nothing) (is_plain_read call) middle after caught
+  pub others : List Answer
+  pub answers_are : answers ≡ first ++ others
+  pub goes_on : BeginsThen caught Later call after later new others
+
+-- the script ends before the list does, and `Later` is what the later events result in
+abbrev pub ScriptParts : Builds → (ℕ → SessionValue → List Event → List Answer → Type 0) → Coding → List NetOutcome → SessionValue → ReplyForm → ℕ → List Event → SessionValue → List Answer → Type 0
+ScriptParts builds Later coding outcomes old form n events new answers =
+    ScriptAborts builds Later coding outcomes old form n events new answers ⊎ ScriptDrops builds Later coding outcomes old form n events answers ⊎ ScriptCatchesUp builds Later coding outcomes old form n events new answers
 
 -- what happened beside the control connection is told; with these outcomes, whatever others come after them, and for
 -- every lawful list, where what an earlier read left of a reply says nothing yet as one of this form: the events make
--- their script, or a call is aborted and the later ones are such a list again; that is said of so many calls that are
--- aborted
-abbrev pub ScriptsHold : Builds → ℕ → Coding → SessionValue → List Event → SessionValue → List Answer → Type 0
-ScriptsHold builds zero coding old events new answers = Unit {0}
-ScriptsHold builds (suc depth) coding old events new answers =
-    (answered : List NetEvent) × NetEvents (plain builds) answered old.net new.net × ((form : ReplyForm) (left : List NetOutcome) → outcome old.channel.rule form old.channel.kept false ≡ Waits → Lawful coding (start_of old (outcomes_of answered ++ left)) (script_of old form) events → ScriptHolds builds coding (outcomes_of answered ++ left) old form events new answers ⊎ ScriptAborts builds (λ after later others. ScriptsHold builds depth coding after later new others) coding (outcomes_of answered ++ left) old form events new answers)
+-- their script; or they do up to where a call is aborted, or dropped that has begun, or reads what is due, and the later ones
+-- are such a list again; that is said of so many scripts. So many first events end none
+abbrev pub ScriptsHold : Builds → ℕ → Coding → ℕ → SessionValue → List Event → SessionValue → List Answer → Type 0
+ScriptsHold builds zero coding n old events new answers = Unit {0}
+ScriptsHold builds (suc depth) coding n old events new answers =
+    (answered : List NetEvent) × NetEvents (plain builds) answered old.net new.net × ((form : ReplyForm) (left : List NetOutcome) → outcome old.channel.rule form old.channel.kept false ≡ Waits → Lawful coding (start_of old (outcomes_of answered ++ left)) n (script_of old form) events → ScriptHolds builds coding (outcomes_of answered ++ left) old form n events new answers ⊎ ScriptParts builds (λ m after later others. ScriptsHold builds depth coding m after later new others) coding (outcomes_of answered ++ left) old form n events new answers)
 
 -- that is said of however many
 abbrev pub IsScripted : Builds → Coding → SessionValue → List Event → SessionValue → List Answer → Type 0
-IsScripted builds coding old events new answers = (depth : ℕ) → ScriptsHold builds depth coding old events new answers
+IsScripted builds coding old events new answers = (depth : ℕ) → ScriptsHold builds depth coding zero old events new answers
 
 -- memory ran out: for the answers, and nothing changed; or for the bytes of a Feed, and the events before it have
 -- happened

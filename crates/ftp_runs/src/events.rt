@@ -16,14 +16,15 @@ ghost use Rattle.ftp_dialogue.specs.Link.{built_by};
 ghost use Rattle.ftp_dialogue.specs.Promises.{FailsWith};
 ghost use Rattle.ftp_runs.specs.Scripted.{IsScripted, StopsAtFeed};
 ghost use Rattle.ftp_dialogue.specs.Sound.{Sound, SoundCounts};
-ghost use Rattle.ftp_runs.specs.Following.{DropsCall, DropsEnd, FailedStays, Grows, Happens, HasLeft, HasLeftIf, IsFeed, LeavesNow, PollsHere, PollsNext, Starts, at_rest, given_answer};
+ghost use Rattle.ftp_runs.specs.Following.{CatchesUpHere, FailedStays, Grows, Happens, IsFeed, Passes, PollsHere, PollsNext, Starts, at_rest, given_answer, reads_here};
 ghost use Rattle.ftp_dialogue.specs.Steps.Polls.{StageIn};
 ghost use Rattle.ftp_dialogue.specs.Steps.Stages.{StageOf};
 
+use super::dropping::{drop_call, leave_now, leave_then};
 use ftp_base::encoding::Encoding;
 use ftp_base::types::{FtpError, FtpResult};
 use ftp_calls::call::Event;
-use ftp_calls::exchange::{Turn, aborts, finishes, is_local};
+use ftp_calls::exchange::{Turn, drains, is_local};
 use ftp_dialogue::asks::By;
 use ftp_dialogue::machine::Machine;
 use ftp_dialogue::stage::Stage;
@@ -50,8 +51,10 @@ impl<K: Drop, E: Encoding, B: PassiveStreamBuilder<MemoryConn>> RunEvents
     /// a `Feed` after the end change nothing. A call under way at the end is dropped, as by `Cancel`. Whether a
     /// transfer was left that was handed out before is looked at once, before the first event.
     ///
-    /// A list is for a session in step, and a command that was begun is dropped at the list's end alone: its reply isn't
-    /// counted, as it is where a client's call is dropped, and would be taken for the next call's.
+    /// A call may be dropped at any moment. The reply of a command whose line was begun is due from then on, and a later
+    /// call reads it first, as a client's does: while it is waited for that call waits, too, and an error in place of it is
+    /// that call's answer. So each drop of a call that has begun ends a script, and so does each such read; what comes
+    /// after it is a script of its own.
     ///
     /// A call that brings a transfer to its end takes it as it begins: dropped, it leaves it. `Leave` leaves the
     /// transfer that is held: before a call under way that wasn't polled, and after one that was.
@@ -148,13 +151,13 @@ fn let_happen<E: Encoding, B: PassiveStreamBuilder<MemoryConn>>(
 #[derive(Clone, Copy)]
 pub(crate) struct Course {
     /// Whether it was polled.
-    polled: bool,
+    pub(crate) polled: bool,
     /// Whether the transfer that is held is left once it is over.
-    leaving: bool,
+    pub(crate) leaving: bool,
 }
 
 /// No call is under way.
-fn resting() -> Course
+pub(crate) fn resting() -> Course
     ensures { result ≡ at_rest }
 {
     Course {
@@ -180,8 +183,8 @@ fn happen<'e, E: Encoding, B: PassiveStreamBuilder<MemoryConn>>(
     ensures stage { StageIn (option_map (λ c. c.now) under_way.new) stage.new }
     ensures failed { IfOk result (λ answer. FailedStays machine.old machine.new answer) }
     ensures fails { IfOk result (λ answer. FailsWith machine.old machine.new (given_answer answer)) }
-    ensures happens { IfOk result (λ answer.
-        Happens (built_by B.answers builder.now) (coding_of E.decoded E.encoded encoding.now) machine.old machine.new
+    ensures passes { IfOk result (λ answer.
+        Passes (built_by B.answers builder.now) (coding_of E.decoded E.encoded encoding.now) machine.old machine.new
         (option_map (λ c. c.now) under_way.old) (option_map (λ c. c.now) under_way.new)
         stage.old stage.new course.old course.new event.now answer) }
 {
@@ -190,7 +193,7 @@ fn happen<'e, E: Encoding, B: PassiveStreamBuilder<MemoryConn>>(
         Event::End => machine.channel.end_input(),
         Event::Room(more) => machine.channel.allow(*more),
         Event::Start(call) => start(call, under_way, stage, course),
-        Event::Poll => return Ok(poll_under_way(
+        Event::Poll => return Ok(poll_in_step(
             machine, alloc, builder, encoding, under_way, stage, course,
         )),
         Event::Cancel => {
@@ -204,6 +207,86 @@ fn happen<'e, E: Encoding, B: PassiveStreamBuilder<MemoryConn>>(
     }
     holds_memory(machine);
     Ok(None)
+}
+
+/// Polls the call under way, if any, after the replies that are due to commands that were dropped, where it reads them
+/// first.
+fn poll_in_step<'e, E: Encoding, B: PassiveStreamBuilder<MemoryConn>>(
+    machine: &mut Machine<MemoryTransport>,
+    alloc: Global,
+    builder: &Option<B>,
+    encoding: &E,
+    under_way: &mut Option<&'e Call>,
+    stage: &mut Stage,
+    course: &mut Course,
+) -> Option<Answer>
+    requires { StageIn (option_map (λ c. c.now) under_way.old) stage.old }
+    ensures stage { StageIn (option_map (λ c. c.now) under_way.new) stage.new }
+    ensures failed { FailedStays machine.old machine.new result }
+    ensures fails { FailsWith machine.old machine.new (given_answer result) }
+    ensures passes { Passes (built_by B.answers builder.now) (coding_of E.decoded E.encoded encoding.now) machine.old machine.new
+        (option_map (λ c. c.now) under_way.old) (option_map (λ c. c.now) under_way.new)
+        stage.old stage.new course.old course.new Event.Poll result }
+{
+    if reads_first(machine, under_way, course) {
+        return poll_behind(machine, alloc, builder, encoding, under_way, stage, course);
+    }
+    poll_under_way(machine, alloc, builder, encoding, under_way, stage, course)
+}
+
+/// Whether the call under way wasn't polled, and first reads replies that are due.
+fn reads_first<'e>(
+    machine: &Machine<MemoryTransport>,
+    under_way: &Option<&'e Call>,
+    course: &Course,
+) -> bool
+    ensures { result ≡ reads_here (option_map (λ c. c.now) under_way.now) course.now machine.now }
+{
+    match *under_way {
+        Some(call) => !course.polled && machine.is_behind(call),
+        None => false,
+    }
+}
+
+/// Polls the replies that are due before the call under way, and then that call; one that reads the last reply of a
+/// transfer that was left is over with them.
+fn poll_behind<'e, E: Encoding, B: PassiveStreamBuilder<MemoryConn>>(
+    machine: &mut Machine<MemoryTransport>,
+    alloc: Global,
+    builder: &Option<B>,
+    encoding: &E,
+    under_way: &mut Option<&'e Call>,
+    stage: &mut Stage,
+    course: &mut Course,
+) -> Option<Answer>
+    requires stage { StageIn (option_map (λ c. c.now) under_way.old) stage.old }
+    requires behind { reads_here (option_map (λ c. c.now) under_way.old) course.old machine.old ≡ true }
+    ensures stage { StageIn (option_map (λ c. c.now) under_way.new) stage.new }
+    ensures fails { FailsWith machine.old machine.new (given_answer result) }
+    ensures catches_up { CatchesUpHere (built_by B.answers builder.now) (coding_of E.decoded E.encoded encoding.now) machine.old machine.new
+        (option_map (λ c. c.now) under_way.old) (option_map (λ c. c.now) under_way.new)
+        stage.old stage.new course.new result }
+{
+    let Some(call) = *under_way else {
+        return None;
+    };
+    *course = resting();
+    let caught = machine.poll_catch_up(alloc, call, &mut ());
+    holds_memory(machine);
+    match caught {
+        Poll::Pending => None,
+        Poll::Ready(Some(fault)) => {
+            *under_way = None;
+            Some(Answer::Fault(fault))
+        }
+        Poll::Ready(None) if drains(call) => {
+            *under_way = None;
+            Some(Answer::Unit)
+        }
+        Poll::Ready(None) => poll_under_way(
+            machine, alloc, builder, encoding, under_way, stage, course,
+        ),
+    }
 }
 
 /// Polls the call under way, if any, and returns its answer once it has one.
@@ -240,93 +323,6 @@ fn poll_under_way<'e, E: Encoding, B: PassiveStreamBuilder<MemoryConn>>(
             None
         }
     }
-}
-
-/// The call under way is dropped: one that brings a transfer to its end leaves it, and after another a transfer is left
-/// that was to be left once it is over. Nothing goes over the control connection.
-fn drop_call<'e>(
-    machine: &mut Machine<MemoryTransport>,
-    alloc: Global,
-    under_way: &mut Option<&'e Call>,
-    stage: &Stage,
-    course: &mut Course,
-)
-    ensures none { under_way.new ≡ None }
-    ensures drops { DropsCall (option_map (λ c. c.now) under_way.old) course.old stage.now machine.old machine.new course.new }
-{
-    let Some(call) = *under_way else {
-        return;
-    };
-    let was = *course;
-    *under_way = None;
-    *course = resting();
-    if finishes(call) {
-        drop_end(machine, alloc, aborts(call), stage, was.polled);
-    } else {
-        leave_then(machine, alloc, was.leaving);
-    }
-}
-
-/// A call that brings a transfer to its end is dropped.
-fn drop_end(
-    machine: &mut Machine<MemoryTransport>,
-    alloc: Global,
-    aborts: bool,
-    stage: &Stage,
-    polled: bool,
-)
-    ensures drops { DropsEnd polled aborts stage.now machine.old machine.new }
-{
-    if !polled {
-        leave_held(machine, alloc);
-    } else if aborts {
-        machine.drop_abort(stage);
-    }
-}
-
-/// The transfer that is held is left: before a call under way that wasn't polled, unless it took the transfer as it
-/// began; and after one that was.
-fn leave_now<'e>(
-    machine: &mut Machine<MemoryTransport>,
-    alloc: Global,
-    under_way: &Option<&'e Call>,
-    course: &mut Course,
-)
-    ensures leaves { LeavesNow (option_map (λ c. c.now) under_way.now) course.old machine.old machine.new course.new }
-{
-    let Some(call) = *under_way else {
-        leave_held(machine, alloc);
-        return;
-    };
-    if course.polled {
-        course.leaving = course.leaving || machine.holds_transfer();
-    } else if !finishes(call) {
-        leave_held(machine, alloc);
-    }
-}
-
-/// The transfer that is held is left, where that was to be done.
-fn leave_then(machine: &mut Machine<MemoryTransport>, alloc: Global, leaving: bool)
-    ensures leaves { HasLeftIf leaving machine.old machine.new }
-{
-    if leaving {
-        leave_held(machine, alloc);
-    }
-}
-
-/// The transfer that is held, if any, is left: its data connection is closed.
-fn leave_held(machine: &mut Machine<MemoryTransport>, alloc: Global)
-    ensures leaves { HasLeft machine.old machine.new }
-{
-    if machine.holds_transfer() {
-        told_to_nobody(machine.carry(alloc, &Call::Leave));
-    }
-    holds_memory(machine);
-}
-
-/// This answer is discarded.
-fn told_to_nobody(answer: Answer) {
-    drop(answer);
 }
 
 /// Polls a call over memory, after the last reply of a transfer that was left, where one is due. Notes whether the call
@@ -419,7 +415,7 @@ fn carry_here<E: Encoding, B: PassiveStreamBuilder<MemoryConn>>(
 }
 
 /// What always holds of a machine over memory.
-fn holds_memory(machine: &Machine<MemoryTransport>)
+pub(crate) fn holds_memory(machine: &Machine<MemoryTransport>)
     ensures given { IsGiven machine.now.channel.told }
     ensures sound { IsSound (Unit {0}) machine.now.channel }
     ensures counts { SoundCounts machine.now.state.counts }

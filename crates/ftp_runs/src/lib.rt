@@ -7,6 +7,7 @@
 #![tactic(auto)]
 
 mod calls;
+mod dropping;
 mod events;
 pub mod model;
 

@@ -5,15 +5,15 @@ use Rattle.ftp_calls.specs.declared.call.Call.{Call}
 use Rattle.ftp_calls.specs.declared.call.Event.{Event}
 use Rattle.ftp_calls.specs.declared.call.Event.TheVariants as event
 use Rattle.ftp_dialogue.specs.Coding.{Coding, coding_of}
-use Rattle.ftp_runs.specs.Following.{Happens}
-use Rattle.ftp_runs.proofs.EventLemmas.{through, happened, stayed, feeds, ends, widens, starts, fed_attends, fed_failures, still_attends, still_fails}
-use Rattle.ftp_runs.proofs.Leaving.{drop_happens, dropped_apart, now_apart, now_happens}
+use Rattle.ftp_runs.specs.Following.{Passes}
+use Rattle.ftp_runs.proofs.EventLemmas.{through, happened, stayed, feeds, ends, widens, starts, fed_attends, fed_failures, passes_on, still_attends, still_fails}
+use Rattle.ftp_runs.proofs.Leaving.{drop_passes, dropped_apart, now_apart, now_happens}
 use Rattle.ftp_runs.proofs.events.happen.Goals.{in-Feed+in_ok-feed-in-Feed, in-End, in-Room, in-Start}
 use Rattle.ftp_runs.proofs.events.happen.Goals as goal
 use Rattle.ftp_dialogue.specs.Link.{Builds, built_by}
 
-pub returns-clause-happens : goal.returns-clause-happens
-returns-clause-happens g c =
+pub returns-clause-passes : goal.returns-clause-passes
+returns-clause-passes g c =
     let coding : Coding = coding_of g.E.Encoding.decoded g.E.Encoding.encoded c.args.encoding.now in
     let builds : Builds = built_by g.B.PassiveStreamBuilder.answers c.args.builder.now in
     let v = c.args.machine.now in
@@ -25,23 +25,23 @@ returns-clause-happens g c =
           let F : Channel → Channel = λ x. record x { told = fed w.in-Feed.bytes x.told } in
           let is = through F v z w.machine.inside.channel w.feed.new.self w.machine.inside.state _ w.machine.view_is w.machine-is ok in
           let same = ap (λ o. option_map (λ c'. c'.now) o) w.under_way-is in
-          ([], ap (λ x. x.net) is, λ outcomes left old s answers f may. inl (happened builds coding outcomes left old s z c.args.event.now (event.Feed w.in-Feed.bytes) _ _ _ _ _ _ answers w.in-Feed.is same w.stage-is w.course-is (feeds builds coding outcomes left old s v _ _ answers f.0 w.in-Feed.bytes z is held.given held.sound, fed_attends builds coding outcomes left old w.in-Feed.bytes s _ f.1)))
+          passes_on builds coding _ _ _ _ _ _ _ _ _ _ (event.Feed w.in-Feed.bytes) w.in-Feed.is refl ([], ap (λ x. x.net) is, λ outcomes left old s answers f may. inl (happened builds coding outcomes left old s z c.args.event.now (event.Feed w.in-Feed.bytes) _ _ _ _ _ _ answers w.in-Feed.is same w.stage-is w.course-is (feeds builds coding outcomes left old s v _ _ answers f.0 w.in-Feed.bytes z is held.given held.sound, fed_attends builds coding outcomes left old w.in-Feed.bytes s _ f.1)))
           )
       | in-End w ↦ (
           let F : Channel → Channel = λ x. record x { told = closed_memory x.told } in
           let is = through F v z w.machine-in-End.inside.channel w.end_input.new.self w.machine-in-End.inside.state _ w.machine-in-End.view_is w.machine-is w.end_input.ensures in
           let same = ap (λ o. option_map (λ c'. c'.now) o) w.under_way-is in
-          ([], ap (λ x. x.net) is, λ outcomes left old s answers f may. inl (happened builds coding outcomes left old s z c.args.event.now event.End _ _ _ _ _ _ answers w.in-End.is same w.stage-is w.course-is (ends builds coding outcomes left old s v _ _ answers f.0 z is held.given held.sound, still_attends builds coding outcomes left s _ _ refl refl refl f.1)))
+          passes_on builds coding _ _ _ _ _ _ _ _ _ _ event.End w.in-End.is refl ([], ap (λ x. x.net) is, λ outcomes left old s answers f may. inl (happened builds coding outcomes left old s z c.args.event.now event.End _ _ _ _ _ _ answers w.in-End.is same w.stage-is w.course-is (ends builds coding outcomes left old s v _ _ answers f.0 z is held.given held.sound, still_attends builds coding outcomes left s _ _ refl refl refl f.1)))
           )
       | in-Room w ↦ (
           let F : Channel → Channel = λ x. record x { told = widened w.in-Room.more x.told } in
           let is = through F v z w.machine-in-Room.inside.channel w.allow.new.self w.machine-in-Room.inside.state _ w.machine-in-Room.view_is w.machine-is w.allow.ensures in
           let same = ap (λ o. option_map (λ c'. c'.now) o) w.under_way-is in
-          ([], ap (λ x. x.net) is, λ outcomes left old s answers f may. inl (happened builds coding outcomes left old s z c.args.event.now (event.Room w.in-Room.more) _ _ _ _ _ _ answers w.in-Room.is same w.stage-is w.course-is (widens builds coding outcomes left old s v _ _ answers f.0 w.in-Room.more z is held.given held.sound, still_attends builds coding outcomes left s _ _ refl refl refl f.1)))
+          passes_on builds coding _ _ _ _ _ _ _ _ _ _ (event.Room w.in-Room.more) w.in-Room.is refl ([], ap (λ x. x.net) is, λ outcomes left old s answers f may. inl (happened builds coding outcomes left old s z c.args.event.now (event.Room w.in-Room.more) _ _ _ _ _ _ answers w.in-Room.is same w.stage-is w.course-is (widens builds coding outcomes left old s v _ _ answers f.0 w.in-Room.more z is held.given held.sound, still_attends builds coding outcomes left s _ _ refl refl refl f.1)))
           )
       | in-Start w ↦ (
           let same = ap (λ o. option_map (λ c'. c'.now) o) w.under_way-is in
-          ([], ap (λ x. x.net) w.machine-is, λ outcomes left old s answers f may. let next = starts builds coding outcomes left old s v w.in-Start.call _ _ _ _ _ _ answers f w.start.ensures.starts in inl (happened builds coding outcomes left old s z c.args.event.now (event.Start w.in-Start.call) _ _ _ _ _ _ answers w.in-Start.is same w.stage-is w.course-is (stayed builds coding outcomes left old _ v z _ _ answers w.machine-is next.0, next.1)))
+          passes_on builds coding _ _ _ _ _ _ _ _ _ _ (event.Start w.in-Start.call) w.in-Start.is refl ([], ap (λ x. x.net) w.machine-is, λ outcomes left old s answers f may. let next = starts builds coding outcomes left old s v w.in-Start.call _ _ _ _ _ _ answers f w.start.ensures.starts in inl (happened builds coding outcomes left old s z c.args.event.now (event.Start w.in-Start.call) _ _ _ _ _ _ answers w.in-Start.is same w.stage-is w.course-is (stayed builds coding outcomes left old _ v z _ _ answers w.machine-is next.0, next.1)))
           )
     ]
 
@@ -97,27 +97,27 @@ returns-clause-fails g c =
       | in-Start w ↦ still_fails v z (ap (λ x. x.channel.failed) w.machine-is)
     ]
 
-pub returns-in-Poll-clause-happens : goal.returns-in-Poll-clause-happens
-returns-in-Poll-clause-happens g c =
+pub returns-in-Poll-clause-passes : goal.returns-in-Poll-clause-passes
+returns-in-Poll-clause-passes g c =
     let coding : Coding = coding_of g.E.Encoding.decoded g.E.Encoding.encoded c.args.encoding.now in
     let builds : Builds = built_by g.B.PassiveStreamBuilder.answers c.args.builder.now in
-    let P : Event → Type 0 = λ e. Happens builds coding c.args.machine.now c.poll_under_way.new.machine (option_map (λ c'. c'.now) c.args.under_way.now) (option_map (λ c'. c'.now) c.poll_under_way.new.under_way) c.args.stage.now c.poll_under_way.new.stage c.args.course.now c.poll_under_way.new.course e c.poll_under_way.result in
-    subst P (sym c.in-Poll.is) c.poll_under_way.ensures.happens
+    let P : Event → Type 0 = λ e. Passes builds coding c.args.machine.now c.poll_in_step.new.machine (option_map (λ c'. c'.now) c.args.under_way.now) (option_map (λ c'. c'.now) c.poll_in_step.new.under_way) c.args.stage.now c.poll_in_step.new.stage c.args.course.now c.poll_in_step.new.course e c.poll_in_step.result in
+    subst P (sym c.in-Poll.is) c.poll_in_step.ensures.passes
 
-pub returns-in-Cancel-clause-happens : goal.returns-in-Cancel-clause-happens
-returns-in-Cancel-clause-happens g c =
+pub returns-in-Cancel-clause-passes : goal.returns-in-Cancel-clause-passes
+returns-in-Cancel-clause-passes g c =
     let coding : Coding = coding_of g.E.Encoding.decoded g.E.Encoding.encoded c.args.encoding.now in
     let builds : Builds = built_by g.B.PassiveStreamBuilder.answers c.args.builder.now in
-    let P : Event → Type 0 = λ e. Happens builds coding c.args.machine.now c.drop_call.new.machine (option_map (λ c'. c'.now) c.args.under_way.now) None c.args.stage.now c.args.stage.now c.args.course.now c.drop_call.new.course e None in
-    let N : Option Call → Type 0 = λ n. Happens builds coding c.args.machine.now c.drop_call.new.machine (option_map (λ c'. c'.now) c.args.under_way.now) n c.args.stage.now c.args.stage.now c.args.course.now c.drop_call.new.course c.args.event.now None in
-    subst N (sym (ap (λ o. option_map (λ c'. c'.now) o) c.drop_call.ensures.none)) (subst P (sym c.in-Cancel.is) (drop_happens builds coding _ c.args.stage.now c.args.course.now c.drop_call.new.course c.args.machine.now c.drop_call.new.machine c.drop_call.ensures.drops))
+    let P : Event → Type 0 = λ e. Passes builds coding c.args.machine.now c.drop_call.new.machine (option_map (λ c'. c'.now) c.args.under_way.now) None c.args.stage.now c.args.stage.now c.args.course.now c.drop_call.new.course e None in
+    let N : Option Call → Type 0 = λ n. Passes builds coding c.args.machine.now c.drop_call.new.machine (option_map (λ c'. c'.now) c.args.under_way.now) n c.args.stage.now c.args.stage.now c.args.course.now c.drop_call.new.course c.args.event.now None in
+    subst N (sym (ap (λ o. option_map (λ c'. c'.now) o) c.drop_call.ensures.none)) (subst P (sym c.in-Cancel.is) (drop_passes builds coding _ c.args.stage.now c.args.course.now c.drop_call.new.course c.args.machine.now c.drop_call.new.machine c.drop_call.ensures.drops))
 
-pub returns-in-Leave-clause-happens : goal.returns-in-Leave-clause-happens
-returns-in-Leave-clause-happens g c =
+pub returns-in-Leave-clause-passes : goal.returns-in-Leave-clause-passes
+returns-in-Leave-clause-passes g c =
     let coding : Coding = coding_of g.E.Encoding.decoded g.E.Encoding.encoded c.args.encoding.now in
     let builds : Builds = built_by g.B.PassiveStreamBuilder.answers c.args.builder.now in
     let call : Option Call = option_map (λ c'. c'.now) c.args.under_way.now in
-    let P : Event → Type 0 = λ e. Happens builds coding c.args.machine.now c.leave_now.new.machine call call c.args.stage.now c.args.stage.now c.args.course.now c.leave_now.new.course e None in
+    let P : Event → Type 0 = λ e. Passes builds coding c.args.machine.now c.leave_now.new.machine call call c.args.stage.now c.args.stage.now c.args.course.now c.leave_now.new.course e None in
     subst P (sym c.in-Leave.is) (now_happens builds coding call c.args.stage.now c.args.course.now c.leave_now.new.course c.args.machine.now c.leave_now.new.machine c.leave_now.ensures.leaves)
 
 pub returns-in-Cancel-clause-fails : goal.returns-in-Cancel-clause-fails

@@ -1,4 +1,4 @@
-use Rattle.std.proofs.Common.{None, inl, length, length-append, option_map, refl, ap, take, ◌∙◌, arith}
+use Rattle.std.proofs.Common.{None, inl, length, length-append, option_map, refl, ap, take, zero, ◌∙◌, arith}
 use Rattle.ftp_dialogue.specs.Coding.{Coding, coding_of}
 use Rattle.ftp_runs.specs.Following.{given_answer}
 use Rattle.ftp_runs.proofs.Running.{fails_more}
@@ -15,7 +15,7 @@ loop-event-init g c =
       fails = λ failed. inl failed;
       count = omega (arith, ap length c.requires.none);
       room = c.requires.room;
-      so_far = λ depth. rw c.requires.none (starts_script builds coding depth c.args.machine.now None _ _ refl c.resting-course.ensures c.requires.given c.requires.sound);
+      so_far = λ depth. rw c.requires.none (starts_script builds coding depth zero c.args.machine.now None _ _ refl c.resting-course.ensures c.requires.given c.requires.sound);
     }
 
 pub loop-event-preserved : goal.loop-event-preserved
@@ -31,7 +31,7 @@ loop-event-preserved g c =
       fails = fails_more c.args.machine.now c.loop-event.machine c.happen.new.machine c.loop-event.answers.items (given_answer c.in-Ok.answer) c.note.new.answers.items noted.items held.fails done.fails;
       count = omega (arith, longer, held.count, at_most_one builds coding c.in-Ok.answer);
       room = omega (arith, held.room, noted.room);
-      so_far = λ depth. next_event builds coding depth c.args.machine.now c.args.events.now c.loop-event.event-index c.event-item.result c.loop-event.machine c.happen.new.machine _ _ c.loop-event.stage c.happen.new.stage c.loop-event.course c.happen.new.course c.loop-event.answers.items c.note.new.answers.items c.in-Ok.answer c.loop-event-test.true c.event-item.is noted.items done.failed done.happens (held.so_far depth);
+      so_far = λ depth. next_event builds coding depth c.args.machine.now c.args.events.now c.loop-event.event-index c.event-item.result c.loop-event.machine c.happen.new.machine _ _ c.loop-event.stage c.happen.new.stage c.loop-event.course c.happen.new.course c.loop-event.answers.items c.note.new.answers.items c.in-Ok.answer c.loop-event-test.true c.event-item.is noted.items done.failed done.passes (held.so_far depth);
     }
 
 pub returns-clause-scripted : goal.returns-clause-scripted

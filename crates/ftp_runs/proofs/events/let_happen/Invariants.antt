@@ -1,4 +1,4 @@
-use Rattle.std.proofs.Common.{ℕ, ◌≤◌, option_map, length, take, vec_capacity}
+use Rattle.std.proofs.Common.{ℕ, ◌≤◌, option_map, length, take, vec_capacity, zero}
 use Rattle.ftp_dialogue.specs.Coding.{coding_of}
 use Rattle.ftp_dialogue.specs.Steps.Polls.{StageIn}
 use Rattle.ftp_dialogue.specs.Promises.{FailsWith}
@@ -14,5 +14,5 @@ invariant-loop-event g l =
       count : length l.answers.items ≤ l.event-index;
       fails : FailsWith l.fn.machine l.machine l.answers.items;
       room : length l.events ≤ vec_capacity l.answers;
-      so_far : (depth : ℕ) → Happened (built_by g.B.PassiveStreamBuilder.answers l.builder) (coding_of g.E.Encoding.decoded g.E.Encoding.encoded l.encoding) depth l.fn.machine (take l.event-index l.events) l.machine (option_map (λ c. c.now) l.under_way) l.stage l.course l.answers.items;
+      so_far : (depth : ℕ) → Happened (built_by g.B.PassiveStreamBuilder.answers l.builder) (coding_of g.E.Encoding.decoded g.E.Encoding.encoded l.encoding) depth zero l.fn.machine (take l.event-index l.events) l.machine (option_map (λ c. c.now) l.under_way) l.stage l.course l.answers.items;
     }

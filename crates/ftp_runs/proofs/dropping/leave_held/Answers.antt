@@ -1,6 +1,6 @@
 use Rattle.ftp_runs.proofs.Leaving.{has_left, has_none}
-use Rattle.ftp_runs.proofs.events.leave_held.Goals.{then-holds_transfer, else-holds_transfer}
-use Rattle.ftp_runs.proofs.events.leave_held.Goals as goal
+use Rattle.ftp_runs.proofs.dropping.leave_held.Goals.{then-holds_transfer, else-holds_transfer}
+use Rattle.ftp_runs.proofs.dropping.leave_held.Goals as goal
 
 pub returns : goal.returns
 returns c =
