@@ -9,6 +9,8 @@ pub mod HiddenCalls
 pub mod InStep
 pub mod Leaving
 pub mod ClosingData
+pub mod NoneDue
+pub mod OneScript
 pub mod Polling
 pub mod Replay
 pub mod Running

@@ -1,5 +1,6 @@
 pub mod Counting
 pub mod Following
+pub mod OneScript
 pub mod Run
 pub mod Runs
 pub mod Script

@@ -9,6 +9,7 @@
 mod calls;
 mod dropping;
 mod events;
+pub mod laws;
 pub mod model;
 
 pub use calls::RunCalls;
