@@ -42,7 +42,7 @@ caught_here tells old new fault is caught =
 nothing_caught : (tells : Type 0) (v : SessionValue) → Caught tells v v None
 nothing_caught tells v = (λ h. record { failures = refl; last_fault = refl }, λ f. f)
 
-flush_caught : (link : Link) (old new : SessionValue) (fault : Option FtpError) → Flushes link old new (Ready fault) → Caught link.tells old new fault
+pub flush_caught : (link : Link) (old new : SessionValue) (fault : Option FtpError) → Flushes link old new (Ready fault) → Caught link.tells old new fault
 flush_caught link old new None flushes = (λ h. flushes.goes.failures h, λ f. no_fault (flushes.fails f))
 flush_caught link old new (Some fault) flushes = made_counts link (flushing old.state) (Fault fault) old new (λ other same grave. cc same) flushes
 
@@ -62,7 +62,7 @@ module _ (link : Link) (codes : Expected) (old last : SessionValue) where
       quiet (Ok reply) may = λ fault same grave. cc same
       quiet (Err fault) may = quiet_fault fault old.state (of_bytes fault may)
 
-  read_faults : (fault : FtpError) → Reads link codes (given old.state) old last (Ready (Err fault)) → CountsFaults link.tells old last (Fault fault)
+  pub read_faults : (fault : FtpError) → Reads link codes (given old.state) old last (Ready (Err fault)) → CountsFaults link.tells old last (Fault fault)
   read_faults fault (inl leads) = light link.tells old last (Fault fault) (place_quiet (outcomes_of leads.answered) (Leaf (Fault fault) old.state) reading leads.within reading_quiet)
   read_faults fault (inr aborts) = go aborts.cause
     where

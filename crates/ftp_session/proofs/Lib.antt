@@ -17,6 +17,7 @@ pub mod NegotiatedAnswers
 pub mod OpeningAnswers
 pub mod PolledCounts
 pub mod PolledLemmas
+pub mod PolledReads
 pub mod Quiet
 pub mod Reasons
 pub mod SavingLemmas

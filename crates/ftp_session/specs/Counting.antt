@@ -116,6 +116,11 @@ pub record CountsClearing (link : Link) (gives : Told → Result Told FtpError �
   pub counted : (kind : ErrorKind) → fault ≡ Connection (Io kind) → link.tells → CountsFailure old.channel.told new.channel.told ⊎ OnceAccepted link coding (codes "CCC") CommandOk mark old (λ told. gives told (Err fault))
   pub had_failed : fault ≡ SessionFailed → (old.channel.failed ≡ true) ⊎ OnceAccepted link coding (codes "CCC") CommandOk mark old (λ told. gives told (Err fault))
 
+-- a change by itself gives an error of a connection, or `SessionFailed`, only where the handshake or the stream gave it
+pub record CountsChange (Gives : Type 0) (fault : FtpError) : Type 0 where
+  pub counted : (kind : ErrorKind) → fault ≡ Connection (Io kind) → Gives
+  pub had_failed : fault ≡ SessionFailed → Gives
+
 -- Whole files
 
 -- a call opened a transfer, and this is so of it and of the session that handed it out

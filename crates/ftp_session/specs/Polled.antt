@@ -1,6 +1,6 @@
 -- A call that is polled: the look at its first poll, the last reply of a transfer that was left, and the call itself. RFC
 -- 959, sections 3.2 and 5.4.
-use Rattle.std.specs.Prelude.{◌≡◌, ◌⊎◌, ℕ, Bool, true, false, Option, Some, None, Result, Ok, Err, is_none, not}
+use Rattle.std.specs.Prelude.{◌≡◌, ◌⊎◌, ℕ, Bool, true, false, IfErr, Option, Some, None, Result, Ok, Err, is_none, not}
 use Rattle.futures.specs.declared.task.Poll.{Poll}
 use Rattle.futures.specs.declared.task.Poll.TheVariants.{Ready, Pending}
 use Rattle.ftp_base.specs.declared.types.reply.Response.{Response}
@@ -124,6 +124,11 @@ PollsCall link may_wait coding p q mark after old new result = PollsUnless p.ove
 abbrev pub CountsPoll : Type 0 → SessionValue → SessionValue → Poll Answer → Type 0
 CountsPoll tells old new (Ready answer) = CountsFaults tells old new answer
 CountsPoll tells old new Pending = Unit {0}
+
+-- of an error that a poll gives this is so
+abbrev pub IfFails : {T : Type 0} → Poll (Result T FtpError) → (FtpError → Type 0) → Type 0
+IfFails (Ready result) Is = IfErr result Is
+IfFails Pending Is = Unit {0}
 
 -- a call that is dropped, unless it has its answer
 abbrev pub DropsUnless : Bool → Type 0 → UnderWay → SessionValue → SessionValue → Type 0

@@ -3,10 +3,12 @@
 //! Its commands are polled as all calls are; here stands what is done between them. The transport keeps the connector, and
 //! a handshake that waits.
 
-ghost use Rattle.std.specs.Prelude.{◌≡◌};
+ghost use Rattle.std.specs.Prelude.{◌≡◌, Err, IfErr};
 ghost use Rattle.ftp_transport.specs.Asking.{Secures as Shakes};
 ghost use Rattle.ftp_dialogue.specs.Link.{polling};
+ghost use Rattle.ftp_session.specs.Counting.{CountsChange};
 ghost use Rattle.ftp_session.specs.Handed.{LooksIf, as_seen, watches};
+ghost use Rattle.ftp_session.specs.Polled.{IfFails};
 ghost use Rattle.ftp_session.specs.Securing.{Changes, GivesUp, PollsChange, TakesOff, is_beside, secured_from, unchanged};
 
 use super::client::Session;
@@ -67,6 +69,7 @@ where
     /// `SecureError` with the connector's text; the session has failed then.
     fn poll_put_under(&mut self, rt: &R, handed: Option<(K, String)>) -> Poll<FtpResult<()>>
         ensures changes { PollsChange (polling Tr.Conn.PollConn) self.old.machine self.new.machine result }
+        ensures counts { IfFails result (λ fault. CountsChange (Tr.Conn.tells → Tr.Conn.secures (Err fault)) fault) }
         ensures mark { self.new.mark ≡ self.old.mark }
         ensures encoding { self.new.encoding ≡ self.old.encoding }
         ensures builder { self.new.builder ≡ self.old.builder }
@@ -97,6 +100,7 @@ where
     /// The stream's, where it can't give its connection back; the session has failed then.
     fn take_off(&mut self) -> FtpResult<()>
         ensures changes { Changes Tr.Conn.tells (TakesOff Tr.Conn Tr.Conn.told Tr.gives) unchanged self.old.machine self.new.machine result }
+        ensures counts { IfErr result (λ fault. CountsChange (TakesOff Tr.Conn Tr.Conn.told Tr.gives self.old.machine.channel.told (Err fault)) fault) }
         ensures mark { self.new.mark ≡ self.old.mark }
         ensures encoding { self.new.encoding ≡ self.old.encoding }
         ensures builder { self.new.builder ≡ self.old.builder }

@@ -5,11 +5,14 @@
 
 ghost use Rattle.std.specs.Prelude.{◌⊎◌, ◌≡◌, true, [], ◌∷◌};
 ghost use Rattle.futures.specs.declared.task.Poll.TheVariants as poll;
+ghost use Rattle.ftp_calls.specs.declared.call.Answer.TheVariants.{Fault};
 ghost use Rattle.ftp_dialogue.specs.Coding.{chosen};
+ghost use Rattle.ftp_dialogue.specs.Counted.{CountsFaults};
 ghost use Rattle.ftp_dialogue.specs.Dialogue.{expecting};
 ghost use Rattle.ftp_dialogue.specs.Link.{polling};
 ghost use Rattle.ftp_dialogue.specs.Promises.{GivesFault};
 ghost use Rattle.ftp_session.specs.Handed.{ReadsSeen};
+ghost use Rattle.ftp_session.specs.Polled.{IfFails};
 
 use super::client::Session;
 use super::looking::look;
@@ -39,6 +42,7 @@ impl<Tr: Network, K: Drop, E: Encoding, B: Drop> Session<Tr, K, E, B> {
         Tr::Conn: PollConn<W>,
         ensures reads { ReadsSeen (polling Tr.Conn.PollConn) (chosen E.decoded E.encoded self.old.encoding.0) (expecting expected.now)
             self.old.mark self.new.mark self.old.machine self.new.machine result }
+        ensures counts { IfFails result (λ fault. CountsFaults Tr.Conn.tells self.old.machine self.new.machine (Fault fault)) }
         ensures waits { result ≡ poll.Pending → Tr.Conn.may_wait }
         ensures fails { self.new.machine.channel.failed ≡ true →
             (self.old.machine.channel.failed ≡ true) ⊎ GivesFault result }
@@ -64,6 +68,7 @@ impl<Tr: Network, K: Drop, E: Encoding, B: Drop> Session<Tr, K, E, B> {
         Tr::Conn: PollConn<W>,
         ensures reads { ReadsSeen (polling Tr.Conn.PollConn) (chosen E.decoded E.encoded self.old.encoding.0) (expecting (expected ∷ []))
             self.old.mark self.new.mark self.old.machine self.new.machine result }
+        ensures counts { IfFails result (λ fault. CountsFaults Tr.Conn.tells self.old.machine self.new.machine (Fault fault)) }
         ensures waits { result ≡ poll.Pending → Tr.Conn.may_wait }
         ensures fails { self.new.machine.channel.failed ≡ true →
             (self.old.machine.channel.failed ≡ true) ⊎ GivesFault result }
