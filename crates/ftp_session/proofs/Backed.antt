@@ -57,12 +57,12 @@ use Rattle.ftp_session.proofs.Quiet.{IsGrave, IsIo, Quiet, of_bytes, quiet_fault
 abbrev pub Or : (State → FtpError → Type 0) → NetOutcome → State → FtpError → Type 0
 Or May outcome state fault = May state fault ⊎ (given_by outcome ≡ Some fault)
 
--- each answer of a tree that is such an error has its reason
+-- each answer of a tree that is such an error has its reason, also where a read fails
 abbrev pub Backed : (State → FtpError → Type 0) → Tree → Type 0
 Backed May (Say (Ok line) next) = Backed May next
 Backed May (Say (Err why) next) = IsIo why → ⊥
 Backed May (Hear expected next) =
-    ((heard : Result Response FtpError) → MayHear heard → Backed May (next heard)) × ((kind : ErrorKind) → answer_of (next (Err (faults.ConnectionError (cause.Io kind)))) (Fault (faults.ConnectionError (cause.Io kind))) ≡ Fault faults.SessionFailed → ⊥)
+    ((heard : Result Response FtpError) → MayHear heard → Backed May (next heard)) × ((kind : ErrorKind) → answer_of (next (Err (faults.ConnectionError (cause.Io kind)))) (Fault (faults.ConnectionError (cause.Io kind))) ≡ Fault faults.SessionFailed → (state : State) → May state faults.SessionFailed)
 Backed May (Look end next) = (address : SocketAddr) → Backed May (next address)
 Backed May (Ask request next) = (outcome : RequestOutcome) → Backed (Or May (came.Answered outcome)) (next outcome)
 Backed May (Build address next) = (fault : Option FtpError) → Backed (Or May (came.Built fault)) (next fault)
@@ -78,7 +78,7 @@ or_into May More into outcome state fault (inr given) = inr given
 pub more : (May More : State → FtpError → Type 0) → ((state : State) (fault : FtpError) → May state fault → More state fault) → (tree : Tree) → Backed May tree → Backed More tree
 more May More into (Say (Ok line) next) backed = more May More into next backed
 more May More into (Say (Err why) next) backed = backed
-more May More into (Hear expected next) backed = (λ heard may. more May More into (next heard) (backed.0 heard may), backed.1)
+more May More into (Hear expected next) backed = (λ heard may. more May More into (next heard) (backed.0 heard may), λ kind same state. into state faults.SessionFailed (backed.1 kind same state))
 more May More into (Look end next) backed = λ address. more May More into (next address) (backed address)
 more May More into (Ask request next) backed = λ outcome. more (Or May (came.Answered outcome)) (Or More (came.Answered outcome)) (or_into May More into (came.Answered outcome)) (next outcome) (backed outcome)
 more May More into (Build address next) backed = λ fault. more (Or May (came.Built fault)) (Or More (came.Built fault)) (or_into May More into (came.Built fault)) (next fault) (backed fault)
@@ -93,7 +93,7 @@ after_outcome May outcome tree backed = more May (Or May outcome) (λ state faul
 pub quiet_backed : (May : State → FtpError → Type 0) (tree : Tree) → Quiet tree → Backed May tree
 quiet_backed May (Say (Ok line) next) quiet = quiet_backed May next quiet
 quiet_backed May (Say (Err why) next) quiet = quiet
-quiet_backed May (Hear expected next) quiet = (λ heard may. quiet_backed May (next heard) (quiet.0 heard may), quiet.1)
+quiet_backed May (Hear expected next) quiet = (λ heard may. quiet_backed May (next heard) (quiet.0 heard may), λ kind same state. absurd (quiet.1 kind same))
 quiet_backed May (Look end next) quiet = absurd quiet
 quiet_backed May (Ask request next) quiet = absurd quiet
 quiet_backed May (Build address next) quiet = absurd quiet
@@ -110,7 +110,7 @@ given_fault May outcome fault state given = λ other is grave. inr (given ∙ ap
 
 -- A line, and a reply
 
-line_backed : (May : State → FtpError → Type 0) (coding : Coding) (says : Option Command) (next : Tree) → Backed May next → Backed May (saying coding says next)
+pub line_backed : (May : State → FtpError → Type 0) (coding : Coding) (says : Option Command) (next : Tree) → Backed May next → Backed May (saying coding says next)
 line_backed May coding None next backed = backed
 line_backed May coding (Some command) next backed = go (wire coding.encode (text_of command)) refl
   where
@@ -135,11 +135,11 @@ module _ (state : State) where
   built_backed May next backed None = after_outcome May (came.Built None) next backed
   built_backed May next backed (Some fault) = given_fault May (came.Built (Some fault)) fault state refl
 
-  secured_backed : (May : State → FtpError → Type 0) (next : Tree) → Backed May next → (fault : Option FtpError) → Backed (Or May (came.Secured fault)) (on_built state next fault)
+  pub secured_backed : (May : State → FtpError → Type 0) (next : Tree) → Backed May next → (fault : Option FtpError) → Backed (Or May (came.Secured fault)) (on_built state next fault)
   secured_backed May next backed None = after_outcome May (came.Secured None) next backed
   secured_backed May next backed (Some fault) = given_fault May (came.Secured (Some fault)) fault state refl
 
-  connecting_backed : (May : State → FtpError → Type 0) (address : SocketAddr) (next : Tree) → Backed May next → Backed May (connecting_to address state next)
+  pub connecting_backed : (May : State → FtpError → Type 0) (address : SocketAddr) (next : Tree) → Backed May next → Backed May (connecting_to address state next)
   connecting_backed May address next backed = go state.settings.stream_builder
     where
       go : (b : Bool) → Backed May (cond b (Build address (on_built state next)) (Ask (Connect address None) (on_connection state next)))
@@ -150,7 +150,7 @@ module _ (state : State) where
   admitting_backed May true opened others first backed = first
   admitting_backed May false opened others first backed = backed
 
-  accepting_backed : (May : State → FtpError → Type 0) (opened : Tree) → Backed May opened → (host : SocketAddr) (left : ℕ) → Backed May (accepting opened host left state)
+  pub accepting_backed : (May : State → FtpError → Type 0) (opened : Tree) → Backed May opened → (host : SocketAddr) (left : ℕ) → Backed May (accepting opened host left state)
   unfolding accepting
   accepting_backed May opened first host zero =
       let late : Tree = Leaf (Fault (faults.ConnectionError cause.TimedOut)) state in
@@ -159,7 +159,7 @@ module _ (state : State) where
       let others : Tree = accepting opened host left state in
       address_backed May (λ from. admitting (lets_in state host from) opened others) (λ from. admitting_backed May (lets_in state host from) opened others first (accepting_backed May opened first host left))
 
-  securing_backed : (May : State → FtpError → Type 0) (opened : Tree) → Backed May opened → Backed May (securing opened state)
+  pub securing_backed : (May : State → FtpError → Type 0) (opened : Tree) → Backed May opened → Backed May (securing opened state)
   securing_backed May opened first = go state.settings.secure
     where
       go : (b : Bool) → Backed May (cond b (Secure (on_built state opened)) opened)
@@ -174,52 +174,50 @@ module _ (state : State) where
   module _ (May : State → FtpError → Type 0) (coding : Coding) where
     -- one exchange
     pub exchange_backed : (exchange : Exchange) (after : State → Tree) → ((heard : Result Response FtpError) → MayHear heard → Backed May (concluded coding exchange.ending state after heard)) → ((kind : ErrorKind) → answer_of (concluded coding exchange.ending state after (Err (faults.ConnectionError (cause.Io kind)))) (Fault (faults.ConnectionError (cause.Io kind))) ≡ Fault faults.SessionFailed → ⊥) → Backed May (doing coding (Exchanges exchange) state after)
-    exchange_backed exchange after heard broken = line_backed May coding exchange.says (Hear (expected_of exchange.hears) (concluded coding exchange.ending state after)) (heard, broken)
+    exchange_backed exchange after heard broken = line_backed May coding exchange.says (Hear (expected_of exchange.hears) (concluded coding exchange.ending state after)) (heard, λ kind same state. absurd (broken kind same))
 
     continued_backed : (after : State → Tree) → Backed May (after state) → (heard : Result Response FtpError) → MayHear heard → Backed May (concluded coding ending.Continues state after heard)
     continued_backed after backed (Ok reply) may = backed
     continued_backed after backed (Err fault) may = light_fault May fault state (of_bytes fault may)
 
+    -- a reply that tells where to connect
+    pub peer_backed : (port : ℕ) (next : Tree) → Backed May next → Backed May (connecting_to_peer port state next)
+    peer_backed port next backed = λ peer. connecting_backed May (at_port port peer) next backed
+
+    pub told_backed : (reply : Response) (next : Tree) → Backed May next → (told : Result SocketAddr NoAddress) → Backed May (to_address state reply next told)
+    told_backed reply next backed (Err Absent) = light_fault May (faults.UnexpectedResponse reply) state (λ grave. grave)
+    told_backed reply next backed (Err Unreadable) = light_fault May faults.BadResponse state (λ grave. grave)
+    told_backed reply next backed (Ok address) = go state.settings.passive_nat_workaround
+      where
+        go : (b : Bool) → Backed May (cond b (connecting_to_peer (socket_port address) state next) (connecting_to address state next))
+        go true = peer_backed (socket_port address) next backed
+        go false = connecting_backed May address next backed
+
+    pub port_backed : (reply : Response) (next : Tree) → Backed May next → (told : Result ℕ NoAddress) → Backed May (to_port state reply next told)
+    port_backed reply next backed (Err Absent) = light_fault May (faults.UnexpectedResponse reply) state (λ grave. grave)
+    port_backed reply next backed (Err Unreadable) = light_fault May faults.BadResponse state (λ grave. grave)
+    port_backed reply next backed (Ok port) = peer_backed port next backed
+
     module _ (call : Call) (last_backed : Backed May (last_turn coding call state)) (offset : ℕ) where
-      restart_backed : Backed May (restart_turn coding call offset state)
+      pub restart_backed : Backed May (restart_turn coding call offset state)
       restart_backed = go (restarts call && nat_lt 0 offset)
         where
           go : (b : Bool) → Backed May (cond b (doing coding (row_of call (Restart offset)) state (last_turn coding call)) (last_turn coding call state))
           go true = exchange_backed (record { says = Some (command.Rest offset); hears = One RequestFilePending; ending = ending.Continues }) (last_turn coding call) (continued_backed (last_turn coding call) last_backed) (λ kind same. cc same)
           go false = last_backed
 
-      peer_backed : (port : ℕ) → Backed May (connecting_to_peer port state (restart_turn coding call offset state))
-      peer_backed port = λ peer. connecting_backed May (at_port port peer) (restart_turn coding call offset state) restart_backed
-
-      told_backed : (reply : Response) (told : Result SocketAddr NoAddress) → Backed May (to_address state reply (restart_turn coding call offset state) told)
-      told_backed reply (Err Absent) = light_fault May (faults.UnexpectedResponse reply) state (λ grave. grave)
-      told_backed reply (Err Unreadable) = light_fault May faults.BadResponse state (λ grave. grave)
-      told_backed reply (Ok address) = go state.settings.passive_nat_workaround
-        where
-          next : Tree
-          next = restart_turn coding call offset state
-
-          go : (b : Bool) → Backed May (cond b (connecting_to_peer (socket_port address) state next) (connecting_to address state next))
-          go true = peer_backed (socket_port address)
-          go false = connecting_backed May address next restart_backed
-
-      port_backed : (reply : Response) (told : Result ℕ NoAddress) → Backed May (to_port state reply (restart_turn coding call offset state) told)
-      port_backed reply (Err Absent) = light_fault May (faults.UnexpectedResponse reply) state (λ grave. grave)
-      port_backed reply (Err Unreadable) = light_fault May faults.BadResponse state (λ grave. grave)
-      port_backed reply (Ok port) = peer_backed port
-
       passive_backed : (heard : Result Response FtpError) → MayHear heard → Backed May (concluded coding ending.GivesAddress state (later coding call (Passive offset)) heard)
-      passive_backed (Ok reply) may = told_backed reply (passive_address_of reply.body)
+      passive_backed (Ok reply) may = told_backed reply (restart_turn coding call offset state) restart_backed (passive_address_of reply.body)
       passive_backed (Err fault) may = light_fault May fault state (of_bytes fault may)
 
       extended_backed : (heard : Result Response FtpError) → MayHear heard → Backed May (concluded coding ending.GivesPort state (later coding call (ExtendedPassive offset)) heard)
-      extended_backed (Ok reply) may = port_backed reply (extended_port_of reply.body)
+      extended_backed (Ok reply) may = port_backed reply (restart_turn coding call offset state) restart_backed (extended_port_of reply.body)
       extended_backed (Err fault) may = light_fault May fault state (of_bytes fault may)
 
       abbrev told_at : SocketAddr → SocketAddr → Turn
       told_at local bound = Active (at_port (socket_port bound) local) offset
 
-      opening_data_backed : (m : Mode) → Backed May (opening_data m coding call offset state)
+      pub opening_data_backed : (m : Mode) → Backed May (opening_data m coding call offset state)
       opening_data_backed mode.Active = λ local.
           address_backed May (λ bound. from_turn coding call (told_at local bound) state) (λ bound. exchange_backed (record { says = Some (port_command (at_port (socket_port bound) local)); hears = One CommandOk; ending = ending.Continues }) (later coding call (told_at local bound)) (continued_backed (later coding call (told_at local bound)) restart_backed) (λ kind same. cc same))
       opening_data_backed mode.Passive = exchange_backed (record { says = Some command.Pasv; hears = One PassiveMode; ending = ending.GivesAddress }) (later coding call (Passive offset)) passive_backed (λ kind same. cc same)
@@ -236,24 +234,22 @@ module _ (state : State) where
 
 -- an answer whose error has its reason
 abbrev pub Reasoned : (State → FtpError → Type 0) → Answer → Type 0
-Reasoned May told = ((state : State) (fault : FtpError) → told ≡ Fault fault → IsGrave fault → May state fault) × (told ≡ Fault faults.SessionFailed → ⊥)
+Reasoned May told = (state : State) (fault : FtpError) → told ≡ Fault fault → IsGrave fault → May state fault
 
 reasoned_after : (May : State → FtpError → Type 0) (outcome : NetOutcome) (told : Answer) → Reasoned May told → Reasoned (Or May outcome) told
-reasoned_after May outcome told reasoned = (λ state fault is grave. inl (reasoned.0 state fault is grave), reasoned.1)
+reasoned_after May outcome told reasoned = λ state fault is grave. inl (reasoned state fault is grave)
 
 light_answer : (May : State → FtpError → Type 0) (fault : FtpError) → (IsGrave fault → ⊥) → Reasoned May (Fault fault)
-light_answer May fault none =
-    let same : (other : FtpError) → Fault fault ≡ Fault other → IsGrave other → ⊥ = λ other is grave. none (let e : other ≡ fault = cc in subst IsGrave e grave) in
-    (λ state other is grave. absurd (same other is grave), λ is. same faults.SessionFailed is tt)
+light_answer May fault none = λ state other is grave. absurd (none (let e : other ≡ fault = cc in subst IsGrave e grave))
 
 given_answer : (May : State → FtpError → Type 0) (outcome : NetOutcome) (kind : ErrorKind) → given_by outcome ≡ Some (faults.ConnectionError (cause.Io kind)) → Reasoned (Or May outcome) (Fault (faults.ConnectionError (cause.Io kind)))
-given_answer May outcome kind given = (λ state fault is grave. inr (given ∙ ap Some (let e : faults.ConnectionError (cause.Io kind) ≡ fault = cc in e)), λ is. cc is)
+given_answer May outcome kind given = λ state fault is grave. inr (given ∙ ap Some (let e : faults.ConnectionError (cause.Io kind) ≡ fault = cc in e))
 
-ending_fetch_backed : (May : State → FtpError → Type 0) (form : Fetch) (told : Answer) (state : State) → Reasoned May told → Backed May (fetch_ending form told state)
-ending_fetch_backed May form told state reasoned = (heard, broken)
+pub ending_fetch_backed : (May : State → FtpError → Type 0) (form : Fetch) (told : Answer) (state : State) → Reasoned May told → Backed May (fetch_ending form told state)
+ending_fetch_backed May form told state reasoned = (heard, broken form)
   where
     other : (fault : FtpError) (first : Answer) (left : State) → Reasoned May first → (IsGrave fault → ⊥) → Backed May (Leaf (Fault (fault_or first fault)) left)
-    other fault (Fault first) left is none = λ found same grave. is.0 left found same grave
+    other fault (Fault first) left is none = λ found same grave. is left found same grave
     other fault answer.Unit left is none = light_fault May fault left none
     other fault (answer.Reply reply) left is none = light_fault May fault left none
     other fault (answer.Text text) left is none = light_fault May fault left none
@@ -272,30 +268,27 @@ ending_fetch_backed May form told state reasoned = (heard, broken)
     faulty Listed fault bytes = light_fault May fault (after_fetch fault state) (of_bytes fault bytes)
 
     heard : (h : Result Response FtpError) → MayHear h → Backed May (fetch_concluded form told state h)
-    heard (Ok reply) may = λ fault is grave. reasoned.0 (with_fetched state) fault is grave
+    heard (Ok reply) may = λ fault is grave. reasoned (with_fetched state) fault is grave
     heard (Err fault) may = faulty form fault may
 
-    no_failure : (first : Answer) (kind : ErrorKind) → (first ≡ Fault faults.SessionFailed → ⊥) → Fault (fault_or first (faults.ConnectionError (cause.Io kind))) ≡ Fault faults.SessionFailed → ⊥
-    no_failure (Fault first) kind none same = none same
-    no_failure answer.Unit kind none same = cc same
-    no_failure (answer.Reply reply) kind none same = cc same
-    no_failure (answer.Text text) kind none same = cc same
-    no_failure (answer.Time time) kind none same = cc same
-    no_failure (answer.Size size) kind none same = cc same
-    no_failure (answer.Features features) kind none same = cc same
-    no_failure answer.Opened kind none same = cc same
-    no_failure (answer.OpenedWith reply) kind none same = cc same
-    no_failure (answer.Bytes bytes) kind none same = cc same
-    no_failure (answer.Lines lines) kind none same = cc same
-    no_failure (answer.Count count) kind none same = cc same
-    no_failure answer.NoTransfer kind none same = cc same
+    kept : (first : Answer) (kind : ErrorKind) → Fault (fault_or first (faults.ConnectionError (cause.Io kind))) ≡ Fault faults.SessionFailed → first ≡ Fault faults.SessionFailed
+    kept (Fault first) kind same = same
+    kept answer.Unit kind same = cc same
+    kept (answer.Reply reply) kind same = cc same
+    kept (answer.Text text) kind same = cc same
+    kept (answer.Time time) kind same = cc same
+    kept (answer.Size size) kind same = cc same
+    kept (answer.Features features) kind same = cc same
+    kept answer.Opened kind same = cc same
+    kept (answer.OpenedWith reply) kind same = cc same
+    kept (answer.Bytes bytes) kind same = cc same
+    kept (answer.Lines lines) kind same = cc same
+    kept (answer.Count count) kind same = cc same
+    kept answer.NoTransfer kind same = cc same
 
-    failed : (f : Fetch) (kind : ErrorKind) → answer_of (fetch_concluded f told state (Err (faults.ConnectionError (cause.Io kind)))) (Fault (faults.ConnectionError (cause.Io kind))) ≡ Fault faults.SessionFailed → ⊥
-    failed Whole kind same = no_failure told kind reasoned.1 same
-    failed Listed kind same = cc same
-
-    broken : (kind : ErrorKind) → answer_of (fetch_concluded form told state (Err (faults.ConnectionError (cause.Io kind)))) (Fault (faults.ConnectionError (cause.Io kind))) ≡ Fault faults.SessionFailed → ⊥
-    broken kind same = failed form kind same
+    broken : (f : Fetch) (kind : ErrorKind) → answer_of (fetch_concluded f told state (Err (faults.ConnectionError (cause.Io kind)))) (Fault (faults.ConnectionError (cause.Io kind))) ≡ Fault faults.SessionFailed → (left : State) → May left faults.SessionFailed
+    broken Whole kind same left = reasoned left faults.SessionFailed (kept told kind same) tt
+    broken Listed kind same left = cc same
 
 -- the error of a close, where it is told
 close_reasoned : (May : State → FtpError → Type 0) (uploads : Bool) (outcome : NetOutcome) (told : Answer) → Reasoned May told → Reasoned (Or May outcome) (closed_as (told_of_close uploads outcome) told)
@@ -317,8 +310,8 @@ too_long_reasoned May Whole = light_answer May faults.OutOfMemory (λ grave. gra
 too_long_reasoned May Listed = light_answer May faults.BadResponse (λ grave. grave)
 
 fetched_reasoned : (May : State → FtpError → Type 0) (coding : Coding) (form : Fetch) (all : List ℕ) → Reasoned May (fetched coding form all)
-fetched_reasoned May coding Whole all = (λ state fault is grave. cc is, λ is. cc is)
-fetched_reasoned May coding Listed all = (λ state fault is grave. cc is, λ is. cc is)
+fetched_reasoned May coding Whole all = λ state fault is grave. cc is
+fetched_reasoned May coding Listed all = λ state fault is grave. cc is
 
 unfetched_reasoned : (May : State → FtpError → Type 0) (form : Fetch) (kind : ErrorKind) → Reasoned (Or May (came.Failed kind)) (unfetched form kind)
 unfetched_reasoned May Whole kind = given_answer May (came.Failed kind) kind refl
@@ -339,7 +332,7 @@ data_backed May coding form all state on goes (came.Secured fault) = closing_fet
 data_backed May coding form all state on goes (came.Wrote count) = closing_fetch_backed (Or May (came.Wrote count)) form (too_long form) state (too_long_reasoned (Or May (came.Wrote count)) form)
 data_backed May coding form all state on goes came.Closed = closing_fetch_backed (Or May came.Closed) form (too_long form) state (too_long_reasoned (Or May came.Closed) form)
 
-gathering_backed : (left : ℕ) (May : State → FtpError → Type 0) (coding : Coding) (form : Fetch) (all : List ℕ) (state : State) → Backed May (gathering coding form left all state)
+pub gathering_backed : (left : ℕ) (May : State → FtpError → Type 0) (coding : Coding) (form : Fetch) (all : List ℕ) (state : State) → Backed May (gathering coding form left all state)
 unfolding gathering
 gathering_backed zero May coding form all state = closing_fetch_backed May form (too_long form) state (too_long_reasoned May form)
 gathering_backed (suc left) May coding form all state = data_backed May coding form all state (λ bytes. gathering coding form left bytes state) (λ outcome bytes. gathering_backed left (Or May outcome) coding form bytes state)
@@ -360,7 +353,7 @@ OpensOnly (Sets setting) = ⊥
 OpensOnly (Moves movement) = ⊥
 
 -- it answers without an error
-no_error : (May : State → FtpError → Type 0) (replies : Bool) (reply : Response) (state : State) → Backed May (Leaf (opened_answer replies reply) state)
+pub no_error : (May : State → FtpError → Type 0) (replies : Bool) (reply : Response) (state : State) → Backed May (Leaf (opened_answer replies reply) state)
 no_error May true reply state = λ fault is grave. cc is
 no_error May false reply state = λ fault is grave. cc is
 
@@ -394,13 +387,13 @@ opens_backed coding called sort is state =
 
 -- The end of a transfer
 
-close_given : (uploads : Bool) (outcome : NetOutcome) (kind : ErrorKind) → told_of_close uploads outcome ≡ Some kind → given_by outcome ≡ Some (faults.ConnectionError (cause.Io kind))
+pub close_given : (uploads : Bool) (outcome : NetOutcome) (kind : ErrorKind) → told_of_close uploads outcome ≡ Some kind → given_by outcome ≡ Some (faults.ConnectionError (cause.Io kind))
 close_given false outcome kind is = cc is
 close_given true (came.Failed other) kind is = ap (λ k. Some (faults.ConnectionError (cause.Io k))) (let e : other ≡ kind = cc in e)
 close_given true other kind is = cc is
 
 module _ (state : State) (May : State → FtpError → Type 0) (coding : Coding) where
-  finished_heard : (close : Option ErrorKind) → ((kind : ErrorKind) → close ≡ Some kind → (left : State) → May left (faults.ConnectionError (cause.Io kind))) → (after : State → Tree) (heard : Result Response FtpError) → MayHear heard → Backed May (concluded coding (ending.Finishes close) state after heard)
+  pub finished_heard : (close : Option ErrorKind) → ((kind : ErrorKind) → close ≡ Some kind → (left : State) → May left (faults.ConnectionError (cause.Io kind))) → (after : State → Tree) (heard : Result Response FtpError) → MayHear heard → Backed May (concluded coding (ending.Finishes close) state after heard)
   finished_heard None reason after (Ok reply) may = λ fault is grave. cc is
   finished_heard (Some kind) reason after (Ok reply) may = λ fault is grave.
       let P : FtpError → Type 0 = May (with_finished state) in
@@ -413,9 +406,9 @@ module _ (state : State) (May : State → FtpError → Type 0) (coding : Coding)
 
   finished_broken : (close : Option ErrorKind) (after : State → Tree) (kind : ErrorKind) → answer_of (concluded coding (ending.Finishes close) state after (Err (faults.ConnectionError (cause.Io kind)))) (Fault (faults.ConnectionError (cause.Io kind))) ≡ Fault faults.SessionFailed → ⊥
   finished_broken None after kind same = cc same
-  finished_broken (Some other) after kind same = cc same
+  finished_broken (Some why) after kind same = cc same
 
-  stopped_heard : (after : State → Tree) → Backed May (after state) → (heard : Result Response FtpError) → MayHear heard → Backed May (concluded coding ending.Stops state after heard)
+  pub stopped_heard : (after : State → Tree) → Backed May (after state) → (heard : Result Response FtpError) → MayHear heard → Backed May (concluded coding ending.Stops state after heard)
   stopped_heard after backed (Ok reply) may = go (eqb (code_of reply.status) (code_of TransferAborted))
     where
       go : (b : Bool) → Backed May (cond b (after state) (Leaf answer.Unit (with_aborted state)))
@@ -444,7 +437,7 @@ ends_backed coding false state = finish_backed coding (with_left state)
 -- Each place of such a tree
 
 -- what the outcomes on the way to a place gave is a reason, too
-abbrev Since : (State → FtpError → Type 0) → List NetOutcome → State → FtpError → Type 0
+abbrev pub Since : (State → FtpError → Type 0) → List NetOutcome → State → FtpError → Type 0
 Since May outcomes state fault = May state fault ⊎ IsAmong fault outcomes
 
 at_place : (May : State → FtpError → Type 0) (outcomes : List NetOutcome) (place tree : Tree) → outcomes ≡ [] → place ≡ tree → Backed May tree → Backed (Since May outcomes) place

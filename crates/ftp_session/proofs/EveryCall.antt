@@ -56,9 +56,9 @@ sent_backed May short rest on state goes came.Closed = no_more (Or May came.Clos
 sent_backed May short rest on state goes came.NoMemory = no_more (Or May came.NoMemory) (λ s. inl (short s)) state
 
 counted_reasoned : (May : State → FtpError → Type 0) (total : ℕ) → Reasoned May (answer.Count total)
-counted_reasoned May total = (λ state fault is grave. cc is, λ is. cc is)
+counted_reasoned May total = λ state fault is grave. cc is
 
-sending_backed : (left : ℕ) (May : State → FtpError → Type 0) → ((state : State) → May state took_no_more) → (total : ℕ) (rest : List ℕ) (state : State) → Backed May (sending left total rest state)
+pub sending_backed : (left : ℕ) (May : State → FtpError → Type 0) → ((state : State) → May state took_no_more) → (total : ℕ) (rest : List ℕ) (state : State) → Backed May (sending left total rest state)
 unfolding sending
 sending_backed zero May short total [] state = closing_fetch_backed May Whole (answer.Count total) state (counted_reasoned May total)
 sending_backed (suc left) May short total [] state = closing_fetch_backed May Whole (answer.Count total) state (counted_reasoned May total)
@@ -66,7 +66,7 @@ sending_backed zero May short total (byte ∷ rest) state = no_more May short st
 sending_backed (suc left) May short total (byte ∷ rest) state =
     sent_backed May short (byte ∷ rest) (λ bytes. sending left total bytes state) state (λ outcome bytes. sending_backed left (Or May outcome) (λ s. inl (short s)) total bytes state)
 
-storing_backed : (May : State → FtpError → Type 0) → ((state : State) → May state took_no_more) → (bytes : List ℕ) (state : State) → Backed May (storing bytes state)
+pub storing_backed : (May : State → FtpError → Type 0) → ((state : State) → May state took_no_more) → (bytes : List ℕ) (state : State) → Backed May (storing bytes state)
 storing_backed May short bytes state = go (size_to_send (wire_data state.settings.text bytes))
   where
     go : (size : Option ℕ) → Backed May (sending_all size (wire_data state.settings.text bytes) state)
@@ -95,7 +95,7 @@ moved_backed May state (came.Read bytes) = λ fault is grave. cc is
 moved_backed May state (came.Wrote count) = λ fault is grave. cc is
 moved_backed May state came.Closed = λ fault is grave. cc is
 
-carried_backed : (May : State → FtpError → Type 0) (moves : Movement) (state : State) → Backed May (carrying moves state)
+pub carried_backed : (May : State → FtpError → Type 0) (moves : Movement) (state : State) → Backed May (carrying moves state)
 carried_backed May (movement.Read most) state = go (eqb most 0)
   where
     go : (b : Bool) → Backed May (cond b (Leaf (answer.Bytes []) state) (Move (movement.Read most) (λ outcome. Leaf (moved_answer outcome) state)))

@@ -7,6 +7,7 @@ pub mod ConnectingCounts
 pub mod CopyingLemmas
 pub mod Counting
 pub mod EveryCall
+pub mod EveryStage
 pub mod Failures
 pub mod FetchAnswers
 pub mod FilesCounts
@@ -15,6 +16,7 @@ pub mod Handed
 pub mod Kept
 pub mod NegotiatedAnswers
 pub mod OpeningAnswers
+pub mod PollCauses
 pub mod PolledCounts
 pub mod PolledLemmas
 pub mod PolledReads

@@ -123,11 +123,11 @@ module _ (coding : Coding) (called : Call) (plain : IsPlain called) where
 
 -- A poll of a call
 
-ready_is : (told other : Answer) → Ready told ≡ Ready other → told ≡ other
+pub ready_is : (told other : Answer) → Ready told ≡ Ready other → told ≡ other
 ready_is told other is = cc is
 
 module _ (link : Link) (may_wait : Type 0) (coding : Coding) where
-  refused_counts : (called : Call) (first : Bool) (v w : SessionValue) (told : Answer) → RefusesFrom first link.tells called v w told → CountsFaults link.tells v w told
+  pub refused_counts : (called : Call) (first : Bool) (v w : SessionValue) (told : Answer) → RefusesFrom first link.tells called v w told → CountsFaults link.tells v w told
   refused_counts called true v w told refuses = go (refusal_of called v) refl refuses
     where
       P : Answer → Type 0
@@ -145,7 +145,7 @@ module _ (link : Link) (may_wait : Type 0) (coding : Coding) where
     had_failed = λ same. refuses.0;
   }
 
-  starts_count : (called : Call) (stage stage' : Stage) (v w : SessionValue) (told : Answer) → Quiet (entered_tree coding called stage v.state) → StartsTo link may_wait coding called stage stage' v w (Ready told) → CountsFaults link.tells v w told
+  pub starts_count : (called : Call) (stage stage' : Stage) (v w : SessionValue) (told : Answer) → Quiet (entered_tree coding called stage v.state) → StartsTo link may_wait coding called stage stage' v w (Ready told) → CountsFaults link.tells v w told
   starts_count called stage stage' v w told quiet (inl (other, is, refuses)) =
       let P : Answer → Type 0 = λ a. CountsFaults link.tells v w a in
       subst P (sym (ready_is told other is)) (refused_counts called (is_first stage) v w other refuses)
@@ -162,7 +162,7 @@ module _ (link : Link) (may_wait : Type 0) (coding : Coding) where
       go (last, steps, lets) = of_channel link.tells (entered_at called stage v) v last w told refl (ap (λ x. x.channel) (letting_beside link.tells last w lets)) (made last steps)
 
   -- where it gives no error nothing failed
-  starts_keep : (called : Call) (stage stage' : Stage) (v w : SessionValue) → StartsTo link may_wait coding called stage stage' v w (Ready answer.Unit) → Caught link.tells v w None
+  pub starts_keep : (called : Call) (stage stage' : Stage) (v w : SessionValue) → StartsTo link may_wait coding called stage stage' v w (Ready answer.Unit) → Caught link.tells v w None
   starts_keep called stage stage' v w (inl (other, is, refuses)) = refused (is_first stage) refuses
     where
       told : answer.Unit ≡ other

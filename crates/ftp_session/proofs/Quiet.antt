@@ -140,7 +140,7 @@ IsQuietRow (Sets setting) = Unit {0}
 IsQuietRow (Moves movement) = ⊥
 
 module _ (coding : Coding) (state : State) (after : State → Tree) (quiet_after : Quiet (after state)) where
-  accepted_quiet : (how : Ending) → IsQuietEnding how → (reply : Response) → Quiet (accepted coding how state reply after)
+  pub accepted_quiet : (how : Ending) → IsQuietEnding how → (reply : Response) → Quiet (accepted coding how state reply after)
   accepted_quiet ending.Done is reply = λ fault same grave. cc same
   accepted_quiet ending.GivesReply is reply = λ fault same grave. cc same
   accepted_quiet ending.TakesReply is reply = λ fault same grave. cc same
@@ -186,7 +186,7 @@ module _ (coding : Coding) (state : State) (after : State → Tree) (quiet_after
   accepted_quiet ending.Stops is reply = absurd is
 
   -- an error that is heard in place of a reply
-  faulty_quiet : (how : Ending) → IsQuietEnding how → (fault : FtpError) → IsOfBytes fault → Quiet (concluded coding how state after (Err fault))
+  pub faulty_quiet : (how : Ending) → IsQuietEnding how → (fault : FtpError) → IsOfBytes fault → Quiet (concluded coding how state after (Err fault))
   faulty_quiet ending.Done is fault bytes = quiet_fault fault state (of_bytes fault bytes)
   faulty_quiet ending.GivesReply is fault bytes = quiet_fault fault state (of_bytes fault bytes)
   faulty_quiet ending.TakesReply is fault bytes = quiet_fault fault (after_faulty fault state) (of_bytes fault bytes)

@@ -34,7 +34,7 @@ use Rattle.ftp_session.specs.Handed.{BringsToEnd, BringsToEndIf, Ends, EndsWitho
 use Rattle.ftp_transfer.specs.Transfer.{TransferValue}
 use Rattle.ftp_transfer.specs.declared.direction.Direction.{Direction}
 use Rattle.ftp_session.proofs.Backed.{Backed, OpensOnly, Spent, ends_backed, more, opens_backed}
-use Rattle.ftp_session.proofs.Causes.{Causes, Happens, NoOther, SpentOr, after_part as causes_after, all_caused, alone_causes, counted_causes, given_after, happens_on, happens_to, light_causes, nothing_happens, plays_causes}
+use Rattle.ftp_session.proofs.Causes.{Causes, Grounds, Happens, NoOther, SpentOr, after_part as grounds_after, all_caused, alone_causes, counted_grounds, given_after, happens_on, happens_to, light_grounds, nothing_happens, plays_grounds, to_causes}
 use Rattle.ftp_session.proofs.Failures.{none_then}
 use Rattle.ftp_session.proofs.Quiet.{IsGrave}
 use Rattle.ftp_session.proofs.CaughtUp.{given, up_caught}
@@ -86,7 +86,7 @@ asked_events link (Moved movement outcome ∷ more) n m is = (is.0, is.1, asked_
 asked_events link (Parted ∷ more) n m is = (is.0, is.1, asked_events link more is.0 m is.2)
 asked_events link (Dropped ∷ more) n m is = (is.0, is.1, asked_events link more is.0 m is.2)
 
-asked_happens : (link : Link) (n m : Net) → Happens (unasked link) n m → Happens link n m
+pub asked_happens : (link : Link) (n m : Net) → Happens (unasked link) n m → Happens link n m
 asked_happens link n m happens = record { answered = happens.answered; net_events = λ h. asked_events link happens.answered n m (happens.net_events h) }
 
 flush_happens : (link : Link) (old new : SessionValue) → Flushes link old new (Ready None) → Happens link old.net new.net
@@ -141,7 +141,7 @@ due_happens link (suc left) old new reads = go (λ v w r. due_happens link left 
     go others true none = happens_to link old.net old.net new.net (ap (λ v. v.net) none.1) (nothing_happens link old.net)
     go others false r = one others r
 
-up_happens : (link : Link) (plain : Bool) (old new : SessionValue) → CatchesUp link plain old new (Ready None) → Happens link old.net new.net
+pub up_happens : (link : Link) (plain : Bool) (old new : SessionValue) → CatchesUp link plain old new (Ready None) → Happens link old.net new.net
 up_happens link plain old new up = go up.flush up.flushes up.then_reads
   where
     due : (b : Bool) → ReadsDueUnless b link up.flushed new (Ready None) → Happens link up.flushed.net new.net
@@ -155,30 +155,33 @@ up_happens link plain old new up = go up.flush up.flushes up.then_reads
 
 -- A call in step, and after the look
 
-pub step_causes : (link : Link) (Also : FtpError → Type 0) (unlike : Also faults.SessionFailed → ⊥) (coding : Coding) (called : Call) (old new : SessionValue) (told : Answer) → ((state : State) → Backed (SpentOr Also) (dialogue coding called state)) → PlaysInStep link coding called old new told → Causes link Also old new told
-step_causes link Also unlike coding called old new told backed step = go (is_behind called old) step.plays
+step_grounds : (link : Link) (Also : FtpError → Type 0) (coding : Coding) (called : Call) (old new : SessionValue) (told : Answer) → ((state : State) → Backed (SpentOr Also) (dialogue coding called state)) → PlaysInStep link coding called old new told → Grounds link Also old new told
+step_grounds link Also coding called old new told backed step = go (is_behind called old) step.plays
   where
     P : Answer → Type 0
-    P a = Causes link Also old new a
+    P a = Grounds link Also old new a
 
-    then : (middle : SessionValue) (fault : Option FtpError) (ends : Bool) → CatchesUp (unasked link) (is_plain_read called) old middle (Ready fault) → MakesThen fault ends (Plays link coding called) middle new told → Causes link Also old new told
+    then : (middle : SessionValue) (fault : Option FtpError) (ends : Bool) → CatchesUp (unasked link) (is_plain_read called) old middle (Ready fault) → MakesThen fault ends (Plays link coding called) middle new told → Grounds link Also old new told
     then middle (Some fault) ends up stops =
-        let Q : SessionValue → Type 0 = λ v. Causes link Also old v (Fault fault) in
-        subst P (sym stops.0) (subst Q (sym stops.1) (counted_causes link Also old middle (Fault fault) (up_caught (unasked link) (is_plain_read called) old middle (Some fault) up)))
-    then middle None true up stops = subst P (sym stops.0) (light_causes link Also old new answer.Unit (λ fault same grave. cc same))
+        let Q : SessionValue → Type 0 = λ v. Grounds link Also old v (Fault fault) in
+        subst P (sym stops.0) (subst Q (sym stops.1) (counted_grounds link Also old middle (Fault fault) (up_caught (unasked link) (is_plain_read called) old middle (Some fault) up)))
+    then middle None true up stops = subst P (sym stops.0) (light_grounds link Also old new answer.Unit (λ fault same grave. cc same))
     then middle None false up plays =
         let caught = up_caught (unasked link) (is_plain_read called) old middle None up in
-        causes_after link Also unlike old middle new told caught.0 caught.1 (asked_happens link old.net middle.net (up_happens (unasked link) (is_plain_read called) old middle up)) (plays_causes link Also unlike coding called middle new told backed plays)
+        grounds_after link Also old middle new told caught.0 caught.1 (asked_happens link old.net middle.net (up_happens (unasked link) (is_plain_read called) old middle up)) (plays_grounds link Also coding called middle new told backed plays)
 
-    go : (b : Bool) → InStepIf b (unasked link) (is_plain_read called) (drains called) (Plays link coding called) old new told → Causes link Also old new told
-    go false plays = plays_causes link Also unlike coding called old new told backed plays
+    go : (b : Bool) → InStepIf b (unasked link) (is_plain_read called) (drains called) (Plays link coding called) old new told → Grounds link Also old new told
+    go false plays = plays_grounds link Also coding called old new told backed plays
     go true first = then first.middle first.fault (drains called) first.catches_up first.then_makes
+
+pub step_causes : (link : Link) (Also : FtpError → Type 0) → (Also faults.SessionFailed → ⊥) → (coding : Coding) (called : Call) (old new : SessionValue) (told : Answer) → ((state : State) → Backed (SpentOr Also) (dialogue coding called state)) → PlaysInStep link coding called old new told → Causes link Also old new told
+step_causes link Also unlike coding called old new told backed step = to_causes link Also unlike old new told (step_grounds link Also coding called old new told backed step)
 
 pub step_reasons : (link : Link) (coding : Coding) (called : Call) (old new : SessionValue) (told : Answer) → ((state : State) → Backed Spent (dialogue coding called state)) → PlaysInStep link coding called old new told → CountsFaultsBeside link old new told
 step_reasons link coding called old new told backed step =
     all_caused link old new told (step_causes link NoOther (λ none. none) coding called old new told (λ state. more Spent (SpentOr NoOther) (λ s fault spent. inl spent) (dialogue coding called state) (backed state)) step)
 
-seen_net : (b : Bool) (v : SessionValue) → (left_if b v).net ≡ v.net
+pub seen_net : (b : Bool) (v : SessionValue) → (left_if b v).net ≡ v.net
 seen_net true v = refl
 seen_net false v = refl
 

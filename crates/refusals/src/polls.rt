@@ -6,6 +6,7 @@ ghost use Rattle.ftp_session.specs.Handed.{LooksIf, as_seen, watches};
 ghost use Rattle.ftp_dialogue.specs.Link.{asking, built_by, polling};
 ghost use Rattle.ftp_dialogue.specs.Promises.{FailsWith};
 ghost use Rattle.ftp_calls.specs.Kinds.{IsPlain};
+ghost use Rattle.ftp_session.specs.PollCauses.{CausesPoll, keeps};
 ghost use Rattle.ftp_session.specs.Polled.{CountsPoll, PollsCall};
 ghost use Rattle.ftp_runs.specs.Scripted.{IsScripted, StopsAtFeed};
 ghost use Rattle.ftp_dialogue.specs.Sound.{Sound};
@@ -67,6 +68,8 @@ where
     ensures polls { PollsCall (asking (built_by B.answers session.old.builder) (Tr.PollTransport.may_wait ⊎ Tr.Conn.PollConn.may_wait) (polling Tr.Conn.PollConn)) Tr.Conn.PollConn.may_wait (chosen E.decoded E.encoded session.old.encoding.0)
         polled.old polled.new session.old.mark session.new.mark session.old.machine session.new.machine result }
     ensures counts { IsPlain polled.old.call → CountsPoll Tr.Conn.tells session.old.machine session.new.machine result }
+    ensures causes { CausesPoll (asking (built_by B.answers session.old.builder) (Tr.PollTransport.may_wait ⊎ Tr.Conn.PollConn.may_wait) (polling Tr.Conn.PollConn))
+        polled.old.call (keeps polled.old.stage) (keeps polled.new.stage) session.old.machine session.new.machine result }
     ensures encoding { session.new.encoding ≡ session.old.encoding }
     ensures builder { session.new.builder ≡ session.old.builder }
     ensures former { session.new.former ≡ session.old.former }

@@ -13,6 +13,7 @@ ghost use Rattle.ftp_dialogue.specs.Steps.Moving.{withheld};
 ghost use Rattle.ftp_dialogue.specs.Steps.Polls.{StageIn, StartsTo};
 ghost use Rattle.ftp_calls.specs.Exchanges.{is_local};
 ghost use Rattle.ftp_calls.specs.Kinds.{IsPlain};
+ghost use Rattle.ftp_session.specs.PollCauses.{CausesPoll, keeps};
 ghost use Rattle.ftp_session.specs.Polled.{CountsPoll, Drops, LooksFirst, PollsCall, PollsInStep, PollsNext};
 
 use super::client::Session;
@@ -166,6 +167,8 @@ where
         ensures polls { PollsCall (asking (built_by B.answers self.old.builder) (Tr.PollTransport.may_wait ⊎ Tr.Conn.PollConn.may_wait) (polling Tr.Conn.PollConn)) Tr.Conn.PollConn.may_wait (chosen E.decoded E.encoded self.old.encoding.0)
             polled.old polled.new self.old.mark self.new.mark self.old.machine self.new.machine result }
         ensures counts { IsPlain polled.old.call → CountsPoll Tr.Conn.tells self.old.machine self.new.machine result }
+        ensures causes { CausesPoll (asking (built_by B.answers self.old.builder) (Tr.PollTransport.may_wait ⊎ Tr.Conn.PollConn.may_wait) (polling Tr.Conn.PollConn))
+            polled.old.call (keeps polled.old.stage) (keeps polled.new.stage) self.old.machine self.new.machine result }
         ensures encoding { self.new.encoding ≡ self.old.encoding }
         ensures builder { self.new.builder ≡ self.old.builder }
         ensures former { self.new.former ≡ self.old.former }

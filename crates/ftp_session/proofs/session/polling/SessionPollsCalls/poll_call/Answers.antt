@@ -1,5 +1,6 @@
 use Rattle.std.proofs.Common.{rules}
 use Rattle.futures.specs.declared.task.Poll.TheVariants.{Ready, Pending}
+use Rattle.ftp_session.proofs.PollCauses.{polls_caused}
 use Rattle.ftp_session.proofs.PolledCounts.{polls_counted}
 use Rattle.ftp_session.proofs.PolledLemmas.{polls_seen}
 use Rattle.ftp_session.proofs.session.polling.SessionPollsCalls.poll_call.Goals as goal
@@ -19,3 +20,9 @@ returns-in-Ready-clause-counts g c = λ plain. polls_counted _ _ _ _ _ _ _ _ _ (
 
 pub returns-in-Pending-clause-counts : goal.returns-in-Pending-clause-counts
 returns-in-Pending-clause-counts g c = λ plain. tt
+
+pub returns-in-Ready-clause-causes : goal.returns-in-Ready-clause-causes
+returns-in-Ready-clause-causes g c = polls_caused _ _ _ _ _ _ _ _ _ (Ready c.in-Ready.answer) (search rules) (returns-in-Ready-clause-polls g c)
+
+pub returns-in-Pending-clause-causes : goal.returns-in-Pending-clause-causes
+returns-in-Pending-clause-causes g c = polls_caused _ _ _ _ _ _ _ _ _ Pending (search rules) (returns-in-Pending-clause-polls g c)
