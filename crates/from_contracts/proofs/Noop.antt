@@ -1,5 +1,6 @@
 -- A greeting and a NOOP, from contracts alone.
-use Rattle.std.proofs.Common.{length, ◌≡◌, ◌⊎◌, ℕ, Bool, true, false, List, [], ◌∷◌, ◌++◌, Ok, inl, inr, refl, ap, sym, ◌∙◌, subst}
+use Rattle.std.specs.Prelude.{not}
+use Rattle.std.proofs.Common.{length, ◌≡◌, ◌⊎◌, ℕ, Bool, true, false, List, [], ◌∷◌, ◌++◌, Ok, inl, inr, refl, ap, sym, ◌∙◌, subst, ◌==◌}
 use Rattle.std.specs.declared.io.ErrorKind.{ErrorKind}
 use Rattle.std.specs.declared.net.socket_addr.SocketAddr.{SocketAddr}
 use Rattle.std.specs.declared.io.ErrorKind.TheVariants as kinds
@@ -153,4 +154,8 @@ module _ (builds : Builds) (decode : List ℕ → List ℕ) (old new : SessionVa
   -- both calls succeed, or one was aborted
   pub answered : Runs (over_memory builds) (as_it_is decode) calls old new answers → (answers ≡ Done ∷ Done ∷ []) ⊎ WasAborted answers
   answered (inl runs) = inl (finished runs)
-  answered (inr broke) = inr (aborted broke)
+  answered (inr (inl broke)) = inr (aborted broke)
+  answered (inr (inr caught)) =
+      let none : (old.state.unanswered == 0) ≡ true = rw begins.first.answered refl in
+      let clash : true ≡ false = sym caught.due ∙ ap (λ n. not n) none in
+      cc

@@ -1,7 +1,7 @@
 -- Each call of a list has the cause of its error in itself.
 use Rattle.std.proofs.lemmas.List.{drop_more}
 use Rattle.std.proofs.Math.ListN.{drop_of_length-le}
-use Rattle.std.proofs.Common.{◌≡◌, ◌+◌, ◌<◌, ◌≤◌, ℕ, Bool, true, drop, get_or, length, List, [], ◌∷◌, ◌++◌, inl, inr, ◌⊎◌, refl, ap, sym, ◌∙◌, subst, append_assoc, append-nil}
+use Rattle.std.proofs.Common.{◌≡◌, ◌+◌, ◌<◌, ◌≤◌, ℕ, Bool, true, drop, get_or, length, List, [], ◌∷◌, ◌++◌, inl, inr, ◌⊎◌, refl, ap, sym, ◌∙◌, subst, append_assoc, append-nil, false}
 use Rattle.std.specs.declared.io.ErrorKind.{ErrorKind}
 use Rattle.std.specs.declared.io.ErrorKind.TheVariants.{WriteZero}
 use Rattle.ftp_base.specs.declared.types.fault.ConnectionError.TheVariants as cause
@@ -13,13 +13,14 @@ use Rattle.ftp_dialogue.specs.Counted.{CountsFailure, IsGivenBeside}
 use Rattle.ftp_dialogue.specs.Link.{Link}
 use Rattle.ftp_dialogue.specs.CatchingUp.{PlaysInStep}
 use Rattle.ftp_dialogue.specs.State.{SessionValue}
-use Rattle.ftp_dialogue.proofs.CatchingUpLemmas.{plays_in_step}
 use Rattle.ftp_session.specs.Calls.{sends}
-use Rattle.ftp_session.proofs.Causes.{Causes}
+use Rattle.ftp_session.proofs.Causes.{Causes, plays_causes}
 use Rattle.ftp_session.proofs.Reasons.{step_causes}
 use Rattle.ftp_session.proofs.EveryCall.{Short, every_backed, took_no_more}
 use Rattle.ftp_runs.specs.Counting.{CountsEach, HasCause}
-use Rattle.ftp_runs.proofs.InStep.{MadeInStep}
+use Rattle.ftp_runs.specs.Following.{MadeAmong}
+use Rattle.ftp_runs.specs.Runs.{PlaysAmong}
+use Rattle.ftp_runs.proofs.InStep.{among_plays}
 
 -- A call
 
@@ -41,37 +42,42 @@ pub call_causes : (link : Link) (coding : Coding) (called : Call) (old new : Ses
 call_causes link coding called old new answer plays =
     has_cause link called old new answer (step_causes link (Short (sends called)) (unlike_failed (sends called)) coding called old new answer (λ state. every_backed coding state called) plays)
 
+among_causes : (due : Bool) (link : Link) (coding : Coding) (called : Call) (old new : SessionValue) (answer : Answer) → PlaysAmong due link coding called old new answer → HasCause link called old new answer
+among_causes true link coding called old new answer step = call_causes link coding called old new answer step
+among_causes false link coding called old new answer plays =
+    has_cause link called old new answer (plays_causes link (Short (sends called)) (unlike_failed (sends called)) coding called old new answer (λ state. every_backed coding state called) plays)
+
 -- A list
 
-one_more : (link : Link) (coding : Coding) (done : List Call) (called : Call) (old mid new : SessionValue) (answers : List Answer) (answer : Answer) → CountsEach link coding done old mid answers → PlaysInStep link coding called mid new answer → HasCause link called mid new answer → CountsEach link coding (done ++ called ∷ []) old new (answers ++ answer ∷ [])
-one_more link coding [] called old mid new answers answer none plays causes =
-    let P : SessionValue → Type 0 = λ v. PlaysInStep link coding called v new answer in
+one_more : (due : Bool) (link : Link) (coding : Coding) (done : List Call) (called : Call) (old mid new : SessionValue) (answers : List Answer) (answer : Answer) → CountsEach due link coding done old mid answers → PlaysAmong due link coding called mid new answer → HasCause link called mid new answer → CountsEach due link coding (done ++ called ∷ []) old new (answers ++ answer ∷ [])
+one_more due link coding [] called old mid new answers answer none plays causes =
+    let P : SessionValue → Type 0 = λ v. PlaysAmong due link coding called v new answer in
     let Q : SessionValue → Type 0 = λ v. HasCause link called v new answer in
     (new, answer, [], ap (λ l. l ++ answer ∷ []) none.1, subst P none.0 plays, subst Q none.0 causes, (refl, refl))
-one_more link coding (first ∷ done) called old mid new answers answer (middle, told, later, is, first_plays, first_causes, each) plays causes =
-    (middle, told, later ++ answer ∷ [], ap (λ l. l ++ answer ∷ []) is, first_plays, first_causes, one_more link coding done called middle mid new later answer each plays causes)
+one_more due link coding (first ∷ done) called old mid new answers answer (middle, told, later, is, first_plays, first_causes, each) plays causes =
+    (middle, told, later ++ answer ∷ [], ap (λ l. l ++ answer ∷ []) is, first_plays, first_causes, one_more due link coding done called middle mid new later answer each plays causes)
 
 -- the calls so far, where these are left to make
-pub record CountsSoFar (link : Link) (coding : Coding) (calls to_make : List Call) (old new : SessionValue) (answers : List Answer) : Type 0 where
+pub record CountsSoFar (due : Bool) (link : Link) (coding : Coding) (calls to_make : List Call) (old new : SessionValue) (answers : List Answer) : Type 0 where
   pub done : List Call
   pub split : calls ≡ done ++ to_make
-  pub each : CountsEach link coding done old new answers
+  pub each : CountsEach due link coding done old new answers
 
-pub none_made : (link : Link) (coding : Coding) (calls : List Call) (v : SessionValue) → CountsSoFar link coding calls calls v v []
-none_made link coding calls v = record { done = []; split = refl; each = (refl, refl) }
+pub none_made : (due : Bool) (link : Link) (coding : Coding) (calls : List Call) (v : SessionValue) → CountsSoFar due link coding calls calls v v []
+none_made due link coding calls v = record { done = []; split = refl; each = (refl, refl) }
 
-pub next_counted : (link : Link) (coding : Coding) (calls : List Call) (i : ℕ) (called : Call) (old mid new : SessionValue) (answers answers' : List Answer) (answer : Answer) → i < length calls → called ≡ get_or calls i called → answers' ≡ answers ++ answer ∷ [] → CountsSoFar link coding calls (drop i calls) old mid answers → MadeInStep link coding called mid new answer → CountsSoFar link coding calls (drop (i + 1) calls) old new answers'
-next_counted link coding calls i called old mid new answers answers' answer inside is pushed so_far made =
-    let P : List Answer → Type 0 = λ a. CountsEach link coding (so_far.done ++ called ∷ []) old new a in
+pub next_counted : (due : Bool) (link : Link) (coding : Coding) (calls : List Call) (i : ℕ) (called : Call) (old mid new : SessionValue) (answers answers' : List Answer) (answer : Answer) → i < length calls → called ≡ get_or calls i called → answers' ≡ answers ++ answer ∷ [] → CountsSoFar due link coding calls (drop i calls) old mid answers → MadeAmong due link coding called mid new answer → CountsSoFar due link coding calls (drop (i + 1) calls) old new answers'
+next_counted due link coding calls i called old mid new answers answers' answer inside is pushed so_far made =
+    let P : List Answer → Type 0 = λ a. CountsEach due link coding (so_far.done ++ called ∷ []) old new a in
     let left : drop i calls ≡ called ∷ drop (i + 1) calls = drop_more calls i called inside ∙ ap (λ c. c ∷ drop (i + 1) calls) (sym is) in
-    let plays = plays_in_step link coding called mid new answer made in
+    let plays = among_plays due link coding called mid new answer made in
     record {
       done = so_far.done ++ called ∷ [];
       split = so_far.split ∙ ap (λ l. so_far.done ++ l) left ∙ sym (append_assoc so_far.done (called ∷ []) (drop (i + 1) calls));
-      each = subst P (sym pushed) (one_more link coding so_far.done called old mid new answers answer so_far.each plays (call_causes link coding called mid new answer plays));
+      each = subst P (sym pushed) (one_more due link coding so_far.done called old mid new answers answer so_far.each plays (among_causes due link coding called mid new answer plays));
     }
 
-pub all_counted : (link : Link) (coding : Coding) (calls : List Call) (i : ℕ) (old new : SessionValue) (answers : List Answer) → length calls ≤ i → CountsSoFar link coding calls (drop i calls) old new answers → CountsEach link coding calls old new answers
-all_counted link coding calls i old new answers past so_far =
-    let P : List Call → Type 0 = λ l. CountsEach link coding l old new answers in
+pub all_counted : (due : Bool) (link : Link) (coding : Coding) (calls : List Call) (i : ℕ) (old new : SessionValue) (answers : List Answer) → length calls ≤ i → CountsSoFar due link coding calls (drop i calls) old new answers → CountsEach due link coding calls old new answers
+all_counted due link coding calls i old new answers past so_far =
+    let P : List Call → Type 0 = λ l. CountsEach due link coding l old new answers in
     subst P (sym (so_far.split ∙ ap (λ l. so_far.done ++ l) (drop_of_length-le calls {i = i} past) ∙ append-nil so_far.done)) so_far.each

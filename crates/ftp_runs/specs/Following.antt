@@ -25,7 +25,7 @@ use Rattle.ftp_dialogue.specs.declared.stage.Stage.TheVariants.{At}
 use Rattle.ftp_dialogue.specs.State.{SessionValue, LetsGo}
 use Rattle.ftp_dialogue.specs.Coding.{Coding}
 use Rattle.ftp_calls.specs.Exchanges.{drains, finishes, is_read}
-use Rattle.ftp_dialogue.specs.CatchingUp.{CatchesUp, is_behind, is_plain_read}
+use Rattle.ftp_dialogue.specs.CatchingUp.{CatchesUp, InStepIf, is_behind, is_plain_read}
 use Rattle.ftp_dialogue.specs.Dropping.{DropsCall as DropsStage}
 use Rattle.ftp_dialogue.specs.Dialogue.{dialogue}
 use Rattle.ftp_dialogue.specs.Resuming.{Modes, Resumes, modes_of}
@@ -36,12 +36,12 @@ use Rattle.ftp_dialogue.specs.Play.{Taken, is_unit, needs_data}
 use Rattle.ftp_dialogue.specs.Promises.{Aborts, HasFault, IsRefused, Rests, due_of, refusal_of}
 use Rattle.ftp_dialogue.specs.Steps.Polls.{is_first, entered_state, entered_at, entered_tree, polled_answer, MayPollAt}
 use Rattle.ftp_dialogue.specs.Steps.Stages.{remaining, begun_at, StageOf}
-use Rattle.ftp_dialogue.specs.Steps.Moving.{Apart, CarriesOut, HasBegun, PollsTo}
+use Rattle.ftp_dialogue.specs.Steps.Moving.{Apart, CarriesOut, HasBegun, MadeDrained, PollsTo}
 use Rattle.ftp_runs.specs.declared.model.Item.{Item}
 use Rattle.ftp_runs.specs.declared.model.Item.TheVariants.{Hidden}
 use Rattle.ftp_runs.specs.declared.model.Script.{Script}
 use Rattle.ftp_runs.specs.Script.{unread, is_over, start_of, after_event, drops_begun, IsLawful, MayCancel}
-use Rattle.ftp_dialogue.specs.Link.{Builds, builds_nothing, over_memory, plain}
+use Rattle.ftp_dialogue.specs.Link.{Builds, Link, builds_nothing, over_memory, plain, unasked}
 
 -- since the calls before it were done, no less of a call is said and taken than was; where it has begun, more is
 pub record Since (coding : Coding) (old : SessionValue) (items : List Item) (answers : List Answer) (came : List ℕ) (answered : List NetEvent) (v : SessionValue) (begun : Bool) : Type 0 where
@@ -337,3 +337,14 @@ PassesIf false builds coding v w call call' stage stage' course course' event re
 abbrev pub Passes : Builds → Coding → SessionValue → SessionValue → Option Call → Option Call → Stage → Stage → Course → Course → Event → Option Answer → Type 0
 Passes builds coding v w call call' stage stage' course course' event result =
     PassesIf (parts_here call course v event) builds coding v w call call' stage stage' course course' event result
+
+-- A call of a list
+
+-- it is made in step
+abbrev pub MadeInStep : Link → Coding → Call → SessionValue → SessionValue → Answer → Type 0
+MadeInStep link coding call old new answer = InStepIf (is_behind call old) (unasked link) (is_plain_read call) (drains call) (MadeDrained link coding call) old new answer
+
+-- where replies were due at the list's beginning; else by itself
+abbrev pub MadeAmong : Bool → Link → Coding → Call → SessionValue → SessionValue → Answer → Type 0
+MadeAmong true link coding call old new answer = MadeInStep link coding call old new answer
+MadeAmong false link coding call old new answer = MadeDrained link coding call old new answer

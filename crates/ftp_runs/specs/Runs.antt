@@ -1,6 +1,6 @@
 -- What a session promises of a list of calls: what their definition says of all that the server sends, until the
 -- connection fails or memory runs out.
-use Rattle.std.specs.Prelude.{◌≡◌, ◌⊎◌, ℕ, Bool, true, false, List, [], ◌∷◌, ◌++◌, length}
+use Rattle.std.specs.Prelude.{◌≡◌, ◌⊎◌, ℕ, Bool, true, false, List, [], ◌∷◌, ◌++◌, length, ◌==◌, not}
 use Rattle.ftp_base.specs.declared.types.fault.FtpError.{FtpError}
 use Rattle.ftp_calls.specs.declared.call.Answer.{Answer}
 use Rattle.ftp_calls.specs.declared.call.Answer.TheVariants.{Fault}
@@ -16,7 +16,7 @@ use Rattle.ftp_calls.specs.Exchanges.{is_local}
 use Rattle.ftp_dialogue.specs.Dialogue.{dialogue}
 use Rattle.ftp_dialogue.specs.Play.{Taken}
 use Rattle.ftp_dialogue.specs.CatchingUp.{PlaysInStep, is_behind}
-use Rattle.ftp_dialogue.specs.Promises.{However, Goes, IsRefusal, IsPlayed, refusal_of, Aborts, begun_by, due_of}
+use Rattle.ftp_dialogue.specs.Promises.{However, Goes, IsRefusal, Plays, IsPlayed, refusal_of, Aborts, begun_by, due_of}
 use Rattle.ftp_runs.specs.Run.{run, before, OneView}
 use Rattle.ftp_dialogue.specs.Link.{Link}
 
@@ -53,12 +53,20 @@ AllRefused [] answers = answers ≡ []
 AllRefused (call ∷ calls) [] = ⊥
 AllRefused (call ∷ calls) (answer ∷ answers) = (is_local call ≡ false → IsRefusal answer) × AllRefused calls answers
 
--- calls made one after another: each, after the replies that are due to commands that were dropped, is its dialogue, or is
--- refused, or is aborted; RFC 959, sections 4.2 and 5.4
-abbrev pub Makes : Link → Coding → List Call → SessionValue → SessionValue → List Answer → Type 0
-Makes link coding [] old new answers = (new ≡ old) × (answers ≡ [])
-Makes link coding (call ∷ calls) old new answers =
-    (middle : SessionValue) × (answer : Answer) × (later : List Answer) × (answers ≡ answer ∷ later) × PlaysInStep link coding call old middle answer × Makes link coding calls middle new later
+-- replies are due to commands that were dropped before a list begins; RFC 959, sections 4.2 and 5.4
+abbrev pub are_due : SessionValue → Bool
+are_due v = not (v.state.unanswered == 0)
+
+-- a call of a list: where they were, in step, after those that are still due; else by itself
+abbrev pub PlaysAmong : Bool → Link → Coding → Call → SessionValue → SessionValue → Answer → Type 0
+PlaysAmong true link coding call old new answer = PlaysInStep link coding call old new answer
+PlaysAmong false link coding call old new answer = Plays link coding call old new answer
+
+-- calls made one after another: each is its dialogue, or is refused, or is aborted
+abbrev pub Makes : Bool → Link → Coding → List Call → SessionValue → SessionValue → List Answer → Type 0
+Makes due link coding [] old new answers = (new ≡ old) × (answers ≡ [])
+Makes due link coding (call ∷ calls) old new answers =
+    (middle : SessionValue) × (answer : Answer) × (later : List Answer) × (answers ≡ answer ∷ later) × PlaysAmong due link coding call old middle answer × Makes due link coding calls middle new later
 
 -- the dialogue that was aborted: a call's own, after the drain where one was due; or that of the drain
 abbrev pub BeginsAfter : Bool → Link → Coding → Call → Call → SessionValue → SessionValue → Type 0
@@ -86,12 +94,13 @@ pub record RunAborts (link : Link) (coding : Coding) (calls to_make : List Call)
   pub lets_go : LetsGo link.tells last after
   pub later : List Answer
   pub answers_are : answers ≡ first ++ Fault fault ∷ later
-  pub makes : Makes link coding made after new later
+  pub makes : Makes (are_due old) link coding made after new later
   pub failed : after.channel.failed ≡ true → (new.channel ≡ after.channel) × AllRefused made later
 
--- a run in which replies are due to commands that were dropped before it, where these are left to make: the answers of the
--- calls before the first that reads them are the definition's, and that one and each later one that was made is in step
+-- a run in which replies were due at its beginning, where these are left to make: the answers of the calls before the first
+-- that reads them are the definition's, and that one and each later one that was made is in step
 pub record RunCatchesUp (link : Link) (coding : Coding) (calls to_make : List Call) (old new : SessionValue) (answers : List Answer) : Type 0 where
+  pub due : are_due old ≡ true
   pub first : List Answer
   pub call : Call
   pub made : List Call
@@ -100,7 +109,7 @@ pub record RunCatchesUp (link : Link) (coding : Coding) (calls to_make : List Ca
   pub behind : is_behind call before ≡ true
   pub later : List Answer
   pub answers_are : answers ≡ first ++ later
-  pub makes : Makes link coding (call ∷ made) before new later
+  pub makes : Makes true link coding (call ∷ made) before new later
 
 -- the run of a list of calls
 abbrev pub Runs : Link → Coding → List Call → SessionValue → SessionValue → List Answer → Type 0

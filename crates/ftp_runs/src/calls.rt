@@ -8,11 +8,9 @@ ghost use Rattle.ftp_dialogue.specs.Coding.{chosen, coding_of};
 ghost use Rattle.ftp_session.specs.Handed.{LooksIf, as_seen, watches};
 ghost use Rattle.ftp_dialogue.specs.Link.{asking, blocking, built_by};
 ghost use Rattle.ftp_dialogue.specs.Promises.{FailsWith};
-ghost use Rattle.ftp_calls.specs.Exchanges.{drains};
-ghost use Rattle.ftp_dialogue.specs.CatchingUp.{InStepIf, is_behind, is_plain_read};
-ghost use Rattle.ftp_dialogue.specs.Steps.Moving.{MadeDrained};
 ghost use Rattle.ftp_runs.specs.Counting.{CountsEach};
-ghost use Rattle.ftp_runs.specs.Runs.{Runs};
+ghost use Rattle.ftp_runs.specs.Following.{MadeAmong, MadeInStep};
+ghost use Rattle.ftp_runs.specs.Runs.{Runs, are_due};
 ghost use Rattle.ftp_dialogue.specs.Sound.{Sound};
 
 use ftp_base::encoding::Encoding;
@@ -51,7 +49,7 @@ where
             Runs (asking (built_by B.answers self.old.builder) ⊥ (blocking Tr.Conn.Conn)) (chosen E.decoded E.encoded self.old.encoding.0) calls.now
             (as_seen self.new.mark self.old.machine) self.new.machine answers.items) }
         ensures counts { IfOk result (λ answers.
-            CountsEach (asking (built_by B.answers self.old.builder) ⊥ (blocking Tr.Conn.Conn)) (chosen E.decoded E.encoded self.old.encoding.0) calls.now
+            CountsEach (are_due (as_seen self.new.mark self.old.machine)) (asking (built_by B.answers self.old.builder) ⊥ (blocking Tr.Conn.Conn)) (chosen E.decoded E.encoded self.old.encoding.0) calls.now
             (as_seen self.new.mark self.old.machine) self.new.machine answers.items) }
         ensures looks { OnOk result (LooksIf (watches self.old.mark self.old.machine) self.old.mark self.new.mark) }
         ensures count { IfOk result (λ answers. length answers.items ≡ length calls.now) }
@@ -98,16 +96,40 @@ where
     requires room { length calls.now ≤ vec_capacity answers }
     ensures runs { Runs (asking (built_by B.answers builder.now) ⊥ (blocking Tr.Conn.Conn)) (coding_of E.decoded E.encoded encoding.now) calls.now machine.old
         machine.new result.items }
-    ensures counts { CountsEach (asking (built_by B.answers builder.now) ⊥ (blocking Tr.Conn.Conn)) (coding_of E.decoded E.encoded encoding.now) calls.now machine.old
+    ensures counts { CountsEach (are_due machine.old) (asking (built_by B.answers builder.now) ⊥ (blocking Tr.Conn.Conn)) (coding_of E.decoded E.encoded encoding.now) calls.now machine.old
         machine.new result.items }
     ensures fails { FailsWith machine.old machine.new result.items }
     ensures count { length result.items ≡ length calls.now }
 {
+    let due = machine.state.unanswered != 0;
     for call in calls {
-        let answer = make_in_step(machine, alloc, rt, builder, encoding, call);
+        let answer = make_among(machine, alloc, rt, builder, encoding, call, due);
         answers.push(answer).unwrap();
     }
     answers
+}
+
+/// Makes a call of a list: where replies were due at its beginning to commands that were dropped, in step.
+fn make_among<Tr: Network, R, E: Encoding, B: PassiveStreamBuilder<Tr::Conn>>(
+    machine: &mut Machine<Tr>,
+    alloc: Global,
+    rt: &R,
+    builder: &Option<B>,
+    encoding: &E,
+    call: &Call,
+    due: bool,
+) -> Answer
+where
+    Tr::Conn: Conn,
+    Tr: Transport<R>,
+    ensures made { MadeAmong due (asking (built_by B.answers builder.now) ⊥ (blocking Tr.Conn.Conn)) (coding_of E.decoded E.encoded encoding.now)
+        call.now machine.old machine.new result }
+{
+    if due {
+        make_in_step(machine, alloc, rt, builder, encoding, call)
+    } else {
+        make(machine, alloc, rt, builder, encoding, call)
+    }
 }
 
 /// Makes a call of a list, after the replies that are due to commands that were dropped, where it reads them first. An
@@ -123,9 +145,8 @@ fn make_in_step<Tr: Network, R, E: Encoding, B: PassiveStreamBuilder<Tr::Conn>>(
 where
     Tr::Conn: Conn,
     Tr: Transport<R>,
-    ensures made { InStepIf (is_behind call.now machine.old) (blocking Tr.Conn.Conn) (is_plain_read call.now) (drains call.now)
-        (MadeDrained (asking (built_by B.answers builder.now) ⊥ (blocking Tr.Conn.Conn)) (coding_of E.decoded E.encoded encoding.now) call.now)
-        machine.old machine.new result }
+    ensures made { MadeInStep (asking (built_by B.answers builder.now) ⊥ (blocking Tr.Conn.Conn)) (coding_of E.decoded E.encoded encoding.now)
+        call.now machine.old machine.new result }
 {
     if machine.is_behind(call) {
         match machine.poll_catch_up(alloc, call, &mut NeverWaits) {
