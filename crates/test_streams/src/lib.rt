@@ -4,6 +4,8 @@
 #[cfg(test)]
 mod broken_data;
 #[cfg(test)]
+mod dropped;
+#[cfg(test)]
 mod handed;
 #[cfg(test)]
 mod reads;
