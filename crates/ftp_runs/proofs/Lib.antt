@@ -2,6 +2,7 @@ pub mod CallCauses
 pub mod Carried
 pub mod CaughtUp
 pub mod Drained
+pub mod Dropped
 pub mod Drops
 pub mod EventLemmas
 pub mod Following

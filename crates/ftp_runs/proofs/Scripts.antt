@@ -38,7 +38,8 @@ use Rattle.ftp_dialogue.specs.Steps.Polls.{entered_tree}
 use Rattle.ftp_runs.proofs.Carried.{outcomes_on}
 use Rattle.ftp_runs.proofs.EventLemmas.{begins, starts}
 use Rattle.ftp_runs.proofs.Following.{entering_is, left_of}
-use Rattle.ftp_runs.proofs.Leaving.{drop_passes, dropped_apart, dropped_stays, first_stage, here_apart, passes_grow}
+use Rattle.ftp_runs.proofs.Dropped.{drop_passes, dropped_apart, dropped_stays, here_apart, passes_grow}
+use Rattle.ftp_runs.proofs.Leaving.{first_stage}
 use Rattle.ftp_runs.proofs.Stretches.{beyond_is, beyond_none, drops_at, drops_known, lawful-front, lawful-last, parts_known, parts_more, still_none, whole-snoc}
 
 module _ (builds : Builds) (coding : Coding) where

@@ -270,6 +270,7 @@ fn poll_behind<'e, E: Encoding, B: PassiveStreamBuilder<MemoryConn>>(
     let Some(call) = *under_way else {
         return None;
     };
+    // It wasn't polled, so that no transfer is to be left behind it.
     *course = resting();
     let caught = machine.poll_catch_up(alloc, call, &mut ());
     holds_memory(machine);

@@ -7,7 +7,8 @@ use Rattle.ftp_calls.specs.declared.call.Event.TheVariants as event
 use Rattle.ftp_dialogue.specs.Coding.{Coding, coding_of}
 use Rattle.ftp_runs.specs.Following.{Passes}
 use Rattle.ftp_runs.proofs.EventLemmas.{through, happened, stayed, feeds, ends, widens, starts, fed_attends, fed_failures, passes_on, still_attends, still_fails}
-use Rattle.ftp_runs.proofs.Leaving.{drop_passes, dropped_apart, now_apart, now_happens}
+use Rattle.ftp_runs.proofs.Dropped.{drop_passes, dropped_apart}
+use Rattle.ftp_runs.proofs.Leaving.{now_apart, now_happens}
 use Rattle.ftp_runs.proofs.events.happen.Goals.{in-Feed+in_ok-feed-in-Feed, in-End, in-Room, in-Start}
 use Rattle.ftp_runs.proofs.events.happen.Goals as goal
 use Rattle.ftp_dialogue.specs.Link.{Builds, built_by}
