@@ -2,7 +2,7 @@
 
 use crate::scene::{MemorySession, session_on, transport_with};
 use ftp_base::types::{Bytes, FtpError, FtpResult, Text};
-use ftp_runs::{Event, RunEvents};
+use ftp_runs::{Event, RunCalls, RunEvents};
 use ftp_session::session::{Answer, Call};
 use ftp_transport::MemoryConn;
 use std::alloc::Global;
@@ -100,6 +100,30 @@ fn at_the_end(alloc: Global) -> FtpResult<[(usize, u32); 2]> {
     then(&mut later, Call::Rm(text(alloc, "b")?))?;
     let second = told(&session.run_polled(alloc, &later)?);
     Ok([first, second])
+}
+
+/// A list of calls after a list of events that ended where a command waits: how many answers there are, the statuses of the
+/// first and the last, and how many bytes were read.
+fn list_of_calls(alloc: Global) -> FtpResult<((usize, u32), u32, usize)> {
+    let mut session = session(alloc)?;
+    drop(session.run_polled(alloc, &begun(alloc)?)?);
+    let mut replies = Vec::new(alloc);
+    replies.push(feed(alloc, b"250 a\r\n550 b\r\n200 c\r\n")?)?;
+    drop(session.run_polled(alloc, &replies)?);
+    let calls = [Call::Rm(text(alloc, "b")?), Call::Noop];
+    let answers = session.run(alloc, &(), &calls)?;
+    let last = match answers.last() {
+        Some(answer) => status_of(answer),
+        None => 0,
+    };
+    Ok((told(&answers), last, session.get_ref().received()))
+}
+
+#[test]
+fn a_list_of_calls_reads_what_is_due_first(rt: HostRuntime) -> Result<(), Fail> {
+    let came = list_of_calls(rt.alloc())?;
+    assert_eq!(rt; came, ((2, 550), 1, 21));
+    Ok(())
 }
 
 #[test]
