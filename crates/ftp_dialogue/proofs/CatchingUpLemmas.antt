@@ -63,7 +63,7 @@ module _ (link : Link) (state : State) (net : Net) (a b : Channel) (line : Optio
   pub flush_said : (answer : Poll (Result (Unit {0}) FtpError)) → SaysLine link.tells link.writes a b None line answer → Flushes link v w (told_of_line answer)
   flush_said (Ready (Ok done)) says = gone (steps (Ready (Ok done)) says)
   flush_said (Ready (Err fault)) says = failed fault (steps (Ready (Err fault)) says)
-  flush_said Pending says = waits (no_line (line_taken link state net a b None line Pending says).whole) (steps Pending says).0
+  flush_said Pending says = (waits (no_line (line_taken link state net a b None line Pending says).whole) (steps Pending says).0, record { some = says.leaves.0; full = says.leaves.1 })
 
   -- it fails the session only where an error is told
   pub flush_fails : (answer : Poll (Result (Unit {0}) FtpError)) → SaysLine link.tells link.writes a b None line answer → b.failed ≡ true → (a.failed ≡ true) ⊎ TellsFault (told_of_line answer)

@@ -227,7 +227,7 @@ module _ (link : Link) (state : State) (net : Net) (t : Told) (kept ahead unsent
             failed = refl;
           },
           inr (inl (record { codes = codes; next = next; is = refl; unended = unended; none_ahead = none; dry = dry })),
-          record { came = came; goes = goes u false came was over (none_left came all') told'; failed = refl; stays = stays_on told' all' },
+          record { came = came; goes = goes u false came was over (none_left came all') told'; failed = refl; stays = stays_on told' all'; unended = unended; none_ahead = none; dry = dry },
         )
 
     fails_off : (kind : ErrorKind) → link.reads kind → kept' ++ ahead' ≡ (kept ++ ahead) ++ came → (link.tells → HasFailed kind (after_input came ended t) u) → AbortsRead link codes next (fault.ConnectionError (connection.Io kind)) old (new u true)

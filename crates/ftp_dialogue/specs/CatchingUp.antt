@@ -6,6 +6,7 @@ use Rattle.futures.specs.declared.task.Poll.TheVariants.{Ready, Pending}
 use Rattle.ftp_base.specs.declared.types.reply.Response.{Response}
 use Rattle.ftp_base.specs.declared.types.fault.FtpError.{FtpError}
 use Rattle.ftp_base.specs.declared.types.fault.FtpError.TheVariants.{UnexpectedResponse, BadResponse}
+use Rattle.ftp_transport.specs.Told.{IsFull}
 use Rattle.ftp_calls.specs.Exchanges.{drains, drains_first, is_read, negotiates, resyncs}
 use Rattle.ftp_calls.specs.declared.call.Answer.{Answer}
 use Rattle.ftp_calls.specs.declared.call.Answer.TheVariants.{Unit as Nothing, Fault}
@@ -41,10 +42,15 @@ is_plain_read call = is_read call && not (drains call)
 abbrev pub flushing : State → Tree
 flushing state = Say (Ok []) (Leaf Nothing state)
 
+-- it waits: some of it is unsent, and no more may be written
+pub record AwaitsRoom (link : Link) (v : SessionValue) : Type 0 where
+  pub some : v.channel.unsent ≡ [] → ⊥
+  pub full : link.tells → IsFull v.channel.told
+
 abbrev pub Flushes : Link → SessionValue → SessionValue → Poll (Option FtpError) → Type 0
 Flushes link old new (Ready None) = Completes link (flushing old.state) Nothing old new
 Flushes link old new (Ready (Some fault)) = Completes link (flushing old.state) (Fault fault) old new ⊎ Aborts link false (flushing old.state) (Fault fault) old new
-Flushes link old new Pending = Leads link (flushing old.state) (flushing old.state) old new
+Flushes link old new Pending = Leads link (flushing old.state) (flushing old.state) old new × AwaitsRoom link new
 
 -- a line went out, or is waited for, or this is why it can't
 abbrev pub told_of_line : Poll (Result (Unit {0}) FtpError) → Poll (Option FtpError)

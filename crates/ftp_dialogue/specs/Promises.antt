@@ -19,7 +19,7 @@ use Rattle.ftp_base.specs.declared.types.fault.ConnectionError.{ConnectionError 
 use Rattle.ftp_base.specs.declared.types.fault.ConnectionError.TheVariants.{Io}
 use Rattle.ftp_transport.specs.declared.room.Room.{Room}
 use Rattle.ftp_dialogue.specs.declared.model.NetOutcome.{NetOutcome}
-use Rattle.ftp_transport.specs.Told.{Told, HasRoomFor, HasFailed, NoneFailed}
+use Rattle.ftp_transport.specs.Told.{Told, HasRoomFor, HasFailed, IsDry, NoneFailed}
 use Rattle.ftp_transport.specs.Memory.{IsGiven}
 use Rattle.ftp_control.specs.Reading.{GoesOn as GoesBeyond}
 use Rattle.ftp_control.specs.Channel.{untaken}
@@ -389,12 +389,16 @@ DrainsIf false Makes call old new answer = Makes call old new answer
 pub record Plays (link : Link) (coding : Coding) (call : Call) (old new : SessionValue) (answer : Answer) : Type 0 where
   pub makes : DrainsIf (due_of call old) (PlaysAlone link coding) call old new answer
 
--- a read that waits leaves a run where it stood: what came is untaken, and nothing else happened
+-- a read that waits leaves a run where it stood: what came is untaken, and nothing else happened; all that
+-- came was looked at, nothing more is there, and more may come
 pub record Rests (link : Link) (old new : SessionValue) : Type 0 where
   pub came : List ℕ
   pub goes : Goes link came [] old new
   pub failed : new.channel.failed ≡ old.channel.failed
   pub stays : link.tells → (more : List ℕ) (ended : Bool) (outcomes : List NetOutcome) → play_state old (came ++ more) ended outcomes ≡ play_state new more ended outcomes
+  pub unended : new.channel.ended ≡ false
+  pub none_ahead : new.channel.ahead ≡ []
+  pub dry : link.tells → IsDry new.channel.told
 
 -- the connection failed in a read, which was counted
 pub record FailsRead (link : Link) (fault : FtpError) (at new : SessionValue) : Type 0 where

@@ -24,7 +24,7 @@ use Rattle.ftp_runs.proofs.InStep.{among_plays}
 
 -- A call
 
-unlike_failed : (uploads : Bool) → Short uploads faults.SessionFailed → ⊥
+pub unlike_failed : (uploads : Bool) → Short uploads faults.SessionFailed → ⊥
 unlike_failed uploads short = (let wrong : faults.SessionFailed ≡ took_no_more = short.1 in cc)
 
 wrote_none : (uploads : Bool) (kind : ErrorKind) → Short uploads (faults.ConnectionError (cause.Io kind)) → (uploads ≡ true) × (kind ≡ WriteZero)

@@ -23,7 +23,9 @@ use Rattle.ftp_dialogue.specs.declared.model.Played.TheVariants as played
 use Rattle.ftp_dialogue.specs.declared.model.PlayState.{PlayState}
 use Rattle.ftp_dialogue.specs.declared.state.State.{State}
 use Rattle.ftp_dialogue.proofs.NetEvents.{net_events-append}
+use Rattle.ftp_runs.specs.Counting.{NoFewer}
 use Rattle.ftp_runs.specs.Following.{Grows}
+use Rattle.ftp_runs.proofs.NoFewer.{aborts_no_fewer, as_many, no_fewer_on, reads_no_fewer}
 
 abbrev mem : Link
 mem = over_memory builds_nothing
@@ -32,6 +34,7 @@ mem = over_memory builds_nothing
 pub record Went (old new : SessionValue) (result : Poll (Option FtpError)) : Type 0 where
   pub grows : Grows builds_nothing old new
   pub fails : new.channel.failed ≡ true → (old.channel.failed ≡ true) ⊎ TellsFault result
+  pub no_fewer : NoFewer old.channel.told new.channel.told
 
 grows_to : (old at new : SessionValue) → new.net ≡ at.net → Grows builds_nothing old at → Grows builds_nothing old new
 grows_to old at new same grows =
@@ -42,6 +45,7 @@ went_on : (old middle new : SessionValue) (result : Poll (Option FtpError)) → 
 went_on old middle new result first second = record {
   grows = (first.grows.0 ++ second.grows.0, net_events-append (plain builds_nothing) first.grows.0 second.grows.0 old.net middle.net new.net first.grows.1 second.grows.1);
   fails = λ failed. go (second.fails failed);
+  no_fewer = no_fewer_on old.channel.told middle.channel.told new.channel.told first.no_fewer second.no_fewer;
 }
   where
     none : (old.channel.failed ≡ true) ⊎ TellsFault (Ready None) → old.channel.failed ≡ true
@@ -56,6 +60,7 @@ went_nowhere : (old new : SessionValue) (result other : Poll (Option FtpError)) 
 went_nowhere old new result other is same = record {
   grows = ([], ap (λ v. v.net) same);
   fails = λ failed. inl (sym (ap (λ v. v.channel.failed) same) ∙ failed);
+  no_fewer = as_many old.channel.told new.channel.told (ap (λ v. v.channel.told.failures) same);
 }
 
 went_same : (old middle new : SessionValue) (result told : Poll (Option FtpError)) → Went old middle told → result ≡ told → new ≡ middle → Went old new result
@@ -100,14 +105,14 @@ flush_waits old new leads =
     sym (sym (flush_keeps old.state _) ∙ ap failed_in is ∙ flush_keeps old.state _)
 
 flush_went : (flush : Poll (Option FtpError)) (old new : SessionValue) → Flushes mem old new flush → Went old new flush
-flush_went (Ready None) old new done = record { grows = (done.answered, done.goes.net_events tt); fails = λ failed. go (done.fails failed) }
+flush_went (Ready None) old new done = record { grows = (done.answered, done.goes.net_events tt); fails = λ failed. go (done.fails failed); no_fewer = as_many old.channel.told new.channel.told (done.goes.failures tt).failures }
   where
     go : (old.channel.failed ≡ true) ⊎ IsFault Nothing → (old.channel.failed ≡ true) ⊎ TellsFault (Ready None)
     go (inl was) = inl was
     go (inr fault) = absurd fault
-flush_went (Ready (Some fault)) old new (inl done) = record { grows = (done.answered, done.goes.net_events tt); fails = λ failed. inr tt }
-flush_went (Ready (Some fault)) old new (inr aborts) = record { grows = aborts_grows false (flushing old.state) (Fault fault) old new aborts; fails = λ failed. inr tt }
-flush_went Pending old new leads = record { grows = (leads.answered, leads.goes.net_events tt); fails = λ failed. inl (sym (flush_waits old new leads) ∙ failed) }
+flush_went (Ready (Some fault)) old new (inl done) = record { grows = (done.answered, done.goes.net_events tt); fails = λ failed. inr tt; no_fewer = as_many old.channel.told new.channel.told (done.goes.failures tt).failures }
+flush_went (Ready (Some fault)) old new (inr aborts) = record { grows = aborts_grows false (flushing old.state) (Fault fault) old new aborts; fails = λ failed. inr tt; no_fewer = aborts_no_fewer mem false (flushing old.state) (Fault fault) old new tt aborts }
+flush_went Pending old new waits = record { grows = (waits.0.answered, waits.0.goes.net_events tt); fails = λ failed. inl (sym (flush_waits old new waits.0) ∙ failed); no_fewer = as_many old.channel.told new.channel.told (waits.0.goes.failures tt).failures }
 
 -- One reply is read
 
@@ -140,8 +145,8 @@ read_went heard old new reads = go old.channel.failed refl reads
     counted_fails Pending counted failed = inl (sym (ap (λ v. v.channel.failed) counted.counts ∙ (counted.reads (any_tree old.state)).1.failed) ∙ failed)
 
     go : (b : Bool) → old.channel.failed ≡ b → ReadsUnless b mem (expecting []) old new heard → Went old new (told_by heard)
-    go true failed refuses = record { grows = ([], ap (λ v. v.net) refuses.1); fails = λ fails. inl failed }
-    go false going counted = record { grows = grows_to old counted.last new (ap (λ v. v.net) counted.counts) (read_grows heard old counted.last (counted.reads (any_tree old.state))); fails = counted_fails heard counted }
+    go true failed refuses = record { grows = ([], ap (λ v. v.net) refuses.1); fails = λ fails. inl failed; no_fewer = as_many old.channel.told new.channel.told (ap (λ v. v.channel.told.failures) refuses.1) }
+    go false going counted = record { grows = grows_to old counted.last new (ap (λ v. v.net) counted.counts) (read_grows heard old counted.last (counted.reads (any_tree old.state))); fails = counted_fails heard counted; no_fewer = no_fewer_on old.channel.told counted.last.channel.told new.channel.told (reads_no_fewer mem (expecting []) (any_tree old.state) old counted.last heard tt (counted.reads (any_tree old.state))) (as_many counted.last.channel.told new.channel.told (ap (λ v. v.channel.told.failures) counted.counts)) }
 
 -- as long as some are due
 

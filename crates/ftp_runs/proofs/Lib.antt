@@ -4,12 +4,14 @@ pub mod CaughtUp
 pub mod Drained
 pub mod Dropped
 pub mod Drops
+pub mod EventCauses
 pub mod EventLemmas
 pub mod Following
 pub mod HiddenCalls
 pub mod InStep
 pub mod Leaving
 pub mod ClosingData
+pub mod NoFewer
 pub mod NoneDue
 pub mod OneScript
 pub mod Polling

@@ -54,6 +54,8 @@ module _ (builds : Builds) (coding : Coding) (call : Call) (stage stage' : Stage
         given = given;
         sound = sound;
         stays = λ failed. (ap (λ c. c.failed) so.channel ∙ failed, ap (λ c. c.told.failures) so.channel, (inl so.refusal_is, tt));
+        starts = λ abroad. (let R : Bool → Type 0 = λ b. RefusesFrom b (Unit {0}) call v w answer in inl (answer, refl, subst R (sym first) refused));
+        carries = λ local at. (answer, refl, inl refused);
       }
   refused_here answer false on refused given sound =
       record {
@@ -68,6 +70,8 @@ module _ (builds : Builds) (coding : Coding) (call : Call) (stage stage' : Stage
         given = given;
         sound = sound;
         stays = λ failed. (ap (λ x. x.channel.failed) refused.2 ∙ failed, ap (λ x. x.channel.told.failures) refused.2, (inl (inl refused.1), tt));
+        starts = λ abroad. (let R : Bool → Type 0 = λ b. RefusesFrom b (Unit {0}) call v w answer in inl (answer, refl, subst R (sym on) refused));
+        carries = λ local at. (let clash : true ≡ false = sym at ∙ on in cc);
       }
 
   on_here : (result : Poll Answer) → is_local call ≡ false → PollsOn (over_memory builds) (Unit {0}) coding call stage stage' v w result → (result ≡ Pending → StageOf call stage') → IsGiven w.channel.told → IsSound (Unit {0}) w.channel → PollsHere builds coding call stage stage' v w result
@@ -83,6 +87,8 @@ module _ (builds : Builds) (coding : Coding) (call : Call) (stage stage' : Stage
     given = given;
     sound = sound;
     stays = λ failed. (let clash : true ≡ false = sym failed ∙ on.going in cc);
+    starts = λ abroad. inr on;
+    carries = λ local at. (let clash : true ≡ false = sym local ∙ abroad in cc);
   }
 
   pub started_here : (result : Poll Answer) → is_local call ≡ false → StartsTo (over_memory builds) (Unit {0}) coding call stage stage' v w result → (result ≡ Pending → StageOf call stage') → IsGiven w.channel.told → IsSound (Unit {0}) w.channel → PollsHere builds coding call stage stage' v w result
@@ -111,4 +117,6 @@ module _ (builds : Builds) (coding : Coding) (call : Call) (stage stage' : Stage
         given = given;
         sound = sound;
         stays = λ failed. (ap (λ c. c.failed) apart ∙ failed, ap (λ c. c.told.failures) apart, (inr (row_answer (Unit {0}) (row_of call First) v made.last answer made.does), tt));
+        starts = λ abroad. (let clash : true ≡ false = sym local ∙ abroad in cc);
+        carries = λ local at. (answer, refl, inr made);
       }

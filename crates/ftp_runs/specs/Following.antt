@@ -24,7 +24,7 @@ use Rattle.ftp_dialogue.specs.declared.stage.Stage.{Stage}
 use Rattle.ftp_dialogue.specs.declared.stage.Stage.TheVariants.{At}
 use Rattle.ftp_dialogue.specs.State.{SessionValue, LetsGo}
 use Rattle.ftp_dialogue.specs.Coding.{Coding}
-use Rattle.ftp_calls.specs.Exchanges.{drains, finishes, is_read}
+use Rattle.ftp_calls.specs.Exchanges.{drains, finishes, is_local, is_read}
 use Rattle.ftp_dialogue.specs.CatchingUp.{CatchesUp, InStepIf, is_behind, is_plain_read}
 use Rattle.ftp_dialogue.specs.Dropping.{DropsCall as DropsStage}
 use Rattle.ftp_dialogue.specs.Dialogue.{dialogue}
@@ -34,7 +34,7 @@ use Rattle.ftp_runs.specs.declared.events.Course.{Course}
 use Rattle.ftp_runs.specs.Scripted.{AreRefused, IsPolled, LeavesHeld, LeavesThen, SaysFrontOf, SaysNothing, SaysOrTakes, Stands, Reaches}
 use Rattle.ftp_dialogue.specs.Play.{Taken, is_unit, needs_data}
 use Rattle.ftp_dialogue.specs.Promises.{Aborts, HasFault, IsRefused, Rests, due_of, refusal_of}
-use Rattle.ftp_dialogue.specs.Steps.Polls.{is_first, entered_state, entered_at, entered_tree, polled_answer, MayPollAt}
+use Rattle.ftp_dialogue.specs.Steps.Polls.{is_first, entered_state, entered_at, entered_tree, polled_answer, MayPollAt, StartsTo}
 use Rattle.ftp_dialogue.specs.Steps.Stages.{remaining, begun_at, StageOf}
 use Rattle.ftp_dialogue.specs.Steps.Moving.{Apart, CarriesOut, HasBegun, MadeDrained, PollsTo}
 use Rattle.ftp_runs.specs.declared.model.Item.{Item}
@@ -153,6 +153,8 @@ pub record PollsHere (builds : Builds) (coding : Coding) (call : Call) (stage st
   pub given : IsGiven w.channel.told
   pub sound : IsSound (Unit {0}) w.channel
   pub stays : v.channel.failed ≡ true → (w.channel.failed ≡ true) × (w.channel.told.failures ≡ v.channel.told.failures) × AreRefused (polled_answer result)
+  pub starts : is_local call ≡ false → StartsTo (over_memory builds) (Unit {0}) coding call stage stage' v w result
+  pub carries : is_local call ≡ true → is_first stage ≡ true → (answer : Answer) × (result ≡ Ready answer) × CarriesOut (Unit {0}) call v w answer
 
 -- the drain was polled: it waits, and so does the call; it is over, and the call is polled; or its error is the answer
 abbrev pub ThenPollsIf : Bool → Builds → Coding → Call → Stage → Stage → Bool → Answer → SessionValue → SessionValue → Poll Answer → Type 0

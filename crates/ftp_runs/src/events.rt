@@ -14,6 +14,7 @@ ghost use Rattle.ftp_dialogue.specs.Coding.{chosen, coding_of};
 ghost use Rattle.ftp_session.specs.Handed.{LooksIf, as_seen, watches};
 ghost use Rattle.ftp_dialogue.specs.Link.{built_by};
 ghost use Rattle.ftp_dialogue.specs.Promises.{FailsWith};
+ghost use Rattle.ftp_runs.specs.Counting.{CausesHere, CountsEvents};
 ghost use Rattle.ftp_runs.specs.Scripted.{IsScripted, StopsAtFeed};
 ghost use Rattle.ftp_dialogue.specs.Sound.{Sound, SoundCounts};
 ghost use Rattle.ftp_runs.specs.Following.{CatchesUpHere, FailedStays, Grows, Happens, IsFeed, Passes, PollsHere, PollsNext, Starts, at_rest, given_answer, reads_here};
@@ -66,6 +67,8 @@ impl<K: Drop, E: Encoding, B: PassiveStreamBuilder<MemoryConn>> RunEvents
         ensures scripted { IfOk result (λ answers.
             IsScripted (built_by B.answers self.old.builder) (chosen E.decoded E.encoded self.old.encoding.0) (as_seen self.new.mark self.old.machine)
             events.now self.new.machine answers.items) }
+        ensures counts { IfOk result (λ answers.
+            CountsEvents (built_by B.answers self.old.builder) None None events.now (as_seen self.new.mark self.old.machine) self.new.machine answers.items) }
         ensures looks { OnOk result (LooksIf (watches self.old.mark self.old.machine) self.old.mark self.new.mark) }
         ensures encoding { self.new.encoding ≡ self.old.encoding }
         ensures builder { self.new.builder ≡ self.old.builder }
@@ -113,6 +116,7 @@ fn let_happen<E: Encoding, B: PassiveStreamBuilder<MemoryConn>>(
     ensures scripted { IfOk result (λ answers.
         IsScripted (built_by B.answers builder.now) (coding_of E.decoded E.encoded encoding.now) machine.old events.now machine.new
         answers.items) }
+    ensures counts { IfOk result (λ answers. CountsEvents (built_by B.answers builder.now) None None events.now machine.old machine.new answers.items) }
     ensures grows { Grows (built_by B.answers builder.now) machine.old machine.new }
     ensures fails { IfOk result (λ answers. FailsWith machine.old machine.new answers.items) }
     ensures memory { IfErr result (λ fault. fault ≡ FtpError.OutOfMemory) }
@@ -187,6 +191,8 @@ fn happen<'e, E: Encoding, B: PassiveStreamBuilder<MemoryConn>>(
         Passes (built_by B.answers builder.now) (coding_of E.decoded E.encoded encoding.now) machine.old machine.new
         (option_map (λ c. c.now) under_way.old) (option_map (λ c. c.now) under_way.new)
         stage.old stage.new course.old course.new event.now answer) }
+    ensures causes { IfOk result (λ answer. CausesHere (built_by B.answers builder.now) event.now machine.old machine.new
+        (option_map (λ c. c.now) under_way.old) (option_map (λ c. c.now) under_way.new) stage.old stage.new answer) }
 {
     match event {
         Event::Feed(bytes) => machine.channel.feed(bytes.as_slice())?,
@@ -227,6 +233,8 @@ fn poll_in_step<'e, E: Encoding, B: PassiveStreamBuilder<MemoryConn>>(
     ensures passes { Passes (built_by B.answers builder.now) (coding_of E.decoded E.encoded encoding.now) machine.old machine.new
         (option_map (λ c. c.now) under_way.old) (option_map (λ c. c.now) under_way.new)
         stage.old stage.new course.old course.new Event.Poll result }
+    ensures causes { CausesHere (built_by B.answers builder.now) Event.Poll machine.old machine.new
+        (option_map (λ c. c.now) under_way.old) (option_map (λ c. c.now) under_way.new) stage.old stage.new result }
 {
     if reads_first(machine, under_way, course) {
         return poll_behind(machine, alloc, builder, encoding, under_way, stage, course);
@@ -266,6 +274,8 @@ fn poll_behind<'e, E: Encoding, B: PassiveStreamBuilder<MemoryConn>>(
     ensures catches_up { CatchesUpHere (built_by B.answers builder.now) (coding_of E.decoded E.encoded encoding.now) machine.old machine.new
         (option_map (λ c. c.now) under_way.old) (option_map (λ c. c.now) under_way.new)
         stage.old stage.new course.new result }
+    ensures causes { CausesHere (built_by B.answers builder.now) Event.Poll machine.old machine.new
+        (option_map (λ c. c.now) under_way.old) (option_map (λ c. c.now) under_way.new) stage.old stage.new result }
 {
     let Some(call) = *under_way else {
         return None;
@@ -307,6 +317,8 @@ fn poll_under_way<'e, E: Encoding, B: PassiveStreamBuilder<MemoryConn>>(
     ensures happens { Happens (built_by B.answers builder.now) (coding_of E.decoded E.encoded encoding.now) machine.old machine.new
         (option_map (λ c. c.now) under_way.old) (option_map (λ c. c.now) under_way.new)
         stage.old stage.new course.old course.new Event.Poll result }
+    ensures causes { CausesHere (built_by B.answers builder.now) Event.Poll machine.old machine.new
+        (option_map (λ c. c.now) under_way.old) (option_map (λ c. c.now) under_way.new) stage.old stage.new result }
 {
     let Some(call) = *under_way else {
         return None;

@@ -1,5 +1,5 @@
 -- Why a poll returns an error of a connection, or `SessionFailed`, and what a call that waits keeps for its answer.
-use Rattle.std.proofs.Common.{◌≡◌, Bool, true, false, [], Option, Some, None, Result, Ok, inl, inr, ◌⊎◌, refl, ap, sym, ◌∙◌, subst}
+use Rattle.std.proofs.Common.{◌≡◌, ◌<◌, ℕ, Bool, true, false, [], Option, Some, None, Result, Ok, inl, inr, ◌⊎◌, refl, ap, sym, ◌∙◌, subst}
 use Rattle.std.specs.declared.io.ErrorKind.{ErrorKind}
 use Rattle.futures.specs.declared.task.Poll.{Poll}
 use Rattle.futures.specs.declared.task.Poll.TheVariants.{Ready, Pending}
@@ -203,6 +203,45 @@ keeps_after link called kept kept' old middle new happens goes = λ fault is gra
     go fault (inl gives) = inl (given_after link fault old.net middle.net new.net happens gives)
     go fault (inr also) = inr also
 
+-- a poll after a part in which nothing failed
+caused_on : (link : Link) (called : Call) (kept kept' : Option FtpError) (old middle new : SessionValue) (result : Poll Answer) → (link.tells → NoneFailed old.channel.told middle.channel.told) → (middle.channel.failed ≡ true → old.channel.failed ≡ true) → Happens link old.net middle.net → CausesPoll link called kept kept' middle new result → CausesPoll link called kept kept' old new result
+caused_on link called kept kept' old middle new (Ready told) none going happens causes = record { counted = λ kind is h. counted kind h (causes.counted kind is h); had_failed = λ is. had (causes.had_failed is) }
+  where
+    counted : (kind : ErrorKind) → link.tells → CountsFailure middle.channel.told new.channel.told ⊎ IsGivenBeside link (faults.ConnectionError (cause.Io kind)) middle.net new.net ⊎ (kept ≡ Some (faults.ConnectionError (cause.Io kind))) ⊎ TakesNoMore called kind → CountsFailure old.channel.told new.channel.told ⊎ IsGivenBeside link (faults.ConnectionError (cause.Io kind)) old.net new.net ⊎ (kept ≡ Some (faults.ConnectionError (cause.Io kind))) ⊎ TakesNoMore called kind
+    counted kind h (inl since) =
+        let P : ℕ → Type 0 = λ n. (n < new.channel.told.failures) ⊎ (new.channel.told.failures ≡ 18446744073709551615) in
+        inl (subst P (none h).failures since)
+    counted kind h (inr (inl gives)) = inr (inl (given_after link (faults.ConnectionError (cause.Io kind)) old.net middle.net new.net happens gives))
+    counted kind h (inr (inr other)) = inr (inr other)
+
+    had : (middle.channel.failed ≡ true) ⊎ (cannot_open new.state.counts ≡ Some faults.SessionFailed) ⊎ IsGivenBeside link faults.SessionFailed middle.net new.net ⊎ (kept ≡ Some faults.SessionFailed) → (old.channel.failed ≡ true) ⊎ (cannot_open new.state.counts ≡ Some faults.SessionFailed) ⊎ IsGivenBeside link faults.SessionFailed old.net new.net ⊎ (kept ≡ Some faults.SessionFailed)
+    had (inl failed) = inl (going failed)
+    had (inr (inl spent)) = inr (inl spent)
+    had (inr (inr (inl gives))) = inr (inr (inl (given_after link faults.SessionFailed old.net middle.net new.net happens gives)))
+    had (inr (inr (inr was))) = inr (inr (inr was))
+caused_on link called kept kept' old middle new Pending none going happens causes = record { met = λ kind is. met kind (causes.met kind is); had_failed = λ is. had (causes.had_failed is) }
+  where
+    met : (kind : ErrorKind) → IsGivenBeside link (faults.ConnectionError (cause.Io kind)) middle.net new.net ⊎ (kept ≡ Some (faults.ConnectionError (cause.Io kind))) ⊎ TakesNoMore called kind → IsGivenBeside link (faults.ConnectionError (cause.Io kind)) old.net new.net ⊎ (kept ≡ Some (faults.ConnectionError (cause.Io kind))) ⊎ TakesNoMore called kind
+    met kind (inl gives) = inl (given_after link (faults.ConnectionError (cause.Io kind)) old.net middle.net new.net happens gives)
+    met kind (inr other) = inr other
+
+    had : IsGivenBeside link faults.SessionFailed middle.net new.net ⊎ (kept ≡ Some faults.SessionFailed) → IsGivenBeside link faults.SessionFailed old.net new.net ⊎ (kept ≡ Some faults.SessionFailed)
+    had (inl gives) = inl (given_after link faults.SessionFailed old.net middle.net new.net happens gives)
+    had (inr was) = inr was
+
+-- and after the replies that are due to commands that were dropped, or with an error in place of one
+pub caused_in_step : (link : Link) (called : Call) (plain : Bool) (kept kept' : Option FtpError) (old middle new : SessionValue) (result : Poll Answer) → CatchesUp (unasked link) plain old middle (Ready None) → CausesPoll link called kept kept' middle new result → CausesPoll link called kept kept' old new result
+caused_in_step link called plain kept kept' old middle new result up causes =
+    let caught = up_caught (unasked link) plain old middle None up in
+    caused_on link called kept kept' old middle new result caught.0 caught.1 (asked_happens link old.net middle.net (up_happens (unasked link) plain old middle up)) causes
+
+pub fault_caused : (link : Link) (called : Call) (plain : Bool) (kept : Option FtpError) (old new : SessionValue) (fault : FtpError) → CatchesUp (unasked link) plain old new (Ready (Some fault)) → CausesAnswer link called kept old new (Fault fault)
+fault_caused link called plain kept old new fault up = answer_caused link called kept old new (Fault fault) (counted_grounds link (Also called kept) old new (Fault fault) (up_caught (unasked link) plain old new (Some fault) up))
+
+-- nothing is to be told of
+pub light_caused : (link : Link) (called : Call) (kept : Option FtpError) (old new : SessionValue) → CausesAnswer link called kept old new answer.Unit
+light_caused link called kept old new = record { counted = λ kind is h. cc is; had_failed = λ is. cc is }
+
 keeps_still : (link : Link) (called : Call) (stage stage' : Stage) (old new : SessionValue) → stage' ≡ stage → KeepsOn link called (keeps stage) (keeps stage') old new
 keeps_still link called stage stage' old new same = λ fault is grave. inr (inl (ap keeps (sym same) ∙ is))
 
@@ -336,6 +375,10 @@ module _ (link : Link) (may_wait : Type 0) (coding : Coding) where
         go : (b : Bool) → PollsNextIf b link may_wait coding called stage stage' v w Pending → KeepsOn link called (keeps stage) (keeps stage') v w
         go false starts = waits_keep stage' v w starts
         go true d = drained d
+
+    pub next_caused : (stage' : Stage) (v w : SessionValue) (result : Poll Answer) → PollsNext link may_wait coding called stage stage' v w result → CausesPoll link called (keeps stage) (keeps stage') v w result
+    next_caused stage' v w (Ready told) next = answer_caused link called (keeps stage) v w told (next_grounds stage' v w told next)
+    next_caused stage' v w Pending next = kept_caused link called (keeps stage) (keeps stage') v w (next_keeps stage' v w next)
 
     -- and after the replies that are due to commands that were dropped
     caught_happens : (v middle : SessionValue) → CatchesUp (unasked link) (is_plain_read called) v middle (Ready None) → Happens link v.net middle.net

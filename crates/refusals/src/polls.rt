@@ -1,6 +1,6 @@
 //! Polled calls, and runs of events.
 
-ghost use Rattle.std.specs.Prelude.{◌≡◌, ◌⊎◌, IfOk, IfErr, OnErr, OnOk};
+ghost use Rattle.std.specs.Prelude.{◌≡◌, ◌⊎◌, IfOk, IfErr, None, OnErr, OnOk};
 ghost use Rattle.ftp_dialogue.specs.Coding.{chosen};
 ghost use Rattle.ftp_session.specs.Handed.{LooksIf, as_seen, watches};
 ghost use Rattle.ftp_dialogue.specs.Link.{asking, built_by, polling};
@@ -8,6 +8,7 @@ ghost use Rattle.ftp_dialogue.specs.Promises.{FailsWith};
 ghost use Rattle.ftp_calls.specs.Kinds.{IsPlain};
 ghost use Rattle.ftp_session.specs.PollCauses.{CausesPoll, keeps};
 ghost use Rattle.ftp_session.specs.Polled.{CountsPoll, PollsCall};
+ghost use Rattle.ftp_runs.specs.Counting.{CountsEvents};
 ghost use Rattle.ftp_runs.specs.Scripted.{IsScripted, StopsAtFeed};
 ghost use Rattle.ftp_dialogue.specs.Sound.{Sound};
 ghost use Rattle.ftp_runs.specs.Following.{Grows};
@@ -31,6 +32,8 @@ pub fn run_polled<K: Drop, E: Encoding, B: PassiveStreamBuilder<MemoryConn>>(
     ensures scripted { IfOk result (λ answers.
         IsScripted (built_by B.answers session.old.builder) (chosen E.decoded E.encoded session.old.encoding.0) (as_seen session.new.mark session.old.machine)
         events.now session.new.machine answers.items) }
+    ensures counts { IfOk result (λ answers.
+        CountsEvents (built_by B.answers session.old.builder) None None events.now (as_seen session.new.mark session.old.machine) session.new.machine answers.items) }
     ensures looks { OnOk result (LooksIf (watches session.old.mark session.old.machine) session.old.mark session.new.mark) }
     ensures encoding { session.new.encoding ≡ session.old.encoding }
     ensures builder { session.new.builder ≡ session.old.builder }

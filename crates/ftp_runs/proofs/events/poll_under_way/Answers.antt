@@ -6,7 +6,10 @@ use Rattle.ftp_dialogue.specs.Coding.{Coding, coding_of}
 use Rattle.ftp_dialogue.specs.Link.{Builds, built_by}
 use Rattle.ftp_runs.specs.declared.events.Course.{Course}
 use Rattle.ftp_runs.specs.Following.{Happens}
+use Rattle.ftp_dialogue.specs.Steps.Polls.{StageIn}
+use Rattle.ftp_runs.specs.Counting.{CausesHere}
 use Rattle.ftp_runs.proofs.Drained.{next_fails, next_happens, next_stays}
+use Rattle.ftp_runs.proofs.EventCauses.{idle_here, ready_here, waits_here}
 use Rattle.ftp_runs.proofs.Leaving.{fails_then, idle_happens, left_apart, ready_happens, stays_then, waits_happens}
 use Rattle.ftp_runs.proofs.events.poll_under_way.Goals as goal
 
@@ -54,3 +57,29 @@ pub returns-in-Pending-clause-failed : goal.returns-in-Pending-clause-failed
 returns-in-Pending-clause-failed g c = λ failed.
     let polled = rw c.in-Pending.is at c.poll_next.ensures.polled in
     next_stays _ _ _ _ _ _ _ _ Pending polled failed
+
+pub returns-in-Ready-clause-causes : goal.returns-in-Ready-clause-causes
+returns-in-Ready-clause-causes g c =
+    let coding : Coding = coding_of g.E.Encoding.decoded g.E.Encoding.encoded c.args.encoding.now in
+    let builds : Builds = built_by g.B.PassiveStreamBuilder.answers c.args.builder.now in
+    let polled = rw c.in-Ready.is at c.poll_next.ensures.polled in
+    let call_is = ap (λ o. option_map (λ c'. c'.now) o) c.in-Some.is in
+    let S : Option Call → Type 0 = λ o. StageIn o c.args.stage.now in
+    let P : Option Call → Type 0 = λ o. CausesHere builds event.Poll c.args.machine.now c.leave_then.new.machine o None c.args.stage.now c.poll_next.new.stage (Some c.in-Ready.answer) in
+    subst P (sym call_is) (ready_here builds coding c.in-Some.call.now c.args.stage.now c.poll_next.new.stage c.poll_next.new.polled c.args.course.now.leaving c.args.machine.now c.poll_next.new.machine c.leave_then.new.machine c.in-Ready.answer (subst S call_is c.requires) polled c.leave_then.ensures.leaves)
+
+pub returns-in-Pending-clause-causes : goal.returns-in-Pending-clause-causes
+returns-in-Pending-clause-causes g c =
+    let coding : Coding = coding_of g.E.Encoding.decoded g.E.Encoding.encoded c.args.encoding.now in
+    let builds : Builds = built_by g.B.PassiveStreamBuilder.answers c.args.builder.now in
+    let polled = rw c.in-Pending.is at c.poll_next.ensures.polled in
+    let call_is = ap (λ o. option_map (λ c'. c'.now) o) c.in-Some.is in
+    let S : Option Call → Type 0 = λ o. StageIn o c.args.stage.now in
+    let P : Option Call → Type 0 = λ o. CausesHere builds event.Poll c.args.machine.now c.poll_next.new.machine o o c.args.stage.now c.poll_next.new.stage None in
+    subst P (sym call_is) (waits_here builds coding c.in-Some.call.now c.args.stage.now c.poll_next.new.stage c.poll_next.new.polled c.args.machine.now c.poll_next.new.machine (subst S call_is c.requires) polled)
+
+pub returns-in_default-clause-causes : goal.returns-in_default-clause-causes
+returns-in_default-clause-causes g c =
+    let builds : Builds = built_by g.B.PassiveStreamBuilder.answers c.args.builder.now in
+    let P : Option Call → Type 0 = λ o. CausesHere builds event.Poll c.args.machine.now c.args.machine.now o o c.args.stage.now c.args.stage.now None in
+    subst P (sym (ap (λ o. option_map (λ c'. c'.now) o) c.in_default.is)) (idle_here builds c.args.stage.now c.args.machine.now)
