@@ -1,6 +1,7 @@
 //! The control connection of a client, lent out while its lock is held.
 
 ghost use Rattle.ftp_dialogue.specs.Sound.{SoundCounts};
+ghost use Rattle.ftp_session.specs.Locked.{SendsLines};
 
 use super::ImplFtpStream;
 use ftp_base::encoding::{Encoding, Utf8Encoding};
@@ -32,9 +33,14 @@ impl<Tr: Network, K: Drop, E: Encoding, B: Drop> Drop for ControlSocket<'_, Tr, 
 }
 
 impl<Tr: Network, K: Drop, E: Encoding, B: Drop> ControlSocket<'_, Tr, K, E, B> {
-    /// The control connection, as [`Session::get_ref`] lends it.
-    pub fn socket(&self) -> &Tr::Conn {
-        self.session.get_ref()
+    /// The control connection, as [`Session::get_ref`] lends it. Whenever the lock is held so, by any thread, what was sent
+    /// is whole command lines, but for the tail of the last one, which may still be unsent (RFC 959, section 5.3).
+    pub fn socket(&self) -> &Tr::Conn
+        ensures sound { Tr.Conn.tells → SendsLines (Tr.Conn.told result.now) }
+    {
+        let session: &Session<Tr, K, E, B> = &self.session;
+        session.untaken();
+        session.get_ref()
     }
 
     /// How many transfers were opened, and how they came to their end (RFC 959, section 3.2). Whenever the lock is held

@@ -1,6 +1,7 @@
 //! The lock of a client, lent to a caller.
 
 ghost use Rattle.ftp_dialogue.specs.Sound.{SoundCounts};
+ghost use Rattle.ftp_session.specs.Locked.{SendsLines};
 
 use crate::client::ImplAsyncFtpStream;
 use crate::hold::Hold;
@@ -42,9 +43,14 @@ impl<Tr: TaskTransport, K: Drop, E: Encoding, B: Drop> ControlSocket<Tr, K, E, B
 where
     Tr::Conn: TaskConn,
 {
-    /// The control connection.
-    pub fn socket(&self) -> &Tr::Conn {
-        self.session.get_ref()
+    /// The control connection. Whenever the lock is held so, by any task, what was sent is whole command lines, but for the
+    /// tail of the last one, which may still be unsent (RFC 959, section 5.3).
+    pub fn socket(&self) -> &Tr::Conn
+        ensures sound { Tr.Conn.tells → SendsLines (Tr.Conn.told result.now) }
+    {
+        let session: &Session<Tr, K, E, B> = &self.session;
+        session.untaken();
+        session.get_ref()
     }
 
     /// The transport.

@@ -7,6 +7,7 @@ pub mod Fetched
 pub mod Files
 pub mod Handed
 pub mod Implicit
+pub mod Locked
 pub mod PollCauses
 pub mod Polled
 pub mod Saving
