@@ -12,8 +12,6 @@ mod counted;
 #[cfg(test)]
 mod cuts;
 #[cfg(test)]
-mod dropping;
-#[cfg(test)]
 mod limits;
 #[cfg(test)]
 mod listings;
