@@ -1,7 +1,7 @@
 -- What each call says and hears, one row an exchange: RFC 959, sections 4.1, 5.4 and 6; RFC 2389, sections
 -- 3 (FEAT) and 4 (OPTS); RFC 2428, sections 2 (EPRT) and 3 (EPSV); RFC 3659, sections 3 (MDTM), 4 (SIZE), 5 (REST) and 7
 -- (MLST). All that a call does follows from its rows.
-use Rattle.std.specs.Prelude.{◌≡◌, refl, Bool, true, false, not, ◌&&◌, ◌||◌, nat_lt, ℕ, if◌then◌else◌, List, [], ◌∷◌, Option, Some, None, is_none}
+use Rattle.std.specs.Prelude.{◌≡◌, refl, Bool, true, false, not, ◌&&◌, ◌||◌, nat_lt, ℕ, if◌then◌else◌, List, [], ◌∷◌, Option, Some, None, is_none, option_map}
 use Rattle.ftp_base.specs.declared.status.Status.{Status}
 use Rattle.ftp_base.specs.declared.status.Status.TheVariants.{AlreadyOpen, AboutToSend, CommandOk, System, File, Ready, Closing, ClosingDataConnection, TransferAborted, PassiveMode, ExtendedPassiveMode, LoggedIn, RequestedFileActionOk, PathCreated, NeedPassword, RequestFilePending}
 use Rattle.ftp_base.specs.declared.types.file_type.FileType.{FileType}
@@ -10,6 +10,8 @@ use Rattle.ftp_base.specs.declared.command.Command.{Command}
 use Rattle.ftp_base.specs.declared.command.Command.TheVariants as command
 use Rattle.ftp_calls.specs.declared.call.Call.{Call}
 use Rattle.ftp_calls.specs.declared.call.Call.TheVariants.{Greet, Login, Cwd, Cdup, Pwd, Noop, Resync, Eprt, Opts, Site, TransferType, Mkdir, Rmdir, Rm, Rename, Quit, Mlst, Mdtm, Size, Feat, CustomCommand, ReadResponse, ReadResponseIn, ResumeTransfer, RetrAsStream, PutWithStream, AppendWithStream, CustomDataCommand, Retr, List as Listing, Nlst, Mlsd, PutFile, AppendFile, Set, Read, Write, Finish, Abort, Leave, Drain}
+use Rattle.ftp_calls.specs.declared.call.BorrowedCall.{BorrowedCall}
+use Rattle.ftp_calls.specs.declared.call.BorrowedCall.TheVariants as borrowed
 use Rattle.ftp_calls.specs.declared.exchange.Turn.{Turn}
 use Rattle.ftp_calls.specs.declared.exchange.Turn.TheVariants.{First, Second, Passive, ExtendedPassive, Active, Restart, Closed, Aborted}
 use Rattle.ftp_calls.specs.declared.exchange.Codes.{Codes}
@@ -24,6 +26,40 @@ use Rattle.ftp_calls.specs.declared.exchange.Row.{Row}
 use Rattle.ftp_calls.specs.declared.exchange.Row.TheVariants.{Exchanges, Arms, Resyncs, Sets, Moves}
 use Rattle.ftp_calls.specs.declared.exchange.Movement.TheVariants as movement
 use Rattle.ftp_calls.specs.Active.{port_command}
+
+-- the call that a method's arguments make
+abbrev pub call_of : BorrowedCall → Call
+call_of (borrowed.Login user password) = Login user.now password.now
+call_of (borrowed.Cwd directory) = Cwd directory.now
+call_of borrowed.Cdup = Cdup
+call_of borrowed.Pwd = Pwd
+call_of borrowed.Noop = Noop
+call_of borrowed.Resync = Resync
+call_of (borrowed.Eprt address) = Eprt address
+call_of (borrowed.Opts name value) = Opts name.now (option_map (λ text. text.now) value)
+call_of (borrowed.Site words) = Site words.now
+call_of (borrowed.TransferType kind) = TransferType kind.now
+call_of (borrowed.Mkdir path) = Mkdir path.now
+call_of (borrowed.Rmdir path) = Rmdir path.now
+call_of (borrowed.Rm path) = Rm path.now
+call_of (borrowed.Rename one other) = Rename one.now other.now
+call_of borrowed.Quit = Quit
+call_of (borrowed.Mlst path) = Mlst (option_map (λ text. text.now) path)
+call_of (borrowed.Mdtm path) = Mdtm path.now
+call_of (borrowed.Size path) = Size path.now
+call_of borrowed.Feat = Feat
+call_of (borrowed.CustomCommand line codes) = CustomCommand line.now codes.now
+call_of (borrowed.ReadResponse status) = ReadResponse status
+call_of (borrowed.ReadResponseIn codes) = ReadResponseIn codes.now
+call_of (borrowed.ResumeTransfer offset) = ResumeTransfer offset
+call_of (borrowed.RetrAsStream path) = RetrAsStream path.now
+call_of (borrowed.PutWithStream path) = PutWithStream path.now
+call_of (borrowed.AppendWithStream path) = AppendWithStream path.now
+call_of (borrowed.CustomDataCommand line codes) = CustomDataCommand line.now codes.now
+call_of (borrowed.Retr path) = Retr path.now
+call_of (borrowed.List path) = Listing (option_map (λ text. text.now) path)
+call_of (borrowed.Nlst path) = Nlst (option_map (λ text. text.now) path)
+call_of (borrowed.Mlsd path) = Mlsd (option_map (λ text. text.now) path)
 
 -- the statuses that a reply may have
 abbrev pub statuses : Codes → List Status

@@ -4,12 +4,11 @@
 //! the two compared. Events are what a polled run is made of: the server's bytes come, a call begins, is polled, is
 //! dropped.
 //!
-//! Beside each call stand what it does by itself, and the function that makes it with texts of its own.
+//! Beside each call stand what it does by itself, and the form in which a method is handed it, with borrowed texts.
 
 ghost use Rattle.std.specs.Prelude.{◌≡◌, IfErr, IfOk, false};
 ghost use Rattle.std.specs.Option.{option_map};
-ghost use Rattle.ftp_calls.specs.Exchanges.{aborts, own_row};
-ghost use Rattle.ftp_calls.specs.Kinds.{GivesNothing, GivesReply, GivesSize, GivesText, GivesTime, IsOpening};
+ghost use Rattle.ftp_calls.specs.Exchanges.{aborts, call_of, own_row};
 
 use crate::exchange::{Codes, Ending, Fetch, Movement, Row};
 use crate::lines::Lines;
@@ -278,188 +277,141 @@ pub(crate) fn own_row(call: &Call, first: bool) -> Result<Row, AllocError>
     }
 }
 
-/// `CWD` as a call.
-pub fn cwd_call(alloc: Global, path: &str) -> Result<Call, AllocError>
-    ensures call { IfOk result (λ call. call ≡ Call.Cwd path.now) }
-    ensures kind { IfOk result GivesNothing }
-{
-    Ok(Call::Cwd(Text::from_str(alloc, path)?))
+/// A call with the arguments that its method was handed.
+pub enum BorrowedCall<'a> {
+    /// A login, by the user's name and the password.
+    Login(&'a str, &'a str),
+    /// `CWD`.
+    Cwd(&'a str),
+    /// `CDUP`.
+    Cdup,
+    /// `PWD`.
+    Pwd,
+    /// `NOOP`.
+    Noop,
+    /// `NOOP`, and replies up to its own.
+    Resync,
+    /// `EPRT`.
+    Eprt(SocketAddr),
+    /// `OPTS`.
+    Opts(&'a str, Option<&'a str>),
+    /// `SITE`.
+    Site(&'a str),
+    /// `TYPE`.
+    TransferType(&'a FileType),
+    /// `MKD`.
+    Mkdir(&'a str),
+    /// `RMD`.
+    Rmdir(&'a str),
+    /// `DELE`.
+    Rm(&'a str),
+    /// A renaming, by the old name and the new one.
+    Rename(&'a str, &'a str),
+    /// `QUIT`.
+    Quit,
+    /// `MLST`.
+    Mlst(Option<&'a str>),
+    /// `MDTM`.
+    Mdtm(&'a str),
+    /// `SIZE`.
+    Size(&'a str),
+    /// `FEAT`.
+    Feat,
+    /// A caller-supplied line, and the statuses that its reply may have.
+    CustomCommand(&'a str, &'a [Status]),
+    /// A read of a reply of this status.
+    ReadResponse(Status),
+    /// A read of a reply of one of these statuses.
+    ReadResponseIn(&'a [Status]),
+    /// The offset at which the next transfer begins.
+    ResumeTransfer(u64),
+    /// `RETR`, as a transfer.
+    RetrAsStream(&'a str),
+    /// `STOR`, as a transfer.
+    PutWithStream(&'a str),
+    /// `APPE`, as a transfer.
+    AppendWithStream(&'a str),
+    /// A caller-supplied line that opens a data connection.
+    CustomDataCommand(&'a str, &'a [Status]),
+    /// `RETR` of a whole file.
+    Retr(&'a str),
+    /// `LIST`.
+    List(Option<&'a str>),
+    /// `NLST`.
+    Nlst(Option<&'a str>),
+    /// `MLSD`.
+    Mlsd(Option<&'a str>),
 }
 
-/// `SITE` as a call.
-pub fn site_call(alloc: Global, command: &str) -> Result<Call, AllocError>
-    ensures call { IfOk result (λ call. call ≡ Call.Site command.now) }
-    ensures kind { IfOk result GivesReply }
-{
-    Ok(Call::Site(Text::from_str(alloc, command)?))
+impl BorrowedCall<'_> {
+    /// The call, with arguments of its own.
+    ///
+    /// # Errors
+    /// No memory for them.
+    pub fn owned(self, alloc: Global) -> Result<Call, AllocError>
+        ensures { IfOk result (λ call. call ≡ call_of self.entry) }
+    {
+        Ok(match self {
+            BorrowedCall::Login(user, password) => {
+                Call::Login(text(alloc, user)?, text(alloc, password)?)
+            }
+            BorrowedCall::Cwd(path) => Call::Cwd(text(alloc, path)?),
+            BorrowedCall::Cdup => Call::Cdup,
+            BorrowedCall::Pwd => Call::Pwd,
+            BorrowedCall::Noop => Call::Noop,
+            BorrowedCall::Resync => Call::Resync,
+            BorrowedCall::Eprt(address) => Call::Eprt(address),
+            BorrowedCall::Opts(name, value) => Call::Opts(
+                text(alloc, name)?,
+                optional(alloc, value)?,
+            ),
+            BorrowedCall::Site(words) => Call::Site(text(alloc, words)?),
+            BorrowedCall::TransferType(kind) => Call::TransferType(kind.clone()?),
+            BorrowedCall::Mkdir(path) => Call::Mkdir(text(alloc, path)?),
+            BorrowedCall::Rmdir(path) => Call::Rmdir(text(alloc, path)?),
+            BorrowedCall::Rm(path) => Call::Rm(text(alloc, path)?),
+            BorrowedCall::Rename(from, to) => Call::Rename(text(alloc, from)?, text(alloc, to)?),
+            BorrowedCall::Quit => Call::Quit,
+            BorrowedCall::Mlst(path) => Call::Mlst(optional(alloc, path)?),
+            BorrowedCall::Mdtm(path) => Call::Mdtm(text(alloc, path)?),
+            BorrowedCall::Size(path) => Call::Size(text(alloc, path)?),
+            BorrowedCall::Feat => Call::Feat,
+            BorrowedCall::CustomCommand(line, codes) => {
+                Call::CustomCommand(text(alloc, line)?, items(alloc, codes)?)
+            }
+            BorrowedCall::ReadResponse(status) => Call::ReadResponse(status),
+            BorrowedCall::ReadResponseIn(codes) => Call::ReadResponseIn(items(alloc, codes)?),
+            BorrowedCall::ResumeTransfer(offset) => Call::ResumeTransfer(offset),
+            BorrowedCall::RetrAsStream(path) => Call::RetrAsStream(text(alloc, path)?),
+            BorrowedCall::PutWithStream(path) => Call::PutWithStream(text(alloc, path)?),
+            BorrowedCall::AppendWithStream(path) => Call::AppendWithStream(text(alloc, path)?),
+            BorrowedCall::CustomDataCommand(line, codes) => {
+                Call::CustomDataCommand(text(alloc, line)?, items(alloc, codes)?)
+            }
+            BorrowedCall::Retr(path) => Call::Retr(text(alloc, path)?),
+            BorrowedCall::List(path) => Call::List(optional(alloc, path)?),
+            BorrowedCall::Nlst(path) => Call::Nlst(optional(alloc, path)?),
+            BorrowedCall::Mlsd(path) => Call::Mlsd(optional(alloc, path)?),
+        })
+    }
 }
 
-/// `MKD` as a call.
-pub fn mkdir_call(alloc: Global, path: &str) -> Result<Call, AllocError>
-    ensures call { IfOk result (λ call. call ≡ Call.Mkdir path.now) }
-    ensures kind { IfOk result GivesNothing }
+/// A text of a call's own.
+fn text(alloc: Global, text: &str) -> Result<Text, AllocError>
+    ensures { IfOk result (λ copy. copy ≡ text.now) }
 {
-    Ok(Call::Mkdir(Text::from_str(alloc, path)?))
+    Text::from_str(alloc, text)
 }
 
-/// `RMD` as a call.
-pub fn rmdir_call(alloc: Global, path: &str) -> Result<Call, AllocError>
-    ensures call { IfOk result (λ call. call ≡ Call.Rmdir path.now) }
-    ensures kind { IfOk result GivesNothing }
+/// Statuses of a call's own.
+fn items(alloc: Global, codes: &[Status]) -> Result<Items<Status>, AllocError>
+    ensures { IfOk result (λ copy. copy ≡ codes.now) }
 {
-    Ok(Call::Rmdir(Text::from_str(alloc, path)?))
-}
-
-/// `DELE` as a call.
-pub fn rm_call(alloc: Global, path: &str) -> Result<Call, AllocError>
-    ensures call { IfOk result (λ call. call ≡ Call.Rm path.now) }
-    ensures kind { IfOk result GivesNothing }
-{
-    Ok(Call::Rm(Text::from_str(alloc, path)?))
-}
-
-/// A login as a call.
-pub fn login_call(alloc: Global, user: &str, password: &str) -> Result<Call, AllocError>
-    ensures call { IfOk result (λ call. call ≡ Call.Login user.now password.now) }
-    ensures kind { IfOk result GivesNothing }
-{
-    let user = Text::from_str(alloc, user)?;
-    let password = Text::from_str(alloc, password)?;
-    Ok(Call::Login(user, password))
-}
-
-/// A renaming as a call.
-pub fn rename_call(alloc: Global, from: &str, to: &str) -> Result<Call, AllocError>
-    ensures call { IfOk result (λ call. call ≡ Call.Rename from.now to.now) }
-    ensures kind { IfOk result GivesNothing }
-{
-    let from = Text::from_str(alloc, from)?;
-    let to = Text::from_str(alloc, to)?;
-    Ok(Call::Rename(from, to))
-}
-
-/// `OPTS` as a call.
-pub fn opts_call(alloc: Global, option: &str, value: Option<&str>) -> Result<Call, AllocError>
-    ensures call { IfOk result (λ call. call ≡
-        Call.Opts option.now (option_map (λ text. text.now) value.entry)) }
-    ensures kind { IfOk result GivesNothing }
-{
-    let option = Text::from_str(alloc, option)?;
-    let value = optional_text(alloc, value)?;
-    Ok(Call::Opts(option, value))
-}
-
-/// A caller-supplied line as a call.
-pub fn custom_call(alloc: Global, line: &str, expected: &[Status]) -> Result<Call, AllocError>
-    ensures call { IfOk result (λ call. call ≡ Call.CustomCommand line.now expected.now) }
-    ensures kind { IfOk result GivesReply }
-{
-    let line = Text::from_str(alloc, line)?;
-    let expected = Items::from_vec(Vec::from_slice(alloc, expected)?);
-    Ok(Call::CustomCommand(line, expected))
-}
-
-/// A read as a call.
-pub fn read_call(alloc: Global, expected: &[Status]) -> Result<Call, AllocError>
-    ensures call { IfOk result (λ call. call ≡ Call.ReadResponseIn expected.now) }
-    ensures kind { IfOk result GivesReply }
-{
-    let expected = Items::from_vec(Vec::from_slice(alloc, expected)?);
-    Ok(Call::ReadResponseIn(expected))
-}
-
-/// `MLST` as a call.
-pub fn mlst_call(alloc: Global, path: Option<&str>) -> Result<Call, AllocError>
-    ensures call { IfOk result (λ call. call ≡ Call.Mlst (option_map (λ text. text.now) path.entry)) }
-    ensures kind { IfOk result GivesText }
-{
-    Ok(Call::Mlst(optional_text(alloc, path)?))
-}
-
-/// `MDTM` as a call.
-pub fn mdtm_call(alloc: Global, path: &str) -> Result<Call, AllocError>
-    ensures call { IfOk result (λ call. call ≡ Call.Mdtm path.now) }
-    ensures kind { IfOk result GivesTime }
-{
-    Ok(Call::Mdtm(Text::from_str(alloc, path)?))
-}
-
-/// `SIZE` as a call.
-pub fn size_call(alloc: Global, path: &str) -> Result<Call, AllocError>
-    ensures call { IfOk result (λ call. call ≡ Call.Size path.now) }
-    ensures kind { IfOk result GivesSize }
-{
-    Ok(Call::Size(Text::from_str(alloc, path)?))
-}
-
-/// `RETR` of a whole file, as a call.
-pub fn retr_call(alloc: Global, path: &str) -> Result<Call, AllocError>
-    ensures call { IfOk result (λ call. call ≡ Call.Retr path.now) }
-    ensures kind { IfOk result IsOpening }
-{
-    Ok(Call::Retr(Text::from_str(alloc, path)?))
-}
-
-/// `LIST` as a call.
-pub fn list_call(alloc: Global, path: Option<&str>) -> Result<Call, AllocError>
-    ensures call { IfOk result (λ call. call ≡ Call.List (option_map (λ text. text.now) path.entry)) }
-    ensures kind { IfOk result IsOpening }
-{
-    Ok(Call::List(optional_text(alloc, path)?))
-}
-
-/// `NLST` as a call.
-pub fn nlst_call(alloc: Global, path: Option<&str>) -> Result<Call, AllocError>
-    ensures call { IfOk result (λ call. call ≡ Call.Nlst (option_map (λ text. text.now) path.entry)) }
-    ensures kind { IfOk result IsOpening }
-{
-    Ok(Call::Nlst(optional_text(alloc, path)?))
-}
-
-/// `MLSD` as a call.
-pub fn mlsd_call(alloc: Global, path: Option<&str>) -> Result<Call, AllocError>
-    ensures call { IfOk result (λ call. call ≡ Call.Mlsd (option_map (λ text. text.now) path.entry)) }
-    ensures kind { IfOk result IsOpening }
-{
-    Ok(Call::Mlsd(optional_text(alloc, path)?))
-}
-
-/// `RETR` as a call.
-pub fn retr_stream_call(alloc: Global, path: &str) -> Result<Call, AllocError>
-    ensures call { IfOk result (λ call. call ≡ Call.RetrAsStream path.now) }
-    ensures kind { IfOk result IsOpening }
-{
-    Ok(Call::RetrAsStream(Text::from_str(alloc, path)?))
-}
-
-/// `STOR` as a call.
-pub fn put_call(alloc: Global, path: &str) -> Result<Call, AllocError>
-    ensures call { IfOk result (λ call. call ≡ Call.PutWithStream path.now) }
-    ensures kind { IfOk result IsOpening }
-{
-    Ok(Call::PutWithStream(Text::from_str(alloc, path)?))
-}
-
-/// `APPE` as a call.
-pub fn append_call(alloc: Global, path: &str) -> Result<Call, AllocError>
-    ensures call { IfOk result (λ call. call ≡ Call.AppendWithStream path.now) }
-    ensures kind { IfOk result IsOpening }
-{
-    Ok(Call::AppendWithStream(Text::from_str(alloc, path)?))
-}
-
-/// A caller-supplied line that opens a data connection, as a call.
-pub fn custom_data_call(alloc: Global, line: &str, expected: &[Status]) -> Result<Call, AllocError>
-    ensures call { IfOk result (λ call. call ≡ Call.CustomDataCommand line.now expected.now) }
-    ensures kind { IfOk result IsOpening }
-{
-    let line = Text::from_str(alloc, line)?;
-    let expected = Items::from_vec(Vec::from_slice(alloc, expected)?);
-    Ok(Call::CustomDataCommand(line, expected))
+    Ok(Items::from_vec(Vec::from_slice(alloc, codes)?))
 }
 
 /// A text that may be left out.
-fn optional_text(alloc: Global, text: Option<&str>) -> Result<Option<Text>, AllocError>
+fn optional(alloc: Global, text: Option<&str>) -> Result<Option<Text>, AllocError>
     ensures { IfOk result (λ copy. copy ≡ option_map (λ text. text.now) text.entry) }
 {
     match text {

@@ -8,7 +8,8 @@ use crate::hold::Hold;
 use crate::waiting::wait;
 use ftp_base::encoding::Encoding;
 use ftp_base::types::{ConnectionError, FtpError};
-use ftp_session::session::{Answer, Call, DropsCalls, PolledCall, PollsCalls, Session};
+use ftp_calls::call::BorrowedCall;
+use ftp_session::session::{Answer, DropsCalls, PolledCall, PollsCalls, Session};
 use ftp_transport::{
     Network, PassiveStreamBuilder, PollConn, PollTransport, TaskConn, TaskTransport,
 };
@@ -16,8 +17,8 @@ use futures::task::{Context, Poll};
 use std::alloc::{AllocError, Global};
 
 /// A call that begins, in memory of its own; none where there is none for it.
-fn boxed(alloc: Global, call: Result<Call, AllocError>) -> Option<Box<PolledCall>> {
-    let Ok(call) = call else {
+fn boxed(alloc: Global, call: BorrowedCall<'_>) -> Option<Box<PolledCall>> {
+    let Ok(call) = call.owned(alloc) else {
         return None;
     };
     Box::new(alloc, PolledCall::new(call)).ok()
@@ -49,7 +50,7 @@ where
     pub(crate) fn new(
         rt: &'r R,
         shared: &Shared<Tr, K, E, B>,
-        call: Result<Call, AllocError>,
+        call: BorrowedCall<'_>,
     ) -> Calling<'r, R, Tr, K, E, B> {
         Calling {
             rt,

@@ -6,14 +6,9 @@ use crate::dialogue::{Dialogue, ReadReply};
 use ftp_base::encoding::Encoding;
 use ftp_base::status::Status;
 use ftp_base::types::{Features, FileType, Response};
-use ftp_calls::call::{
-    custom_call, cwd_call, login_call, mdtm_call, mkdir_call, mlst_call, opts_call, read_call,
-    rename_call, rm_call, rmdir_call, site_call, size_call,
-};
-use ftp_session::session::Call;
+use ftp_calls::call::BorrowedCall;
 use ftp_transport::{TaskConn, TaskTransport};
 use jiff::civil::DateTime;
-use std::alloc::AllocError;
 use std::net::SocketAddr;
 
 impl<Tr: TaskTransport, K: Drop, E: Encoding, B: Drop> ImplAsyncFtpStream<Tr, K, E, B>
@@ -24,7 +19,7 @@ where
     pub(crate) fn dialogue<'r, R: AllocGlobal, A>(
         &self,
         rt: &'r R,
-        call: Result<Call, AllocError>,
+        call: BorrowedCall<'_>,
     ) -> Dialogue<'r, R, Tr, K, E, B, A> {
         Dialogue::new(Calling::new(rt, &self.session, call))
     }
@@ -40,7 +35,7 @@ where
         user: &str,
         password: &str,
     ) -> Dialogue<'r, R, Tr, K, E, B, ()> {
-        self.dialogue(rt, login_call(rt.alloc(), user, password))
+        self.dialogue(rt, BorrowedCall::Login(user, password))
     }
 
     /// Changes to this directory: `CWD` (200, 250).
@@ -52,7 +47,7 @@ where
         rt: &'r R,
         path: &str,
     ) -> Dialogue<'r, R, Tr, K, E, B, ()> {
-        self.dialogue(rt, cwd_call(rt.alloc(), path))
+        self.dialogue(rt, BorrowedCall::Cwd(path))
     }
 
     /// Changes to the directory above: `CDUP` (200, 250).
@@ -60,7 +55,7 @@ where
     /// # Errors
     /// Those of a command and its reply.
     pub fn cdup<'r, R: AllocGlobal>(&self, rt: &'r R) -> Dialogue<'r, R, Tr, K, E, B, ()> {
-        self.dialogue(rt, Ok(Call::Cdup))
+        self.dialogue(rt, BorrowedCall::Cdup)
     }
 
     /// Does nothing but to have the server answer: `NOOP` (200).
@@ -68,7 +63,7 @@ where
     /// # Errors
     /// Those of a command and its reply.
     pub fn noop<'r, R: AllocGlobal>(&self, rt: &'r R) -> Dialogue<'r, R, Tr, K, E, B, ()> {
-        self.dialogue(rt, Ok(Call::Noop))
+        self.dialogue(rt, BorrowedCall::Noop)
     }
 
     /// Comes back into step with a server that has sent more replies than were read, as some do after `ABOR`: `NOOP`, and
@@ -79,7 +74,7 @@ where
     /// Those of a command and its reply: `UnexpectedResponse` with a 421 that is read, or with the eighth other reply; the
     /// session goes on. Beside a live transfer `DataConnectionAlreadyOpen`, and nothing is sent or read.
     pub fn resync<'r, R: AllocGlobal>(&self, rt: &'r R) -> Dialogue<'r, R, Tr, K, E, B, ()> {
-        self.dialogue(rt, Ok(Call::Resync))
+        self.dialogue(rt, BorrowedCall::Resync)
     }
 
     /// Names the address that the server is to open data connections to: `EPRT` (200; RFC 2428, section 2).
@@ -91,7 +86,7 @@ where
         rt: &'r R,
         address: SocketAddr,
     ) -> Dialogue<'r, R, Tr, K, E, B, ()> {
-        self.dialogue(rt, Ok(Call::Eprt(address)))
+        self.dialogue(rt, BorrowedCall::Eprt(address))
     }
 
     /// Sets an option of the server's, to a value or without one: `OPTS` (200; RFC 2389, section 4).
@@ -104,7 +99,7 @@ where
         option: &str,
         value: Option<&str>,
     ) -> Dialogue<'r, R, Tr, K, E, B, ()> {
-        self.dialogue(rt, opts_call(rt.alloc(), option, value))
+        self.dialogue(rt, BorrowedCall::Opts(option, value))
     }
 
     /// Sends a command of the server's own: `SITE` (200).
@@ -116,7 +111,7 @@ where
         rt: &'r R,
         command: &str,
     ) -> Dialogue<'r, R, Tr, K, E, B, Response> {
-        self.dialogue(rt, site_call(rt.alloc(), command))
+        self.dialogue(rt, BorrowedCall::Site(command))
     }
 
     /// Sets the type of data: `TYPE` (200). After it, transfers are of text where the type is ASCII.
@@ -128,7 +123,7 @@ where
         rt: &'r R,
         kind: FileType,
     ) -> Dialogue<'r, R, Tr, K, E, B, ()> {
-        self.dialogue(rt, Ok(Call::TransferType(kind)))
+        self.dialogue(rt, BorrowedCall::TransferType(&kind))
     }
 
     /// Makes a directory: `MKD` (257, 200).
@@ -140,7 +135,7 @@ where
         rt: &'r R,
         path: &str,
     ) -> Dialogue<'r, R, Tr, K, E, B, ()> {
-        self.dialogue(rt, mkdir_call(rt.alloc(), path))
+        self.dialogue(rt, BorrowedCall::Mkdir(path))
     }
 
     /// Removes a directory: `RMD` (250, 200).
@@ -152,7 +147,7 @@ where
         rt: &'r R,
         path: &str,
     ) -> Dialogue<'r, R, Tr, K, E, B, ()> {
-        self.dialogue(rt, rmdir_call(rt.alloc(), path))
+        self.dialogue(rt, BorrowedCall::Rmdir(path))
     }
 
     /// Deletes a file: `DELE` (250, 200).
@@ -164,7 +159,7 @@ where
         rt: &'r R,
         path: &str,
     ) -> Dialogue<'r, R, Tr, K, E, B, ()> {
-        self.dialogue(rt, rm_call(rt.alloc(), path))
+        self.dialogue(rt, BorrowedCall::Rm(path))
     }
 
     /// Renames a file or directory: `RNFR` (350), then `RNTO` (250, 200). The new name is looked at only after 350.
@@ -177,7 +172,7 @@ where
         from: &str,
         to: &str,
     ) -> Dialogue<'r, R, Tr, K, E, B, ()> {
-        self.dialogue(rt, rename_call(rt.alloc(), from, to))
+        self.dialogue(rt, BorrowedCall::Rename(from, to))
     }
 
     /// Ends the session: `QUIT` (221).
@@ -185,7 +180,7 @@ where
     /// # Errors
     /// Those of a command and its reply.
     pub fn quit<'r, R: AllocGlobal>(&self, rt: &'r R) -> Dialogue<'r, R, Tr, K, E, B, ()> {
-        self.dialogue(rt, Ok(Call::Quit))
+        self.dialogue(rt, BorrowedCall::Quit)
     }
 
     /// Sends a caller-supplied line and reads its reply, whose status is among the expected.
@@ -198,7 +193,7 @@ where
         line: &str,
         expected: &[Status],
     ) -> Dialogue<'r, R, Tr, K, E, B, Response> {
-        self.dialogue(rt, custom_call(rt.alloc(), line, expected))
+        self.dialogue(rt, BorrowedCall::CustomCommand(line, expected))
     }
 
     /// Reads one reply of this status. Nothing is sent.
@@ -210,7 +205,7 @@ where
         rt: &'r R,
         expected: Status,
     ) -> ReadReply<'r, R, Tr, K, E, B> {
-        self.dialogue(rt, Ok(Call::ReadResponse(expected)))
+        self.dialogue(rt, BorrowedCall::ReadResponse(expected))
     }
 
     /// Reads one reply whose status is among the expected. Nothing is sent.
@@ -222,7 +217,7 @@ where
         rt: &'r R,
         expected: &[Status],
     ) -> ReadReply<'r, R, Tr, K, E, B> {
-        self.dialogue(rt, read_call(rt.alloc(), expected))
+        self.dialogue(rt, BorrowedCall::ReadResponseIn(expected))
     }
 
     /// The next transfer begins at this offset, in bytes (`REST`; RFC 3659, section 5). 0 takes an earlier offset away.
@@ -234,7 +229,7 @@ where
         rt: &'r R,
         offset: u64,
     ) -> Dialogue<'r, R, Tr, K, E, B, ()> {
-        self.dialogue(rt, Ok(Call::ResumeTransfer(offset)))
+        self.dialogue(rt, BorrowedCall::ResumeTransfer(offset))
     }
 
     /// The current directory: `PWD` (257; RFC 959, appendix II).
@@ -242,7 +237,7 @@ where
     /// # Errors
     /// Those of a command and its reply; `UnexpectedResponse` where no path stands between quotes.
     pub fn pwd<'r, R: AllocGlobal>(&self, rt: &'r R) -> Dialogue<'r, R, Tr, K, E, B, String> {
-        self.dialogue(rt, Ok(Call::Pwd))
+        self.dialogue(rt, BorrowedCall::Pwd)
     }
 
     /// The facts of a path, or of the current directory: `MLST` (250; RFC 3659, section 7). `ListParser::parse_mlst` reads
@@ -255,7 +250,7 @@ where
         rt: &'r R,
         path: Option<&str>,
     ) -> Dialogue<'r, R, Tr, K, E, B, String> {
-        self.dialogue(rt, mlst_call(rt.alloc(), path))
+        self.dialogue(rt, BorrowedCall::Mlst(path))
     }
 
     /// When a file was last changed, in UTC: `MDTM` (213; RFC 3659, section 3).
@@ -267,7 +262,7 @@ where
         rt: &'r R,
         path: &str,
     ) -> Dialogue<'r, R, Tr, K, E, B, DateTime> {
-        self.dialogue(rt, mdtm_call(rt.alloc(), path))
+        self.dialogue(rt, BorrowedCall::Mdtm(path))
     }
 
     /// The size of a file, in bytes: `SIZE` (213; RFC 3659, section 4).
@@ -279,7 +274,7 @@ where
         rt: &'r R,
         path: &str,
     ) -> Dialogue<'r, R, Tr, K, E, B, usize> {
-        self.dialogue(rt, size_call(rt.alloc(), path))
+        self.dialogue(rt, BorrowedCall::Size(path))
     }
 
     /// What the server can do beyond the basics: `FEAT` (211; RFC 2389, section 3).
@@ -287,6 +282,6 @@ where
     /// # Errors
     /// Those of a command and its reply; `BadResponse` where a line of the list is no feature.
     pub fn feat<'r, R: AllocGlobal>(&self, rt: &'r R) -> Dialogue<'r, R, Tr, K, E, B, Features> {
-        self.dialogue(rt, Ok(Call::Feat))
+        self.dialogue(rt, BorrowedCall::Feat)
     }
 }

@@ -9,9 +9,9 @@ use crate::client::ImplAsyncFtpStream;
 use crate::from_answer::FromAnswer;
 use ftp_base::encoding::Encoding;
 use ftp_base::types::{Features, FtpError, FtpResult};
-use ftp_calls::call::{list_call, mlsd_call};
+use ftp_calls::call::BorrowedCall;
 use ftp_list::{File, Listing, names_facts};
-use ftp_session::session::{Answer, Call};
+use ftp_session::session::Answer;
 use ftp_transport::{PassiveStreamBuilder, PollConn, PollTransport, TaskConn, TaskTransport};
 use futures::Future;
 use futures::task::{Context, Poll};
@@ -236,9 +236,9 @@ where
         ListEntries {
             rt,
             turn: Turn::Features,
-            features: Calling::new(rt, &self.session, Ok(Call::Feat)),
-            facts: Calling::new(rt, &self.session, mlsd_call(rt.alloc(), path)),
-            lines: Calling::new(rt, &self.session, list_call(rt.alloc(), path)),
+            features: Calling::new(rt, &self.session, BorrowedCall::Feat),
+            facts: Calling::new(rt, &self.session, BorrowedCall::Mlsd(path)),
+            lines: Calling::new(rt, &self.session, BorrowedCall::List(path)),
         }
     }
 }

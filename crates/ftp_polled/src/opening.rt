@@ -9,6 +9,7 @@ use crate::transfer_stream::TransferStream;
 use crate::waiting::wait;
 use ftp_base::encoding::Encoding;
 use ftp_base::types::{ConnectionError, FtpError, FtpResult, Response};
+use ftp_calls::call::BorrowedCall;
 use ftp_session::session::{
     Call, DropsCalls, HandsTransfers, NewMark, PolledCall, PollsCalls, Session, take_back,
 };
@@ -37,7 +38,14 @@ where
     direction: Direction,
 }
 
-impl<'r, R, Tr: TaskTransport, K: Drop, E: Encoding, B: Drop> Opening<'r, R, Tr, K, E, B>
+impl<'r, R: AllocGlobal, Tr: TaskTransport, K: Drop, E: Encoding, B: Drop> Opening<
+    'r,
+    R,
+    Tr,
+    K,
+    E,
+    B,
+>
 where
     Tr::Conn: TaskConn,
 {
@@ -45,14 +53,14 @@ where
     pub(crate) fn new(
         rt: &'r R,
         shared: &Shared<Tr, K, E, B>,
-        call: Result<Call, AllocError>,
+        call: BorrowedCall<'_>,
         replies: bool,
         direction: Direction,
     ) -> Opening<'r, R, Tr, K, E, B> {
         Opening {
             rt,
             hold: Hold::on(shared),
-            call: call.ok().map(PolledCall::new),
+            call: call.owned(rt.alloc()).ok().map(PolledCall::new),
             mark: None,
             replies,
             direction,

@@ -8,7 +8,7 @@ use crate::ending::Ending;
 use crate::opening::Opening;
 use ftp_base::encoding::Encoding;
 use ftp_base::types::{ConnectionError, FtpError, FtpResult};
-use ftp_calls::call::retr_stream_call;
+use ftp_calls::call::BorrowedCall;
 use ftp_transfer::{Direction, Transfer};
 use ftp_transport::{PassiveStreamBuilder, PollConn, PollTransport, TaskConn, TaskTransport};
 use futures::Future;
@@ -199,7 +199,7 @@ where
         path: &str,
         reader: F,
     ) -> Retrieve<'r, R, Tr, K, E, B, F> {
-        let call = retr_stream_call(rt.alloc(), path);
+        let call = BorrowedCall::RetrAsStream(path);
         Retrieve {
             transfer: None,
             opening: Opening::new(rt, &self.session, call, false, Direction::Download),

@@ -3,7 +3,7 @@
 use ftp_base::encoding::Encoding;
 use ftp_base::status::Status;
 use ftp_base::types::{ConnectionError, FtpError, FtpResult};
-use ftp_calls::call::custom_call;
+use ftp_calls::call::BorrowedCall;
 use ftp_secure::SecureNetwork;
 use ftp_session::session::{
     Answer, DropsCalls, PolledCall, PollsCalls, PollsTls, Session, WaitsInTask, give_up_change,
@@ -62,7 +62,7 @@ impl<K: Drop> Drop for Change<K> {
 /// # Errors
 /// There is no memory for it.
 fn command(alloc: Global, line: &str, status: Status) -> FtpResult<Box<PolledCall>> {
-    let call = custom_call(alloc, line, &[status])?;
+    let call = BorrowedCall::CustomCommand(line, &[status]).owned(alloc)?;
     Ok(Box::new(alloc, PolledCall::new(call))?)
 }
 

@@ -10,24 +10,19 @@ use crate::opening::{OpenTransfer, OpenWithReply, Opening};
 use crate::transfer_stream::TransferStream;
 use ftp_base::encoding::Encoding;
 use ftp_base::status::Status;
-use ftp_calls::call::{
-    append_call, custom_data_call, list_call, mlsd_call, nlst_call, put_call, retr_call,
-    retr_stream_call,
-};
-use ftp_session::session::Call;
+use ftp_calls::call::BorrowedCall;
 use ftp_transfer::Direction;
 use ftp_transport::{TaskConn, TaskTransport};
-use std::alloc::AllocError;
 
 impl<Tr: TaskTransport, K: Drop, E: Encoding, B: Drop> ImplAsyncFtpStream<Tr, K, E, B>
 where
     Tr::Conn: TaskConn,
 {
     /// The state of a call that opens a transfer.
-    fn open<'r, R>(
+    fn open<'r, R: AllocGlobal>(
         &self,
         rt: &'r R,
-        call: Result<Call, AllocError>,
+        call: BorrowedCall<'_>,
         direction: Direction,
     ) -> OpenTransfer<'r, R, Tr, K, E, B> {
         let opening = Opening::new(rt, &self.session, call, false, direction);
@@ -44,7 +39,7 @@ where
         rt: &'r R,
         path: &str,
     ) -> OpenTransfer<'r, R, Tr, K, E, B> {
-        let call = retr_stream_call(rt.alloc(), path);
+        let call = BorrowedCall::RetrAsStream(path);
         self.open(rt, call, Direction::Download)
     }
 
@@ -58,7 +53,7 @@ where
         rt: &'r R,
         path: &str,
     ) -> OpenTransfer<'r, R, Tr, K, E, B> {
-        self.open(rt, put_call(rt.alloc(), path), Direction::Upload)
+        self.open(rt, BorrowedCall::PutWithStream(path), Direction::Upload)
     }
 
     /// Opens an upload to the end of this file: `APPE` (125, 150; RFC 959, section 4.1.3). The offset is used as by
@@ -71,7 +66,7 @@ where
         rt: &'r R,
         path: &str,
     ) -> OpenTransfer<'r, R, Tr, K, E, B> {
-        self.open(rt, append_call(rt.alloc(), path), Direction::Upload)
+        self.open(rt, BorrowedCall::AppendWithStream(path), Direction::Upload)
     }
 
     /// Opens a data connection by a caller-supplied line, whose reply's status is among the expected, and returns that
@@ -85,7 +80,7 @@ where
         line: &str,
         expected: &[Status],
     ) -> OpenWithReply<'r, R, Tr, K, E, B> {
-        let call = custom_data_call(rt.alloc(), line, expected);
+        let call = BorrowedCall::CustomDataCommand(line, expected);
         let opening = Opening::new(rt, &self.session, call, true, Direction::Download);
         OpenWithReply::new(opening, &self.session)
     }
@@ -100,7 +95,7 @@ where
         rt: &'r R,
         path: &str,
     ) -> Dialogue<'r, R, Tr, K, E, B, Vec<u8>> {
-        Dialogue::new(Calling::new(rt, &self.session, retr_call(rt.alloc(), path)))
+        Dialogue::new(Calling::new(rt, &self.session, BorrowedCall::Retr(path)))
     }
 
     /// The lines of a listing of this path, or of the current directory: `LIST` (150, 125; RFC 959, section 4.1.3).
@@ -114,7 +109,7 @@ where
         rt: &'r R,
         path: Option<&str>,
     ) -> Lines<'r, R, Tr, K, E, B> {
-        self.dialogue(rt, list_call(rt.alloc(), path))
+        self.dialogue(rt, BorrowedCall::List(path))
     }
 
     /// The names in a directory: `NLST` (150, 125; RFC 959, section 4.1.3).
@@ -126,7 +121,7 @@ where
         rt: &'r R,
         path: Option<&str>,
     ) -> Lines<'r, R, Tr, K, E, B> {
-        self.dialogue(rt, nlst_call(rt.alloc(), path))
+        self.dialogue(rt, BorrowedCall::Nlst(path))
     }
 
     /// The facts of a directory's files, a line each: `MLSD` (150, 125; RFC 3659, section 7). `ListParser::parse_mlsd`
@@ -139,7 +134,7 @@ where
         rt: &'r R,
         path: Option<&str>,
     ) -> Lines<'r, R, Tr, K, E, B> {
-        self.dialogue(rt, mlsd_call(rt.alloc(), path))
+        self.dialogue(rt, BorrowedCall::Mlsd(path))
     }
 
     /// Brings a transfer to its end, as its own `finish` does: on the control connection of the client that opened it.

@@ -9,13 +9,12 @@ use crate::ending::Ending;
 use crate::opening::Opening;
 use ftp_base::encoding::Encoding;
 use ftp_base::types::{ConnectionError, FtpError, FtpResult};
-use ftp_calls::call::{append_call, put_call};
-use ftp_session::session::{Call, NoProgress, Progress};
+use ftp_calls::call::BorrowedCall;
+use ftp_session::session::{NoProgress, Progress};
 use ftp_transfer::{Direction, Transfer};
 use ftp_transport::{PassiveStreamBuilder, PollConn, PollTransport, TaskConn, TaskTransport};
 use futures::Future;
 use futures::task::{Context, Poll};
-use std::alloc::AllocError;
 use std::mem;
 use tokio::io::AsyncRead;
 
@@ -185,10 +184,10 @@ where
     Tr::Conn: TaskConn,
 {
     /// The state of an upload.
-    fn upload<'r, R, S: AsyncRead, P: Progress>(
+    fn upload<'r, R: AllocGlobal, S: AsyncRead, P: Progress>(
         &self,
         rt: &'r R,
-        call: Result<Call, AllocError>,
+        call: BorrowedCall<'_>,
         source: S,
         progress: P,
     ) -> Upload<'r, R, Tr, K, E, B, S, P> {
@@ -213,7 +212,7 @@ where
         path: &str,
         source: S,
     ) -> Upload<'r, R, Tr, K, E, B, S> {
-        self.upload(rt, put_call(rt.alloc(), path), source, NoProgress)
+        self.upload(rt, BorrowedCall::PutWithStream(path), source, NoProgress)
     }
 
     /// Uploads a source to this file, as `put_file` does, and reports its progress. `&mut progress` may be passed, too.
@@ -227,7 +226,7 @@ where
         source: S,
         progress: P,
     ) -> Upload<'r, R, Tr, K, E, B, S, P> {
-        self.upload(rt, put_call(rt.alloc(), path), source, progress)
+        self.upload(rt, BorrowedCall::PutWithStream(path), source, progress)
     }
 
     /// Uploads a source to the end of this file: `APPE` (125, 150; RFC 959, section 4.1.3), as `put_file` does.
@@ -240,7 +239,7 @@ where
         path: &str,
         source: S,
     ) -> Upload<'r, R, Tr, K, E, B, S> {
-        self.upload(rt, append_call(rt.alloc(), path), source, NoProgress)
+        self.upload(rt, BorrowedCall::AppendWithStream(path), source, NoProgress)
     }
 
     /// Uploads a source to the end of this file, as `append_file` does, and reports how far it has come.
@@ -254,6 +253,6 @@ where
         source: S,
         progress: P,
     ) -> Upload<'r, R, Tr, K, E, B, S, P> {
-        self.upload(rt, append_call(rt.alloc(), path), source, progress)
+        self.upload(rt, BorrowedCall::AppendWithStream(path), source, progress)
     }
 }

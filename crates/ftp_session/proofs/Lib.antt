@@ -22,6 +22,7 @@ pub mod PolledLemmas
 pub mod PolledReads
 pub mod Quiet
 pub mod Reasons
+pub mod Rows
 pub mod SavingLemmas
 pub mod SecuringCounts
 pub mod Trees

@@ -10,6 +10,7 @@ pub mod Implicit
 pub mod Locked
 pub mod PollCauses
 pub mod Polled
+pub mod Rows
 pub mod Saving
 pub mod Securing
 pub mod Trees

@@ -1,22 +1,22 @@
 //! The calls of a session, a method each.
 //!
-//! A method copies its texts into a `Call` and hands it to the machine; what the call sends and receives is its row in
-//! `ftp_calls::exchange`. Where the copy finds no memory nothing has happened. The contract of each names its own
-//! dialogue, a tree of `specs/Trees.antt`, and says that the method is this dialogue (`PlaysCommand`).
+//! A method names its call with borrowed texts (`BorrowedCall`); it is made with texts of its own and handed to the machine.
+//! What it sends and receives is its row in `ftp_calls::exchange`. Where there is no memory for the texts nothing has
+//! happened. The contract of each names its own dialogue, a tree of `specs/Trees.antt`, and says that the method is this
+//! dialogue (`PlaysCommand`).
 
-ghost use Rattle.std.specs.Prelude.{◌≡◌, [], ◌∷◌, IfOk, option_map, true};
+ghost use Rattle.std.specs.Prelude.{◌≡◌, [], ◌∷◌, option_map, true};
 ghost use Rattle.ftp_control.specs.Channel.{IsSound};
 ghost use Rattle.ftp_calls.specs.declared.call.Answer.TheVariants.{Fault};
-ghost use Rattle.ftp_base.specs.declared.command.Command.{Command as Said};
 ghost use Rattle.ftp_calls.specs.declared.call.Call.{Call as Called};
-ghost use Rattle.ftp_calls.specs.declared.exchange.Codes.{Codes as Accepted};
-ghost use Rattle.ftp_calls.specs.Exchanges.{own_row, says};
+ghost use Rattle.ftp_calls.specs.Exchanges.{call_of, own_row};
 ghost use Rattle.ftp_session.specs.Calls.{reply_answer, unit_answer};
 ghost use Rattle.ftp_dialogue.specs.Coding.{chosen};
 ghost use Rattle.ftp_dialogue.specs.Counted.{CountsFaults};
 ghost use Rattle.ftp_dialogue.specs.Link.{blocking};
 ghost use Rattle.ftp_session.specs.Commands.{PlaysCommand, PlaysRead};
 ghost use Rattle.ftp_session.specs.Handed.{PlaysSeen};
+ghost use Rattle.ftp_session.specs.Rows.{PlaysRow};
 ghost use Rattle.ftp_session.specs.Trees.{login_tree, read_tree, rename_tree, reply_tree, resume_tree, type_tree, unit_tree};
 ghost use Rattle.ftp_dialogue.specs.Promises.{PlaysAlone};
 ghost use Rattle.ftp_calls.specs.Kinds.{GivesNothing, GivesReply, IsPlain};
@@ -30,11 +30,8 @@ use ftp_base::command::Command;
 use ftp_base::encoding::Encoding;
 use ftp_base::status::Status;
 use ftp_base::types::{FileType, FtpError, FtpResult, Response};
-use ftp_calls::call::{
-    custom_call, cwd_call, login_call, mkdir_call, opts_call, read_call, rename_call, rm_call,
-    rmdir_call, site_call,
-};
-use ftp_calls::exchange::{Codes, Ending};
+use ftp_calls::call::BorrowedCall;
+use ftp_calls::exchange::Codes;
 use ftp_dialogue::asks::Nothing;
 use ftp_transport::{Conn, Network};
 use std::alloc::{AllocError, Global};
@@ -74,7 +71,7 @@ where
         ensures builder { self.new.builder ≡ self.old.builder }
         ensures former { self.new.former ≡ self.old.former }
     {
-        self.perform(alloc, login_call(alloc, user, password))
+        self.perform(alloc, BorrowedCall::Login(user, password))
     }
 
     /// Changes to this directory: `CWD` (200, 250).
@@ -91,7 +88,7 @@ where
         ensures builder { self.new.builder ≡ self.old.builder }
         ensures former { self.new.former ≡ self.old.former }
     {
-        self.perform(alloc, cwd_call(alloc, path))
+        self.perform(alloc, BorrowedCall::Cwd(path))
     }
 
     /// Changes to the directory above: `CDUP` (200, 250).
@@ -108,7 +105,7 @@ where
         ensures builder { self.new.builder ≡ self.old.builder }
         ensures former { self.new.former ≡ self.old.former }
     {
-        self.perform(alloc, Ok(Call::Cdup))
+        self.perform(alloc, BorrowedCall::Cdup)
     }
 
     /// Does nothing but to have the server answer: `NOOP` (200).
@@ -125,7 +122,7 @@ where
         ensures builder { self.new.builder ≡ self.old.builder }
         ensures former { self.new.former ≡ self.old.former }
     {
-        self.perform(alloc, Ok(Call::Noop))
+        self.perform(alloc, BorrowedCall::Noop)
     }
 
     /// Comes back into step with a server that has sent more replies than were read, as some do after `ABOR`: `NOOP`, and
@@ -143,7 +140,7 @@ where
         ensures builder { self.new.builder ≡ self.old.builder }
         ensures former { self.new.former ≡ self.old.former }
     {
-        self.perform(alloc, Ok(Call::Resync))
+        self.perform(alloc, BorrowedCall::Resync)
     }
 
     /// Names the address that the server is to open data connections to: `EPRT` (200; RFC 2428, section 2).
@@ -160,7 +157,7 @@ where
         ensures builder { self.new.builder ≡ self.old.builder }
         ensures former { self.new.former ≡ self.old.former }
     {
-        self.perform(alloc, Ok(Call::Eprt(address)))
+        self.perform(alloc, BorrowedCall::Eprt(address))
     }
 
     /// Sets an option of the server's, to a value or without one: `OPTS` (200; RFC 2389, section 4).
@@ -177,7 +174,7 @@ where
         ensures builder { self.new.builder ≡ self.old.builder }
         ensures former { self.new.former ≡ self.old.former }
     {
-        self.perform(alloc, opts_call(alloc, option, value))
+        self.perform(alloc, BorrowedCall::Opts(option, value))
     }
 
     /// Sends a command of the server's own: `SITE` (200).
@@ -194,7 +191,7 @@ where
         ensures builder { self.new.builder ≡ self.old.builder }
         ensures former { self.new.former ≡ self.old.former }
     {
-        self.perform_for_reply(alloc, site_call(alloc, command))
+        self.perform_for_reply(alloc, BorrowedCall::Site(command))
     }
 
     /// Sets the type of data: `TYPE` (200). After it, transfers are of text where the type is ASCII.
@@ -209,7 +206,7 @@ where
         ensures builder { self.new.builder ≡ self.old.builder }
         ensures former { self.new.former ≡ self.old.former }
     {
-        self.perform(alloc, Ok(Call::TransferType(kind)))
+        self.perform(alloc, BorrowedCall::TransferType(&kind))
     }
 
     /// Makes a directory: `MKD` (257, 200).
@@ -226,7 +223,7 @@ where
         ensures builder { self.new.builder ≡ self.old.builder }
         ensures former { self.new.former ≡ self.old.former }
     {
-        self.perform(alloc, mkdir_call(alloc, path))
+        self.perform(alloc, BorrowedCall::Mkdir(path))
     }
 
     /// Removes a directory: `RMD` (250, 200).
@@ -243,7 +240,7 @@ where
         ensures builder { self.new.builder ≡ self.old.builder }
         ensures former { self.new.former ≡ self.old.former }
     {
-        self.perform(alloc, rmdir_call(alloc, path))
+        self.perform(alloc, BorrowedCall::Rmdir(path))
     }
 
     /// Deletes a file: `DELE` (250, 200).
@@ -260,7 +257,7 @@ where
         ensures builder { self.new.builder ≡ self.old.builder }
         ensures former { self.new.former ≡ self.old.former }
     {
-        self.perform(alloc, rm_call(alloc, path))
+        self.perform(alloc, BorrowedCall::Rm(path))
     }
 
     /// Renames a file or directory: `RNFR` (350), then `RNTO` (250, 200). The new name is looked at only after 350.
@@ -275,7 +272,7 @@ where
         ensures builder { self.new.builder ≡ self.old.builder }
         ensures former { self.new.former ≡ self.old.former }
     {
-        self.perform(alloc, rename_call(alloc, from, to))
+        self.perform(alloc, BorrowedCall::Rename(from, to))
     }
 
     /// Ends the session: `QUIT` (221).
@@ -292,7 +289,7 @@ where
         ensures builder { self.new.builder ≡ self.old.builder }
         ensures former { self.new.former ≡ self.old.former }
     {
-        self.perform(alloc, Ok(Call::Quit))
+        self.perform(alloc, BorrowedCall::Quit)
     }
 
     /// Sends a caller-supplied line and reads its reply, whose status is among the expected.
@@ -314,7 +311,7 @@ where
         ensures builder { self.new.builder ≡ self.old.builder }
         ensures former { self.new.former ≡ self.old.former }
     {
-        self.perform_for_reply(alloc, custom_call(alloc, line, expected))
+        self.perform_for_reply(alloc, BorrowedCall::CustomCommand(line, expected))
     }
 
     /// Reads one reply of this status: that of a command that was dropped, where one is due. Nothing is sent.
@@ -329,7 +326,7 @@ where
         ensures builder { self.new.builder ≡ self.old.builder }
         ensures former { self.new.former ≡ self.old.former }
     {
-        self.perform_for_reply(alloc, Ok(Call::ReadResponse(expected)))
+        self.perform_for_reply(alloc, BorrowedCall::ReadResponse(expected))
     }
 
     /// Reads one reply whose status is among the expected: that of a command that was dropped, where one is due.
@@ -345,7 +342,7 @@ where
         ensures builder { self.new.builder ≡ self.old.builder }
         ensures former { self.new.former ≡ self.old.former }
     {
-        self.perform_for_reply(alloc, read_call(alloc, expected))
+        self.perform_for_reply(alloc, BorrowedCall::ReadResponseIn(expected))
     }
 
     /// The next transfer begins at this offset, in bytes (`REST`; RFC 3659, section 5). 0 takes an earlier offset away.
@@ -360,7 +357,7 @@ where
         ensures builder { self.new.builder ≡ self.old.builder }
         ensures former { self.new.former ≡ self.old.former }
     {
-        self.perform(alloc, Ok(Call::ResumeTransfer(offset)))
+        self.perform(alloc, BorrowedCall::ResumeTransfer(offset))
     }
 
     /// Makes a call.
@@ -379,22 +376,19 @@ where
             .call_in_step(&Nothing, alloc, &self.encoding, call)
     }
 
-    /// Makes a call that returns nothing, whose arguments were copied. Where memory ran out for them nothing happens.
-    fn perform(&mut self, alloc: Global, call: Result<Call, AllocError>) -> FtpResult<()>
-        requires { IfOk call GivesNothing }
+    /// Makes a call that returns nothing, with arguments of its own. Where memory runs out for them nothing happens.
+    fn perform(&mut self, alloc: Global, call: BorrowedCall<'_>) -> FtpResult<()>
+        requires { GivesNothing (call_of call) }
         ensures encoding { self.new.encoding ≡ self.old.encoding }
         ensures builder { self.new.builder ≡ self.old.builder }
         ensures former { self.new.former ≡ self.old.former }
-        ensures plays { (made : Called) → IsPlain made → IfOk call (λ c. c ≡ made) →
-            PlaysSeen (blocking Tr.Conn.Conn) (chosen E.decoded E.encoded self.old.encoding.0) made
+        ensures plays { PlaysSeen (blocking Tr.Conn.Conn) (chosen E.decoded E.encoded self.old.encoding.0) (call_of call.entry)
             self.old.mark self.new.mark self.old.machine self.new.machine (unit_answer result) }
-        ensures once { (made : Called) → IfOk call (λ c. c ≡ made) → (command : Said) (codes : Accepted) →
-            own_row made true ≡ says command codes Ending.Done → PlaysCommand (blocking Tr.Conn.Conn)
-            (unit_tree (chosen E.decoded E.encoded self.old.encoding.0) command codes)
+        ensures row { PlaysRow (own_row (call_of call.entry) true) (blocking Tr.Conn.Conn) (chosen E.decoded E.encoded self.old.encoding.0)
             self.old.mark self.new.mark self.old.machine self.new.machine (unit_answer result) }
         ensures counts { CountsFaults Tr.Conn.tells self.old.machine self.new.machine (unit_answer result) }
     {
-        match call {
+        match call.owned(alloc) {
             Ok(call) => {
                 let answer = self.call(alloc, &call);
                 drop(call);
@@ -405,25 +399,18 @@ where
     }
 
     /// Makes a call that returns its reply, as `perform` does.
-    fn perform_for_reply(
-        &mut self,
-        alloc: Global,
-        call: Result<Call, AllocError>,
-    ) -> FtpResult<Response>
-        requires { IfOk call GivesReply }
+    fn perform_for_reply(&mut self, alloc: Global, call: BorrowedCall<'_>) -> FtpResult<Response>
+        requires { GivesReply (call_of call) }
         ensures encoding { self.new.encoding ≡ self.old.encoding }
         ensures builder { self.new.builder ≡ self.old.builder }
         ensures former { self.new.former ≡ self.old.former }
-        ensures plays { (made : Called) → IsPlain made → IfOk call (λ c. c ≡ made) →
-            PlaysSeen (blocking Tr.Conn.Conn) (chosen E.decoded E.encoded self.old.encoding.0) made
+        ensures plays { PlaysSeen (blocking Tr.Conn.Conn) (chosen E.decoded E.encoded self.old.encoding.0) (call_of call.entry)
             self.old.mark self.new.mark self.old.machine self.new.machine (reply_answer result) }
-        ensures once { (made : Called) → IfOk call (λ c. c ≡ made) → (command : Said) (codes : Accepted) →
-            own_row made true ≡ says command codes Ending.GivesReply → PlaysCommand (blocking Tr.Conn.Conn)
-            (reply_tree (chosen E.decoded E.encoded self.old.encoding.0) command codes)
+        ensures row { PlaysRow (own_row (call_of call.entry) true) (blocking Tr.Conn.Conn) (chosen E.decoded E.encoded self.old.encoding.0)
             self.old.mark self.new.mark self.old.machine self.new.machine (reply_answer result) }
         ensures counts { CountsFaults Tr.Conn.tells self.old.machine self.new.machine (reply_answer result) }
     {
-        match call {
+        match call.owned(alloc) {
             Ok(call) => {
                 let answer = self.call(alloc, &call);
                 drop(call);

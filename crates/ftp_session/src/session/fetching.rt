@@ -6,9 +6,8 @@
 
 ghost use Rattle.std.specs.Prelude.{◌≡◌, Bool, IfOk, option_map};
 ghost use Rattle.ftp_base.specs.declared.command.Command.{Command as Said};
-ghost use Rattle.ftp_calls.specs.Exchanges.{fetches as fetch_row, own_row};
+ghost use Rattle.ftp_calls.specs.Exchanges.{call_of, fetches as fetch_row, own_row};
 ghost use Rattle.ftp_calls.specs.declared.exchange.Fetch.{Fetch};
-ghost use Rattle.ftp_calls.specs.declared.call.Call.{Call as Called};
 ghost use Rattle.ftp_calls.specs.declared.exchange.Fetch.TheVariants.{Listed, Whole};
 ghost use Rattle.ftp_dialogue.specs.Coding.{chosen};
 ghost use Rattle.ftp_dialogue.specs.Counted.{CountsFaultsBeside};
@@ -25,7 +24,7 @@ use super::polling::DropsCalls;
 use super::{Answer, Call};
 use ftp_base::encoding::Encoding;
 use ftp_base::types::FtpResult;
-use ftp_calls::call::{list_call, mlsd_call, nlst_call, retr_call};
+use ftp_calls::call::BorrowedCall;
 use ftp_transport::{Conn, Network, PassiveStreamBuilder, Transport};
 use std::alloc::{AllocError, Global};
 
@@ -50,7 +49,7 @@ where
         ensures builder { self.new.builder ≡ self.old.builder }
         ensures former { self.new.former ≡ self.old.former }
     {
-        bytes(self.fetch(alloc, rt, retr_call(alloc, path)))
+        bytes(self.fetch(alloc, rt, BorrowedCall::Retr(path)))
     }
 
     /// The lines of a listing of this path, or of the current directory: `LIST` (150, 125), its lines, and the last reply
@@ -71,7 +70,7 @@ where
         ensures builder { self.new.builder ≡ self.old.builder }
         ensures former { self.new.former ≡ self.old.former }
     {
-        lines(self.fetch(alloc, rt, list_call(alloc, path)))
+        lines(self.fetch(alloc, rt, BorrowedCall::List(path)))
     }
 
     /// The names in a directory: `NLST` (150, 125), as `list` does.
@@ -88,7 +87,7 @@ where
         ensures builder { self.new.builder ≡ self.old.builder }
         ensures former { self.new.former ≡ self.old.former }
     {
-        lines(self.fetch(alloc, rt, nlst_call(alloc, path)))
+        lines(self.fetch(alloc, rt, BorrowedCall::Nlst(path)))
     }
 
     /// The facts of a directory's files, a line each: `MLSD` (150, 125; RFC 3659, section 7), as `list` does.
@@ -105,26 +104,25 @@ where
         ensures builder { self.new.builder ≡ self.old.builder }
         ensures former { self.new.former ≡ self.old.former }
     {
-        lines(self.fetch(alloc, rt, mlsd_call(alloc, path)))
+        lines(self.fetch(alloc, rt, BorrowedCall::Mlsd(path)))
     }
 
     /// Makes a call that reads a whole data connection, after the look. Where memory runs out for the call's texts,
     /// nothing is sent.
-    fn fetch<R>(&mut self, alloc: Global, rt: &R, call: Result<Call, AllocError>) -> Answer
+    fn fetch<R>(&mut self, alloc: Global, rt: &R, call: BorrowedCall<'_>) -> Answer
     where
         Tr: Transport<R>,
-        requires { IfOk call IsOpening }
-        ensures plays { (made : Called) → IsOpening made → IfOk call (λ c. c ≡ made) →
-            PlaysSeen (asking (built_by B.answers self.old.builder) ⊥ (blocking Tr.Conn.Conn)) (chosen E.decoded E.encoded self.old.encoding.0) made
+        requires { IsOpening (call_of call) }
+        ensures plays { PlaysSeen (asking (built_by B.answers self.old.builder) ⊥ (blocking Tr.Conn.Conn)) (chosen E.decoded E.encoded self.old.encoding.0) (call_of call.entry)
             self.old.mark self.new.mark self.old.machine self.new.machine result }
-        ensures fetched { (made : Called) → IsOpening made → IfOk call (λ c. c ≡ made) → (form : Fetch) (command : Said) →
-            ((first : Bool) → own_row made first ≡ fetch_row command form) → IsFetched form result }
+        ensures fetched { (form : Fetch) (command : Said) →
+            ((first : Bool) → own_row (call_of call.entry) first ≡ fetch_row command form) → IsFetched form result }
         ensures encoding { self.new.encoding ≡ self.old.encoding }
         ensures builder { self.new.builder ≡ self.old.builder }
         ensures former { self.new.former ≡ self.old.former }
     {
         look(&mut self.machine, &mut self.mark);
-        match call {
+        match call.owned(alloc) {
             Ok(call) => {
                 let answer = make_in_step(
                     &mut self.machine,

@@ -5,7 +5,7 @@
 
 ghost use Rattle.std.specs.Prelude.{◌≡◌, IfErr, IfOk, false, is_none, not};
 ghost use Rattle.ftp_calls.specs.declared.call.Answer.TheVariants.{Fault};
-ghost use Rattle.ftp_calls.specs.declared.call.Call.{Call as Called};
+ghost use Rattle.ftp_calls.specs.Exchanges.{call_of};
 ghost use Rattle.ftp_dialogue.specs.Coding.{chosen};
 ghost use Rattle.ftp_dialogue.specs.Counted.{CountsFaultsBeside};
 ghost use Rattle.ftp_session.specs.Handed.{HandsConnection, OpensAs, OpensEither, Opens, OpensReplied, with_reply, without_reply};
@@ -21,7 +21,7 @@ use super::{Answer, Call};
 use ftp_base::encoding::Encoding;
 use ftp_base::status::Status;
 use ftp_base::types::{FtpResult, Response};
-use ftp_calls::call::{append_call, custom_data_call, put_call, retr_stream_call};
+use ftp_calls::call::BorrowedCall;
 use ftp_transfer::{Direction, Transfer};
 use ftp_transport::{Conn, Network, PassiveStreamBuilder, Tells, Transport};
 use std::alloc::{AllocError, Global};
@@ -52,7 +52,7 @@ where
         without_reply(self.open(
             alloc,
             rt,
-            retr_stream_call(alloc, path),
+            BorrowedCall::RetrAsStream(path),
             false,
             Direction::Download,
         ))
@@ -76,7 +76,13 @@ where
         ensures encoding { self.new.encoding ≡ self.old.encoding }
         ensures builder { self.new.builder ≡ self.old.builder }
     {
-        without_reply(self.open(alloc, rt, put_call(alloc, path), false, Direction::Upload))
+        without_reply(self.open(
+            alloc,
+            rt,
+            BorrowedCall::PutWithStream(path),
+            false,
+            Direction::Upload,
+        ))
     }
 
     /// Opens an upload to the end of this file: `APPE` (125, 150). The offset is used as by `retr_as_stream`.
@@ -100,7 +106,7 @@ where
         without_reply(self.open(
             alloc,
             rt,
-            append_call(alloc, path),
+            BorrowedCall::AppendWithStream(path),
             false,
             Direction::Upload,
         ))
@@ -130,7 +136,7 @@ where
         with_reply(self.open(
             alloc,
             rt,
-            custom_data_call(alloc, line, expected),
+            BorrowedCall::CustomDataCommand(line, expected),
             true,
             Direction::Download,
         ))
@@ -142,22 +148,21 @@ where
         &mut self,
         alloc: Global,
         rt: &R,
-        call: Result<Call, AllocError>,
+        call: BorrowedCall<'_>,
         replies: bool,
         direction: Direction,
     ) -> FtpResult<(Option<Response>, Transfer<Tr::Conn>)>
     where
         Tr: Transport<R>,
-        requires { IfOk call (λ c. HandsConnection replies c) }
-        ensures opens { (made : Called) → HandsConnection replies made → IfOk call (λ c. c ≡ made) →
-            OpensAs (asking (built_by B.answers self.old.builder) ⊥ (blocking Tr.Conn.Conn)) (chosen E.decoded E.encoded self.old.encoding.0) made
-            replies direction self.old.mark self.new.mark self.old.former self.new.former self.old.machine self.new.machine result }
+        requires { HandsConnection replies (call_of call) }
+        ensures opens { OpensAs (asking (built_by B.answers self.old.builder) ⊥ (blocking Tr.Conn.Conn)) (chosen E.decoded E.encoded self.old.encoding.0)
+            (call_of call.entry) replies direction self.old.mark self.new.mark self.old.former self.new.former self.old.machine self.new.machine result }
         ensures replies { IfOk result (λ opened. is_none opened.0 ≡ not replies) }
         ensures encoding { self.new.encoding ≡ self.old.encoding }
         ensures builder { self.new.builder ≡ self.old.builder }
     {
         look(&mut self.machine, &mut self.mark);
-        match call {
+        match call.owned(alloc) {
             Ok(call) => {
                 let opened = self.open_call(alloc, rt, &call, replies, direction);
                 drop(call);

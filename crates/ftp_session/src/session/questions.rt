@@ -19,7 +19,7 @@ use super::client::Session;
 use super::{Answer, Call};
 use ftp_base::encoding::Encoding;
 use ftp_base::types::{Features, FtpResult};
-use ftp_calls::call::{mdtm_call, mlst_call, size_call};
+use ftp_calls::call::BorrowedCall;
 use ftp_transport::{Conn, Network};
 use jiff::civil::DateTime;
 use std::alloc::{AllocError, Global};
@@ -57,7 +57,7 @@ where
         ensures builder { self.new.builder ≡ self.old.builder }
         ensures former { self.new.former ≡ self.old.former }
     {
-        match mlst_call(alloc, path) {
+        match BorrowedCall::Mlst(path).owned(alloc) {
             Ok(call) => {
                 let answer = self.call(alloc, &call);
                 drop(call);
@@ -80,7 +80,7 @@ where
         ensures builder { self.new.builder ≡ self.old.builder }
         ensures former { self.new.former ≡ self.old.former }
     {
-        match mdtm_call(alloc, path) {
+        match BorrowedCall::Mdtm(path).owned(alloc) {
             Ok(call) => {
                 let answer = self.call(alloc, &call);
                 drop(call);
@@ -103,7 +103,7 @@ where
         ensures builder { self.new.builder ≡ self.old.builder }
         ensures former { self.new.former ≡ self.old.former }
     {
-        match size_call(alloc, path) {
+        match BorrowedCall::Size(path).owned(alloc) {
             Ok(call) => {
                 let answer = self.call(alloc, &call);
                 drop(call);

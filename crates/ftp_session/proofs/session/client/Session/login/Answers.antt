@@ -8,4 +8,4 @@ use Rattle.ftp_session.proofs.session.client.Session.login.Goals as goal
 pub returns-clause-plays : goal.returns-clause-plays
 returns-clause-plays g c =
     let coding = chosen g.E.Encoding.decoded g.E.Encoding.encoded c.args.self.now.encoding.0 in
-    plays_command _ coding (Login c.args.user.now c.args.password.now) false _ _ _ _ _ _ (login_is coding c.args.user.now c.args.password.now) refl (c.perform.ensures.plays (Login c.args.user.now c.args.password.now) (refl, refl, refl) c.login_call.ensures.call)
+    plays_command _ coding (Login c.args.user.now c.args.password.now) false _ _ _ _ _ _ (login_is coding c.args.user.now c.args.password.now) refl c.perform.ensures.plays

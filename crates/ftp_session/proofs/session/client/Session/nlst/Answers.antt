@@ -6,10 +6,10 @@ use Rattle.ftp_session.proofs.Reasons.{opening_reasons}
 use Rattle.ftp_session.proofs.session.client.Session.nlst.Goals as goal
 
 pub lines-requires : goal.lines-requires
-lines-requires g c = c.fetch.ensures.fetched (Nlst (option_map (λ text. text.now) c.args.path)) (refl, refl, refl) c.nlst_call.ensures.call Listed (command.Nlst (option_map (λ text. text.now) c.args.path)) (λ first. refl)
+lines-requires g c = c.fetch.ensures.fetched Listed (command.Nlst (option_map (λ text. text.now) c.args.path)) (λ first. refl)
 
 pub returns-clause-fetches : goal.returns-clause-fetches
-returns-clause-fetches g c = rw c.lines.ensures (c.fetch.ensures.plays (Nlst (option_map (λ text. text.now) c.args.path)) (refl, refl, refl) c.nlst_call.ensures.call)
+returns-clause-fetches g c = rw c.lines.ensures c.fetch.ensures.plays
 
 pub returns-clause-counts : goal.returns-clause-counts
-returns-clause-counts g c = rw c.lines.ensures (opening_reasons _ _ (Nlst (option_map (λ text. text.now) c.args.path)) _ _ _ _ _ (refl, refl, refl) tt (c.fetch.ensures.plays (Nlst (option_map (λ text. text.now) c.args.path)) (refl, refl, refl) c.nlst_call.ensures.call))
+returns-clause-counts g c = rw c.lines.ensures (opening_reasons _ _ (Nlst (option_map (λ text. text.now) c.args.path)) _ _ _ _ _ (refl, refl, refl) tt c.fetch.ensures.plays)

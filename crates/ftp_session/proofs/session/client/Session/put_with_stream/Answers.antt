@@ -5,7 +5,7 @@ use Rattle.ftp_session.proofs.Reasons.{opened_reasons}
 use Rattle.ftp_session.proofs.session.client.Session.put_with_stream.Goals as goal
 
 pub returns-clause-opens : goal.returns-clause-opens
-returns-clause-opens g c = rw c.without_reply.ensures (opens_plain _ _ _ _ _ _ _ _ _ _ _ (c.open.ensures.opens (PutWithStream c.args.path.now) (record { sort = (refl, refl, refl); first = refl; last = refl }) c.put_call.ensures.call))
+returns-clause-opens g c = rw c.without_reply.ensures (opens_plain _ _ _ _ _ _ _ _ _ _ _ c.open.ensures.opens)
 
 pub returns-clause-counts : goal.returns-clause-counts
 returns-clause-counts g c = opened_reasons _ _ (PutWithStream c.args.path.now) (refl, refl, refl) tt _ _ _ _ _ _ _ _ (returns-clause-opens g c)

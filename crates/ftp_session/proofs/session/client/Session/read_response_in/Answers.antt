@@ -8,4 +8,4 @@ use Rattle.ftp_session.proofs.session.client.Session.read_response_in.Goals as g
 pub returns-clause-plays : goal.returns-clause-plays
 returns-clause-plays g c =
     let coding = chosen g.E.Encoding.decoded g.E.Encoding.encoded c.args.self.now.encoding.0 in
-    plays_command _ coding (ReadResponseIn c.args.expected.now) true _ _ _ _ _ _ (read_in_is coding c.args.expected.now) refl (c.perform_for_reply.ensures.plays (ReadResponseIn c.args.expected.now) (refl, refl, refl) c.read_call.ensures.call)
+    plays_command _ coding (ReadResponseIn c.args.expected.now) true _ _ _ _ _ _ (read_in_is coding c.args.expected.now) refl c.perform_for_reply.ensures.plays

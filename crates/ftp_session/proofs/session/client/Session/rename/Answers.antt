@@ -8,4 +8,4 @@ use Rattle.ftp_session.proofs.session.client.Session.rename.Goals as goal
 pub returns-clause-plays : goal.returns-clause-plays
 returns-clause-plays g c =
     let coding = chosen g.E.Encoding.decoded g.E.Encoding.encoded c.args.self.now.encoding.0 in
-    plays_command _ coding (Rename c.args.from.now c.args.to.now) false _ _ _ _ _ _ (rename_is coding c.args.from.now c.args.to.now) refl (c.perform.ensures.plays (Rename c.args.from.now c.args.to.now) (refl, refl, refl) c.rename_call.ensures.call)
+    plays_command _ coding (Rename c.args.from.now c.args.to.now) false _ _ _ _ _ _ (rename_is coding c.args.from.now c.args.to.now) refl c.perform.ensures.plays

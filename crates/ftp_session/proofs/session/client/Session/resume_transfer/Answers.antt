@@ -8,4 +8,4 @@ use Rattle.ftp_session.proofs.session.client.Session.resume_transfer.Goals as go
 pub returns-clause-plays : goal.returns-clause-plays
 returns-clause-plays g c =
     let coding = chosen g.E.Encoding.decoded g.E.Encoding.encoded c.args.self.now.encoding.0 in
-    plays_command _ coding (ResumeTransfer c.args.offset) false _ _ _ _ _ _ (resume_is coding c.args.offset) refl (c.perform.ensures.plays (ResumeTransfer c.args.offset) (refl, refl, refl) refl)
+    plays_command _ coding (ResumeTransfer c.args.offset) false _ _ _ _ _ _ (resume_is coding c.args.offset) refl c.perform.ensures.plays

@@ -6,10 +6,10 @@ use Rattle.ftp_session.proofs.Reasons.{opening_reasons}
 use Rattle.ftp_session.proofs.session.client.Session.retr_as_buffer.Goals as goal
 
 pub bytes-requires : goal.bytes-requires
-bytes-requires g c = c.fetch.ensures.fetched (Retr c.args.path.now) (refl, refl, refl) c.retr_call.ensures.call Whole (command.Retr c.args.path.now) (λ first. refl)
+bytes-requires g c = c.fetch.ensures.fetched Whole (command.Retr c.args.path.now) (λ first. refl)
 
 pub returns-clause-fetches : goal.returns-clause-fetches
-returns-clause-fetches g c = rw c.bytes.ensures (c.fetch.ensures.plays (Retr c.args.path.now) (refl, refl, refl) c.retr_call.ensures.call)
+returns-clause-fetches g c = rw c.bytes.ensures c.fetch.ensures.plays
 
 pub returns-clause-counts : goal.returns-clause-counts
-returns-clause-counts g c = rw c.bytes.ensures (opening_reasons _ _ (Retr c.args.path.now) _ _ _ _ _ (refl, refl, refl) tt (c.fetch.ensures.plays (Retr c.args.path.now) (refl, refl, refl) c.retr_call.ensures.call))
+returns-clause-counts g c = rw c.bytes.ensures (opening_reasons _ _ (Retr c.args.path.now) _ _ _ _ _ (refl, refl, refl) tt c.fetch.ensures.plays)

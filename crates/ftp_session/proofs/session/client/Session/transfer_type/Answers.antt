@@ -8,4 +8,4 @@ use Rattle.ftp_session.proofs.session.client.Session.transfer_type.Goals as goal
 pub returns-clause-plays : goal.returns-clause-plays
 returns-clause-plays g c =
     let coding = chosen g.E.Encoding.decoded g.E.Encoding.encoded c.args.self.now.encoding.0 in
-    plays_command _ coding (TransferType c.args.kind) false _ _ _ _ _ _ (type_is coding c.args.kind) refl (c.perform.ensures.plays (TransferType c.args.kind) (refl, refl, refl) refl)
+    plays_command _ coding (TransferType c.args.kind) false _ _ _ _ _ _ (type_is coding c.args.kind) refl c.perform.ensures.plays

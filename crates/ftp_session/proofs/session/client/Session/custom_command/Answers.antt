@@ -1,5 +1,0 @@
-use Rattle.std.proofs.Common.{refl}
-use Rattle.ftp_session.proofs.session.client.Session.custom_command.Goals as goal
-
-pub returns-clause-plays : goal.returns-clause-plays
-returns-clause-plays g c = c.perform_for_reply.ensures.once _ c.custom_call.ensures.call _ _ refl

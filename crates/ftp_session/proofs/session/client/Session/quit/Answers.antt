@@ -1,5 +1,0 @@
-use Rattle.std.proofs.Common.{refl}
-use Rattle.ftp_session.proofs.session.client.Session.quit.Goals as goal
-
-pub returns-clause-plays : goal.returns-clause-plays
-returns-clause-plays g c = c.perform.ensures.once _ refl _ _ refl
