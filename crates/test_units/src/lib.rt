@@ -13,6 +13,8 @@ mod conversions;
 #[cfg(test)]
 mod copies;
 #[cfg(test)]
+mod cut_lines;
+#[cfg(test)]
 mod described;
 #[cfg(test)]
 mod features;

@@ -1,8 +1,8 @@
 //! A session whose connections and transport may fail.
 
-use crate::conn::FailingConn;
-use crate::device::{Device, KIND};
-use crate::transport::FailingTransport;
+use crate::faults::conn::FailingConn;
+use crate::faults::device::{Device, KIND};
+use crate::faults::transport::FailingTransport;
 use ftp_base::types::{ConnectionError, FtpError, FtpResult, Mode};
 use ftp_session::session::Session;
 use ftp_transport::MemoryConn;

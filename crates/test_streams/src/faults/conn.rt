@@ -2,7 +2,7 @@
 
 ghost use Rattle.ftp_transport.specs.Memory.{fresh_memory};
 
-use crate::device::{Device, KIND, Place};
+use crate::faults::device::{Device, KIND, Place};
 use ftp_transport::{Conn, MemoryConn, Tells};
 use std::io::ErrorKind;
 use std::net::SocketAddr;

@@ -1,7 +1,7 @@
 //! Whole files in which the first call fails, the second, and so on until none does.
 
-use crate::device::{Device, Place};
-use crate::scene::{FailingSession, Run, number, session_for};
+use crate::faults::device::{Device, Place};
+use crate::faults::scene::{FailingSession, Run, number, session_for};
 use ftp_base::types::FtpResult;
 use ftp_session::session::Owed;
 use std::alloc::Global;

@@ -2,8 +2,8 @@
 
 ghost use Rattle.std.specs.Prelude.{[]};
 
-use crate::conn::FailingConn;
-use crate::device::{Device, KIND, Place};
+use crate::faults::conn::FailingConn;
+use crate::faults::device::{Device, KIND, Place};
 use ftp_base::types::ConnectionError;
 use ftp_transport::{Accepted, Connected, Handshaken, Listening, MemoryConn, Network, Transport};
 use std::alloc::AllocError;
