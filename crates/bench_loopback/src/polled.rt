@@ -12,6 +12,7 @@ use std::sync::Wait;
 use std::time::CpuClock;
 use suppaftp::polled_ftp::{AllowStdIo, AsyncFtpStream, TokioConn, TokioTransport};
 use suppaftp::{FileType, FtpResult, Host, NoProgress};
+use test_loopback::running;
 use tokio::runtime::LocalRuntime;
 
 /// How long a small file is.
@@ -23,11 +24,12 @@ pub fn run_all<R>(rt: &R, stream: TcpStream, plan: &[Run]) -> Result<()>
 where
     R: Host + Wait + RandomSource + CpuClock + Files + Print + Eprint,
 {
-    let mut runtime = LocalRuntime::new(rt)?;
-    let client = client_on(rt, &mut runtime, stream)?;
+    let mut owned = running(rt)?;
+    let runtime = owned.local();
+    let client = client_on(rt, runtime, stream)?;
     for run in plan {
         if run.kind.is_polled() {
-            measure(rt, &mut runtime, &client, *run)?;
+            measure(rt, runtime, &client, *run)?;
         }
     }
     runtime.block_on(rt, client.quit(rt))??;

@@ -6,11 +6,7 @@ mod addresses;
 #[cfg(test)]
 mod asks;
 #[cfg(test)]
-mod channel;
-#[cfg(test)]
 mod clients;
-#[cfg(test)]
-mod data_sockets;
 #[cfg(test)]
 mod failing;
 #[cfg(test)]
@@ -19,8 +15,6 @@ mod greetings;
 mod limits;
 #[cfg(test)]
 mod listings;
-#[cfg(test)]
-mod reads;
 #[cfg(test)]
 mod room;
 #[cfg(test)]

@@ -1,6 +1,6 @@
 //! The states of a client over tokio's sockets.
 
-use crate::scene::{Scene, answered, came, command_waits, greeted, listening, send, waits};
+use crate::scene::{Scene, answered, came, command_waits, greeted, send, waits};
 use std::alloc::AllocGlobal;
 use std::io;
 use std::io::{Read, Write};
@@ -9,6 +9,7 @@ use std::random::RandomSource;
 use std::sync::Wait;
 use std::test::Fail;
 use std::time::{Clock, Duration};
+use test_loopback::listening;
 
 #[test]
 fn a_state_that_waits_sends_its_line_and_lets_the_reply_come(rt: HostRuntime) -> Result<(), Fail> {

@@ -3,7 +3,7 @@
 ghost use Rattle.std.specs.Prelude.{◌≡◌};
 
 use crate::clients::write_passive;
-use crate::scene::{Runtime, Scene, greeted, listening, number, send};
+use crate::scene::{Scene, greeted, number, send};
 use ftp_base::types::FtpResult;
 use futures::Future;
 use futures::task::{Context, Poll};
@@ -15,6 +15,7 @@ use std::sync::Wait;
 use std::test::Fail;
 use std::time::{Clock, Duration};
 use std::{io, thread};
+use test_loopback::{Runtime, listening};
 use tokio::io::repeat;
 
 /// A future, and how often it was polled.
@@ -58,7 +59,7 @@ where
     T: Drop,
     requires { F.can_poll call }
 {
-    match runtime.block_on(rt, Counted::new(call)) {
+    match runtime.local().block_on(rt, Counted::new(call)) {
         Ok((answer, polls)) => (number(answer), polls),
         Err(_error) => (255, 0),
     }

@@ -1,7 +1,7 @@
 //! Servers that end, reset or stop at each place of their replies, of which each byte is a segment, on loopback.
 
 use crate::limits::client;
-use crate::scene::{done, listening, noop, running};
+use crate::scene::{done, noop};
 use std::alloc::{AllocGlobal, Global};
 use std::io::{Read, Write};
 use std::net::{Net, Shutdown, TcpListener, TcpStream};
@@ -11,6 +11,7 @@ use std::test::Fail;
 use std::thread::Threads;
 use std::time::Clock;
 use std::{io, thread};
+use test_loopback::{listening, running};
 
 /// More reads than a client sends bytes.
 const MOST_READS: usize = 1 << 10;

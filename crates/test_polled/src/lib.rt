@@ -1,12 +1,8 @@
-//! Tests of connections over tokio's sockets, and of the polled client over them, on loopback.
+//! Tests of the polled client over tokio's sockets, on loopback.
 #![tactic(auto)]
 
 #[cfg(test)]
-mod calls;
-#[cfg(test)]
 mod clients;
-#[cfg(test)]
-mod connects;
 #[cfg(test)]
 mod counted;
 #[cfg(test)]
@@ -16,8 +12,6 @@ mod limits;
 #[cfg(test)]
 mod listings;
 #[cfg(test)]
-mod requests;
-#[cfg(test)]
 mod saving;
 #[cfg(test)]
 mod scene;
@@ -25,7 +19,5 @@ mod scene;
 mod settings;
 #[cfg(test)]
 mod surface;
-#[cfg(test)]
-mod traffic;
 #[cfg(test)]
 mod writers;

@@ -1,7 +1,7 @@
 //! Clients whose sockets have time limits, with servers that stop in the midst.
 
 use crate::clients::write_passive;
-use crate::scene::{Client, Runtime, client_of, listening, noop, running};
+use crate::scene::{Client, client_of, noop};
 use ftp_base::types::{ConnectionError, FtpError, FtpResult};
 use ftp_tokio::TokioTransport;
 use futures::Future;
@@ -13,6 +13,7 @@ use std::sync::Wait;
 use std::test::Fail;
 use std::time::{Clock, Duration};
 use std::{io, thread};
+use test_loopback::{Runtime, listening, running};
 
 /// The limit, in milliseconds.
 const LIMIT: u64 = 100;
@@ -40,7 +41,7 @@ where
     T: Drop,
     requires { F.can_poll state }
 {
-    let answer = runtime.block_on(rt, state)?;
+    let answer = runtime.local().block_on(rt, state)?;
     let kind = match &answer {
         Err(FtpError::ConnectionError(ConnectionError::Io(kind))) => Some(*kind),
         _ => None,

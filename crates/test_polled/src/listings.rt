@@ -1,7 +1,7 @@
 //! Directories that a client lists as files, over tokio's sockets.
 
 use crate::clients::write_passive;
-use crate::scene::{Scene, came, done, greeted, listening, next, send, waits};
+use crate::scene::{Scene, came, done, greeted, next, send, waits};
 use ftp_list::Listing;
 use std::alloc::AllocGlobal;
 use std::io::Write;
@@ -12,6 +12,7 @@ use std::test::Fail;
 use std::thread::{JoinHandle, Threads};
 use std::time::Clock;
 use std::{io, thread};
+use test_loopback::listening;
 
 /// The lines of a listing, two of which can't be read.
 const LINES: &[u8] =
@@ -53,7 +54,7 @@ where
     R: Net + Wait + Clock + RandomSource + AllocGlobal,
 {
     let entries = scene.client.list_entries(rt, Some("pub"));
-    let listing = Box::new(rt.alloc(), scene.runtime.block_on(rt, entries)??)?;
+    let listing = Box::new(rt.alloc(), scene.runtime.local().block_on(rt, entries)??)?;
     text_of(rt, &listing)
 }
 

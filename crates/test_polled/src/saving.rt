@@ -1,7 +1,7 @@
 //! Downloads to a writer, uploads, and what they report their progress to.
 
 use crate::clients::write_passive;
-use crate::scene::{Scene, answered, done, greeted, listening, next};
+use crate::scene::{Scene, answered, done, greeted, next};
 use ftp_base::types::{FileType, FtpResult};
 use ftp_polled::AllowStdIo;
 use ftp_session::session::{Failure, NoProgress, Progress};
@@ -13,6 +13,7 @@ use std::sync::Wait;
 use std::test::Fail;
 use std::time::Clock;
 use std::{io, thread};
+use test_loopback::listening;
 
 /// What was reported last.
 #[derive(Drop)]
@@ -48,7 +49,7 @@ where
 {
     let mut told = Told(0);
     let write = scene.client.write_to(rt, "a", bytes, &mut told);
-    let count: FtpResult<u64> = scene.runtime.block_on(rt, write)?;
+    let count: FtpResult<u64> = scene.runtime.local().block_on(rt, write)?;
     let answer = next(rt, scene);
     Ok((count?, told.0, answer))
 }
@@ -90,6 +91,7 @@ where
 {
     let place: FtpResult<Option<Failure>> = scene
         .runtime
+        .local()
         .block_on(rt, scene.client.last_failure())?;
     Ok(place?)
 }
@@ -133,7 +135,7 @@ where
     } else {
         scene.client.put_file_with(rt, "a", source, &mut told)
     };
-    let count: FtpResult<u64> = scene.runtime.block_on(rt, upload)?;
+    let count: FtpResult<u64> = scene.runtime.local().block_on(rt, upload)?;
     Ok((count?, told.0))
 }
 

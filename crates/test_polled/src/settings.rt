@@ -1,10 +1,7 @@
 //! Clients over tokio's sockets that connect by themselves, and what they were set to.
 
 use crate::counted::polled;
-use crate::scene::{
-    Client, Scene, client_of, connects, done, greeted, listening, noop, pair, running, send,
-    transport,
-};
+use crate::scene::{Client, Scene, client_of, connects, done, greeted, noop, send};
 use ftp_base::encoding::Utf8Encoding;
 use ftp_base::types::{FtpError, FtpResult};
 use ftp_polled::ImplAsyncFtpStream;
@@ -19,7 +16,7 @@ use std::sync::Wait;
 use std::test::Fail;
 use std::time::{Clock, Duration, Instant};
 use std::{io, thread};
-use tokio::runtime::LocalRuntime;
+use test_loopback::{Runtime, listening, pair, running, transport};
 
 /// A server that sends this and reads to the end: what it read.
 fn serve(alloc: Global, listener: &TcpListener, replies: &str) -> io::Result<String> {
@@ -67,7 +64,7 @@ where
 }
 
 /// The number of the error of NOOP, and whether the client has failed then.
-fn seen<R>(rt: &R, runtime: &mut LocalRuntime, client: &Client) -> (u8, u8)
+fn seen<R>(rt: &R, runtime: &mut Runtime, client: &Client) -> (u8, u8)
 where
     R: Net + Wait + Clock + RandomSource + AllocGlobal,
 {
@@ -76,11 +73,11 @@ where
 }
 
 /// 1 where the client has failed, 0 where it hasn't, and 2 where the call fails.
-fn has_failed<R>(rt: &R, runtime: &mut LocalRuntime, client: &Client) -> u8
+fn has_failed<R>(rt: &R, runtime: &mut Runtime, client: &Client) -> u8
 where
     R: Wait + Clock + RandomSource + AllocGlobal,
 {
-    match runtime.block_on(rt, client.failed()) {
+    match runtime.local().block_on(rt, client.failed()) {
         Ok(Ok(failed)) => u8::from(failed),
         _ => 2,
     }
@@ -229,7 +226,7 @@ where
 {
     let mut runtime = running(rt)?;
     let connect = Building::connect(rt, transport(&runtime)?, &[address]);
-    let client = runtime.block_on(rt, connect)??;
+    let client = runtime.local().block_on(rt, connect)??;
     let setting = client.set_passive_stream_builder(rt, BuildsNone);
     let set = done(rt, &mut runtime, setting);
     let opening = client.retr_as_stream(rt, "a");

@@ -1,9 +1,7 @@
 //! A client that connects to an address that is a text, what it was greeted with, and the lines of its transfer.
 
 use crate::clients::write_passive;
-use crate::scene::{
-    Client, Live, Scene, connects, finished, greeted, listening, running, transport,
-};
+use crate::scene::{Client, Live, Scene, connects, finished, greeted};
 use ftp_base::status::Status;
 use ftp_base::types::FtpResult;
 use std::alloc::AllocGlobal;
@@ -14,6 +12,7 @@ use std::sync::Wait;
 use std::test::Fail;
 use std::time::Clock;
 use std::{io, thread};
+use test_loopback::{listening, running, transport};
 
 /// Greets a client.
 fn greet(listener: &TcpListener) -> io::Result<()> {
@@ -50,7 +49,7 @@ where
     R: Net + Wait + Clock + RandomSource + AllocGlobal,
 {
     let welcome = scene.client.get_welcome_msg(rt);
-    let welcome = scene.runtime.block_on(rt, welcome)??;
+    let welcome = scene.runtime.local().block_on(rt, welcome)??;
     write!(text, "{}|", welcome.as_deref().unwrap_or("none"))?;
     Ok(())
 }
@@ -64,7 +63,7 @@ where
     write_passive(&mut scene.server, address.port())?;
     let expected = [Status::AboutToSend];
     let opening = scene.client.custom_data_command(rt, "LIST -a", &expected);
-    let (_reply, transfer) = scene.runtime.block_on(rt, opening)??;
+    let (_reply, transfer) = scene.runtime.local().block_on(rt, opening)??;
     let transfer = Box::new(rt.alloc(), transfer)?;
     let (mut peer, _address) = listener.accept()?;
     peer.write_all(data)?;
@@ -82,7 +81,7 @@ where
     R: Wait + Clock + RandomSource + AllocGlobal,
 {
     let reading = Client::get_lines_from_stream(rt, &mut **transfer);
-    let lines: FtpResult<Vec<String>> = scene.runtime.block_on(rt, reading)?;
+    let lines: FtpResult<Vec<String>> = scene.runtime.local().block_on(rt, reading)?;
     for line in &lines? {
         write!(text, "{line}|")?;
     }

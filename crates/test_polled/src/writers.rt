@@ -1,7 +1,7 @@
 //! An upload that `tokio`'s own writing writes.
 
 use crate::clients::write_passive;
-use crate::scene::{Live, Scene, finished, greeted, listening};
+use crate::scene::{Live, Scene, finished, greeted};
 use ftp_base::types::FtpResult;
 use ftp_polled::TransferStream;
 use ftp_tokio::TokioTransport;
@@ -13,6 +13,7 @@ use std::random::RandomSource;
 use std::sync::Wait;
 use std::test::Fail;
 use std::time::Clock;
+use test_loopback::listening;
 use tokio::io::{shutdown, write_all};
 
 /// An upload whose data connection goes to this port.
@@ -22,7 +23,10 @@ where
 {
     write_passive(&mut scene.server, port)?;
     let opening = scene.client.put_with_stream(rt, "a");
-    let upload: FtpResult<TransferStream<TokioTransport>> = scene.runtime.block_on(rt, opening)?;
+    let upload: FtpResult<TransferStream<TokioTransport>> = scene
+        .runtime
+        .local()
+        .block_on(rt, opening)?;
     Ok(Box::new(rt.alloc(), upload?)?)
 }
 
@@ -32,8 +36,8 @@ where
     R: Net + Wait + Clock + RandomSource + AllocGlobal,
 {
     let writing = write_all(&mut **transfer, text.as_bytes());
-    let (writer, _rest) = scene.runtime.block_on(rt, writing)??;
-    scene.runtime.block_on(rt, shutdown(writer))??;
+    let (writer, _rest) = scene.runtime.local().block_on(rt, writing)??;
+    scene.runtime.local().block_on(rt, shutdown(writer))??;
     Ok(())
 }
 

@@ -1,4 +1,4 @@
-//! Tests of connections under TLS, of transports that make them, and of what no row of `rows_secure` makes on them, over memory.
+//! Tests of sessions under TLS over memory, of what no row of `rows_secure` makes on them.
 #![tactic(auto)]
 
 #[cfg(test)]
@@ -6,10 +6,4 @@ mod again;
 #[cfg(test)]
 mod data_calls;
 #[cfg(test)]
-mod handshakes;
-#[cfg(test)]
-mod networks;
-#[cfg(test)]
 mod scene;
-#[cfg(test)]
-mod streams;

@@ -4,6 +4,7 @@ use ftp_base::types::FtpResult;
 use ftp_session::session::Session;
 use rows_tls::{Line, Log, Net, Seal, Wire, Wires};
 use std::alloc::{AllocError, Global};
+use std::net::{Ipv4Addr, SocketAddr, SocketAddrV4};
 
 /// A connection with this log on which this comes.
 fn wire(alloc: Global, log: &Log, text: &str) -> Result<Wire, AllocError> {
@@ -28,4 +29,17 @@ pub fn session(alloc: Global, connects: u8) -> FtpResult<Box<Session<Net, Seal>>
     let conn = wire(alloc, &Log::new(alloc)?, "234 go\r\n")?;
     let session = Session::new(alloc, Box::into_inner(net), Line::new(conn))?;
     Ok(Box::new(alloc, session)?)
+}
+
+/// The address of the tests' server.
+pub fn server() -> SocketAddr {
+    SocketAddr::V4(SocketAddrV4::new(Ipv4Addr::new(192, 0, 2, 7), 990))
+}
+
+/// The number of an error; 0 where there is none.
+pub fn number<T: Drop>(answer: FtpResult<T>) -> u8 {
+    match &answer {
+        Ok(_) => 0,
+        Err(fault) => fault.number(),
+    }
 }

@@ -1,6 +1,7 @@
 //! A transport over memory whose connections may be under TLS.
 
-use crate::streams::{Network, number, plain, read};
+use crate::scene::number;
+use crate::streams::{Network, plain, read};
 use ftp_base::types::{ConnectionError, FtpResult};
 use ftp_secure::{SecureNetwork, Secured};
 use ftp_transport::{

@@ -1,7 +1,6 @@
 //! Connects and accepts over tokio's sockets.
 
-use crate::requests::{Accept, Connect};
-use crate::scene::{Runtime, listening, running, transport};
+use crate::tokio_requests::{Accept, Connect};
 use ftp_base::types::ConnectionError;
 use ftp_tokio::{TokioListener, TokioTransport};
 use ftp_transport::{PollTransport, Tells};
@@ -14,6 +13,7 @@ use std::random::RandomSource;
 use std::sync::Wait;
 use std::test::Fail;
 use std::time::{Clock, Duration};
+use test_loopback::{Runtime, listening, running, transport};
 
 /// An address, or an error.
 type Came = Result<SocketAddr, ConnectionError>;
@@ -34,7 +34,7 @@ where
         address,
         limit,
     };
-    match runtime.block_on(rt, connect)? {
+    match runtime.local().block_on(rt, connect)? {
         Ok(mut conn) => Ok(conn.peer_addr().map_err(ConnectionError::Io)),
         Err(fault) => Ok(Err(fault)),
     }
@@ -127,7 +127,7 @@ where
         listener,
         deadline: Duration::from_millis(limit),
     };
-    let accepted = runtime.block_on(rt, accept)?;
+    let accepted = runtime.local().block_on(rt, accept)?;
     let from = match &peer {
         Some(stream) => Some(stream.local_addr()?),
         None => None,

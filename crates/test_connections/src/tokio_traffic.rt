@@ -1,21 +1,21 @@
 //! Reads and writes of connections over tokio's sockets.
 
-use crate::calls::{ReadByte, WriteOn};
-use crate::scene::{pair, running};
+use crate::tokio_calls::{ReadByte, WriteOn};
 use ftp_tokio::TokioConn;
 use ftp_transport::{PollConn, Tells};
 use futures::task::Poll;
 use std::io::{ErrorKind, Read};
 use std::net::TcpStream;
 use std::test::Fail;
+use test_loopback::{pair, running};
 
 #[test]
 fn a_read_and_a_write_that_wait_go_on(rt: HostRuntime) -> Result<(), Fail> {
     let mut runtime = running(&rt)?;
     let (conn, peer) = pair(&rt, &runtime, b"")?;
-    let read = runtime.block_on(&rt, ReadByte::new(conn, peer))?;
+    let read = runtime.local().block_on(&rt, ReadByte::new(conn, peer))?;
     let (conn, peer) = pair(&rt, &runtime, b"")?;
-    let written = runtime.block_on(&rt, WriteOn::new(conn, peer))?;
+    let written = runtime.local().block_on(&rt, WriteOn::new(conn, peer))?;
     drop(runtime);
     assert_eq!(rt; (read, written), (Ok((1, b'x')), Ok(1)));
     Ok(())

@@ -1,12 +1,12 @@
 //! A connection as it is, under TLS, and taken by a connector.
 
+use crate::scene::number;
 use ftp_base::types::{FtpError, FtpResult, Text};
 use ftp_secure::{DataStream, SecureNetwork, SecureTransport, Secured, TlsStream};
 use ftp_transport::{Conn, MemoryConn, MemoryTransport, Tells};
 use rows_tls::{Seal, Sealed};
 use std::alloc::{AllocError, Global};
 use std::io::ErrorKind;
-use std::net::{Ipv4Addr, SocketAddr, SocketAddrV4};
 use std::test::Fail;
 
 /// A connection that may be under the TLS of the tests.
@@ -14,11 +14,6 @@ pub type Stream = DataStream<MemoryConn, Sealed<MemoryConn>>;
 
 /// The transport of the tests.
 pub type Network = Secured<MemoryTransport, Seal>;
-
-/// The address of the tests' server.
-pub fn server() -> SocketAddr {
-    SocketAddr::V4(SocketAddrV4::new(Ipv4Addr::new(192, 0, 2, 7), 990))
-}
 
 /// A connection over memory on which `plain` comes.
 pub fn plain(alloc: Global) -> Result<MemoryConn, AllocError> {
@@ -115,14 +110,6 @@ fn one_that_a_connector_took_is_not_connected(rt: HostRuntime) -> Result<(), Fai
     let below = counts_below(&<Network as SecureNetwork<Seal>>::gone());
     assert_eq!(rt; below, None);
     Ok(())
-}
-
-/// The number of the error that a call returned; 0 where there is none.
-pub fn number<T: Drop>(answer: FtpResult<T>) -> u8 {
-    match &answer {
-        Ok(_) => 0,
-        Err(fault) => fault.number(),
-    }
 }
 
 /// How many bytes are left to read on the connection that is taken from under TLS, to a server of this name; the number of

@@ -1,7 +1,8 @@
 //! A connection that is put under TLS by polls.
 
 use crate::networks::keep;
-use crate::streams::{Network, number, plain};
+use crate::scene::number;
+use crate::streams::{Network, plain};
 use ftp_base::types::{FtpError, FtpResult};
 use ftp_secure::{DataStream, Secured};
 use ftp_transport::{MemoryTransport, PollConn, PollTransport};
