@@ -1,6 +1,6 @@
 //! The calls of data connections that no row of TLS makes, in a secure session over memory (RFC 4217, section 9).
 
-use crate::scene::{number, session};
+use crate::secure::scene::{number, session};
 use ftp_base::status::Status;
 use ftp_base::types::FtpResult;
 use ftp_session::session::{DownloadReader, NoProgress, Session};

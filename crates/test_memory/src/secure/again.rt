@@ -1,6 +1,6 @@
 //! Futures of the polled client that are polled again after they have returned their results.
 
-use crate::scene::{net, number, server, session};
+use crate::secure::scene::{net, number, server, session};
 use ftp_base::encoding::Utf8Encoding;
 use ftp_base::types::{FtpError, FtpResult};
 use ftp_polled::{Connect, ImplAsyncFtpStream, Secure};
